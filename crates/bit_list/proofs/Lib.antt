@@ -1,0 +1,4 @@
+pub mod DigitBits
+pub mod IntegerBits
+pub mod SameBits
+pub mod Steps

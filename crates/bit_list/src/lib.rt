@@ -1,0 +1,193 @@
+//! Lists of bits, the lowest index first.
+#![tactic(auto)]
+
+ghost use Rattle.std.specs.Prelude.{◌≡◌, ◌<◌, ◌≤◌, ◌+◌, ◌↔◌, ◌++◌, ℕ, Bool, false, [], IsTrue, IfOk, OnOk, All, length, replicate, drop, slice_get, slice_set};
+ghost use Rattle.std.specs.Bool.{beq};
+ghost use Rattle.std.specs.Cmp.Lexicographic.{pointwise};
+ghost use Rattle.bit_list.specs.Digits.{IsDigit, IsFirstBadDigit, bits_of_binary, bits_of_hex};
+ghost use Rattle.bit_list.specs.Integers.{int_of, bits_of_int};
+ghost use Rattle.bit_list.specs.Ranges.{taken, spliced, AgreeUnderMask};
+
+mod digits;
+pub mod laws;
+mod parts;
+
+use std::alloc::{AllocError, Global};
+use std::marker::Model;
+use thiserror::Error;
+
+/// The most bits of a list.
+pub const MOST_BITS: u32 = 16_777_216;
+
+/// The most digits that a list is read from.
+pub const MOST_DIGITS: usize = 4_194_304;
+
+/// A list of at most `MOST_BITS` bits, the lowest index first, which is the order of shifting.
+#[derive(Debug, Drop)]
+pub struct Bits {
+    bits: Vec<bool>,
+}
+
+impl Model for Bits {
+    ghost use Rattle.std.specs.Prelude.{Bool, List, length, ◌≤◌};
+    ghost use Rattle.bit_list.specs.declared.TheConstants.{MOST_BITS};
+
+    ghost Value = { List Bool };
+
+    ghost view = { λ b. b.bits.items };
+
+    ghost invariant = { λ b. length b.bits.items ≤ MOST_BITS };
+}
+
+/// Why digits gave no list of bits: `BadDigit` with the place, counted from 0, of the first byte that is no digit, or `Memory` where there
+/// was no memory for the list.
+#[derive(Clone, Copy, Debug, PartialEq, Eq, Error)]
+pub enum BitsRefused {
+    #[error("the byte at {0} is no digit")]
+    BadDigit(u32),
+    #[error("out of memory")]
+    Memory,
+}
+
+impl Bits {
+    /// A list of n zeros.
+    pub fn zeros(alloc: Global, n: u32) -> Result<Bits, AllocError>
+        requires { n ≤ MOST_BITS }
+        ensures { IfOk result (λ b. b ≡ replicate n false) }
+    {
+        let bits = vec![in alloc; false; n as usize]?;
+        Ok(Bits { bits })
+    }
+
+    /// The list of these binary digits, highest digit first, so that the last digit stands at index 0.
+    ///
+    /// Each digit is one bit. `BadDigit` comes exactly where a byte is neither `0` nor `1`, with the place of the first such byte.
+    pub fn from_binary(alloc: Global, digits: &[u8]) -> Result<Bits, BitsRefused>
+        requires { length digits.now ≤ MOST_DIGITS }
+        ensures bits { IfOk result (λ b. b ≡ bits_of_binary digits.now) }
+        ensures all_digits { OnOk result (All (IsDigit 2) digits.now) }
+        ensures bad_digit { (place : ℕ) → (result ≡ Err (BitsRefused.BadDigit place)) ↔ IsFirstBadDigit 2 digits.now place }
+    {
+        digits::read_bits(alloc, digits, 2, 1)
+    }
+
+    /// The list of these hexadecimal digits, highest digit first, so that the last digit stands at the indexes 0 to 3.
+    ///
+    /// Each digit is four bits; the letters A to F count in both cases. `BadDigit` comes exactly where a byte is no such digit, with
+    /// the place of the first one.
+    pub fn from_hex(alloc: Global, digits: &[u8]) -> Result<Bits, BitsRefused>
+        requires { length digits.now ≤ MOST_DIGITS }
+        ensures bits { IfOk result (λ b. b ≡ bits_of_hex digits.now) }
+        ensures all_digits { OnOk result (All (IsDigit 16) digits.now) }
+        ensures bad_digit { (place : ℕ) → (result ≡ Err (BitsRefused.BadDigit place)) ↔ IsFirstBadDigit 16 digits.now place }
+    {
+        digits::read_bits(alloc, digits, 16, 4)
+    }
+
+    /// A copy of the list.
+    pub fn copied(&self, alloc: Global) -> Result<Bits, AllocError>
+        ensures { IfOk result (λ b. b ≡ self.now) }
+    {
+        let bits = self.bits.as_slice().to_vec(alloc)?;
+        Ok(Bits { bits })
+    }
+
+    /// How many bits the list has, at most `MOST_BITS`.
+    pub fn len(&self) -> u32
+        ensures length { result ≡ length self.now }
+        ensures limit { result ≤ MOST_BITS }
+    {
+        self.bits.len() as u32
+    }
+
+    /// Whether the list has no bit.
+    pub fn is_empty(&self) -> bool
+        ensures { IsTrue result ↔ (self.now ≡ []) }
+    {
+        self.bits.is_empty()
+    }
+
+    /// The bit at index i.
+    pub fn get(&self, i: u32) -> bool
+        requires { i < length self.now }
+        ensures { slice_get self.now i ≡ Some result }
+    {
+        self.bits[i as usize]
+    }
+
+    /// Sets the bit at index i, and no other.
+    pub fn set(&mut self, i: u32, bit: bool)
+        requires { i < length self.old }
+        ensures changed { self.new ≡ slice_set self.old i bit }
+        ensures length { length self.new ≡ length self.old }
+    {
+        self.bits[i as usize] = bit;
+    }
+
+    /// Copies the n bits of `from` from index `low` on to the indexes from `at` on; the other bits stay.
+    pub fn copy_range(&mut self, at: u32, from: &Bits, low: u32, n: u32)
+        requires target { at + n ≤ length self.old }
+        requires source { low + n ≤ length from.now }
+        ensures copied { self.new ≡ spliced at (taken low n from.now) self.old }
+        ensures length { length self.new ≡ length self.old }
+    {
+        let (at, low, n) = (at as usize, low as usize, n as usize);
+        let source = &from.bits[low..low + n];
+        self.bits[at..at + n].copy_from_slice(source);
+    }
+
+    /// Whether the lowest n bits of two lists agree wherever the mask has a 1.
+    pub fn masked_equal(&self, other: &Bits, mask: &Bits, n: u32) -> bool
+        requires own { n ≤ length self.now }
+        requires other { n ≤ length other.now }
+        requires mask { n ≤ length mask.now }
+        ensures { IsTrue result ↔ AgreeUnderMask mask.now n self.now other.now }
+    {
+        let n = n as usize;
+        parts::agree_under_mask(&mask.bits[..n], &self.bits[..n], &other.bits[..n])
+    }
+
+    /// The n bits from index `low` on as an integer of 32 bits in two's complement: its bit i is the bit at `low + i`, and its bits from
+    /// n on are 0.
+    pub fn to_int(&self, low: u32, n: u32) -> i32
+        requires width { n ≤ 32 }
+        requires inside { low + n ≤ length self.now }
+        ensures { result ≡ int_of (taken low n self.now) }
+    {
+        let (low, n) = (low as usize, n as usize);
+        parts::number_of_bits(&self.bits[low..low + n]).cast_signed()
+    }
+
+    /// Sets the bits 0 to 31 to those of an integer in two's complement; the other bits stay.
+    pub fn set_int(&mut self, value: i32)
+        requires { 32 ≤ length self.old }
+        ensures bits { self.new ≡ bits_of_int value ++ drop 32 self.old }
+        ensures length { length self.new ≡ length self.old }
+    {
+        let number = value.cast_unsigned();
+        parts::write_low_bits(&mut self.bits, 32, number);
+    }
+}
+
+impl PartialEq for Bits {
+    ghost use Rattle.std.specs.Cmp.{bool_eq_equiv, partial_equiv_from_equiv};
+    ghost use Rattle.std.specs.Cmp.Lexicographic.{lists_equiv};
+
+    ghost eq = { pointwise beq };
+
+    ghost laws = { partial_equiv_from_equiv (lists_equiv bool_eq_equiv) };
+
+    fn eq(&self, other: &Bits) -> bool
+        ensures value { result ≡ pointwise beq self.now other.now }
+        ensures same { IsTrue result ↔ (self.now ≡ other.now) }
+    {
+        self.bits.as_slice() == other.bits.as_slice()
+    }
+}
+
+impl Eq for Bits {
+    ghost use Rattle.std.specs.Cmp.{bool_eq_equiv};
+    ghost use Rattle.std.specs.Cmp.Lexicographic.{lists_equiv};
+
+    ghost laws = { lists_equiv bool_eq_equiv };
+}
