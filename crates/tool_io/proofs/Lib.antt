@@ -1,0 +1,4 @@
+pub mod BytesLemmas
+pub mod CauseLemmas
+pub mod ShelfLemmas
+pub mod PutLemmas

@@ -1,0 +1,18 @@
+//! The outside as the tool sees it: a store of named files, a sink of bytes, and the calls over them.
+#![tactic(auto)]
+
+mod block;
+mod count;
+mod lines;
+mod mem_shelf;
+mod mem_sink;
+mod outside;
+mod reading;
+mod std_edge;
+
+pub use lines::Lines;
+pub use mem_shelf::MemShelf;
+pub use mem_sink::MemSink;
+pub use outside::{Failed, Shelf, Sink};
+pub use reading::{ReadRefused, read_whole};
+pub use std_edge::{FileShelf, StdSink};
