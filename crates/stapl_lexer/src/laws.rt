@@ -1,0 +1,26 @@
+//! Laws of the definitions.
+ghost use Rattle.std.specs.Prelude.{◌≡◌, ℕ, List, []};
+ghost use Rattle.stapl_lexer.specs.declared.piece.Piece.{Piece};
+ghost use Rattle.stapl_lexer.specs.Pieces.{IsCut};
+ghost use Rattle.stapl_lexer.specs.Segments.{Segment, Divides};
+ghost use Rattle.stapl_lexer.specs.Tokens.{Token, HasTokens};
+
+/// Each text is divided into some segments.
+pub fn every_text_is_divided()
+    ensures { (text : List ℕ) → (segments : List Segment) × Divides segments text [] }
+{}
+
+/// A text is divided into segments in at most one way.
+pub fn divided_in_one_way()
+    ensures { (a b : List Segment) (text : List ℕ) → Divides a text [] → Divides b text [] → a ≡ b }
+{}
+
+/// A text has at most one list of pieces.
+pub fn cut_in_one_way()
+    ensures { (text : List ℕ) (a b : List Piece) → IsCut text a → IsCut text b → a ≡ b }
+{}
+
+/// A list of bytes has at most one list of tokens.
+pub fn read_in_one_way()
+    ensures { (bytes : List ℕ) (a b : List Token) → HasTokens bytes a → HasTokens bytes b → a ≡ b }
+{}
