@@ -1,0 +1,2 @@
+pub mod StatementLemmas
+pub mod FaultLemmas

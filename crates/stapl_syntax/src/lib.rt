@@ -1,0 +1,4 @@
+//! Statements of the STAPL language, which texts are programs, and where the first fault of every other text is.
+#![tactic(auto)]
+
+pub mod laws;
