@@ -1,0 +1,33 @@
+-- The written text of a play: a line for each event, and one for its ending. The format is this profile's.
+use Rattle.std.specs.Prelude.{ℕ, ◌+◌, ◌/◌, ◌%◌, List, [], ◌∷◌, ◌++◌, Bool, ◌&&◌, ◌==◌, nat_le, nat_lt, not, codes, if◌then◌else◌}
+use Rattle.std.specs.List.{flat_map}
+use Rattle.std.specs.Fmt.{signed_decimal}
+use Rattle.stapl_meaning.specs.declared.events.Event.{Event}
+use Rattle.stapl_meaning.specs.declared.events.Event.TheVariants.{Print}
+use Rattle.stapl_meaning.specs.declared.events.Ending.{Ending}
+use Rattle.stapl_meaning.specs.declared.events.Ending.TheVariants.{Exit}
+
+-- an upper-case hexadecimal digit, for a number below 16
+abbrev pub hex_digit : ℕ → ℕ
+hex_digit n = if nat_lt n 10 then 48 + n else 55 + n
+
+-- the byte is written as it is: it is one of 32 to 126, and no backslash
+abbrev pub is_plain : ℕ → Bool
+is_plain b = nat_le 32 b && nat_le b 126 && not (b == 92)
+
+-- any other byte is written as a backslash and two hexadecimal digits
+abbrev pub escaped_byte : ℕ → List ℕ
+escaped_byte b = if is_plain b then b ∷ [] else 92 ∷ hex_digit (b / 16) ∷ hex_digit (b % 16) ∷ []
+
+abbrev pub escaped : List ℕ → List ℕ
+escaped bytes = flat_map escaped_byte bytes
+
+abbrev pub event_line : Event → List ℕ
+event_line (Print bytes) = codes "P " ++ escaped bytes ++ 10 ∷ []
+
+abbrev pub ending_line : Ending → List ℕ
+ending_line (Exit k) = codes "E exit " ++ signed_decimal k ++ 10 ∷ []
+
+-- the text of a play that has ended
+abbrev pub text_of : List Event → Ending → List ℕ
+text_of events ending = flat_map event_line events ++ ending_line ending
