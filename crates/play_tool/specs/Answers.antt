@@ -1,0 +1,102 @@
+-- What the tool answers: a text and a status, by the words and the files. It is defined where the file that the words name is
+-- held.
+use Rattle.std.specs.Prelude.{◌≡◌, ℕ, pos, List, codes, Option, None, Some}
+use Rattle.tool_io.specs.Files.{file_of}
+use Rattle.tool_io.specs.Bytes.{then_bytes, MovesFront}
+use Rattle.stapl_lexer.specs.declared.reason.Reason.{Reason}
+use Rattle.stapl_syntax.specs.Statements.{BodyTree}
+use Rattle.stapl_syntax.specs.Programs.{IsProgram, FirstFault}
+use Rattle.stapl_meaning.specs.declared.events.Event.{Event}
+use Rattle.stapl_meaning.specs.declared.events.Ending.{Ending}
+use Rattle.stapl_meaning.specs.declared.events.Ending.TheVariants.{Exit}
+use Rattle.stapl_meaning.specs.Runs.{procedures_of, EndsWith}
+use Rattle.stapl_meaning.specs.Texts.{text_of}
+use Rattle.play_tool.specs.declared.status.Status.{Status}
+use Rattle.play_tool.specs.declared.status.Status.TheVariants.{Done, Refused, NoAction, Usage, ReadFault, WriteFault, Memory}
+use Rattle.play_tool.specs.Texts.{number_line, refusal_line}
+use Rattle.play_tool.specs.Words.{IsRequest, IsUsage}
+
+-- the status of a play that ends so
+abbrev pub done_with : Ending → Status
+done_with (Exit code) = Done code
+
+-- What is written for a program that is accepted, and the status: it has no such action, or it is played.
+pub data ProgramPlays (program : List BodyTree) (action : List ℕ) : List ℕ → Status → Type 0 where
+  no_action : procedures_of program action ≡ None → ProgramPlays program action (codes "R action\n") NoAction
+  played : (chosen : List (List ℕ)) (events : List Event) (ending : Ending) → procedures_of program action ≡ Some chosen →
+      EndsWith program chosen events ending → ProgramPlays program action (text_of events ending) (done_with ending)
+
+-- What is written for a text, and the status: it is refused at its first fault, or it is a program.
+pub data Plays (bytes action : List ℕ) : List ℕ → Status → Type 0 where
+  refused : (piece line : ℕ) (reason : Reason) → FirstFault bytes piece line reason →
+      Plays bytes action (refusal_line piece line reason) (Refused piece reason)
+  accepted : (program : List BodyTree) (text : List ℕ) (status : Status) → IsProgram bytes program →
+      ProgramPlays program action text status → Plays bytes action text status
+
+-- The answer to the words: they are refused, or the program that they name is played.
+pub data Answer (words : List (List ℕ)) (files : List (List ℕ × List ℕ)) : List ℕ → Status → Type 0 where
+  usage : (n : ℕ) → IsUsage words n → Answer words files (number_line (codes "R usage ") (pos n)) (Usage n)
+  plays : (path action bytes text : List ℕ) (status : Status) → IsRequest words path action → file_of files path ≡ Some bytes →
+      Plays bytes action text status → Answer words files text status
+
+-- The text of the answer was written, and nothing else, and the status is the answer's.
+pub record Answers (words : List (List ℕ)) (files : List (List ℕ × List ℕ)) (before after : Option (List ℕ)) (status : Status) : Type 0 where
+  pub text : List ℕ
+  pub answer : Answer words files text status
+  pub written : after ≡ then_bytes before text
+
+-- A prefix of the answer's text was written.
+pub record AnswersFront (words : List (List ℕ)) (files : List (List ℕ × List ℕ)) (before after : Option (List ℕ)) : Type 0 where
+  pub text : List ℕ
+  pub status : Status
+  pub answer : Answer words files text status
+  pub front : MovesFront before text after
+
+-- What was written is a prefix of the text of each answer.
+pub record IsPrefixOfAnswers (words : List (List ℕ)) (files : List (List ℕ × List ℕ)) (before after : Option (List ℕ)) : Type 0 where
+  pub prefix : (text : List ℕ) (status : Status) → Answer words files text status → MovesFront before text after
+
+-- the status is a fault of reading or writing, or want of memory
+abbrev pub IsFault : Status → Type 0
+IsFault ReadFault = Unit {0}
+IsFault WriteFault = Unit {0}
+IsFault Memory = Unit {0}
+IsFault (Done code) = ⊥
+IsFault (Refused piece reason) = ⊥
+IsFault NoAction = ⊥
+IsFault (Usage n) = ⊥
+
+-- The text of the play of a program was written.
+pub record ProgramPlaysTo (program : List BodyTree) (action : List ℕ) (before after : Option (List ℕ)) (status : Status) : Type 0 where
+  pub text : List ℕ
+  pub plays : ProgramPlays program action text status
+  pub written : after ≡ then_bytes before text
+
+pub record ProgramPlaysFront (program : List BodyTree) (action : List ℕ) (before after : Option (List ℕ)) : Type 0 where
+  pub text : List ℕ
+  pub status : Status
+  pub plays : ProgramPlays program action text status
+  pub front : MovesFront before text after
+
+-- The text for the bytes of a program was written.
+pub record PlaysTo (bytes action : List ℕ) (before after : Option (List ℕ)) (status : Status) : Type 0 where
+  pub text : List ℕ
+  pub plays : Plays bytes action text status
+  pub written : after ≡ then_bytes before text
+
+pub record PlaysFront (bytes action : List ℕ) (before after : Option (List ℕ)) : Type 0 where
+  pub text : List ℕ
+  pub status : Status
+  pub plays : Plays bytes action text status
+  pub front : MovesFront before text after
+
+-- The same of a file, where it is held.
+pub record FilePlaysTo (file : Option (List ℕ)) (action : List ℕ) (before after : Option (List ℕ)) (status : Status) : Type 0 where
+  pub bytes : List ℕ
+  pub held : file ≡ Some bytes
+  pub plays : PlaysTo bytes action before after status
+
+pub record FilePlaysFront (file : Option (List ℕ)) (action : List ℕ) (before after : Option (List ℕ)) : Type 0 where
+  pub bytes : List ℕ
+  pub held : file ≡ Some bytes
+  pub plays : PlaysFront bytes action before after

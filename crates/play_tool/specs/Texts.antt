@@ -1,0 +1,40 @@
+-- The texts that the tool writes. The format is this tool's own.
+use Rattle.std.specs.Prelude.{ℕ, ℤ, pos, List, [], ◌∷◌, ◌++◌, codes}
+use Rattle.std.specs.Fmt.{signed_decimal}
+use Rattle.stapl_lexer.specs.declared.reason.Reason.{Reason}
+use Rattle.stapl_lexer.specs.Reasons.{reason_name}
+use Rattle.stapl_meaning.specs.Texts.{escaped}
+use Rattle.play_tool.specs.declared.forms.Form.{Form}
+use Rattle.play_tool.specs.declared.forms.Form.TheVariants as forms
+
+-- a label and a number
+abbrev pub labelled : List ℕ → ℤ → List ℕ
+labelled label n = label ++ signed_decimal n
+
+-- a label, a number and a line feed
+abbrev pub number_line : List ℕ → ℤ → List ℕ
+number_line label n = labelled label n ++ 10 ∷ []
+
+-- a word and a line feed
+abbrev pub word_line : List ℕ → List ℕ
+word_line word = word ++ 10 ∷ []
+
+-- a piece and its line
+abbrev pub place_text : ℕ → ℕ → List ℕ
+place_text piece line = labelled (codes "R program ") (pos piece) ++ labelled (codes " line ") (pos line)
+
+-- the line of a refused program: its piece, the line of that, and the reason
+abbrev pub refusal_line : ℕ → ℕ → Reason → List ℕ
+refusal_line piece line reason = place_text piece line ++ codes " " ++ word_line (reason_name reason)
+
+-- the line of a PRINT
+abbrev pub print_line : List ℕ → List ℕ
+print_line bytes = codes "P " ++ escaped bytes ++ 10 ∷ []
+
+-- what a form writes: the line of a PRINT, and nothing for the others
+abbrev pub form_line : Form → List ℕ
+form_line (forms.Action name run) = []
+form_line (forms.Procedure name) = []
+form_line forms.EndProcedure = []
+form_line (forms.Print text) = print_line text
+form_line (forms.Exit code) = []

@@ -1,0 +1,77 @@
+//! How a run of the tool ends.
+ghost use Rattle.std.specs.Prelude.{◌≡◌};
+ghost use Rattle.play_tool.specs.Codes.{exit_code_of};
+ghost use Rattle.play_tool.specs.declared.status.Trouble.TheVariants.{Write, Memory};
+
+use stapl_lexer::Reason;
+use std::alloc::AllocError;
+use thiserror::Error;
+use tool_io::Failed;
+
+/// How a run of the tool ends.
+#[derive(Clone, Copy, Debug, PartialEq, Eq)]
+pub enum Status {
+    /// The work is done; a play ended with this code.
+    Done(i32),
+    /// The program is refused: the piece, counted from 1, of its first fault, or 0 where the text is too long, and the reason.
+    Refused(u32, Reason),
+    /// The program has no action of the name that the words give.
+    NoAction,
+    /// The first word, counted from 1, that is not as stated, or the number of words plus 1 where words are missing.
+    Usage(u32),
+    /// A file that the words name could not be read. Nothing is written.
+    ReadFault,
+    /// The output could not be written. What is written is a prefix of the text.
+    WriteFault,
+    /// There was no memory. What is written is a prefix of the text.
+    Memory,
+}
+
+/// Why a run of the tool gives no answer.
+#[derive(Clone, Copy, Debug, PartialEq, Eq, Error)]
+pub enum Trouble {
+    /// A file could not be read.
+    #[error("a file could not be read")]
+    Read,
+    /// The output could not be written.
+    #[error("the output could not be written")]
+    Write,
+    /// There was no memory.
+    #[error("out of memory")]
+    Memory,
+}
+
+impl From<Failed> for Trouble {
+    ghost from_gives = { λ _ trouble. trouble ≡ Write };
+
+    fn from(_: Failed) -> Trouble {
+        Trouble::Write
+    }
+}
+
+impl From<AllocError> for Trouble {
+    ghost from_gives = { λ _ trouble. trouble ≡ Memory };
+
+    fn from(_: AllocError) -> Trouble {
+        Trouble::Memory
+    }
+}
+
+impl Status {
+    /// The exit code of the process: 0 for a play that ended with code 0, 1 for one that ended with another, and from 4 on
+    /// one for each cause.
+    pub fn exit_code(&self) -> u8
+        ensures { result ≡ exit_code_of self.now }
+    {
+        match self {
+            Status::Done(0) => 0,
+            Status::Done(_) => 1,
+            Status::Refused(_, _) => 4,
+            Status::NoAction => 6,
+            Status::Usage(_) => 7,
+            Status::ReadFault => 9,
+            Status::WriteFault => 10,
+            Status::Memory => 11,
+        }
+    }
+}

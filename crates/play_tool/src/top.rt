@@ -1,0 +1,148 @@
+//! The top call.
+ghost use Rattle.std.specs.Prelude.{◌≡◌, ℕ, ◌≤◌, List, length, map, string_bytes, IfSome, IfOk, IfErr, IsErrOf};
+ghost use Rattle.tool_io.specs.Causes.{HasRisen, HasRisenAt, NeverFalls, NoneFalls};
+ghost use Rattle.tool_io.specs.Files.{file_of};
+ghost use Rattle.play_tool.specs.Words.{IsRequest};
+ghost use Rattle.play_tool.specs.Answers.{Answers, AnswersFront, IsPrefixOfAnswers, IsFault, PlaysTo, PlaysFront, FilePlaysTo, FilePlaysFront};
+
+use crate::Status;
+use crate::playing::play_program;
+use crate::programs::{Verdict, read_program};
+use crate::status::Trouble;
+use crate::words::{Request, read_words};
+use crate::writing::{write_refusal, write_usage};
+use stapl_lexer::{Name, Reason, cut};
+use std::alloc::Global;
+use tool_io::{ReadRefused, Shelf, Sink, read_whole};
+
+/// The most bytes of a program text.
+const TEXT_LIMIT: u32 = 4_194_304;
+
+// Plays an action of the program that some bytes are.
+#[tactic(auto, using(crate::proofs::AnswerLemmas::accepted_to, crate::proofs::AnswerLemmas::accepted_front, crate::proofs::AnswerLemmas::refused_to, crate::proofs::AnswerLemmas::refused_front))]
+fn play_bytes<K: Sink>(
+    alloc: Global,
+    bytes: &[u8],
+    action: &Name,
+    out: &mut K,
+) -> Result<Status, Trouble>
+    requires { length bytes.now ≤ 4194304 }
+    ensures answered { IfOk result (λ status. IsFault status → ⊥) }
+    ensures ok { IfOk result (PlaysTo bytes.now action.now (K.written out.old) (K.written out.new)) }
+    ensures read { IsErrOf result Trouble.Read → ⊥ }
+    ensures write { IsErrOf result Trouble.Write → HasRisen K.faults K.is_last out.old out.new }
+    ensures front { IsErrOf result Trouble.Write → PlaysFront bytes.now action.now (K.written out.old) (K.written out.new) }
+    ensures memory { IsErrOf result Trouble.Memory → K.written out.new ≡ K.written out.old }
+    ensures later { NeverFalls K.faults K.is_last out.old out.new }
+{
+    let pieces = cut(alloc, bytes)?;
+    match read_program(alloc, bytes, &pieces)? {
+        Verdict::Program(forms) => play_program(&forms, action, out),
+        Verdict::Fault(piece, line) => {
+            write_refusal(out, piece, line, Reason::NotYetBuilt)?;
+            Ok(Status::Refused(piece, Reason::NotYetBuilt))
+        }
+    }
+}
+
+// Plays an action of the program in a file.
+#[tactic(auto, using(crate::proofs::AnswerLemmas::file_to, crate::proofs::AnswerLemmas::file_front, crate::proofs::AnswerLemmas::long_to, crate::proofs::AnswerLemmas::long_front))]
+fn play_file<S: Shelf, K: Sink>(
+    alloc: Global,
+    request: &Request<'_>,
+    shelf: &mut S,
+    out: &mut K,
+) -> Result<Status, Trouble>
+    ensures answered { IfOk result (λ status. IsFault status → ⊥) }
+    ensures ok { IfOk result (λ status. IfSome (S.told shelf.old) (λ files.
+        FilePlaysTo (file_of files request.now.program.now) request.now.action (K.written out.old) (K.written out.new) status)) }
+    ensures read { IsErrOf result Trouble.Read → HasRisenAt S.faults S.is_last request.now.program.now shelf.old shelf.new }
+    ensures nothing { IsErrOf result Trouble.Read → K.written out.new ≡ K.written out.old }
+    ensures write { IsErrOf result Trouble.Write → HasRisen K.faults K.is_last out.old out.new }
+    ensures front { IsErrOf result Trouble.Write → IfSome (S.told shelf.old) (λ files.
+        FilePlaysFront (file_of files request.now.program.now) request.now.action (K.written out.old) (K.written out.new)) }
+    ensures memory { IsErrOf result Trouble.Memory → K.written out.new ≡ K.written out.old }
+    ensures keeps { S.told shelf.new ≡ S.told shelf.old }
+    ensures later { NoneFalls S.faults S.is_last shelf.old shelf.new }
+    ensures out_later { NeverFalls K.faults K.is_last out.old out.new }
+{
+    match read_whole(alloc, shelf, request.program, TEXT_LIMIT) {
+        Ok(bytes) => play_bytes(alloc, &bytes, &request.action, out),
+        Err(ReadRefused::TooLong) => {
+            write_refusal(out, 0, 0, Reason::TooLong)?;
+            Ok(Status::Refused(0, Reason::TooLong))
+        }
+        Err(ReadRefused::ReadFault) => Err(Trouble::Read),
+        Err(ReadRefused::Memory) => Err(Trouble::Memory),
+    }
+}
+
+// Does what the words ask.
+#[tactic(auto, using(crate::proofs::AnswerLemmas::usage_to, crate::proofs::AnswerLemmas::usage_front, crate::proofs::AnswerLemmas::request_to, crate::proofs::AnswerLemmas::request_front))]
+fn run<S: Shelf, K: Sink>(
+    alloc: Global,
+    words: &[String],
+    shelf: &mut S,
+    out: &mut K,
+) -> Result<Status, Trouble>
+    ensures answered { IfOk result (λ status. IsFault status → ⊥) }
+    ensures ok { IfOk result (λ status. IfSome (S.told shelf.old) (λ files.
+        Answers (map string_bytes words.now) files (K.written out.old) (K.written out.new) status)) }
+    ensures read { IsErrOf result Trouble.Read → (path action : List ℕ) × IsRequest (map string_bytes words.now) path action
+        × HasRisenAt S.faults S.is_last path shelf.old shelf.new }
+    ensures nothing { IsErrOf result Trouble.Read → K.written out.new ≡ K.written out.old }
+    ensures write { IsErrOf result Trouble.Write → HasRisen K.faults K.is_last out.old out.new }
+    ensures front { IsErrOf result Trouble.Write → IfSome (S.told shelf.old) (λ files.
+        AnswersFront (map string_bytes words.now) files (K.written out.old) (K.written out.new)) }
+    ensures memory { IsErrOf result Trouble.Memory → K.written out.new ≡ K.written out.old }
+    ensures keeps { S.told shelf.new ≡ S.told shelf.old }
+    ensures later { NoneFalls S.faults S.is_last shelf.old shelf.new }
+    ensures out_later { NeverFalls K.faults K.is_last out.old out.new }
+{
+    match read_words(words) {
+        Ok(request) => play_file(alloc, &request, shelf, out),
+        Err(n) => {
+            write_usage(out, n)?;
+            Ok(Status::Usage(n))
+        }
+    }
+}
+
+/// Does what the words ask: `play`, `program=` with a path, and `action=` with a name, in this order. What the tool says goes
+/// to the sink.
+pub fn run_tool<S: Shelf, K: Sink>(
+    alloc: Global,
+    words: &[String],
+    shelf: &mut S,
+    out: &mut K,
+) -> Status
+    // Every status but those of faults and of want of memory is the answer's, and its text is written and nothing else.
+    ensures answer { (IsFault result → ⊥) → IfSome (S.told shelf.old) (λ files.
+        Answers (map string_bytes words.now) files (K.written out.old) (K.written out.new) result) }
+
+    // A read fault comes only where the count of the file that the words name rose, and then nothing is written.
+    ensures read { result ≡ Status.ReadFault → (path action : List ℕ) × IsRequest (map string_bytes words.now) path action
+        × HasRisenAt S.faults S.is_last path shelf.old shelf.new }
+    ensures nothing { result ≡ Status.ReadFault → K.written out.new ≡ K.written out.old }
+
+    // A write fault comes only where the sink's count rose, and then a prefix of the text is written.
+    ensures write { result ≡ Status.WriteFault → HasRisen K.faults K.is_last out.old out.new }
+    ensures front { result ≡ Status.WriteFault → IfSome (S.told shelf.old) (λ files.
+        AnswersFront (map string_bytes words.now) files (K.written out.old) (K.written out.new)) }
+
+    // After want of memory a prefix of the text is written.
+    ensures memory { result ≡ Status.Memory → IfSome (S.told shelf.old) (λ files.
+        IsPrefixOfAnswers (map string_bytes words.now) files (K.written out.old) (K.written out.new)) }
+
+    // Whatever is answered, the files stay, and no count falls.
+    ensures keeps { S.told shelf.new ≡ S.told shelf.old }
+    ensures later { NoneFalls S.faults S.is_last shelf.old shelf.new }
+    ensures out_later { NeverFalls K.faults K.is_last out.old out.new }
+{
+    match run(alloc, words, shelf, out) {
+        Ok(status) => status,
+        Err(Trouble::Read) => Status::ReadFault,
+        Err(Trouble::Write) => Status::WriteFault,
+        Err(Trouble::Memory) => Status::Memory,
+    }
+}
