@@ -1,0 +1,248 @@
+//! Tests of lists of bits, with vectors from outside.
+use bit_list::{Bits, BitsRefused, MOST_DIGITS};
+use std::alloc::Global;
+use std::process::Abort;
+use std::test::Fail;
+
+/// Hexadecimal digits, and their bits, the lowest index on the left.
+const HEX: [(&str, &str); 9] = [
+    ("", ""),
+    ("0", "0000"),
+    ("8", "0001"),
+    ("a5", "10100101"),
+    ("1B3", "110011011000"),
+    ("00f", "111100000000"),
+    ("CAFE", "0111111101010011"),
+    ("DeadBeef", "11110111011111011011010101111011"),
+    ("123456789", "100100011110011010100010110001001000"),
+];
+
+/// Binary digits, and their bits, the lowest index on the left.
+const BINARY: [(&str, &str); 6] = [
+    ("", ""),
+    ("0", "0"),
+    ("1", "1"),
+    ("110", "011"),
+    ("0001", "1000"),
+    ("1011000111", "1110001101"),
+];
+
+/// What is not hexadecimal, and the place of the first byte that is no digit.
+const NO_HEX: [(&str, u32); 9] = [
+    ("G", 0),
+    ("g1", 0),
+    ("0x1", 1),
+    ("12 34", 2),
+    ("AZ", 1),
+    ("a/:", 1),
+    ("9@`", 1),
+    ("00-", 2),
+    ("FFFF\n", 4),
+];
+
+/// What is not binary, and the place of the first byte that is no digit.
+const NO_BINARY: [(&str, u32); 5] = [("12", 1), ("2", 0), ("01 ", 2), ("1101a2", 4), ("/", 0)];
+
+/// The integers of the lowest 0 to 32 of the bits from index 5 on of the list of the hexadecimal digits 96C3A5F0E1.
+const INTEGERS: [i32; 33] = [
+    0,
+    1,
+    3,
+    7,
+    7,
+    7,
+    7,
+    7,
+    135,
+    391,
+    903,
+    1927,
+    3975,
+    3975,
+    12167,
+    12167,
+    12167,
+    77703,
+    77703,
+    339847,
+    864135,
+    1912711,
+    1912711,
+    1912711,
+    1912711,
+    1912711,
+    35467143,
+    102576007,
+    102576007,
+    371011463,
+    907882375,
+    907882375,
+    -1239601273,
+];
+
+/// Integers, and the hexadecimal digits of their 32 bits.
+const INTEGER_BITS: [(i32, &str); 9] = [
+    (0, "00000000"),
+    (1, "00000001"),
+    (-1, "FFFFFFFF"),
+    (-2, "FFFFFFFE"),
+    (2147483647, "7FFFFFFF"),
+    (-2147483648, "80000000"),
+    (305419896, "12345678"),
+    (-305419897, "EDCBA987"),
+    (-65536, "FFFF0000"),
+];
+
+/// A copy of a range: the target, the index in it, the source, the index in it, how many bits, and the target afterwards, all as binary
+/// digits, the highest index on the left.
+const COPIES: [(&str, u32, &str, u32, u32, &str); 8] = [
+    ("0000", 0, "1111", 0, 4, "1111"),
+    ("0000", 0, "1111", 0, 0, "0000"),
+    ("0000", 4, "1111", 4, 0, "0000"),
+    ("0000", 3, "1000", 3, 1, "1000"),
+    ("1111", 1, "110", 0, 2, "1101"),
+    ("0000000", 4, "1011", 1, 3, "1010000"),
+    ("", 0, "", 0, 0, ""),
+    ("110011", 2, "0110", 1, 2, "111111"),
+];
+
+/// A comparison: two lists, the mask, how many bits, and whether they agree, all as binary digits, the highest index on the left.
+const COMPARISONS: [(&str, &str, &str, u32, bool); 9] = [
+    ("1010", "1010", "1111", 4, true),
+    ("1010", "1011", "1111", 4, false),
+    ("1010", "1011", "1110", 4, true),
+    ("1010", "0010", "1111", 4, false),
+    ("1010", "0010", "1111", 3, true),
+    ("1010", "0010", "0111", 4, true),
+    ("1010", "0101", "0000", 4, true),
+    ("1", "0", "1", 0, true),
+    ("", "", "", 0, true),
+];
+
+/// Whether the list has the bits that are written as this text, the lowest index on the left.
+fn is_written(bits: &Bits, text: &str) -> bool {
+    let text = text.as_bytes();
+    if bits.len() as usize != text.len() {
+        return false;
+    }
+    for i in 0..bits.len() {
+        if bits.get(i) != (text[i as usize] == b'1') {
+            return false;
+        }
+    }
+    true
+}
+
+/// The list of these digits, of which there are few.
+fn binary(rt: &impl Abort, alloc: Global, text: &str) -> Result<Bits, BitsRefused> {
+    assert!(rt; text.len() <= MOST_DIGITS);
+    Bits::from_binary(alloc, text.as_bytes())
+}
+
+/// The list of these digits, of which there are few.
+fn hex(rt: &impl Abort, alloc: Global, text: &str) -> Result<Bits, BitsRefused> {
+    assert!(rt; text.len() <= MOST_DIGITS);
+    Bits::from_hex(alloc, text.as_bytes())
+}
+
+#[test]
+fn reads_digits(rt: HostRuntime) -> Result<(), Fail> {
+    for (digits, bits) in HEX {
+        assert!(rt;
+            is_written(&hex(&rt, rt.alloc(), digits)?, bits),
+            "hexadecimal {digits}"
+        );
+    }
+    for (digits, bits) in BINARY {
+        assert!(rt;
+            is_written(&binary(&rt, rt.alloc(), digits)?, bits),
+            "binary {digits}"
+        );
+    }
+    for (digits, place) in NO_HEX {
+        assert_eq!(rt;
+            hex(&rt, rt.alloc(), digits),
+            Err(BitsRefused::BadDigit(place)),
+            "hexadecimal {digits}"
+        );
+    }
+    for (digits, place) in NO_BINARY {
+        assert_eq!(rt;
+            binary(&rt, rt.alloc(), digits),
+            Err(BitsRefused::BadDigit(place)),
+            "binary {digits}"
+        );
+    }
+    Ok(())
+}
+
+#[test]
+fn changes_bits(rt: HostRuntime) -> Result<(), Fail> {
+    let mut bits = Bits::zeros(rt.alloc(), 5)?;
+    assert!(rt; is_written(&bits, "00000") && !bits.is_empty());
+    bits.set(1, true);
+    bits.set(4, true);
+    let copy = bits.copied(rt.alloc())?;
+    bits.set(4, false);
+    assert!(rt; is_written(&bits, "01000"));
+    assert!(rt; is_written(&copy, "01001") && bits != copy);
+    Ok(())
+}
+
+#[test]
+fn copies_ranges(rt: HostRuntime) -> Result<(), Fail> {
+    for (target, at, source, low, n, wanted) in COPIES {
+        let mut bits = binary(&rt, rt.alloc(), target)?;
+        let from = binary(&rt, rt.alloc(), source)?;
+        assert!(rt; at <= bits.len() && n <= bits.len() - at);
+        assert!(rt; low <= from.len() && n <= from.len() - low);
+        bits.copy_range(at, &from, low, n);
+        assert_eq!(rt;
+            bits,
+            binary(&rt, rt.alloc(), wanted)?,
+            "{n} bits of {source} into {target}"
+        );
+    }
+    Ok(())
+}
+
+#[test]
+fn compares_under_a_mask(rt: HostRuntime) -> Result<(), Fail> {
+    for (left, right, mask, n, wanted) in COMPARISONS {
+        let a = binary(&rt, rt.alloc(), left)?;
+        let b = binary(&rt, rt.alloc(), right)?;
+        let under = binary(&rt, rt.alloc(), mask)?;
+        assert!(rt; n <= a.len() && n <= b.len() && n <= under.len());
+        assert_eq!(rt;
+            a.masked_equal(&b, &under, n),
+            wanted,
+            "{n} bits of {left} and {right} under {mask}"
+        );
+    }
+    Ok(())
+}
+
+#[test]
+fn converts_integers(rt: HostRuntime) -> Result<(), Fail> {
+    let bits = hex(&rt, rt.alloc(), "96C3A5F0E1")?;
+    assert!(rt; bits.len() == 40);
+    for n in 0..33 {
+        assert_eq!(rt; bits.to_int(5, n), INTEGERS[n as usize], "{n} bits");
+    }
+    for (value, digits) in INTEGER_BITS {
+        let mut written = Bits::zeros(rt.alloc(), 32)?;
+        written.set_int(value);
+        assert_eq!(rt;
+            written,
+            hex(&rt, rt.alloc(), digits)?,
+            "the bits of {value}"
+        );
+        assert_eq!(rt; written.to_int(0, 32), value, "{value} and back");
+    }
+    let mut longer = hex(&rt, rt.alloc(), "800000000")?;
+    assert!(rt; longer.len() == 36);
+    longer.set_int(-1);
+    assert_eq!(rt; longer, hex(&rt, rt.alloc(), "8FFFFFFFF")?);
+    assert_eq!(rt; longer.to_int(4, 32), -1_879_048_193);
+    Ok(())
+}

@@ -1,0 +1,15 @@
+//! Tests that cross crates.
+#![tactic(auto)]
+
+#[cfg(test)]
+mod bits;
+#[cfg(test)]
+mod lists;
+#[cfg(test)]
+mod outside;
+#[cfg(test)]
+mod pieces;
+#[cfg(test)]
+mod plays;
+#[cfg(test)]
+mod taps;

@@ -1,0 +1,312 @@
+//! What the tool answers to its words, over a store and a sink in memory.
+use play_tool::{Status, run_tool};
+use stapl_lexer::Reason;
+use std::test::Fail;
+use tool_io::{MemShelf, MemSink};
+
+// What the tool writes, and its status, for these words, where the store has the one file `p` and the sink takes `bite` bytes a
+// write, of which the numbered one fails.
+fn answer(
+    rt: &HostRuntime,
+    words: &[&str],
+    program: Vec<u8>,
+    bite: u32,
+    failing: u32,
+) -> Result<(Status, Vec<u8>), Fail> {
+    let alloc = rt.alloc();
+    let mut owned = Vec::new(alloc);
+    for word in words {
+        owned.push(String::from_str(alloc, word)?)?;
+    }
+    let names = vec![in alloc; String::from_str(alloc, "p")?]?;
+    let files = vec![in alloc; program]?;
+    let mut shelf = MemShelf::new(alloc, names, files, Vec::new(alloc))?;
+    let mut out = MemSink::new(alloc, 1000, bite.max(1), vec![in alloc; failing]?)?;
+    let status = run_tool(alloc, &owned, &mut shelf, &mut out);
+    Ok((status, out.written().to_vec(alloc)?))
+}
+
+const HELLO: &str = "ACTION A=P;PROCEDURE P;PRINT \"HELLO\";EXIT 0;ENDPROC;";
+
+const PLAY: [&str; 3] = ["play", "program=p", "action=A"];
+
+#[test]
+fn prints_and_exits(rt: HostRuntime) -> Result<(), Fail> {
+    let program = HELLO.as_bytes().to_vec(rt.alloc())?;
+    let (status, written) = answer(&rt, &PLAY, program, 100, 0)?;
+    assert_eq!(rt; status, Status::Done(0));
+    assert_eq!(rt; written.as_slice(), b"P HELLO\nE exit 0\n".as_slice());
+    assert_eq!(rt; status.exit_code(), 0);
+    Ok(())
+}
+
+// Programs that are played, each with what is written and the code that it ends with.
+#[test]
+fn plays_programs(rt: HostRuntime) -> Result<(), Fail> {
+    let table: [(&str, &str, i32); 9] = [
+        (
+            "' a ; comment\nACTION A=P;PROCEDURE P;PRINT \"A;'B\";ENDPROC;",
+            "P A;'B\nE exit 0\n",
+            0,
+        ),
+        (
+            "ACTION A=P;PROCEDURE P;PRINT \"B\\\";ENDPROC;",
+            "P B\\5C\nE exit 0\n",
+            0,
+        ),
+        (
+            "ACTION A=P;PROCEDURE P;PRINT \"\t\u{e9}~\";ENDPROC;",
+            "P \\09\\C3\\A9~\nE exit 0\n",
+            0,
+        ),
+        ("ACTION A=P;PROCEDURE P;ENDPROC;", "E exit 0\n", 0),
+        (
+            "ACTION A=P;PROCEDURE P;PRINT \"\";ENDPROC;",
+            "P \nE exit 0\n",
+            0,
+        ),
+        (
+            "action a=p;Procedure P;print\"x\";exit 2147483647;endproc;",
+            "P x\nE exit 2147483647\n",
+            2147483647,
+        ),
+        (
+            "ACTION A=P;PROCEDURE P;EXIT 3;PRINT \"NEVER\";ENDPROC;",
+            "E exit 3\n",
+            3,
+        ),
+        (
+            "ACTION A = P;\r\nPROCEDURE P ;\r\nEXIT 007;\r\nENDPROC;\r\n' end",
+            "E exit 7\n",
+            7,
+        ),
+        (
+            "ACTION A'c\n=P;PROCEDURE P;PRINT'c;\n\"x\"'c\n;PRINT \"y\";ENDPROC;",
+            "P x\nP y\nE exit 0\n",
+            0,
+        ),
+    ];
+    for (program, want, code) in table {
+        let (status, written) = answer(&rt, &PLAY, program.as_bytes().to_vec(rt.alloc())?, 100, 0)?;
+        assert_eq!(rt; status, Status::Done(code), "at {program:?}");
+        assert_eq!(rt; written.as_slice(), want.as_bytes(), "at {program:?}");
+    }
+    Ok(())
+}
+
+// Texts that are refused, each with the line that is written and the piece of its first fault.
+#[test]
+fn refuses_at_the_first_fault(rt: HostRuntime) -> Result<(), Fail> {
+    let table: [(&str, &str, u32); 20] = [
+        ("", "R program 1 line 1 NotYetBuilt\n", 1),
+        (" \n' c", "R program 1 line 2 NotYetBuilt\n", 1),
+        (
+            "ACTION A=P;PROCEDURE P;PRINT \"A\";PRINT 1;ENDPROC;",
+            "R program 4 line 1 NotYetBuilt\n",
+            4,
+        ),
+        (
+            "ACTION A=P;PROCEDURE P;\nENDPROC;\nX;",
+            "R program 4 line 3 NotYetBuilt\n",
+            4,
+        ),
+        (
+            "ACTION A=P;PROCEDURE P;ENDPROC",
+            "R program 3 line 1 NotYetBuilt\n",
+            3,
+        ),
+        (
+            "ACTION A=P;PROCEDURE P;PRINT \"A\"",
+            "R program 3 line 1 NotYetBuilt\n",
+            3,
+        ),
+        (
+            "ACTION A=P;PROCEDURE P;\n",
+            "R program 3 line 2 NotYetBuilt\n",
+            3,
+        ),
+        (
+            "ACTION A=P;PROCEDURE Q;ENDPROC;",
+            "R program 2 line 1 NotYetBuilt\n",
+            2,
+        ),
+        (
+            "PROCEDURE P;ENDPROC;",
+            "R program 1 line 1 NotYetBuilt\n",
+            1,
+        ),
+        (
+            "ACTION A=EXIT;PROCEDURE EXIT;ENDPROC;",
+            "R program 1 line 1 NotYetBuilt\n",
+            1,
+        ),
+        (
+            "ACTION A==P;PROCEDURE P;ENDPROC;",
+            "R program 1 line 1 NotYetBuilt\n",
+            1,
+        ),
+        (
+            "ACTION A=P;PROCEDURE P;EXIT 2147483648;ENDPROC;",
+            "R program 3 line 1 NotYetBuilt\n",
+            3,
+        ),
+        (
+            "ACTION A=P;PROCEDURE P;EXIT 99999999999999999999;ENDPROC;",
+            "R program 3 line 1 NotYetBuilt\n",
+            3,
+        ),
+        (
+            "ACTION A=P;PROCEDURE P;EXIT 1E2;ENDPROC;",
+            "R program 3 line 1 NotYetBuilt\n",
+            3,
+        ),
+        (
+            "ACTION A=P;PROCEDURE P;EXIT 5 5;ENDPROC;",
+            "R program 3 line 1 NotYetBuilt\n",
+            3,
+        ),
+        (
+            "ACTION A=P;PROCEDURE P;PRINT \"A\nB\";ENDPROC;",
+            "R program 3 line 1 NotYetBuilt\n",
+            3,
+        ),
+        (
+            "ACTION A=P;PROCEDURE P;EXIT5;ENDPROC;",
+            "R program 3 line 1 NotYetBuilt\n",
+            3,
+        ),
+        (
+            "ACTION A=P;PROCEDURE P;EXIT @;ENDPROC;",
+            "R program 3 line 1 NotYetBuilt\n",
+            3,
+        ),
+        (
+            "ACTION A234567890123456789012345678901_B=P;",
+            "R program 1 line 1 NotYetBuilt\n",
+            1,
+        ),
+        (
+            "ACTION A=P;ACTION B=P;",
+            "R program 2 line 1 NotYetBuilt\n",
+            2,
+        ),
+    ];
+    for (program, want, piece) in table {
+        let (status, written) = answer(&rt, &PLAY, program.as_bytes().to_vec(rt.alloc())?, 100, 0)?;
+        let refused = Status::Refused(piece, Reason::NotYetBuilt);
+        assert_eq!(rt; status, refused, "at {program:?}");
+        assert_eq!(rt; written.as_slice(), want.as_bytes(), "at {program:?}");
+        assert_eq!(rt; status.exit_code(), 4);
+    }
+    Ok(())
+}
+
+#[test]
+fn refuses_a_text_that_is_too_long(rt: HostRuntime) -> Result<(), Fail> {
+    let long = vec![in rt.alloc(); b' '; 4_194_305]?;
+    let (status, written) = answer(&rt, &PLAY, long, 100, 0)?;
+    assert_eq!(rt; status, Status::Refused(0, Reason::TooLong));
+    assert_eq!(rt;
+        written.as_slice(),
+        b"R program 0 line 0 TooLong\n".as_slice()
+    );
+    let whole = vec![in rt.alloc(); b' '; 4_194_304]?;
+    let (status, written) = answer(&rt, &PLAY, whole, 100, 0)?;
+    assert_eq!(rt; status, Status::Refused(1, Reason::NotYetBuilt));
+    assert_eq!(rt;
+        written.as_slice(),
+        b"R program 1 line 1 NotYetBuilt\n".as_slice()
+    );
+    Ok(())
+}
+
+// Words, each list with what is written, and the status.
+#[test]
+fn answers_words(rt: HostRuntime) -> Result<(), Fail> {
+    let table: [(&[&str], &str, Status); 15] = [
+        (&[], "R usage 1\n", Status::Usage(1)),
+        (&["list"], "R usage 1\n", Status::Usage(1)),
+        (&["play"], "R usage 2\n", Status::Usage(2)),
+        (&["play", "program="], "R usage 2\n", Status::Usage(2)),
+        (&["play", "action=A"], "R usage 2\n", Status::Usage(2)),
+        (&["play", "program=p"], "R usage 3\n", Status::Usage(3)),
+        (
+            &["play", "program=p", "action="],
+            "R usage 3\n",
+            Status::Usage(3),
+        ),
+        (
+            &["play", "program=p", "action=1"],
+            "R usage 3\n",
+            Status::Usage(3),
+        ),
+        (
+            &["play", "program=p", "action=exit"],
+            "R usage 3\n",
+            Status::Usage(3),
+        ),
+        (
+            &["play", "program=p", "action=A", "x"],
+            "R usage 4\n",
+            Status::Usage(4),
+        ),
+        (
+            &["play", "program=p", "action=A", "", "y"],
+            "R usage 4\n",
+            Status::Usage(4),
+        ),
+        (
+            &["play", "program=p", "action=B"],
+            "R action\n",
+            Status::NoAction,
+        ),
+        (&["play", "program=q", "action=A"], "", Status::ReadFault),
+        (
+            &["play", "program=q", "action=A", "x"],
+            "R usage 4\n",
+            Status::Usage(4),
+        ),
+        (
+            &["play", "program=p", "action=a"],
+            "P HELLO\nE exit 0\n",
+            Status::Done(0),
+        ),
+    ];
+    for (words, want, status) in table {
+        let program = HELLO.as_bytes().to_vec(rt.alloc())?;
+        let (found, written) = answer(&rt, words, program, 100, 0)?;
+        assert_eq!(rt; found, status, "at {words:?}");
+        assert_eq!(rt; written.as_slice(), want.as_bytes(), "at {words:?}");
+    }
+    Ok(())
+}
+
+#[test]
+fn keeps_a_prefix_where_the_third_write_fails(rt: HostRuntime) -> Result<(), Fail> {
+    let program = HELLO.as_bytes().to_vec(rt.alloc())?;
+    let (status, written) = answer(&rt, &PLAY, program, 4, 3)?;
+    assert_eq!(rt; status, Status::WriteFault);
+    assert_eq!(rt; written.as_slice(), b"P HELLO\n".as_slice());
+    assert_eq!(rt; status.exit_code(), 10);
+    Ok(())
+}
+
+// The exit code of each status.
+#[test]
+fn gives_exit_codes(rt: HostRuntime) -> Result<(), Fail> {
+    let table: [(Status, u8); 9] = [
+        (Status::Done(0), 0),
+        (Status::Done(-1), 1),
+        (Status::Done(256), 1),
+        (Status::Refused(1, Reason::NotYetBuilt), 4),
+        (Status::NoAction, 6),
+        (Status::Usage(1), 7),
+        (Status::ReadFault, 9),
+        (Status::WriteFault, 10),
+        (Status::Memory, 11),
+    ];
+    for (status, code) in table {
+        assert_eq!(rt; status.exit_code(), code);
+    }
+    Ok(())
+}
