@@ -1,5 +1,7 @@
 -- On answers, from what the layers below ensure.
-use Rattle.std.proofs.Common.{◌≡◌, ◌<◌, ℕ, pos, List, length, codes, Option, Some, IfSome, None}
+use Rattle.std.proofs.Common.{◌≡◌, ◌<◌, ℕ, pos, List, [], ◌∷◌, length, codes, Option, Some, IfSome, None, refl, replicate, arith, ◌+◌}
+use Rattle.std.proofs.lemmas.List.{length-replicate}
+use Rattle.std.proofs.lemmas.Slice.Eq.{bytes_eq-Decides}
 use Rattle.tool_io.specs.Bytes.{then_bytes, MovesFront}
 use Rattle.tool_io.specs.Files.{file_of}
 use Rattle.tool_io.proofs.BytesLemmas.{moves_front_nothing}
@@ -11,7 +13,7 @@ use Rattle.play_tool.specs.declared.status.Status.{Status}
 use Rattle.play_tool.specs.declared.status.Status.TheVariants.{Refused, Usage}
 use Rattle.play_tool.specs.Texts.{number_line, refusal_line}
 use Rattle.play_tool.specs.Words.{IsRequest, IsUsage}
-use Rattle.play_tool.specs.Answers.{refused, accepted, usage, plays, Answers, AnswersFront, IsPrefixOfAnswers, ProgramPlaysTo, ProgramPlaysFront, PlaysTo, PlaysFront, FilePlaysTo, FilePlaysFront}
+use Rattle.play_tool.specs.Answers.{refused, accepted, usage, plays, Answers, AnswersFront, IsPrefixOfAnswers, ProgramPlaysTo, ProgramPlaysFront, PlaysTo, PlaysFront, FilePlaysTo, FilePlaysFront, GivenPlaysTo, GivenPlaysFront, GivenAnswers, GivenAnswersFront}
 
 pub accepted_to : {bytes action : List ℕ} {before after : Option (List ℕ)} {status : Status} (program : List BodyTree) → IsProgram bytes program →
     ProgramPlaysTo program action before after status → PlaysTo bytes action before after status
@@ -75,3 +77,51 @@ pub told_prefix : (words : List (List ℕ)) (before after : Option (List ℕ)) (
     IfSome told (λ files. IsPrefixOfAnswers words files before after)
 told_prefix words before after None e = tt
 told_prefix words before after (Some files) e = nothing_is_prefix e
+
+-- the same without a word on what the store tells
+
+pub given_to : {action bytes : List ℕ} {before after : Option (List ℕ)} {status : Status} → PlaysTo bytes action before after status →
+    GivenPlaysTo action before after status
+given_to {bytes = bytes} p = record { bytes = bytes; plays = p }
+
+pub given_front : {action bytes : List ℕ} {before after : Option (List ℕ)} → PlaysFront bytes action before after → GivenPlaysFront action before after
+given_front {bytes = bytes} p = record { bytes = bytes; plays = p }
+
+-- there is a text of each length
+text_of_length : (n : ℕ) → (text : List ℕ) × (length text ≡ n)
+text_of_length n = (replicate n 0, length-replicate n 0)
+
+is_longer : (text : List ℕ) (n : ℕ) → length text ≡ n + 1 → n < length text
+is_longer text n e = omega arith
+
+-- and so one that is too long
+long_text : (n : ℕ) → (text : List ℕ) × (n < length text)
+long_text n = let t = text_of_length (n + 1) in (t.0, is_longer t.0 n t.1)
+
+pub given_long_to : {action : List ℕ} {before after : Option (List ℕ)} → after ≡ then_bytes before (refusal_line 0 0 reasons.TooLong) →
+    GivenPlaysTo action before after (Refused 0 reasons.TooLong)
+given_long_to e = let t = long_text 4194304 in given_to (long_to t.0 t.1 e)
+
+pub given_long_front : {action : List ℕ} {before after : Option (List ℕ)} → MovesFront before (refusal_line 0 0 reasons.TooLong) after →
+    GivenPlaysFront action before after
+given_long_front m = let t = long_text 4194304 in given_front (long_front t.0 t.1 m)
+
+-- the file of a store of one
+one_file : (path bytes : List ℕ) → file_of ((path, bytes) ∷ []) path ≡ Some bytes
+one_file path bytes = rw ((bytes_eq-Decides path path).1 refl) refl
+
+pub given_usage_to : {words : List (List ℕ)} {before after : Option (List ℕ)} (n : ℕ) → IsUsage words n →
+    after ≡ then_bytes before (number_line (codes "R usage ") (pos n)) → GivenAnswers words before after (Usage n)
+given_usage_to n u e = record { files = []; answers = usage_to n u e }
+
+pub given_usage_front : {words : List (List ℕ)} {before after : Option (List ℕ)} (n : ℕ) → IsUsage words n →
+    MovesFront before (number_line (codes "R usage ") (pos n)) after → GivenAnswersFront words before after
+given_usage_front n u m = record { files = []; answers = usage_front n u m }
+
+pub given_request_to : {words : List (List ℕ)} {before after : Option (List ℕ)} {status : Status} {path action : List ℕ} →
+    IsRequest words path action → GivenPlaysTo action before after status → GivenAnswers words before after status
+given_request_to {path = path} r p = record { files = (path, p.bytes) ∷ []; answers = request_to r (file_to (one_file path p.bytes) p.plays) }
+
+pub given_request_front : {words : List (List ℕ)} {before after : Option (List ℕ)} {path action : List ℕ} →
+    IsRequest words path action → GivenPlaysFront action before after → GivenAnswersFront words before after
+given_request_front {path = path} r p = record { files = (path, p.bytes) ∷ []; answers = request_front r (file_front (one_file path p.bytes) p.plays) }

@@ -1,5 +1,6 @@
 -- On what may stand behind the statements that have been read.
-use Rattle.std.proofs.Common.{◌≡◌, ◌≢◌, ◌≤◌, ◌<◌, ◌+◌, ℕ, List, [], ◌∷◌, ◌++◌, length, refl, sym, ap, ◌∙◌, Bool, true, false, ◌&&◌, arith, subst, append_assoc, None, Some, map, take, drop, get_or, suc}
+use Rattle.std.proofs.Common.{◌≡◌, ◌≢◌, ◌≤◌, ◌<◌, ◌+◌, ℕ, List, [], ◌∷◌, ◌++◌, length, refl, sym, ap, ◌∙◌, true, false, arith, subst, append_assoc, None, Some, map, take, drop, get_or, suc}
+use Rattle.std.specs.Cmp.{first_so, second_so}
 use Rattle.std.specs.List.{list_all}
 use Rattle.std.proofs.Math.Seq.{drop-cons}
 use Rattle.std.proofs.lemmas.List.{append-nil, take-append-drop, take_more, take_all, length-take-le, length-append, map-append}
@@ -18,14 +19,6 @@ use Rattle.play_tool.specs.Stages.{IsInside, IsAt, IsNextStage, IsReadThrough, R
 simple_end : (b : BodyTree) → is_simple b ≡ true → b ≡ end_procedure → ⊥
 simple_end b s e = let h : is_simple end_procedure ≡ true = subst (λ (z : BodyTree). is_simple z ≡ true) e s in cc
 
-first_of : (p q : Bool) → (p && q) ≡ true → p ≡ true
-first_of true q e = refl
-first_of false q e = e
-
-rest_of : (p q : Bool) → (p && q) ≡ true → q ≡ true
-rest_of true q e = e
-rest_of false q e = cc
-
 not_simple : (a b : BodyTree) → is_simple a ≡ true → is_simple b ≡ false → a ≡ b → ⊥
 not_simple a b s n e = let h : is_simple b ≡ true = subst (λ (z : BodyTree). is_simple z ≡ true) e s in cc
 
@@ -33,17 +26,17 @@ not_simple a b s n e = let h : is_simple b ≡ true = subst (λ (z : BodyTree). 
 no_other : (xs ys : List BodyTree) (b : BodyTree) (more : List BodyTree) → list_all is_simple xs ≡ true → list_all is_simple ys ≡ true →
     is_simple b ≡ false → b ≢ end_procedure → xs ++ b ∷ more ≡ ys ++ end_procedure ∷ [] → ⊥
 no_other [] [] b more p q n ne e = ne cc
-no_other [] (y ∷ ys) b more p q n ne e = not_simple y b (first_of (is_simple y) _ q) n cc
-no_other (x ∷ xs) [] b more p q n ne e = simple_end x (first_of (is_simple x) _ p) cc
-no_other (x ∷ xs) (y ∷ ys) b more p q n ne e = no_other xs ys b more (rest_of (is_simple x) _ p) (rest_of (is_simple y) _ q) n ne cc
+no_other [] (y ∷ ys) b more p q n ne e = not_simple y b (first_so (is_simple y) _ q) n cc
+no_other (x ∷ xs) [] b more p q n ne e = simple_end x (first_so (is_simple x) _ p) cc
+no_other (x ∷ xs) (y ∷ ys) b more p q n ne e = no_other xs ys b more (second_so (is_simple x) _ p) (second_so (is_simple y) _ q) n ne cc
 
 -- behind ENDPROC none stands
 no_more : (xs ys : List BodyTree) (b : BodyTree) (more : List BodyTree) → list_all is_simple xs ≡ true → list_all is_simple ys ≡ true →
     xs ++ end_procedure ∷ b ∷ more ≡ ys ++ end_procedure ∷ [] → ⊥
 no_more [] [] b more p q e = cc
-no_more [] (y ∷ ys) b more p q e = simple_end y (first_of (is_simple y) _ q) cc
-no_more (x ∷ xs) [] b more p q e = simple_end x (first_of (is_simple x) _ p) cc
-no_more (x ∷ xs) (y ∷ ys) b more p q e = no_more xs ys b more (rest_of (is_simple x) _ p) (rest_of (is_simple y) _ q) cc
+no_more [] (y ∷ ys) b more p q e = simple_end y (first_so (is_simple y) _ q) cc
+no_more (x ∷ xs) [] b more p q e = simple_end x (first_so (is_simple x) _ p) cc
+no_more (x ∷ xs) (y ∷ ys) b more p q e = no_more xs ys b more (second_so (is_simple x) _ p) (second_so (is_simple y) _ q) cc
 
 tails : (a b : BodyTree) (xs : List BodyTree) (c d : BodyTree) (ys : List BodyTree) → a ∷ b ∷ xs ≡ c ∷ d ∷ ys → xs ≡ ys
 tails a b xs c d ys e = cc
@@ -82,8 +75,8 @@ begins_at stages.Ended bodies at =
 no_end_among : (xs ys : List BodyTree) → list_all is_simple xs ≡ true → xs ≡ ys ++ end_procedure ∷ [] → ⊥
 no_end_among [] [] p e = cc
 no_end_among [] (y ∷ ys) p e = cc
-no_end_among (x ∷ xs) [] p e = simple_end x (first_of (is_simple x) _ p) cc
-no_end_among (x ∷ xs) (y ∷ ys) p e = no_end_among xs ys (rest_of (is_simple x) _ p) cc
+no_end_among (x ∷ xs) [] p e = simple_end x (first_so (is_simple x) _ p) cc
+no_end_among (x ∷ xs) (y ∷ ys) p e = no_end_among xs ys (second_so (is_simple x) _ p) cc
 
 -- what is inside a procedure is no whole program
 pub not_whole : (bodies : List BodyTree) → IsInside bodies → IsProgramOrder bodies → ⊥

@@ -1,5 +1,7 @@
 -- On tokens that are read from the front of bytes.
 use Rattle.std.proofs.Common.{◌≡◌, ◌≢◌, ◌≤◌, ◌<◌, ◌+◌, ◌*◌, ◌-◌, ℕ, min, List, [], ◌∷◌, ◌++◌, length, take, drop, get_or, refl, sym, ap, ◌∙◌, Bool, true, false, ◌&&◌, ◌||◌, ◌==◌, not, arith, subst, append_assoc, add-zero, zero, suc, None, map, slice_range}
+use Rattle.std.specs.Cmp.{first_so, second_so}
+use Rattle.std.specs.Cmp.Derive.{both_true}
 use Rattle.std.proofs.lemmas.Bool.Decides.{nat_tests}
 use Rattle.std.proofs.Math.ListN.{drop_of_length-le}
 use Rattle.std.proofs.Math.Seq.{take-append_seam, take-length}
@@ -51,14 +53,9 @@ run_all test bytes i le passes = record {
   stops = starts_without_at test bytes (length bytes) (λ lt. absurd (omega arith));
 }
 
-both_true : (a b : Bool) → a ≡ true → b ≡ true → (a && b) ≡ true
-both_true true true p q = refl
-both_true true false p q = q
-both_true false b p q = p
-
 -- one byte more of a run
 pub run_more : (test : ℕ → Bool) (bytes : List ℕ) (i : ℕ) → i < length bytes → list_all test (take i bytes) ≡ true → test (get_or bytes i 0) ≡ true → list_all test (take (i + 1) bytes) ≡ true
-run_more test bytes i lt passes next = list_all_more test bytes i 0 lt ∙ both_true _ _ passes next
+run_more test bytes i lt passes next = list_all_more test bytes i 0 lt ∙ both_true passes next
 
 -- one blank more
 pub blank_more : (bytes : List ℕ) (at n : ℕ) → IsBlankUpTo bytes at → BeginsWithSegment (drop at bytes) n →
@@ -71,7 +68,7 @@ blank_more bytes at n before next blank =
       blanks = before.blanks ++ s ∷ [];
       divides = subst (λ (z : List ℕ). Divides (before.blanks ++ s ∷ []) bytes z) (drop-drop n at bytes)
           (divides_more before.blanks bytes s (drop n (drop at bytes)) (subst (λ (z : List ℕ). Divides before.blanks bytes z) next.parts before.divides) next.valid);
-      blank = list_all-append is_blank before.blanks (s ∷ []) ∙ both_true _ _ before.blank (both_true _ _ s_blank refl);
+      blank = list_all-append is_blank before.blanks (s ∷ []) ∙ both_true before.blank (both_true s_blank refl);
     }
 
 -- where the blanks end
@@ -230,11 +227,7 @@ no_quote_at (b ∷ bs) zero none lt e = first_is (ends_string b) (ap ends_string
     first_is : (t : Bool) → t ≡ true → (not t && list_all (λ q. not (ends_string q)) bs) ≡ true → ⊥
     first_is true p q = cc
     first_is false p q = cc
-no_quote_at (b ∷ bs) (suc k) none lt e = no_quote_at bs k (rest_of (not (ends_string b)) none) (omega arith) e
-  where
-    rest_of : (t : Bool) → (t && list_all (λ q. not (ends_string q)) bs) ≡ true → list_all (λ q. not (ends_string q)) bs ≡ true
-    rest_of true p = p
-    rest_of false p = cc
+no_quote_at (b ∷ bs) (suc k) none lt e = no_quote_at bs k (second_so (not (ends_string b)) _ none) (omega arith) e
 
 get_or_front : (xs ys : List ℕ) (k : ℕ) → k < length xs → get_or (xs ++ ys) k 0 ≡ get_or xs k 0
 get_or_front [] ys k lt = absurd (omega arith)
@@ -295,16 +288,8 @@ digit_value_is b h = grind (arith, nat_tests, h)
 
 passes_at : (test : ℕ → Bool) (bytes : List ℕ) (i : ℕ) → list_all test bytes ≡ true → i < length bytes → test (get_or bytes i 0) ≡ true
 passes_at test [] i all lt = absurd (omega arith)
-passes_at test (b ∷ bs) zero all lt = first_of (test b) (list_all test bs) all
-  where
-    first_of : (p q : Bool) → (p && q) ≡ true → p ≡ true
-    first_of true q e = refl
-    first_of false q e = e
-passes_at test (b ∷ bs) (suc i) all lt = passes_at test bs i (rest_of (test b) (list_all test bs) all) (omega arith)
-  where
-    rest_of : (p q : Bool) → (p && q) ≡ true → q ≡ true
-    rest_of true q e = e
-    rest_of false q e = cc
+passes_at test (b ∷ bs) zero all lt = first_so (test b) _ all
+passes_at test (b ∷ bs) (suc i) all lt = passes_at test bs i (second_so (test b) _ all) (omega arith)
 
 pub digits_more : (digits : List ℕ) (i v : ℕ) → list_all is_ascii_digit digits ≡ true → i < length digits → v ≡ min (digits_value 10 (take i digits)) (2147483648 + 1) →
     min (v * 10 + (get_or digits i 0 - 48)) (2147483648 + 1) ≡ min (digits_value 10 (take (i + 1) digits)) (2147483648 + 1)

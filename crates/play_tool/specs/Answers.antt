@@ -100,3 +100,21 @@ pub record FilePlaysFront (file : Option (List ℕ)) (action : List ℕ) (before
   pub bytes : List ℕ
   pub held : file ≡ Some bytes
   pub plays : PlaysFront bytes action before after
+
+-- The text for some bytes was written: those that the file gave.
+pub record GivenPlaysTo (action : List ℕ) (before after : Option (List ℕ)) (status : Status) : Type 0 where
+  pub bytes : List ℕ
+  pub plays : PlaysTo bytes action before after status
+
+pub record GivenPlaysFront (action : List ℕ) (before after : Option (List ℕ)) : Type 0 where
+  pub bytes : List ℕ
+  pub plays : PlaysFront bytes action before after
+
+-- The answer to the words and some files was written: to the files that the store gave, whether it tells them or not.
+pub record GivenAnswers (words : List (List ℕ)) (before after : Option (List ℕ)) (status : Status) : Type 0 where
+  pub files : List (List ℕ × List ℕ)
+  pub answers : Answers words files before after status
+
+pub record GivenAnswersFront (words : List (List ℕ)) (before after : Option (List ℕ)) : Type 0 where
+  pub files : List (List ℕ × List ℕ)
+  pub answers : AnswersFront words files before after

@@ -3,7 +3,7 @@ ghost use Rattle.std.specs.Prelude.{◌≡◌, ℕ, ◌≤◌, List, length, map
 ghost use Rattle.tool_io.specs.Causes.{HasRisen, HasRisenAt, NeverFalls, NoneFalls};
 ghost use Rattle.tool_io.specs.Files.{file_of};
 ghost use Rattle.play_tool.specs.Words.{IsRequest};
-ghost use Rattle.play_tool.specs.Answers.{Answers, AnswersFront, IsPrefixOfAnswers, IsFault, PlaysTo, PlaysFront, FilePlaysTo, FilePlaysFront};
+ghost use Rattle.play_tool.specs.Answers.{Answers, AnswersFront, IsPrefixOfAnswers, IsFault, PlaysTo, PlaysFront, FilePlaysTo, FilePlaysFront, GivenPlaysTo, GivenPlaysFront, GivenAnswers, GivenAnswersFront};
 
 use crate::Status;
 use crate::playing::play_program;
@@ -46,7 +46,7 @@ fn play_bytes<K: Sink>(
 }
 
 // Plays an action of the program in a file.
-#[tactic(auto, using(crate::proofs::AnswerLemmas::file_to, crate::proofs::AnswerLemmas::file_front, crate::proofs::AnswerLemmas::long_to, crate::proofs::AnswerLemmas::long_front))]
+#[tactic(auto, using(crate::proofs::AnswerLemmas::file_to, crate::proofs::AnswerLemmas::file_front, crate::proofs::AnswerLemmas::long_to, crate::proofs::AnswerLemmas::long_front, crate::proofs::AnswerLemmas::given_to, crate::proofs::AnswerLemmas::given_front, crate::proofs::AnswerLemmas::given_long_to, crate::proofs::AnswerLemmas::given_long_front))]
 fn play_file<S: Shelf, K: Sink>(
     alloc: Global,
     request: &Request<'_>,
@@ -61,6 +61,8 @@ fn play_file<S: Shelf, K: Sink>(
     ensures write { IsErrOf result Trouble.Write → HasRisen K.faults K.is_last out.old out.new }
     ensures front { IsErrOf result Trouble.Write → IfSome (S.told shelf.old) (λ files.
         FilePlaysFront (file_of files request.now.program.now) request.now.action (K.written out.old) (K.written out.new)) }
+    ensures given { IfOk result (GivenPlaysTo request.now.action (K.written out.old) (K.written out.new)) }
+    ensures given_front { IsErrOf result Trouble.Write → GivenPlaysFront request.now.action (K.written out.old) (K.written out.new) }
     ensures memory { IsErrOf result Trouble.Memory → K.written out.new ≡ K.written out.old }
     ensures keeps { S.told shelf.new ≡ S.told shelf.old }
     ensures later { NoneFalls S.faults S.is_last shelf.old shelf.new }
@@ -78,7 +80,7 @@ fn play_file<S: Shelf, K: Sink>(
 }
 
 // Does what the words ask.
-#[tactic(auto, using(crate::proofs::AnswerLemmas::usage_to, crate::proofs::AnswerLemmas::usage_front, crate::proofs::AnswerLemmas::request_to, crate::proofs::AnswerLemmas::request_front))]
+#[tactic(auto, using(crate::proofs::AnswerLemmas::usage_to, crate::proofs::AnswerLemmas::usage_front, crate::proofs::AnswerLemmas::request_to, crate::proofs::AnswerLemmas::request_front, crate::proofs::AnswerLemmas::given_usage_to, crate::proofs::AnswerLemmas::given_usage_front, crate::proofs::AnswerLemmas::given_request_to, crate::proofs::AnswerLemmas::given_request_front))]
 fn run<S: Shelf, K: Sink>(
     alloc: Global,
     words: &[String],
@@ -94,6 +96,8 @@ fn run<S: Shelf, K: Sink>(
     ensures write { IsErrOf result Trouble.Write → HasRisen K.faults K.is_last out.old out.new }
     ensures front { IsErrOf result Trouble.Write → IfSome (S.told shelf.old) (λ files.
         AnswersFront (map string_bytes words.now) files (K.written out.old) (K.written out.new)) }
+    ensures given { IfOk result (GivenAnswers (map string_bytes words.now) (K.written out.old) (K.written out.new)) }
+    ensures given_front { IsErrOf result Trouble.Write → GivenAnswersFront (map string_bytes words.now) (K.written out.old) (K.written out.new) }
     ensures memory { IsErrOf result Trouble.Memory → K.written out.new ≡ K.written out.old }
     ensures keeps { S.told shelf.new ≡ S.told shelf.old }
     ensures later { NoneFalls S.faults S.is_last shelf.old shelf.new }
@@ -129,6 +133,10 @@ pub fn run_tool<S: Shelf, K: Sink>(
     ensures write { result ≡ Status.WriteFault → HasRisen K.faults K.is_last out.old out.new }
     ensures front { result ≡ Status.WriteFault → IfSome (S.told shelf.old) (λ files.
         AnswersFront (map string_bytes words.now) files (K.written out.old) (K.written out.new)) }
+
+    // Also of a shelf that does not tell its files: what is written is the answer to some files, or a prefix of one.
+    ensures given { (IsFault result → ⊥) → GivenAnswers (map string_bytes words.now) (K.written out.old) (K.written out.new) result }
+    ensures given_front { result ≡ Status.WriteFault → GivenAnswersFront (map string_bytes words.now) (K.written out.old) (K.written out.new) }
 
     // After want of memory a prefix of the text is written.
     ensures memory { result ≡ Status.Memory → IfSome (S.told shelf.old) (λ files.

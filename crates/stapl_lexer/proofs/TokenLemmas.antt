@@ -1,5 +1,6 @@
 -- A list of bytes has at most one list of tokens.
-use Rattle.std.proofs.Common.{◌≡◌, ◌≢◌, ℕ, ◌≤◌, List, [], ◌∷◌, ◌++◌, refl, sym, ap, ◌∙◌, Bool, true, false, ◌&&◌, ◌||◌, ◌==◌, arith, subst, append_assoc, slice_index, if◌then◌else◌}
+use Rattle.std.proofs.Common.{◌≡◌, ◌≢◌, ℕ, ◌≤◌, List, [], ◌∷◌, ◌++◌, refl, sym, ap, ◌∙◌, Bool, true, false, ◌||◌, ◌==◌, arith, subst, append_assoc, slice_index, if◌then◌else◌}
+use Rattle.std.specs.Cmp.{first_so, second_so}
 use Rattle.std.proofs.lemmas.Bool.Decides.{nat_tests}
 use Rattle.std.specs.Char.{is_ascii_alphabetic, is_ascii_digit}
 use Rattle.std.specs.List.{list_all}
@@ -8,14 +9,6 @@ use Rattle.stapl_lexer.specs.Pieces.{is_white, is_blank}
 use Rattle.stapl_lexer.specs.Names.{is_name, is_name_byte}
 use Rattle.stapl_lexer.specs.Tokens.{Token, Word, Number, Text, Equals, StartsWithout, IsSolid, IsDigits, Spells, IsBlankText, BeginsWith, HasTokens}
 use Rattle.stapl_lexer.proofs.Unique.{same_segment, same_front, tails}
-
-left_of : (a b : Bool) → (a && b) ≡ true → a ≡ true
-left_of true b e = refl
-left_of false b e = cc
-
-right_of : (a b : Bool) → (a && b) ≡ true → b ≡ true
-right_of true b e = e
-right_of false b e = cc
 
 -- a blank in front is not solid
 blank_not_solid : (s : Segment) (r x : List ℕ) → is_blank s ≡ true → x ≡ spelled s ++ r → IsSolid x → ⊥
@@ -30,11 +23,11 @@ blank_not_solid (Comment bytes) r x blank e solid =
 pub same_solid : (a b : List Segment) (text x y : List ℕ) → Divides a text x → Divides b text y → list_all is_blank a ≡ true →
     list_all is_blank b ≡ true → IsSolid x → IsSolid y → x ≡ y
 same_solid [] [] text x y d e p q u v = sym d ∙ e
-same_solid [] (t ∷ ts) text x y d e p q u v = absurd (blank_not_solid t e.0 x (left_of (is_blank t) _ q) (sym d ∙ e.1) u)
-same_solid (s ∷ ss) [] text x y d e p q u v = absurd (blank_not_solid s d.0 y (left_of (is_blank s) _ p) (sym e ∙ d.1) v)
+same_solid [] (t ∷ ts) text x y d e p q u v = absurd (blank_not_solid t e.0 x (first_so (is_blank t) _ q) (sym d ∙ e.1) u)
+same_solid (s ∷ ss) [] text x y d e p q u v = absurd (blank_not_solid s d.0 y (first_so (is_blank s) _ p) (sym e ∙ d.1) v)
 same_solid (s ∷ ss) (t ∷ ts) text x y d e p q u v =
     let m = same_segment s t d.0 e.0 d.2 e.2 (sym d.1 ∙ e.1) in
-    same_solid ss ts e.0 x y (subst (λ (z : List ℕ). Divides ss z x) m.1 d.3) e.3 (right_of (is_blank s) _ p) (right_of (is_blank t) _ q) u v
+    same_solid ss ts e.0 x y (subst (λ (z : List ℕ). Divides ss z x) m.1 d.3) e.3 (second_so (is_blank s) _ p) (second_so (is_blank t) _ q) u v
 
 -- a run of bytes that pass a test ends where one fails
 pub same_run : (test : ℕ → Bool) (xs ys r q : List ℕ) → list_all test xs ≡ true → list_all test ys ≡ true → StartsWithout test r →
@@ -42,12 +35,12 @@ pub same_run : (test : ℕ → Bool) (xs ys r q : List ℕ) → list_all test xs
 same_run test [] [] r q hx hy sr sq e = (refl, e)
 same_run test [] (y ∷ ys) r q hx hy sr sq e =
     let fails : test y ≡ false = subst (StartsWithout test) e sr in
-    let passes = left_of (test y) _ hy in absurd cc
+    let passes = first_so (test y) _ hy in absurd cc
 same_run test (x ∷ xs) [] r q hx hy sr sq e =
     let fails : test x ≡ false = subst (StartsWithout test) (sym e) sq in
-    let passes = left_of (test x) _ hx in absurd cc
+    let passes = first_so (test x) _ hx in absurd cc
 same_run test (x ∷ xs) (y ∷ ys) r q hx hy sr sq e =
-    let more = same_run test xs ys r q (right_of (test x) _ hx) (right_of (test y) _ hy) sr sq cc in
+    let more = same_run test xs ys r q (second_so (test x) _ hx) (second_so (test y) _ hy) sr sq cc in
     (cc (more.0), more.1)
 
 -- which kind of token a first byte begins
@@ -67,14 +60,14 @@ kind_in_front (b ∷ bs) = kind_of b
 
 word_kind : (own : List ℕ) → is_name own ≡ true → (r : List ℕ) → kind_in_front (own ++ r) ≡ 0
 word_kind [] h r = absurd cc
-word_kind (b ∷ bs) h r = let letter = left_of (is_ascii_alphabetic b) _ (left_of _ _ h) in rw letter refl
+word_kind (b ∷ bs) h r = let letter = first_so (is_ascii_alphabetic b) _ (first_so _ _ h) in rw letter refl
 
 digit_kind : (b : ℕ) → is_ascii_digit b ≡ true → kind_of b ≡ 1
 digit_kind b h = grind (arith, nat_tests, h)
 
 number_kind : (own : List ℕ) → IsDigits own → (r : List ℕ) → kind_in_front (own ++ r) ≡ 1
 number_kind [] h r = absurd (h.0 refl)
-number_kind (b ∷ bs) h r = digit_kind b (left_of (is_ascii_digit b) _ h.1)
+number_kind (b ∷ bs) h r = digit_kind b (first_so (is_ascii_digit b) _ h.1)
 
 pub spelled_kind : (t : Token) (own behind : List ℕ) → Spells t own behind → kind_in_front (own ++ behind) ≡ kind_of_token t
 spelled_kind (Word word) own behind s = word_kind own s.0 behind
@@ -116,7 +109,7 @@ letter_in_name b h = grind (arith, nat_tests, h)
 
 -- the bytes of a name are name bytes
 pub name_bytes : (own : List ℕ) → is_name own ≡ true → list_all is_name_byte own ≡ true
-name_bytes own h = right_of (is_ascii_alphabetic (slice_index own 0)) _ (left_of _ _ h)
+name_bytes own h = second_so (is_ascii_alphabetic (slice_index own 0)) _ (first_so _ _ h)
 
 ends_at_quote : (xs ys r q : List ℕ) → HasNone ends_string xs → HasNone ends_string ys → (34 ∷ xs ++ 34 ∷ []) ++ r ≡ (34 ∷ ys ++ 34 ∷ []) ++ q → (xs ≡ ys) × (r ≡ q)
 ends_at_quote xs ys r q hx hy e =

@@ -34,10 +34,10 @@ no_quote : (r q : List ℕ) → 34 ∷ r ≡ q → EndsLine q → ⊥
 no_quote r [] e l = cc
 no_quote r (c ∷ cs) e l = let h : 34 ≡ c = cc in omega arith
 
-heads : {x y : ℕ} {xs ys : List ℕ} → x ∷ xs ≡ y ∷ ys → x ≡ y
+pub heads : {A : Type 0} {x y : A} {xs ys : List A} → x ∷ xs ≡ y ∷ ys → x ≡ y
 heads e = cc
 
-pub tails : {x y : ℕ} {xs ys : List ℕ} → x ∷ xs ≡ y ∷ ys → xs ≡ ys
+pub tails : {A : Type 0} {x y : A} {xs ys : List A} → x ∷ xs ≡ y ∷ ys → xs ≡ ys
 tails e = cc
 
 differ : ◌≡◌ {A = ℕ} 34 39 → ⊥

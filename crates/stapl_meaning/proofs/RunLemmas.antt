@@ -1,5 +1,5 @@
 -- On plays of one procedure.
-use Rattle.std.proofs.Common.{◌≡◌, ◌+◌, ◌-◌, ℕ, ℤ, pos, List, [], ◌∷◌, ◌++◌, length, refl, sym, ap, ◌∙◌, Bool, true, false, ◌&&◌, arith, None, Some, Option, drop, slice_get, suc, zero, if◌then◌else◌}
+use Rattle.std.proofs.Common.{◌≡◌, ◌+◌, ◌-◌, ℕ, ℤ, pos, List, [], ◌∷◌, ◌++◌, length, refl, sym, ap, ◌∙◌, true, arith, None, Some, Option, drop, slice_get, suc, zero, if◌then◌else◌}
 use Rattle.std.proofs.lemmas.Slice.Eq.{bytes_eq-Decides}
 use Rattle.std.specs.List.{list_all, flat_map}
 use Rattle.std.specs.Str.{bytes_eq}
@@ -40,10 +40,6 @@ drop_next [] zero body rest e = absurd cc
 drop_next [] (suc k) body rest e = absurd cc
 drop_next (b ∷ bs) zero body rest e = cc
 drop_next (b ∷ bs) (suc k) body rest e = drop_next bs k body rest e
-
-right_of : (a b : Bool) → (a && b) ≡ true → b ≡ true
-right_of true b e = e
-right_of false b e = cc
 
 -- a turn at the statement in front
 turn_is : (program : List BodyTree) (k : ℕ) (body : BodyTree) (rest : List BodyTree) (chosen : List (List ℕ)) → drop k program ≡ body ∷ rest →

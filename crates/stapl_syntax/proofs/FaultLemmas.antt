@@ -1,5 +1,6 @@
 -- A text has at most one first fault, and none where it is a program.
 use Rattle.std.proofs.Common.{◌≡◌, ◌+◌, ℕ, List, [], ◌∷◌, ◌++◌, length, refl, sym, ap, ◌∙◌, arith, subst, append_assoc}
+use Rattle.stapl_lexer.proofs.Unique.{heads, tails}
 use Rattle.std.proofs.lemmas.List.{length-append}
 use Rattle.stapl_lexer.specs.declared.piece.Piece.{Piece}
 use Rattle.stapl_lexer.specs.declared.reason.Reason.{Reason}
@@ -68,12 +69,6 @@ pub data Compared {A : Type 0} (xs : List A) (x : A) (ys : List A) (y : A) : Typ
   alike : xs ≡ ys → x ≡ y → Compared xs x ys y
   shorter : (more : List A) → ys ≡ xs ++ x ∷ more → Compared xs x ys y
   longer : (more : List A) → xs ≡ ys ++ y ∷ more → Compared xs x ys y
-
-heads : {A : Type 0} {x y : A} {xs ys : List A} → x ∷ xs ≡ y ∷ ys → x ≡ y
-heads e = cc
-
-tails : {A : Type 0} {x y : A} {xs ys : List A} → x ∷ xs ≡ y ∷ ys → xs ≡ ys
-tails e = cc
 
 pub compared : {A : Type 0} (xs : List A) (x : A) (r : List A) (ys : List A) (y : A) (q : List A) → xs ++ x ∷ r ≡ ys ++ y ∷ q → Compared xs x ys y
 compared [] x r [] y q e = alike refl (heads e)

@@ -21,7 +21,7 @@ Exit codes:
   7  the words are refused: the line R usage WORD
   9  the program could not be read
   10 the output could not be written
-  11 there was no memory
+  11 there was no memory, or a word is not UTF-8
 ";
 
 const VERSION: &[u8] = b"zanutero 0.1.0

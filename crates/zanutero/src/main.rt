@@ -8,16 +8,16 @@ use std::process::ExitCode;
 use std::{env, io};
 use tool_io::{FileShelf, Sink, StdSink};
 
-/// The exit code where there is no memory for the words.
-const NO_MEMORY: u8 = 11;
+/// The exit code where the words cannot be had: there is no memory for them, or one is not UTF-8.
+const NO_WORDS: u8 = 11;
 
 fn main(rt: HostRuntime) -> ExitCode {
     let Ok(mut args) = env::args(&rt) else {
-        return ExitCode::from(NO_MEMORY);
+        return ExitCode::from(NO_WORDS);
     };
     let _program = args.next();
     let Ok(words) = args.collect::<Vec<String>>(rt.alloc()) else {
-        return ExitCode::from(NO_MEMORY);
+        return ExitCode::from(NO_WORDS);
     };
     let mut out = StdSink::new(io::writer(&rt));
     if let Some(text) = help::answer_to(&words) {
