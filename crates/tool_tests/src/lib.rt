@@ -4,6 +4,8 @@
 #[cfg(test)]
 mod bits;
 #[cfg(test)]
+mod cards;
+#[cfg(test)]
 mod lists;
 #[cfg(test)]
 mod outside;

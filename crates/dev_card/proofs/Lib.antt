@@ -1,0 +1,9 @@
+pub mod Selecting
+pub mod Unnamed
+pub mod Soundness
+pub mod ShiftLines
+pub mod LastClock
+pub mod Reaching
+pub mod ScanLines
+pub mod PaddedLines
+pub mod OneScan

@@ -1,0 +1,61 @@
+-- The bits of a scan (JESD71, PRE and POST padding): program paddings around the data, and base paddings around both. Base padding is this
+-- profile's: all ones, which brings the neighbours of a device into BYPASS and passes them there.
+use Rattle.std.specs.Prelude.{◌+◌, ◌-◌, ℕ, Bool, true, false, List, ◌++◌, length, take, drop, replicate, map, sum, Option, Some, None}
+use Rattle.dev_card.specs.declared.desc.Desc.{Desc}
+
+-- the paddings of a scan: the lengths of base PRE and base POST, and the bits of program PRE and program POST
+pub record Paddings : Type 0 where
+  pub base_pre : ℕ
+  pub pre : List Bool
+  pub post : List Bool
+  pub base_post : ℕ
+
+-- what the program shifts
+abbrev pub program_bits : Paddings → List Bool → List Bool
+program_bits p bits = p.pre ++ (bits ++ p.post)
+
+-- bits between so many ones before and after
+abbrev pub between_ones : ℕ → List Bool → ℕ → List Bool
+between_ones before bits after = replicate before true ++ (bits ++ replicate after true)
+
+-- all bits of a scan, in the order of shifting
+abbrev pub padded : Paddings → List Bool → List Bool
+padded p bits = between_ones p.base_pre (program_bits p bits) p.base_post
+
+-- of the bits that came out of a scan of n data bits, those that stand at the data's places: what is captured
+abbrev pub at_data : Paddings → ℕ → List Bool → List Bool
+at_data p n out = take n (drop (p.base_pre + length p.pre) out)
+
+-- the lengths of base padding, for scans of the instruction and of the data registers
+pub record BaseLengths : Type 0 where
+  pub ir_pre : ℕ
+  pub ir_post : ℕ
+  pub dr_pre : ℕ
+  pub dr_post : ℕ
+
+-- the sum of the instruction lengths
+abbrev pub instruction_lengths : List Desc → ℕ
+instruction_lengths ds = sum (map (λ (d : Desc). d.ir_len) ds)
+
+-- base padding around a run of devices, of those before it and those after it: one bit for each device in scans of the data registers
+abbrev pub base_around : List Desc → List Desc → BaseLengths
+base_around before after = record {
+  ir_pre = instruction_lengths before;
+  ir_post = instruction_lengths after;
+  dr_pre = length before;
+  dr_post = length after;
+}
+
+-- base padding for a place of a board, counted from 1, and none without a place
+abbrev pub base_lengths : List Desc → Option ℕ → BaseLengths
+base_lengths ds (Some place) = base_around (take (place - 1) ds) (drop place ds)
+base_lengths ds None = record { ir_pre = 0; ir_post = 0; dr_pre = 0; dr_post = 0 }
+
+-- base PRE and base POST of one scan, true for the instruction registers
+abbrev pub base_pre_of : Bool → BaseLengths → ℕ
+base_pre_of true b = b.ir_pre
+base_pre_of false b = b.dr_pre
+
+abbrev pub base_post_of : Bool → BaseLengths → ℕ
+base_post_of true b = b.ir_post
+base_post_of false b = b.dr_post

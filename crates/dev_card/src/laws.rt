@@ -1,0 +1,101 @@
+//! Laws of the definitions.
+ghost use Rattle.std.specs.Prelude.{◌≡◌, ◌≢◌, ◌<◌, ◌-◌, ◌^◌, ℕ, Bool, true, false, ◌++◌, All, List, Option, Some, length};
+ghost use Rattle.tap_states.specs.declared.Tap.{Tap};
+ghost use Rattle.tap_states.specs.declared.Tap.TheVariants.{DrShift};
+ghost use Rattle.tap_states.specs.Tap.{is_stable_state};
+ghost use Rattle.dev_card.specs.declared.desc.Desc.{Desc};
+ghost use Rattle.dev_card.specs.Descriptions.{IsGood, opcodes_of};
+ghost use Rattle.dev_card.specs.Card.{Card, bypass, fresh, selected_by, step};
+ghost use Rattle.dev_card.specs.Board.{Input, board_after, AllIn};
+ghost use Rattle.dev_card.specs.Line.{shift_state, line_of, AllShift};
+ghost use Rattle.dev_card.specs.Padding.{Paddings, base_pre_of, base_post_of};
+ghost use Rattle.dev_card.specs.PaddedScan.{IsSameScan, IsOneScan, base_of_cards};
+ghost use Rattle.dev_card.specs.Clocks.{move_inputs, at_shift, board_scanned, StaysShifting, ShiftsAsLine, ScansAsLine};
+ghost use Rattle.dev_card.specs.Sound.{IsSound, AllSound, AllBypass, register_lengths, SoundCard, card_in};
+
+/// Every opcode that a description doesn't name selects BYPASS.
+pub fn unnamed_opcodes_select_bypass()
+    ensures { (d : Desc) (op : ℕ) → All (λ named. named ≢ op) (opcodes_of d) → selected_by d op ≡ bypass }
+{}
+
+/// The opcode of all ones selects BYPASS on a device of a good description (IEEE 1149.1, clause 8, BYPASS instruction).
+pub fn all_ones_select_bypass()
+    ensures { (d : Desc) → IsGood d → selected_by d (2 ^ d.ir_len - 1) ≡ bypass }
+{}
+
+/// The fresh card of a good description is sound.
+pub fn a_fresh_card_is_sound()
+    ensures { (d : Desc) → IsGood d → IsSound (fresh d) }
+{}
+
+/// Each clock keeps a card sound.
+pub fn a_clock_keeps_a_card_sound()
+    ensures { (c : Card) (tms tdi : Bool) → IsSound c → IsSound (step c tms tdi) }
+{}
+
+/// The card of a fitted device is sound.
+pub fn a_fitted_card_is_sound()
+    ensures { (fitted : Option SoundCard) (c : Card) → card_in fitted ≡ Some c → IsSound c }
+{}
+
+/// Clocks keep a board sound.
+pub fn clocks_keep_a_board_sound()
+    ensures { (cs : List Card) (inputs : List Input) → AllSound cs → AllSound (board_after cs inputs) }
+{}
+
+/// Clocks with TMS 0 on a board that shifts shift its line, and the board goes on shifting.
+pub fn clocks_with_tms_0_shift_the_line()
+    ensures { (ir : Bool) (cs : List Card) (bits : List Bool) → AllShift ir cs → StaysShifting ir cs bits }
+{}
+
+/// A board that shifts, clocked with TMS 0 and at the last bit with TMS 1, shifts its line.
+pub fn shift_clocks_shift_the_line()
+    ensures { (ir : Bool) (cs : List Card) (bits : List Bool) → 0 < length bits → AllShift ir cs → ShiftsAsLine ir cs bits }
+{}
+
+/// The clocks of a scan, made one after another on a board of sound cards in one stable state, are those of the scan of its line.
+pub fn a_scan_is_the_scan_of_the_line()
+    ensures { (at : Tap) (ir : Bool) (stop : Tap) (cs : List Card) (bits : List Bool) → is_stable_state at ≡ true → 0 < length bits → AllIn at cs →
+        AllSound cs → ScansAsLine at ir stop cs bits }
+{}
+
+/// Sound cards in one stable state come through the entry list of a scan to the shift, each with a list to shift.
+pub fn a_scan_comes_to_the_shift()
+    ensures { (at : Tap) (ir : Bool) (cs : List Card) → is_stable_state at ≡ true → AllIn at cs → AllSound cs → AllShift ir (at_shift at ir cs) }
+{}
+
+/// A move brings all controllers from one state to another.
+pub fn a_move_leads_there()
+    ensures { (at to : Tap) (cs : List Card) → AllIn at cs → AllIn to (board_after cs (move_inputs at to)) }
+{}
+
+/// A scan leaves all controllers in its stop state.
+pub fn a_scan_leads_to_its_stop()
+    ensures { (at : Tap) (ir : Bool) (stop : Tap) (cs : List Card) (bits : List Bool) → AllIn stop (board_scanned at ir stop cs bits) }
+{}
+
+/// A scan with base padding around a run of neighbours, as long as the lines of the other devices, is the scan of the run alone, as far as its
+/// length allows.
+pub fn a_padded_scan_is_the_scan_alone()
+    ensures { (ir : Bool) (before run after : List Card) (p : Paddings) (bits : List Bool) → p.base_pre ≡ length (line_of ir before) →
+        p.base_post ≡ length (line_of ir after) → IsSameScan ir before run after p bits }
+{}
+
+/// One scan of a board of sound cards in one stable state, with base padding around a run of neighbours, is the scan of the run alone, where
+/// the other devices have BYPASS selected or it is a scan of the instruction registers.
+pub fn one_padded_scan_is_the_scan_alone()
+    ensures { (at : Tap) (ir : Bool) (before run after : List Card) (p : Paddings) (bits : List Bool) → is_stable_state at ≡ true →
+        AllIn at (before ++ (run ++ after)) → AllSound (before ++ (run ++ after)) →
+        p.base_pre ≡ base_pre_of ir (base_of_cards before after) → p.base_post ≡ base_post_of ir (base_of_cards before after) →
+        IsOneScan at ir before run after p bits }
+{}
+
+/// The line of sound cards that shift is as long as their registers together.
+pub fn length_of_the_line()
+    ensures { (ir : Bool) (cs : List Card) → AllIn (shift_state ir) cs → AllSound cs → length (line_of ir cs) ≡ register_lengths ir cs }
+{}
+
+/// The line of cards with BYPASS selected has one bit for each card.
+pub fn a_bypass_line_has_one_bit_a_card()
+    ensures { (cs : List Card) → AllIn DrShift cs → AllSound cs → AllBypass cs → length (line_of false cs) ≡ length cs }
+{}
