@@ -5,3 +5,11 @@ pub mod SegmentLemmas
 pub mod ScanLemmas
 pub mod Unique
 pub mod TokenLemmas
+pub mod PieceTokenLemmas
+pub mod CrcLemmas
+pub mod RunLemmas
+pub mod NumberLemmas
+pub mod FrontLemmas
+pub mod LexemeLemmas
+pub mod ByteFaultLemmas
+pub mod DepthLemmas

@@ -5,3 +5,8 @@ pub mod Names
 pub mod ReservedWords
 pub mod Reasons
 pub mod Tokens
+pub mod PieceTokens
+pub mod Depth
+pub mod PieceFaults
+pub mod Crc
+pub mod TokenReading

@@ -68,11 +68,17 @@ pub fn segment_len(rest: &[u8]) -> usize
     }
 }
 
+pub(crate) fn is_white(b: u8) -> bool
+    ensures { result ≡ is_white b }
+{
+    matches!(b, b' ' | b'\t' | b'\n' | b'\x0C' | b'\r')
+}
+
 // Whether a segment that begins with this byte is white space or a comment.
-fn is_blank_start(b: u8) -> bool
+pub(crate) fn is_blank_start(b: u8) -> bool
     ensures { result ≡ (is_white b || b == 39) }
 {
-    matches!(b, b' ' | b'\t' | b'\n' | b'\x0C' | b'\r' | b'\'')
+    is_white(b) || b == b'\''
 }
 
 // How far a text is read.

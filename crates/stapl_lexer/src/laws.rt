@@ -1,8 +1,11 @@
 //! Laws of the definitions.
-ghost use Rattle.std.specs.Prelude.{◌≡◌, ℕ, List, []};
+ghost use Rattle.std.specs.Prelude.{◌≡◌, ℕ, ◌≤◌, List, [], Option, length};
 ghost use Rattle.stapl_lexer.specs.declared.piece.Piece.{Piece};
 ghost use Rattle.stapl_lexer.specs.Pieces.{IsCut};
 ghost use Rattle.stapl_lexer.specs.Segments.{Segment, Divides};
+ghost use Rattle.stapl_lexer.specs.declared.reason.Reason.{Reason};
+ghost use Rattle.stapl_lexer.specs.declared.token.Token.{Token as PlacedToken};
+ghost use Rattle.stapl_lexer.specs.PieceFaults.{IsLexed};
 ghost use Rattle.stapl_lexer.specs.Tokens.{Token, HasTokens};
 
 /// Each text is divided into some segments.
@@ -23,4 +26,9 @@ pub fn cut_in_one_way()
 /// A list of bytes has at most one list of tokens.
 pub fn read_in_one_way()
     ensures { (bytes : List ℕ) (a b : List Token) → HasTokens bytes a → HasTokens bytes b → a ≡ b }
+{}
+
+/// A piece of a text has at most one list of tokens, and at most one smallest reason.
+pub fn lexed_in_one_way()
+    ensures { (text : List ℕ) (piece : Piece) (a b : List PlacedToken) (f g : Option Reason) → piece.end ≤ length text → IsLexed text piece a f → IsLexed text piece b g → (a ≡ b) × (f ≡ g) }
 {}

@@ -1,14 +1,28 @@
 //! The lowest layer of the STAPL language: the pieces of a text and their tokens, names, and the reasons of refusals.
 #![tactic(auto)]
 
+mod byte_fault;
+mod crc;
 mod cutting;
+mod depth;
+mod front;
 pub mod laws;
+mod lexing;
+mod literal;
 mod name;
+mod number;
 mod piece;
+mod reading;
 mod reason;
 mod reserved;
+mod run;
+mod token;
+mod token_fault;
 
+pub use crc::crc_of;
 pub use cutting::{cut, segment_len};
+pub use lexing::{LexRefused, tokens};
 pub use name::Name;
 pub use piece::Piece;
 pub use reason::Reason;
+pub use token::{Token, TokenKind};

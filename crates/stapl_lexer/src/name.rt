@@ -42,7 +42,7 @@ impl Model for Name {
     ghost inverse_ok = { λ n stored j. record { bytes = sym stored.padded j; len = sym stored.within j } };
 }
 
-fn is_name_byte(byte: u8) -> bool
+pub(crate) fn is_name_byte(byte: u8) -> bool
     ensures { result ≡ is_name_byte byte }
 {
     byte.is_ascii_alphanumeric() || byte == b'_'

@@ -77,7 +77,8 @@ static STATE_WORDS: [&str; 16] = [
     "IRUPDATE",
 ];
 
-fn is_one_of(words: &[&str], bytes: &[u8]) -> bool
+// Whether the bytes spell one of the words, letter case included.
+pub(crate) fn is_one_of(words: &[&str], bytes: &[u8]) -> bool
     ensures { result ≡ list_any (λ word. bytes_eq word.now bytes.now) words.now }
 {
     words.iter().any(|word| word.as_bytes() == bytes)

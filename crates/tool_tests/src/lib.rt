@@ -15,3 +15,5 @@ mod pieces;
 mod plays;
 #[cfg(test)]
 mod taps;
+#[cfg(test)]
+mod tokens;

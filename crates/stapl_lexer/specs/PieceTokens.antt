@@ -1,0 +1,204 @@
+-- The tokens of a piece, good and bad ones (JESD71, statements). That `E` and digits may follow the digits of a number, that white
+-- space may stand between the digits of a literal, and how bad tokens are read, are this profile's rules.
+use Rattle.std.specs.Prelude.{◌≡◌, ℕ, ℤ, pos, ◌<◌, ◌≤◌, ◌+◌, ◌*◌, ◌^◌, List, [], ◌∷◌, ◌++◌, Bool, true, false, ◌&&◌, ◌||◌, ◌==◌, not, if◌then◌else◌, codes, drop, length, slice_index, slice_range, Option, None, Some, nat_le, take_while}
+use Rattle.std.specs.Char.{is_ascii_alphabetic, is_ascii_digit, is_ascii_hexdigit}
+use Rattle.std.specs.Int.{cast_signed, w32}
+use Rattle.std.specs.List.{list_all}
+use Rattle.std.specs.Str.{str_eq_ignore_ascii_case}
+use Rattle.std.specs.Str.Parse.{digits_value}
+use Rattle.stapl_lexer.specs.declared.token.Token.{Token}
+use Rattle.stapl_lexer.specs.declared.token.TokenKind.{TokenKind}
+use Rattle.stapl_lexer.specs.declared.token.TokenKind.TheVariants as kinds
+use Rattle.stapl_lexer.specs.Names.{is_name_byte}
+use Rattle.stapl_lexer.specs.Pieces.{is_blank}
+use Rattle.stapl_lexer.specs.ReservedWords.{is_one_of}
+use Rattle.stapl_lexer.specs.Segments.{Segment, Closed, spelled, IsSegment, Divides}
+use Rattle.stapl_lexer.specs.Tokens.{StartsWithout, IsSolid, IsDigits}
+
+-- white space and comments, and then the rest
+pub record AreBlanks (bytes rest : List ℕ) : Type 0 where
+  pub blanks : List Segment
+  pub divides : Divides blanks bytes rest
+  pub blank : list_all is_blank blanks ≡ true
+
+-- the bytes spell this word; letter case is ignored
+abbrev pub spells_word : List ℕ → List ℕ → Bool
+spells_word word bytes = str_eq_ignore_ascii_case bytes word
+
+-- What stands between the letters of a word and those bytes: nothing, or the `$` (36) of the word CHR$. That `$` belongs to the
+-- word where it stands directly behind CHR.
+abbrev pub IsWordTail : List ℕ → List ℕ → List ℕ → Type 0
+IsWordTail name [] behind =
+    StartsWithout is_name_byte behind × ((spells_word (codes "CHR") name && slice_index behind 0 == 36) ≡ false)
+IsWordTail name (b ∷ bs) behind = (b ∷ bs ≡ 36 ∷ []) × (spells_word (codes "CHR") name ≡ true)
+
+-- a word, as long as it can be: letters, digits and underscores, of any number
+pub record IsWord (own behind : List ℕ) : Type 0 where
+  pub name : List ℕ
+  pub tail : List ℕ
+  pub parts : own ≡ name ++ tail
+  pub name_bytes : list_all is_name_byte name ≡ true
+  pub ends : IsWordTail name tail behind
+
+-- `E` or `e`
+abbrev pub is_exponent_mark : ℕ → Bool
+is_exponent_mark b = (b == 69) || (b == 101)
+
+-- the bytes begin with `E` and a decimal digit
+abbrev pub begins_exponent : List ℕ → Bool
+begins_exponent bytes = is_exponent_mark (slice_index bytes 0) && is_ascii_digit (slice_index bytes 1)
+
+-- What stands between the first digits of a number and those bytes: nothing, or `E` and the digits of its exponent.
+abbrev pub IsExponent : List ℕ → List ℕ → Type 0
+IsExponent [] behind = StartsWithout is_ascii_digit behind × (begins_exponent behind ≡ false)
+IsExponent (mark ∷ power) behind = (is_exponent_mark mark ≡ true) × IsDigits power × StartsWithout is_ascii_digit behind
+
+-- a number, as long as it can be
+pub record IsNumber (own behind : List ℕ) : Type 0 where
+  pub digits : List ℕ
+  pub exponent : List ℕ
+  pub parts : own ≡ digits ++ exponent
+  pub are_digits : IsDigits digits
+  pub ends : IsExponent exponent behind
+
+-- the digits in front
+abbrev pub front_digits : List ℕ → List ℕ
+front_digits own = take_while is_ascii_digit own
+
+-- the value of a number: its first digits, times 10 to the power of the digits behind `E`
+abbrev pub number_value : List ℕ → ℕ
+number_value own = digits_value 10 (front_digits own) * 10 ^ digits_value 10 (drop (length (front_digits own) + 1) own)
+
+-- the digits of a literal: `0` and `1`, or the hexadecimal ones
+abbrev pub is_literal_digit : TokenKind → ℕ → Bool
+is_literal_digit kinds.Binary b = (b == 48) || (b == 49)
+is_literal_digit _ b = is_ascii_hexdigit b
+
+-- no digit stands in front of the bytes, nor behind white space and comments in front of them
+pub record HasNoDigit (kind : TokenKind) (bytes : List ℕ) : Type 0 where
+  pub rest : List ℕ
+  pub blank : AreBlanks bytes rest
+  pub solid : IsSolid rest
+  pub stops : StartsWithout (is_literal_digit kind) rest
+
+-- These digits, as many as can be, with white space and comments before each of them, and then those bytes.
+abbrev pub SpacedDigits : TokenKind → List ℕ → List ℕ → List ℕ → Type 0
+SpacedDigits kind bytes [] behind = (bytes ≡ behind) × HasNoDigit kind bytes
+SpacedDigits kind bytes (d ∷ digits) behind =
+    (rest : List ℕ) × AreBlanks bytes (d ∷ rest) × (is_literal_digit kind d ≡ true) × SpacedDigits kind rest digits behind
+
+-- A literal: its mark, and the digits behind that. It is good where it has a digit.
+abbrev pub IsLiteral : TokenKind → Bool → List ℕ → List ℕ → Type 0
+IsLiteral kind good own behind =
+    (digits : List ℕ) × SpacedDigits kind (drop 1 own ++ behind) digits behind × (good ≡ nat_le 1 (length digits))
+
+-- four hexadecimal digits, and nothing but white space and comments behind them
+pub record AreFourDigits (own behind : List ℕ) : Type 0 where
+  pub digits : List ℕ
+  pub spaced : SpacedDigits kinds.Hex4 (own ++ behind) digits behind
+  pub four : length digits ≡ 4
+  pub ends : AreBlanks behind []
+
+-- What stands behind the word CRC: four hexadecimal digits, or else it is all bytes there, and bad.
+abbrev pub IsCheckWord : Bool → List ℕ → List ℕ → Type 0
+IsCheckWord true own behind = AreFourDigits own behind
+IsCheckWord false own behind = (behind ≡ []) × ((front rest : List ℕ) → own ≡ front ++ rest → AreFourDigits front rest → ⊥)
+
+-- the marks of two bytes
+abbrev pub double_marks : List (List ℕ)
+double_marks =
+    codes ".." ∷ codes "<<" ∷ codes ">>" ∷ codes "==" ∷ codes "!=" ∷ codes "<=" ∷ codes ">=" ∷ codes "&&" ∷ codes "||" ∷ []
+
+-- the marks of one byte
+abbrev pub single_marks : List (List ℕ)
+single_marks =
+    codes ":" ∷ codes "," ∷ codes "=" ∷ codes "[" ∷ codes "]" ∷ codes "(" ∷ codes ")" ∷ codes "+" ∷ codes "-" ∷ codes "*" ∷
+    codes "/" ∷ codes "%" ∷ codes "&" ∷ codes "|" ∷ codes "^" ∷ codes "~" ∷ codes "<" ∷ codes ">" ∷ codes "!" ∷ []
+
+-- a mark of one byte or of two
+abbrev pub is_whole_mark : List ℕ → Bool
+is_whole_mark (a ∷ []) = is_one_of single_marks (a ∷ [])
+is_whole_mark own = is_one_of double_marks own
+
+-- a mark, as long as it can be, or a single byte that begins no token
+abbrev pub IsMark : List ℕ → List ℕ → Type 0
+IsMark [] behind = ⊥
+IsMark (a ∷ []) behind = is_one_of double_marks (a ∷ slice_index behind 0 ∷ []) ≡ false
+IsMark (a ∷ b ∷ []) behind = is_one_of double_marks (a ∷ b ∷ []) ≡ true
+IsMark (a ∷ b ∷ _ ∷ _) behind = ⊥
+
+-- a string that is closed
+abbrev pub is_closed : Segment → Bool
+is_closed (Closed bytes) = true
+is_closed _ = false
+
+-- These bytes are a token of this kind where those stand behind. It is good or bad:
+-- a number that a letter or an underscore follows is bad, and so is a string that is open, a literal without a digit, and a
+-- single byte that is no mark, as a single `.`, an underscore that stands in no word, or a byte that is none of the language.
+abbrev pub Spells : TokenKind → Bool → List ℕ → List ℕ → Type 0
+Spells kinds.Word good own behind = IsWord own behind × (good ≡ true)
+Spells kinds.Number good own behind = IsNumber own behind × (good ≡ not (is_name_byte (slice_index behind 0)))
+Spells kinds.Text good own behind = (s : Segment) × (own ≡ spelled s) × IsSegment s behind × (good ≡ is_closed s)
+Spells kinds.Binary good own behind = IsLiteral kinds.Binary good own behind
+Spells kinds.Hexadecimal good own behind = IsLiteral kinds.Hexadecimal good own behind
+Spells kinds.Mark good own behind = IsMark own behind × (good ≡ is_whole_mark own)
+Spells kinds.Hex4 good own behind = IsCheckWord good own behind
+
+-- The kind of the token that begins with this byte. What is none of the other tokens is a mark, good or bad.
+abbrev pub kind_of : ℕ → TokenKind
+kind_of b =
+    if is_ascii_alphabetic b then kinds.Word
+    else if is_ascii_digit b then kinds.Number
+    else if b == 34 then kinds.Text
+    else if b == 35 then kinds.Binary
+    else if b == 36 then kinds.Hexadecimal
+    else kinds.Mark
+
+-- The kind of the token that begins with this byte, where it is known whether the first word of the piece is CRC, or that no word
+-- has been before.
+abbrev pub kind_at : Option Bool → ℕ → TokenKind
+kind_at (Some true) b = kinds.Hex4
+kind_at (Some false) b = kind_of b
+kind_at None b = kind_of b
+
+-- whether the first word is CRC, behind one more token
+abbrev pub first_word : Option Bool → TokenKind → List ℕ → Option Bool
+first_word None kinds.Word own = Some (spells_word (codes "CRC") own)
+first_word first _ own = first
+
+-- The value of a token: of a number its own, where 2147483648 stands for -2147483648; 0 for a greater number, and for every other
+-- token.
+abbrev pub value_of : TokenKind → List ℕ → ℤ
+value_of kinds.Number own = if nat_le (number_value own) 2147483648 then cast_signed w32 (number_value own) else pos 0
+value_of _ own = pos 0
+
+-- a token that is good or bad
+pub record Lexeme : Type 0 where
+  pub token : Token
+  pub good : Bool
+
+-- Between two places of the text stand white space and comments, and then this token.
+pub record BeginsWith (text : List ℕ) (first : Option Bool) (at limit : ℕ) (lexeme : Lexeme) : Type 0 where
+  pub behind : at ≤ lexeme.token.start
+  pub some : lexeme.token.start < lexeme.token.end
+  pub within : lexeme.token.end ≤ limit
+  pub blank : AreBlanks (slice_range text at limit) (slice_range text lexeme.token.start limit)
+  pub solid : IsSolid (slice_range text lexeme.token.start limit)
+  pub kind : lexeme.token.kind ≡ kind_at first (slice_index text lexeme.token.start)
+  pub spelled : Spells lexeme.token.kind lexeme.good (slice_range text lexeme.token.start lexeme.token.end)
+      (slice_range text lexeme.token.end limit)
+  pub value : lexeme.token.value ≡ value_of lexeme.token.kind (slice_range text lexeme.token.start lexeme.token.end)
+
+-- The bytes of the text from one place up to another have these tokens. White space and comments separate tokens and mean
+-- nothing else. Reading goes on behind a bad token.
+abbrev pub HasLexemes : List ℕ → Option Bool → ℕ → ℕ → List Lexeme → Type 0
+HasLexemes text first at limit [] = AreBlanks (slice_range text at limit) []
+HasLexemes text first at limit (lexeme ∷ lexemes) =
+    BeginsWith text first at limit lexeme
+    × HasLexemes text (first_word first lexeme.token.kind (slice_range text lexeme.token.start lexeme.token.end)) lexeme.token.end limit lexemes
+
+-- a token lies between two places
+pub record LiesBetween (start limit : ℕ) (token : Token) : Type 0 where
+  pub from : start ≤ token.start
+  pub some : token.start < token.end
+  pub within : token.end ≤ limit

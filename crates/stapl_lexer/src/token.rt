@@ -1,0 +1,33 @@
+//! The tokens of a piece.
+
+/// What a token is: its row in the table of tokens (JESD71, statements).
+#[derive(Clone, Copy, Debug, PartialEq, Eq)]
+pub enum TokenKind {
+    /// A letter, then letters, digits and `_`; or `CHR$`. It may be a name or a reserved word.
+    Word,
+    /// Decimal digits, which `E` and decimal digits may follow.
+    Number,
+    /// A string with both of its quotes.
+    Text,
+    /// `#` and binary digits. White space and comments may stand before each digit.
+    Binary,
+    /// `$` and hexadecimal digits. White space and comments may stand before each digit.
+    Hexadecimal,
+    /// A mark of one or two bytes. It is known by its bytes.
+    Mark,
+    /// The four hexadecimal digits behind the word `CRC`. White space and comments may stand between them.
+    Hex4,
+}
+
+/// A token, and its place: its bytes are those of the text from `start` up to `end`.
+#[derive(Clone, Copy, Debug, PartialEq, Eq)]
+pub struct Token {
+    /// What the token is.
+    pub kind: TokenKind,
+    /// The place of its first byte.
+    pub start: u32,
+    /// The place behind its last byte.
+    pub end: u32,
+    /// The value of a number, where 2147483648 stands for -2147483648; 0 for every other token.
+    pub value: i32,
+}
