@@ -1,0 +1,3 @@
+pub mod BitNumbers
+pub mod Rings
+pub mod PlainCards

@@ -1,0 +1,3 @@
+pub mod ShiftRegister
+pub mod Logic
+pub mod Propositions
