@@ -1,12 +1,11 @@
 -- What every kind of device holds (IEEE 1149.1, clauses 6 to 8 and 12).
-use Rattle.std.specs.Prelude.{◌<◌, ◌≤◌, ◌^◌, ◌==◌, length, Option, Some, None, if◌then◌else◌, ℕ, Bool, false, List, [], ◌∷◌, replicate}
-use Rattle.lists_and_numbers.specs.Bits.{number_of}
+use Rattle.std.specs.Prelude.{◌<◌, ◌≤◌, ◌^◌, ◌==◌, length, Option, Some, None, if◌then◌else◌, ℕ, Bool, List, []}
 use Rattle.tap_states.specs.declared.Tap.{Tap}
-use Rattle.tap_states.specs.declared.Tap.TheVariants.{Reset, DrShift, IrCapture, IrShift, IrUpdate}
+use Rattle.tap_states.specs.declared.Tap.TheVariants.{DrCapture}
 use Rattle.dev_card.specs.declared.desc.Desc.{Desc}
 use Rattle.dev_card.specs.declared.desc.IdCode.{IdCode}
 use Rattle.dev_card.specs.Descriptions.{IsGood}
-use Rattle.dev_card.specs.Card.{Card, shifted, captured_instruction, reset_instruction}
+use Rattle.dev_card.specs.Card.{Card, during, entered, fresh}
 
 -- the parts of a card that all kinds have, and the room for the data list
 pub record Logic : Type 0 where
@@ -29,29 +28,29 @@ card_of k cells busy = record {
   busy = busy;
 }
 
--- what a clock does to the lists in the state from which it starts, the capture of data excepted
-abbrev pub lists_moved : Tap → Bool → Logic → Logic
-lists_moved IrCapture tdi k = record k { ir_list = captured_instruction k.desc }
-lists_moved IrShift tdi k = record k { ir_list = shifted k.ir_list tdi }
-lists_moved DrShift tdi k = record k { dr_list = shifted k.dr_list tdi }
-lists_moved _ tdi k = k
+-- the parts of a card that all kinds have, and the room
+abbrev pub logic_of : Card → ℕ → Logic
+logic_of c room = record {
+  desc = c.desc;
+  tap = c.tap;
+  instruction = c.instruction;
+  ir_list = c.ir_list;
+  dr_list = c.dr_list;
+  room = room;
+}
 
--- what a clock does on coming to a state, the update of data excepted
+-- what a clock does in the state from which it starts, the capture of data excepted
+abbrev pub lists_moved : Tap → Bool → Logic → Logic
+lists_moved DrCapture tdi k = k
+lists_moved s tdi k = logic_of (during s tdi (card_of k [] 0)) k.room
+
+-- what a clock does on coming to a state
 abbrev pub state_entered : Tap → Logic → Logic
-state_entered IrUpdate k = record k { tap = IrUpdate; instruction = number_of k.ir_list }
-state_entered Reset k = record k { tap = Reset; instruction = reset_instruction k.desc }
-state_entered t k = record k { tap = t }
+state_entered t k = logic_of (entered t (card_of k [] 0)) k.room
 
 -- the state after power-up
 abbrev pub fresh_logic : Desc → ℕ → Logic
-fresh_logic d room = record {
-  desc = d;
-  tap = Reset;
-  instruction = reset_instruction d;
-  ir_list = replicate d.ir_len false;
-  dr_list = false ∷ [];
-  room = room;
-}
+fresh_logic d room = logic_of (fresh d) room
 
 -- the identification code, where its opcode is the instruction
 abbrev pub selected_identity : Option IdCode → ℕ → Option ℕ
