@@ -1,0 +1,76 @@
+-- The inputs of moves and stays, clock by clock, and the states to which they lead.
+use Rattle.std.proofs.Common.{◌≡◌, ◌<◌, ◌≤◌, ◌+◌, ◌-◌, ◌/◌, ◌%◌, ℕ, suc, zero, nat_eq, Bool, true, false, List, [], ◌∷◌, replicate, Option, Some, None, refl, sym, ap, subst, ◌∙◌, arith}
+use Rattle.std.proofs.lemmas.Bool.{false≢true}
+use Rattle.std.specs.Option.{option_map}
+use Rattle.lists_and_numbers.specs.Bits.{low_bits}
+use Rattle.tap_states.specs.declared.Tap.{Tap}
+use Rattle.tap_states.specs.declared.Tap.TheVariants.{Reset, Idle, DrPause, IrPause}
+use Rattle.tap_states.specs.Tap.{next_of, is_stable_state}
+use Rattle.tap_states.specs.Path.{walk}
+use Rattle.dev_card.specs.Card.{Card}
+use Rattle.dev_card.specs.Board.{board_after, AllIn}
+use Rattle.dev_card.specs.Clocks.{with_zero, rest_tms, move_inputs}
+use Rattle.dev_card.proofs.Reaching.{walk_in}
+use Rattle.dev_card.proofs.ScanLines.{move_leads}
+use Rattle.scan_paths.specs.Cables.{WhereTold}
+
+minus_zero : (n : ℕ) → n ≡ n - 0
+minus_zero n = omega arith
+
+-- all TMS values
+pub all_bits : (n bits : ℕ) → with_zero (low_bits n bits) ≡ with_zero (low_bits (n - 0) bits)
+all_bits n bits = ap (λ m. with_zero (low_bits m bits)) (minus_zero n)
+
+pub all_same : (n : ℕ) (b : Bool) → with_zero (replicate n b) ≡ with_zero (replicate (n - 0) b)
+all_same n b = ap (λ m. with_zero (replicate m b)) (minus_zero n)
+
+-- the next TMS and the rest
+pub next_bit : (n k rest : ℕ) → k < n →
+    with_zero (low_bits (n - k) rest) ≡ record { tms = nat_eq (rest % 2) 1; tdi = false } ∷ with_zero (low_bits (n - (k + 1)) (rest / 2))
+next_bit n k rest h = let e : n - k ≡ suc (n - (k + 1)) = omega arith in ap (λ m. with_zero (low_bits m rest)) e
+
+pub no_bits : (n k rest : ℕ) → n ≤ k → with_zero (low_bits (n - k) rest) ≡ []
+no_bits n k rest h = let e : n - k ≡ 0 = omega arith in ap (λ m. with_zero (low_bits m rest)) e
+
+-- the next of the same TMS values, and the rest
+pub next_same : (n k : ℕ) (b : Bool) → k < n → with_zero (replicate (n - k) b) ≡ record { tms = b; tdi = false } ∷ with_zero (replicate (n - (k + 1)) b)
+next_same n k b h = let e : n - k ≡ suc (n - (k + 1)) = omega arith in ap (λ m. with_zero (replicate m b)) e
+
+pub none_same : (n k : ℕ) (b : Bool) → n ≤ k → with_zero (replicate (n - k) b) ≡ []
+none_same n k b h = let e : n - k ≡ 0 = omega arith in ap (λ m. with_zero (replicate m b)) e
+
+none≢some : {X : Type 0} {x : X} → None ≡ Some x → ⊥
+none≢some e = cc
+
+some_same : {X : Type 0} {x y : X} → Some x ≡ Some y → x ≡ y
+some_same e = cc
+
+-- a fact of the board after some clocks, where the board is told
+told_then : (old new : Option (List Card)) (change : List Card → List Card) (P Q : List Card → Type 0) → new ≡ option_map change old →
+    WhereTold old P → ((cs : List Card) → P cs → Q (change cs)) → WhereTold new Q
+told_then None new change P Q e h f cs t = absurd (none≢some (sym e ∙ t))
+told_then (Some bs) new change P Q e h f cs t = subst Q (some_same (sym e ∙ t)) (f bs (h bs refl))
+
+-- after a move
+pub told_moved : (old new : Option (List Card)) (at to : Tap) → new ≡ option_map (λ cs. board_after cs (move_inputs at to)) old →
+    WhereTold old (AllIn at) → WhereTold new (AllIn to)
+told_moved old new at to e h = told_then old new (λ cs. board_after cs (move_inputs at to)) (AllIn at) (AllIn to) e h (λ cs a. move_leads at to cs a)
+
+rests : (s : Tap) → is_stable_state s ≡ true → next_of s (rest_tms s) ≡ s
+rests Reset h = refl
+rests Idle h = refl
+rests DrPause h = refl
+rests IrPause h = refl
+rests _ h = absurd (false≢true h)
+
+rests_long : (s : Tap) (n : ℕ) → next_of s (rest_tms s) ≡ s → walk s (replicate n (rest_tms s)) ≡ s
+rests_long s zero h = refl
+rests_long s (suc n) h = ap (λ t. walk t (replicate n (rest_tms s))) h ∙ rests_long s n h
+
+-- after a stay
+pub told_stayed : (old new : Option (List Card)) (at : Tap) (n : ℕ) → is_stable_state at ≡ true →
+    new ≡ option_map (λ cs. board_after cs (with_zero (replicate n (rest_tms at)))) old → WhereTold old (AllIn at) → WhereTold new (AllIn at)
+told_stayed old new at n st e h =
+    let ms : List Bool = replicate n (rest_tms at) in
+    told_then old new (λ cs. board_after cs (with_zero ms)) (AllIn at) (AllIn at) e h
+    (λ cs a. subst (λ t. AllIn t (board_after cs (with_zero ms))) (rests_long at n (rests at st)) (walk_in at cs ms a))

@@ -1,0 +1,72 @@
+-- What a call does to a cable: the clocks that were made, the board that the cable tells, its counts of faults, and what is broken of it. A cable
+-- that tells its board is clocked as the board is (IEEE 1149.1, test access port); counts and breakages are this profile's.
+use Rattle.std.specs.Prelude.{◌≡◌, ◌+◌, ◌++◌, ◌⊎◌, ℕ, Bool, true, false, List, [], ◌∷◌, map, Option, Some}
+use Rattle.std.specs.Option.{option_map}
+use Rattle.tool_io.specs.Causes.{CountKept, CountRose}
+use Rattle.dev_card.specs.Card.{Card}
+use Rattle.dev_card.specs.Board.{board_tdo, board_step, board_after, clocks_of, Clock, Input}
+
+-- what is broken of a cable: nothing, the line to the devices, or the lines in which its clocks are written
+pub data Breakage : Type 0 where
+  whole : Breakage
+  line : Breakage
+  pins : Breakage
+
+-- nothing is broken where a test holds, and the line elsewhere
+abbrev pub whole_if : Bool → Breakage
+whole_if true = whole
+whole_if false = line
+
+-- the count of one part was kept, and where this part is broken now, the count rose or stands at its last value
+pub record PartCause (part : Breakage) (before now : ℕ) (last_before last_now : Type 0) (broken_now : Breakage) : Type 0 where
+  pub kept : CountKept before now last_before last_now
+  pub broke : broken_now ≡ part → CountRose before now last_now
+
+-- the same of a cable before and after a call
+abbrev pub HasPartCause : {C : Type 0} → Breakage → (C → ℕ) → (C → Type 0) → (C → Breakage) → C → C → Type 0
+HasPartCause part faults is_last breakage before now = PartCause part (faults before) (faults now) (is_last before) (is_last now) (breakage now)
+
+-- the count of a cable without more is the sum of its two, which stands at its last value where one of them does
+abbrev pub cable_faults : {C : Type 0} → (C → ℕ) → (C → ℕ) → C → ℕ
+cable_faults line_faults pin_faults cable = line_faults cable + pin_faults cable
+
+abbrev pub IsCableLast : {C : Type 0} → (C → Type 0) → (C → Type 0) → C → Type 0
+IsCableLast is_line_last is_pin_last cable = is_line_last cable ⊎ is_pin_last cable
+
+-- what went in at a clock
+abbrev pub input_of : Clock → Input
+input_of k = record { tms = k.tms; tdi = k.tdi }
+
+-- One clock was made, with this TDO: where the board is told, it is the board's TDO before the clock, and the board is stepped.
+pub record IsClocked {C : Type 0} (board : C → Option (List Card)) (makes : C → List Clock → C → Type 0) (old new : C) (tms tdi tdo : Bool) : Type 0 where
+  pub made : makes old (record { tms = tms; tdi = tdi; tdo = tdo } ∷ []) new
+  pub seen : (cs : List Card) → board old ≡ Some cs → tdo ≡ board_tdo cs tdi
+  pub cards : board new ≡ option_map (λ cs. board_step cs tms tdi) (board old)
+
+-- No clock was made, and the board is as it was.
+pub record IsUnclocked {C : Type 0} (board : C → Option (List Card)) (makes : C → List Clock → C → Type 0) (old new : C) : Type 0 where
+  pub made : makes old [] new
+  pub cards : board new ≡ board old
+
+-- No clock was made, or this one.
+abbrev pub IsClockedOrNot : {C : Type 0} → (C → Option (List Card)) → (C → List Clock → C → Type 0) → C → C → Bool → Bool → Type 0
+IsClockedOrNot board makes old new tms tdi = IsUnclocked board makes old new ⊎ ((tdo : Bool) × IsClocked board makes old new tms tdi tdo)
+
+-- Clocks were made with exactly these inputs. Where the board is told, they are the board's clocks, and the board is the one after them.
+pub record HasMade {C : Type 0} (board : C → Option (List Card)) (makes : C → List Clock → C → Type 0) (old new : C) (inputs : List Input) : Type 0 where
+  pub clocks : List Clock
+  pub made : makes old clocks new
+  pub went_in : map input_of clocks ≡ inputs
+  pub seen : (cs : List Card) → board old ≡ Some cs → clocks ≡ clocks_of cs inputs
+  pub cards : board new ≡ option_map (λ cs. board_after cs inputs) (board old)
+
+-- Clocks were made with exactly a front of these inputs.
+pub record HasMadeFront {C : Type 0} (board : C → Option (List Card)) (makes : C → List Clock → C → Type 0) (old new : C) (inputs : List Input) : Type 0 where
+  pub front : List Input
+  pub rest : List Input
+  pub parts : inputs ≡ front ++ rest
+  pub made : HasMade board makes old new front
+
+-- what holds of the board, where it is told
+abbrev pub WhereTold : Option (List Card) → (List Card → Type 0) → Type 0
+WhereTold board P = (cs : List Card) → board ≡ Some cs → P cs

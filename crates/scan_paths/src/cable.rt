@@ -1,0 +1,77 @@
+//! The cable to a chain of devices.
+ghost use Rattle.std.specs.Prelude.{◌≡◌, ◌≢◌, ℕ, List, [], ◌++◌, Option, Some, IfOk, OnOk, OnErr};
+ghost use Rattle.dev_card.specs.Card.{Card};
+ghost use Rattle.dev_card.specs.Board.{Clock};
+ghost use Rattle.dev_card.specs.Sound.{AllSound};
+ghost use Rattle.scan_paths.specs.Cables.{Breakage, whole, line, pins, HasPartCause, IsClocked, IsUnclocked, IsClockedOrNot};
+
+use tool_io::Failed;
+
+/// A cable to a chain of devices (IEEE 1149.1, test access port): TCK and TMS to all, TDI to the last device, TDO from the first.
+///
+/// A cable tells the cards of its board to contracts, as a simulated chain does, or tells nothing, as one to real devices; either way it stays
+/// so. Told cards are sound. It has two counts of faults, one of the line to the devices and one of the lines in which its clocks are written,
+/// where it writes any; neither ever falls. A call that fails leaves it broken, and no call may be made on a broken cable.
+pub trait Cable {
+    /// The cards of the board, the first nearest TDO, where the cable tells them.
+    ghost board: { Self → Option (List Card) };
+
+    /// These clocks, one after another, lead from what the cable held to what it holds.
+    ghost made: { Self → List Clock → Self → Type 0 };
+
+    /// How often calls have failed by the line to the devices.
+    ghost line_faults: { Self → ℕ };
+
+    /// That count stands at its last value.
+    ghost is_line_last: { Self → Type 0 };
+
+    /// How often calls have failed by the lines in which clocks are written.
+    ghost pin_faults: { Self → ℕ };
+
+    /// That count stands at its last value.
+    ghost is_pin_last: { Self → Type 0 };
+
+    /// Which part of the cable is broken, if any is.
+    ghost breakage: { Self → Breakage };
+
+    /// One clock with these values at TMS and TDI. It answers TDO, as it is before the clock.
+    ///
+    /// `Failed` only where the count of the part that is broken then rose, or stands at its last value. The board, where told, is then as it
+    /// was before the clock or as it is after it.
+    fn clock(&mut self, tms: bool, tdi: bool) -> Result<bool, Failed>
+        requires { breakage self.old ≡ whole }
+        ensures clocked { IfOk result (λ tdo. IsClocked board made self.old self.new tms tdi tdo) }
+        ensures failed { OnErr result (IsClockedOrNot board made self.old self.new tms tdi) }
+        ensures unbroken { OnOk result (breakage self.new ≡ whole) }
+        ensures broken { OnErr result (breakage self.new ≢ whole) }
+        ensures line { HasPartCause line line_faults is_line_last breakage self.old self.new }
+        ensures pins { HasPartCause pins pin_faults is_pin_last breakage self.old self.new };
+
+    /// Waits for n microseconds, without a clock: a told board stays as it is, whatever the answer. `Failed` has the cause that it has at `clock`.
+    fn usec(&mut self, n: u32) -> Result<(), Failed>
+        requires { breakage self.old ≡ whole }
+        ensures unclocked { IsUnclocked board made self.old self.new }
+        ensures unbroken { OnOk result (breakage self.new ≡ whole) }
+        ensures broken { OnErr result (breakage self.new ≢ whole) }
+        ensures line { HasPartCause line line_faults is_line_last breakage self.old self.new }
+        ensures pins { HasPartCause pins pin_faults is_pin_last breakage self.old self.new };
+
+    /// Sets the frequency of the clocks that follow to n hertz, without a clock: a told board stays as it is, whatever the answer. `Failed` has the
+    /// cause that it has at `clock`.
+    fn hertz(&mut self, n: u32) -> Result<(), Failed>
+        requires { breakage self.old ≡ whole }
+        ensures unclocked { IsUnclocked board made self.old self.new }
+        ensures unbroken { OnOk result (breakage self.new ≡ whole) }
+        ensures broken { OnErr result (breakage self.new ≢ whole) }
+        ensures line { HasPartCause line line_faults is_line_last breakage self.old self.new }
+        ensures pins { HasPartCause pins pin_faults is_pin_last breakage self.old self.new };
+
+    /// Told cards are sound.
+    ghost sound: { (c : Self) (cs : List Card) → board c ≡ Some cs → AllSound cs };
+
+    /// No clock leads from what the cable holds to what it holds.
+    ghost none_made: { (c : Self) → made c [] c };
+
+    /// Clocks that lead on, joined.
+    ghost both_made: { (a b c : Self) (front back : List Clock) → made a front b → made b back c → made a (front ++ back) c };
+}

@@ -1,0 +1,83 @@
+//! Moves and stays of the controllers.
+ghost use Rattle.std.specs.Prelude.{◌≡◌, ◌≢◌, IsTrue, IfOk, OnOk, OnErr};
+ghost use Rattle.tool_io.specs.Causes.{HasCause};
+ghost use Rattle.lists_and_numbers.specs.Bits.{low_bits};
+ghost use Rattle.tap_states.specs.Tap.{is_stable_state};
+ghost use Rattle.dev_card.specs.Board.{AllIn};
+ghost use Rattle.dev_card.specs.Clocks.{with_zero, move_inputs, stay_inputs, rest_tms};
+ghost use Rattle.scan_paths.specs.Cables.{whole, line, pins, HasPartCause, cable_faults, IsCableLast, HasMade, HasMadeFront, WhereTold};
+
+use crate::cable::Cable;
+use tap_states::Tap;
+use tool_io::Failed;
+
+// Clocks the lowest n bits as TMS, the lowest first, with TDI 0.
+fn send<C: Cable>(cable: &mut C, bits: u32, n: u32) -> Result<(), Failed>
+    requires { C.breakage cable.old ≡ whole }
+    ensures made { OnOk result (HasMade C.board C.made cable.old cable.new (with_zero (low_bits n bits))) }
+    ensures front { OnErr result (HasMadeFront C.board C.made cable.old cable.new (with_zero (low_bits n bits))) }
+    ensures unbroken { OnOk result (C.breakage cable.new ≡ whole) }
+    ensures broken { OnErr result (C.breakage cable.new ≢ whole) }
+    ensures line { HasPartCause line C.line_faults C.is_line_last C.breakage cable.old cable.new }
+    ensures pins { HasPartCause pins C.pin_faults C.is_pin_last C.breakage cable.old cable.new }
+{
+    let mut rest = bits;
+    for _turn in 0..n {
+        cable.clock(rest % 2 == 1, false)?;
+        rest /= 2;
+    }
+    Ok(())
+}
+
+/// Moves all controllers from one state to another by the path between the two, with TDI 0, and answers the state that they are in then.
+///
+/// The cable is not broken, and where it tells its board, each controller is in the state `at`. `Failed` only where the cable's count of faults
+/// rose, or stands at its last value; then the clocks that were made are those of a front of the path, and nothing is promised of the state.
+pub fn move_to<C: Cable>(cable: &mut C, at: Tap, to: Tap) -> Result<Tap, Failed>
+    requires whole { C.breakage cable.old ≡ whole }
+    requires at { WhereTold (C.board cable.old) (AllIn at) }
+    ensures state { IfOk result (λ state. state ≡ to) }
+    ensures arrived { OnOk result (WhereTold (C.board cable.new) (AllIn to)) }
+    ensures made { OnOk result (HasMade C.board C.made cable.old cable.new (move_inputs at to)) }
+    ensures front { OnErr result (HasMadeFront C.board C.made cable.old cable.new (move_inputs at to)) }
+    ensures unbroken { OnOk result (C.breakage cable.new ≡ whole) }
+    ensures broken { OnErr result (C.breakage cable.new ≢ whole) }
+    ensures line { HasPartCause line C.line_faults C.is_line_last C.breakage cable.old cable.new }
+    ensures pins { HasPartCause pins C.pin_faults C.is_pin_last C.breakage cable.old cable.new }
+    ensures cause { HasCause (cable_faults C.line_faults C.pin_faults) (IsCableLast C.is_line_last C.is_pin_last) cable.old cable.new result }
+{
+    let path = Tap::path(at, to);
+    send(cable, path.bits, path.len)?;
+    Ok(to)
+}
+
+/// Makes n clocks in a stable state, in which all controllers stay: with TMS 1 in the reset state and with 0 in the others, and with TDI 0.
+///
+/// The cable is not broken, and where it tells its board, each controller is in the state `at`. `Failed` only where the cable's count of faults
+/// rose, or stands at its last value; then fewer clocks may have been made, and nothing is promised of the state.
+pub fn stay<C: Cable>(cable: &mut C, at: Tap, n: u32) -> Result<(), Failed>
+    requires whole { C.breakage cable.old ≡ whole }
+    requires at { WhereTold (C.board cable.old) (AllIn at) }
+    requires stable { IsTrue (is_stable_state at) }
+    ensures still { OnOk result (WhereTold (C.board cable.new) (AllIn at)) }
+    ensures made { OnOk result (HasMade C.board C.made cable.old cable.new (stay_inputs at n)) }
+    ensures front { OnErr result (HasMadeFront C.board C.made cable.old cable.new (stay_inputs at n)) }
+    ensures unbroken { OnOk result (C.breakage cable.new ≡ whole) }
+    ensures broken { OnErr result (C.breakage cable.new ≢ whole) }
+    ensures line { HasPartCause line C.line_faults C.is_line_last C.breakage cable.old cable.new }
+    ensures pins { HasPartCause pins C.pin_faults C.is_pin_last C.breakage cable.old cable.new }
+    ensures cause { HasCause (cable_faults C.line_faults C.pin_faults) (IsCableLast C.is_line_last C.is_pin_last) cable.old cable.new result }
+{
+    let tms = tms_at_rest(at);
+    for _turn in 0..n {
+        cable.clock(tms, false)?;
+    }
+    Ok(())
+}
+
+// TMS while the controllers stay in a stable state.
+fn tms_at_rest(at: Tap) -> bool
+    ensures { result ≡ rest_tms at }
+{
+    matches!(at, Tap::Reset)
+}
