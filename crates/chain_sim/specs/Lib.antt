@@ -1,0 +1,5 @@
+pub mod Places
+pub mod Rack
+pub mod Runs
+pub mod RunLaws
+pub mod Chains

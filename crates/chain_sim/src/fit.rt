@@ -1,0 +1,79 @@
+//! Fitting a board into a rack.
+ghost use Rattle.std.specs.Prelude.{◌≡◌, ◌≢◌, ◌<◌, ◌≤◌, ℕ, length, map, Some, All, IfOk, OnOk, IsErrOf, IsTrue, slice_get, vec_len};
+ghost use Rattle.dev_card.specs.Descriptions.{IsGood};
+ghost use Rattle.dev_card.specs.Card.{fresh};
+ghost use Rattle.chain_sim.specs.Places.{card_at, cards_at, IsAbsent, is_chain};
+ghost use Rattle.chain_sim.specs.Rack.{IsRack, IsPlain, places_of};
+
+use dev_card::{Desc, Device, FitRefused};
+use std::alloc::{AllocError, Global};
+
+// Fits the device at a place; the others stay as they are.
+fn fit_at<D: Device>(
+    alloc: Global,
+    rack: &mut Vec<D>,
+    place: usize,
+    desc: &Desc,
+) -> Result<(), FitRefused>
+    requires inside { place < vec_len rack.old }
+    requires good { IsGood desc.now }
+    ensures kinds { map D.kind_of rack.new.items ≡ map D.kind_of rack.old.items }
+    ensures card { OnOk result (card_at (map D.fitted rack.new.items) place ≡ Some (fresh desc.now)) }
+    ensures others { (k : ℕ) → k ≢ place → slice_get rack.new.items k ≡ slice_get rack.old.items k }
+    ensures wrong_kind { IsErrOf result FitRefused.WrongKind → slice_get (map D.kind_of rack.old.items) place ≢ Some desc.now.kind }
+{
+    rack[place].fit(alloc, desc)
+}
+
+// Fits a device for each description, and answers the places.
+fn fit_all<D: Device>(
+    alloc: Global,
+    rack: &mut Vec<D>,
+    descs: &[Desc],
+) -> Result<Vec<u32>, AllocError>
+    requires rack { IsRack (map D.kind_of rack.old.items) }
+    requires most { length descs.now ≤ 16 }
+    requires good { All IsGood descs.now }
+    requires plain { All IsPlain descs.now }
+    ensures kinds { map D.kind_of rack.new.items ≡ map D.kind_of rack.old.items }
+    ensures places { IfOk result (λ v. v.items ≡ places_of descs.now) }
+    ensures cards { OnOk result (cards_at (map D.fitted rack.new.items) (places_of descs.now) ≡ Some (map fresh descs.now)) }
+    ensures others { (k : ℕ) → IsAbsent k (places_of descs.now) → slice_get rack.new.items k ≡ slice_get rack.old.items k }
+{
+    let mut places = Vec::new(alloc);
+    for i in 0..descs.len() {
+        let desc = &descs[i];
+        match fit_at(alloc, rack, i, desc) {
+            Ok(()) => {}
+            Err(FitRefused::Memory) => return Err(AllocError),
+            Err(FitRefused::WrongKind) => unreachable!(),
+        }
+        places.push(i as u32)?;
+    }
+    Ok(places)
+}
+
+/// Fits a device of the rack for each of 1 to 16 good descriptions, and answers their places in the rack, counted from 0. These devices are then as
+/// after power-up, and a chain can be laid over the places.
+///
+/// For now the rack has sixteen devices of kind `Plain`, each description is of that kind, and the devices are taken in order. `AllocError` comes
+/// only for want of memory; then some of these devices may be fitted. Each device keeps its kind in any case, and those at other places stay as they
+/// are.
+pub fn fit_board(
+    alloc: Global,
+    rack: &mut Vec<Box<dyn Device>>,
+    descs: &[Desc],
+) -> Result<Vec<u32>, AllocError>
+    requires rack { IsRack (map kind_of rack.old.items) }
+    requires some { 1 ≤ length descs.now }
+    requires most { length descs.now ≤ 16 }
+    requires good { All IsGood descs.now }
+    requires plain { All IsPlain descs.now }
+    ensures kinds { map kind_of rack.new.items ≡ map kind_of rack.old.items }
+    ensures places { IfOk result (λ v. v.items ≡ places_of descs.now) }
+    ensures cards { OnOk result (cards_at (map fitted rack.new.items) (places_of descs.now) ≡ Some (map fresh descs.now)) }
+    ensures others { (k : ℕ) → IsAbsent k (places_of descs.now) → slice_get rack.new.items k ≡ slice_get rack.old.items k }
+    ensures chain { OnOk result (IsTrue (is_chain (map fitted rack.new.items) (places_of descs.now))) }
+{
+    fit_all(alloc, rack, descs)
+}

@@ -1,0 +1,9 @@
+//! The simulated chain: devices at places of a rack, clocked in lockstep, and the fitting of a board into a rack.
+#![tactic(auto)]
+
+mod chain;
+mod fit;
+mod rack;
+
+pub use chain::{Chain, ChainOf};
+pub use fit::fit_board;
