@@ -1,0 +1,5 @@
+pub mod Reasons
+pub mod Lines
+pub mod DeviceLines
+pub mod Boards
+pub mod Reading

@@ -1,0 +1,20 @@
+//! Laws of the definitions.
+ghost use Rattle.std.specs.Prelude.{◌≡◌, ℕ, List};
+ghost use Rattle.dev_card.specs.declared.desc.Desc.{Desc};
+ghost use Rattle.board_text.specs.declared.reason.BoardReason.{BoardReason};
+ghost use Rattle.board_text.specs.Boards.{IsBoard, IsFirstFault};
+
+/// A text is a board of at most one list of devices.
+pub fn one_board()
+    ensures { (text : List ℕ) (a b : List Desc) → IsBoard text a → IsBoard text b → a ≡ b }
+{}
+
+/// A text has at most one first fault.
+pub fn one_first_fault()
+    ensures { (text : List ℕ) (m n : ℕ) (r s : BoardReason) → IsFirstFault text m r → IsFirstFault text n s → (m ≡ n) × (r ≡ s) }
+{}
+
+/// A text that is a board has no fault.
+pub fn no_board_has_a_fault()
+    ensures { (text : List ℕ) (devices : List Desc) (n : ℕ) (r : BoardReason) → IsBoard text devices → IsFirstFault text n r → ⊥ }
+{}
