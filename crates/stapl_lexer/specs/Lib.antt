@@ -10,3 +10,4 @@ pub mod Depth
 pub mod PieceFaults
 pub mod Crc
 pub mod TokenReading
+pub mod SpelledTokens

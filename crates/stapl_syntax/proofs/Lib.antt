@@ -1,2 +1,5 @@
 pub mod StatementLemmas
 pub mod FaultLemmas
+pub mod FormLemmas
+pub mod RefusalLemmas
+pub mod ShapeLemmas

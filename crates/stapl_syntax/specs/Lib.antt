@@ -1,2 +1,8 @@
+pub mod Trees
 pub mod Statements
 pub mod Programs
+pub mod Grammar
+pub mod Forms
+pub mod Declarations
+pub mod Faults
+pub mod Shapes

@@ -1,6 +1,13 @@
 //! Laws of the definitions.
-ghost use Rattle.std.specs.Prelude.{◌≡◌, ℕ, List};
+ghost use Rattle.std.specs.Prelude.{◌≡◌, ◌↔◌, ℕ, List, Some};
+ghost use Rattle.stapl_lexer.specs.declared.piece.Piece.{Piece};
 ghost use Rattle.stapl_lexer.specs.declared.reason.Reason.{Reason};
+ghost use Rattle.stapl_lexer.specs.SpelledTokens.{SpelledToken};
+ghost use Rattle.stapl_syntax.specs.Trees.{StmtTree};
+ghost use Rattle.stapl_syntax.specs.Faults as faults;
+ghost use Rattle.stapl_syntax.specs.Grammar.{Means, IsPieceStatement};
+ghost use Rattle.stapl_syntax.specs.Forms.{statement_of};
+ghost use Rattle.stapl_syntax.specs.Shapes.{IsOneProcedure};
 ghost use Rattle.stapl_syntax.specs.Statements.{BodyTree, IsStatement};
 ghost use Rattle.stapl_syntax.specs.Programs.{IsProgram, FirstFault};
 
@@ -22,4 +29,35 @@ pub fn one_first_fault()
 /// A text that has a fault is no program.
 pub fn no_program_has_a_fault()
     ensures { (text : List ℕ) (bodies : List BodyTree) (piece line : ℕ) (reason : Reason) → IsProgram text bodies → FirstFault text piece line reason → ⊥ }
+{}
+
+/// Tokens mean a statement exactly where the grammar as a function gives it. So they mean at most one.
+pub fn the_grammar_as_a_function()
+    ensures { (tokens : List SpelledToken) (st : StmtTree) → Means tokens st ↔ (statement_of tokens ≡ Some st) }
+{}
+
+/// A piece is at most one statement.
+pub fn a_piece_is_one_statement()
+    ensures { (text : List ℕ) (piece : Piece) (a b : StmtTree) → IsPieceStatement text piece a → IsPieceStatement text piece b → a ≡ b }
+{}
+
+/// A text is at most one program.
+pub fn a_text_is_one_program()
+    ensures { (text : List ℕ) (a b : List StmtTree) → faults.IsProgram text a → faults.IsProgram text b → a ≡ b }
+{}
+
+/// A text has at most one first fault.
+pub fn a_text_has_one_first_fault()
+    ensures { (text : List ℕ) (p l q m : ℕ) (r s : Reason) → faults.FirstFault text p l r → faults.FirstFault text q m s → (p ≡ q) × (l ≡ m) × (r ≡ s) }
+{}
+
+/// A text that has a first fault is no program.
+pub fn a_program_has_no_fault()
+    ensures { (text : List ℕ) (statements : List StmtTree) (piece line : ℕ) (reason : Reason) → faults.IsProgram text statements → faults.FirstFault text piece line reason → ⊥ }
+{}
+
+/// The statements of a program are an action, the one procedure that it names, and the statements of that up to its ENDPROC. Each variable
+/// and each label that one of them names is declared among them exactly once.
+pub fn a_program_is_one_procedure()
+    ensures { (text : List ℕ) (statements : List StmtTree) → faults.IsProgram text statements → IsOneProcedure statements }
 {}

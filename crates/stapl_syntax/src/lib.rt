@@ -2,3 +2,6 @@
 #![tactic(auto)]
 
 pub mod laws;
+mod statement;
+
+pub use statement::{BinOp, Body, Expr, Part, Stmt};

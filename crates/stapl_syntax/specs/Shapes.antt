@@ -1,0 +1,41 @@
+-- What a program looks like (JESD71, program structure). That texts have this shape where none of their pieces is refused is a law.
+use Rattle.std.specs.Prelude.{◌≡◌, ℕ, ◌≤◌, List, [], ◌∷◌, ◌++◌, Bool, true, ◌&&◌, not, length, count_by}
+use Rattle.std.specs.List.{list_all, list_any}
+use Rattle.stapl_syntax.specs.Trees.{action, procedure, end_procedure, StmtTree}
+use Rattle.stapl_syntax.specs.Grammar.{unlabelled}
+use Rattle.stapl_syntax.specs.Declarations.{body_declares, is_label, names_variables, names_labels}
+use Rattle.stapl_syntax.specs.Faults.{piece_limit, is_end, is_inside}
+
+-- a statement declares the variable of this name, or bears the label of this name
+abbrev pub declares_variable_in : List ℕ → StmtTree → Bool
+declares_variable_in name st = body_declares name st.body
+
+abbrev pub bears_label : List ℕ → StmtTree → Bool
+bears_label name st = is_label name st.label
+
+-- each variable and label that the statement names is declared among these statements
+abbrev pub names_declared : List StmtTree → StmtTree → Bool
+names_declared own st =
+    names_variables (λ name. list_any (declares_variable_in name) own) st.body && names_labels (λ name. list_any (bears_label name) own) st.body
+
+-- a statement that may stand between PROCEDURE and ENDPROC
+abbrev pub is_between : StmtTree → Bool
+is_between st = is_inside st.body && not (is_end st.body)
+
+-- The names of the statements of a procedure: each that one of them names is declared among them, and none is declared twice.
+pub record NamesAreDeclared (own : List StmtTree) : Type 0 where
+  pub named : list_all (names_declared own) own ≡ true
+  pub variables_once : (name : List ℕ) → count_by (declares_variable_in name) own ≤ 1
+  pub labels_once : (name : List ℕ) → count_by (bears_label name) own ≤ 1
+
+-- The statements are an action, the one procedure that it names, statements of that procedure, and its ENDPROC, which may bear a label.
+pub record IsOneProcedure (statements : List StmtTree) : Type 0 where
+  pub name : List ℕ
+  pub run : List ℕ
+  pub inner : List StmtTree
+  pub last : StmtTree
+  pub few : length statements ≤ piece_limit
+  pub order : statements ≡ unlabelled (action name (run ∷ [])) ∷ unlabelled (procedure run) ∷ inner ++ last ∷ []
+  pub between : list_all is_between inner ≡ true
+  pub last_is : last.body ≡ end_procedure
+  pub names : NamesAreDeclared (inner ++ last ∷ [])
