@@ -1,0 +1,12 @@
+//! The checker: it reads a text and gives its program, or its first fault.
+#![tactic(auto)]
+
+mod checking;
+mod forms;
+mod judging;
+mod names;
+mod reading;
+mod refusing;
+mod tokens;
+
+pub use checking::{CheckRefused, check};
