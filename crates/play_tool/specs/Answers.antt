@@ -8,17 +8,18 @@ use Rattle.stapl_syntax.specs.Statements.{BodyTree}
 use Rattle.stapl_syntax.specs.Programs.{IsProgram, FirstFault}
 use Rattle.stapl_meaning.specs.declared.events.Event.{Event}
 use Rattle.stapl_meaning.specs.declared.events.Ending.{Ending}
-use Rattle.stapl_meaning.specs.declared.events.Ending.TheVariants.{Exit}
+use Rattle.stapl_meaning.specs.declared.events.Ending.TheVariants as endings
 use Rattle.stapl_meaning.specs.Runs.{procedures_of, EndsWith}
 use Rattle.stapl_meaning.specs.Texts.{text_of}
 use Rattle.play_tool.specs.declared.status.Status.{Status}
-use Rattle.play_tool.specs.declared.status.Status.TheVariants.{Done, Refused, NoAction, Usage, ReadFault, WriteFault, Memory}
+use Rattle.play_tool.specs.declared.status.Status.TheVariants.{Done, Spent, Refused, NoAction, Usage, ReadFault, WriteFault, Memory}
 use Rattle.play_tool.specs.Texts.{number_line, refusal_line}
 use Rattle.play_tool.specs.Words.{IsRequest, IsUsage}
 
 -- the status of a play that ends so
 abbrev pub done_with : Ending → Status
-done_with (Exit code) = Done code
+done_with (endings.Exit code) = Done code
+done_with endings.Spent = Spent
 
 -- What is written for a program that is accepted, and the status: it has no such action, or it is played.
 pub data ProgramPlays (program : List BodyTree) (action : List ℕ) : List ℕ → Status → Type 0 where
@@ -62,6 +63,7 @@ IsFault ReadFault = Unit {0}
 IsFault WriteFault = Unit {0}
 IsFault Memory = Unit {0}
 IsFault (Done code) = ⊥
+IsFault Spent = ⊥
 IsFault (Refused piece reason) = ⊥
 IsFault NoAction = ⊥
 IsFault (Usage n) = ⊥

@@ -13,6 +13,8 @@ use tool_io::Failed;
 pub enum Status {
     /// The work is done; a play ended with this code.
     Done(i32),
+    /// The play still goes on after the turns that it was given. No play of today's programs is given a number of turns.
+    Spent,
     /// The program is refused: the piece, counted from 1, of its first fault, or 0 where the text is too long, and the reason.
     Refused(u32, Reason),
     /// The program has no action of the name that the words give.
@@ -58,14 +60,15 @@ impl From<AllocError> for Trouble {
 }
 
 impl Status {
-    /// The exit code of the process: 0 for a play that ended with code 0, 1 for one that ended with another, and from 4 on
-    /// one for each cause.
+    /// The exit code of the process: 0 for a play that ended with code 0, 1 for one that ended with another, 3 for one
+    /// whose turns are spent, and from 4 on one for each cause.
     pub fn exit_code(&self) -> u8
         ensures { result ≡ exit_code_of self.now }
     {
         match self {
             Status::Done(0) => 0,
             Status::Done(_) => 1,
+            Status::Spent => 3,
             Status::Refused(_, _) => 4,
             Status::NoAction => 6,
             Status::Usage(_) => 7,

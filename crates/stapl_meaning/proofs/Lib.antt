@@ -1,1 +1,3 @@
 pub mod RunLemmas
+pub mod TurnLemmas
+pub mod RunLaws

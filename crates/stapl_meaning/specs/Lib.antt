@@ -1,2 +1,7 @@
+pub mod Values
+pub mod States
+pub mod Scopes
+pub mod Turns
+pub mod Plays
 pub mod Runs
 pub mod Texts

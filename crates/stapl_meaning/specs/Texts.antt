@@ -5,7 +5,7 @@ use Rattle.std.specs.Fmt.{signed_decimal}
 use Rattle.stapl_meaning.specs.declared.events.Event.{Event}
 use Rattle.stapl_meaning.specs.declared.events.Event.TheVariants.{Print}
 use Rattle.stapl_meaning.specs.declared.events.Ending.{Ending}
-use Rattle.stapl_meaning.specs.declared.events.Ending.TheVariants.{Exit}
+use Rattle.stapl_meaning.specs.declared.events.Ending.TheVariants.{Exit, Spent}
 
 -- an upper-case hexadecimal digit, for a number below 16
 abbrev pub hex_digit : ℕ → ℕ
@@ -27,6 +27,7 @@ event_line (Print bytes) = codes "P " ++ escaped bytes ++ 10 ∷ []
 
 abbrev pub ending_line : Ending → List ℕ
 ending_line (Exit k) = codes "E exit " ++ signed_decimal k ++ 10 ∷ []
+ending_line Spent = codes "E spent" ++ 10 ∷ []
 
 -- the text of a play that has ended
 abbrev pub text_of : List Event → Ending → List ℕ

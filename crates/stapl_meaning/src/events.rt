@@ -16,4 +16,6 @@ pub enum Event {
 pub enum Ending {
     /// It ends with this code.
     Exit(i32),
+    /// It still goes on after the turns that it was given.
+    Spent,
 }

@@ -1,5 +1,9 @@
 //! Laws of the definitions.
-ghost use Rattle.std.specs.Prelude.{◌≡◌, ℕ, List};
+ghost use Rattle.std.specs.Prelude.{◌≡◌, ℕ, ◌+◌, List};
+ghost use Rattle.stapl_syntax.specs.Trees.{StmtTree};
+ghost use Rattle.stapl_meaning.specs.States.{State, Turned};
+ghost use Rattle.stapl_meaning.specs.Turns.{IsTurn, turn, IsFound};
+ghost use Rattle.stapl_meaning.specs.Plays.{run, then_runs};
 ghost use Rattle.stapl_syntax.specs.Statements.{BodyTree};
 ghost use Rattle.stapl_meaning.specs.declared.events.Event.{Event};
 ghost use Rattle.stapl_meaning.specs.declared.events.Ending.{Ending};
@@ -8,4 +12,20 @@ ghost use Rattle.stapl_meaning.specs.Runs.{EndsWith};
 /// A play ends in at most one way, with at most one list of events, however many turns it is given.
 pub fn a_play_ends_once()
     ensures { (program : List BodyTree) (chosen : List (List ℕ)) (es fs : List Event) (a b : Ending) → EndsWith program chosen es a → EndsWith program chosen fs b → (es ≡ fs) × (a ≡ b) }
+{}
+
+/// A statement does what the function gives, and where the function finds something to do, the statement does that.
+pub fn turns_are_computed()
+    ensures once { (program : List StmtTree) (i : ℕ) (s : State) (turned : Turned) → IsTurn program i s turned → (turn program i s ≡ turned) × IsFound turned }
+    ensures found { (program : List StmtTree) (i : ℕ) (s : State) → IsFound (turn program i s) → IsTurn program i s (turn program i s) }
+{}
+
+/// A state has at most one turn.
+pub fn one_turn()
+    ensures { (program : List StmtTree) (i : ℕ) (s : State) (a b : Turned) → IsTurn program i s a → IsTurn program i s b → a ≡ b }
+{}
+
+/// A run of n + m turns is a run of n turns, and then one of m.
+pub fn runs_follow_each_other()
+    ensures { (program : List StmtTree) (n m i : ℕ) (s : State) → run program (n + m) i s ≡ then_runs (run program n i s) (run program m) }
 {}

@@ -3,5 +3,7 @@
 
 mod events;
 pub mod laws;
+mod values;
 
 pub use events::{Ending, Event, Text};
+pub use values::{Held, Value};

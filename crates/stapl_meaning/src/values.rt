@@ -1,0 +1,25 @@
+//! What variables hold, and the values of expressions.
+use bit_list::Bits;
+use lists_and_numbers::ItemList;
+
+/// A value of an expression.
+#[derive(Clone, Copy, Debug, PartialEq, Eq)]
+pub enum Value {
+    /// An integer of 32 bits with a sign.
+    Int(i32),
+    /// A Boolean.
+    Bit(bool),
+}
+
+/// What a variable holds.
+#[derive(Drop)]
+pub enum Held {
+    /// An INTEGER scalar.
+    Int(i32),
+    /// A BOOLEAN scalar.
+    Bit(bool),
+    /// The elements of an INTEGER array, index 0 first.
+    Ints(ItemList<i32>),
+    /// The elements of a BOOLEAN array, index 0 first.
+    Bits(Bits),
+}
