@@ -1,0 +1,484 @@
+-- Runs of a valid code.
+use Rattle.std.proofs.Common.{◌≡◌, ◌≢◌, ℕ, zero, suc, ◌+◌, ◌-◌, ◌<◌, ◌≤◌, Bool, true, false, List, [], ◌∷◌, ◌++◌, Option, Some, None, length, take, drop, arith, refl, sym, ap, ◌∙◌, subst, length-drop, length-take, add-one}
+use Rattle.std.specs.Prelude.{slice_get, slice_range, ◌&&◌, ◌||◌, not, nat_lt, nat_le, All, AllPairs, if◌then◌else◌}
+use Rattle.std.specs.List.{list_all}
+use Rattle.std.proofs.lemmas.Bool.Decides.{nat_tests}
+use Rattle.std.proofs.lemmas.List.{take-append-drop, drop-append-le, drop-drop}
+use Rattle.stapl_meaning.specs.declared.events.Event.{Event}
+use Rattle.stapl_meaning.specs.declared.values.Held.{Held}
+use Rattle.stapl_meaning.specs.declared.values.Value.{Value}
+use Rattle.stapl_meaning.specs.Values.{Got, Known, Stuck}
+use Rattle.stapl_meaning.specs.States.{State, Turned, Leads, Over, NoTurn, assigned}
+use Rattle.stapl_meaning.specs.Plays.{goes_on, Stopped, start}
+use Rattle.stapl_code.specs.declared.kinds.Kind.{Kind}
+use Rattle.stapl_code.specs.declared.raw.ProcDef.{ProcDef}
+use Rattle.stapl_code.specs.declared.raw.CodeLists.{CodeLists}
+use Rattle.stapl_code.specs.declared.instr.Instr.{Instr}
+use Rattle.stapl_code.specs.declared.instr.Instr.TheVariants.{Turn, Push, Store, EndProc}
+use Rattle.stapl_code.specs.Machine.{Step, Falls, Emits, Stops, Wrong, on_got, entry_of, step, at_end, preceded, continues, stretch, begins, code_turn, code_run, begun, code_play}
+use Rattle.stapl_code.specs.Ranges.{IsInstr, IsInRange}
+use Rattle.stapl_code.specs.Kinds.{none_left, kinds_behind}
+use Rattle.stapl_code.specs.Valid.{is_turn, is_end, sets_up, departs, is_last, agree, kinds_kept, judged, first_of, is_target, leads_well, stands_well, prologue_break, rest_break, procedure_break, next_entry, procedures_break, entry_break, IsValid}
+use Rattle.stapl_code.specs.Safe.{AllFit, AllBelow, entries_of}
+use Rattle.stapl_code.specs.Ticks.{ticks_then}
+use Rattle.stapl_code.specs.Depth.{on_kinds, deepest, procedures_depth, depth_of, held_behind, held, begin_held, turn_held, run_held, play_held}
+use Rattle.stapl_code.proofs.OneStep.{kinds_of, Good, TurnedGood, StepGood, step_good, chosen_good}
+
+abbrev head_of : {A : Type 0} → List A → Option A
+head_of [] = None
+head_of (x ∷ xs) = Some x
+
+get_head : {A : Type 0} (i : ℕ) (xs : List A) → slice_get xs i ≡ head_of (drop i xs)
+get_head zero [] = refl
+get_head zero (x ∷ xs) = refl
+get_head (suc i) [] = refl
+get_head (suc i) (x ∷ xs) = get_head i xs
+
+drop_tail : {A : Type 0} (i : ℕ) (xs : List A) → drop (suc i) xs ≡ drop 1 (drop i xs)
+drop_tail zero xs = refl
+drop_tail (suc i) [] = refl
+drop_tail (suc i) (x ∷ xs) = drop_tail i xs
+
+all_dropped : {A : Type 0} (P : A → Type 0) (i : ℕ) (xs : List A) (x : A) (rest : List A) → All P xs → drop i xs ≡ x ∷ rest → P x
+all_dropped P i [] x rest all e = absurd (none i e)
+  where
+    none : (j : ℕ) → drop j [] ≡ x ∷ rest → ⊥
+    none zero e = cc
+    none (suc j) e = cc
+all_dropped P zero (y ∷ ys) x rest all e = let same : y ≡ x = cc in subst P same (all 0 y (omega arith))
+all_dropped P (suc i) (y ∷ ys) x rest all e = all_dropped P i ys x rest (λ k d h. all (suc k) d (omega arith)) e
+
+and_left : (a b : Bool) → a && b ≡ true → a ≡ true
+and_left true b e = refl
+and_left false b e = e
+
+and_right : (a b : Bool) → a && b ≡ true → b ≡ true
+and_right true b e = e
+and_right false b e = absurd cc
+
+first_none : (a b : Option ℕ) → first_of a b ≡ None → (a ≡ None) × (b ≡ None)
+first_none None b e = (refl, e)
+first_none (Some i) b e = absurd cc
+
+judged_none : (o : Option (List Kind)) (well : Bool) (i : ℕ) (go : List Kind → Option ℕ) → judged o well i go ≡ None → (after : List Kind) × (o ≡ Some after) × (well ≡ true) × (go after ≡ None)
+judged_none None well i go e = absurd cc
+judged_none (Some after) true i go e = (after, refl, refl, e)
+judged_none (Some after) false i go e = absurd cc
+
+turn_if : (must turn : Bool) → not must || turn ≡ true → must ≡ true → turn ≡ true
+turn_if true turn e m = e
+turn_if false turn e m = absurd cc
+
+not_last : (end last : Bool) → agree end last ≡ true → end ≡ false → last ≡ false
+not_last true last e f = absurd cc
+not_last false true e f = absurd cc
+not_last false false e f = refl
+
+more_follow : (rest : List Instr) → is_last rest ≡ false → 0 < length rest
+more_follow [] e = absurd cc
+more_follow (x ∷ rest) e = omega arith
+
+turn_is_no_end : (x : Instr) → is_turn (Some x) ≡ true → is_end x ≡ false
+turn_is_no_end (Turn piece) e = refl
+turn_is_no_end _ e = absurd cc
+
+is_a_turn : (x : Instr) → is_turn (Some x) ≡ true → (piece : ℕ) × (x ≡ Turn piece)
+is_a_turn (Turn piece) e = (piece, refl)
+is_a_turn _ e = absurd cc
+
+no_kinds : (ks after : List Kind) → none_left ks ≡ Some after → ◌≡◌ {A = List Kind} after []
+no_kinds [] after e = cc
+no_kinds (k ∷ ks) after e = absurd cc
+
+-- what an instruction is that stands well
+module _ (entry : ℕ) (procedure : List Instr) (must : Bool) (x : Instr) (last : Bool) (well : stands_well entry procedure must x last ≡ true) where
+  turn_stands : must ≡ true → is_turn (Some x) ≡ true
+  turn_stands m =
+      turn_if must (is_turn (Some x)) (and_left (not must || is_turn (Some x)) (agree (is_end x) last) (and_left ((not must || is_turn (Some x)) && agree (is_end x) last) (leads_well entry procedure x) well)) m
+
+  end_stands : agree (is_end x) last ≡ true
+  end_stands = and_right (not must || is_turn (Some x)) (agree (is_end x) last) (and_left ((not must || is_turn (Some x)) && agree (is_end x) last) (leads_well entry procedure x) well)
+
+  target_stands : leads_well entry procedure x ≡ true
+  target_stands = and_right ((not must || is_turn (Some x)) && agree (is_end x) last) (leads_well entry procedure x) well
+
+-- an EndProc never falls to the instruction behind it
+abbrev FallsOnly : Bool → Step → Type 0
+FallsOnly end (Falls ops s) = end ≡ false
+FallsOnly end (Emits events ops s) = end ≡ false
+FallsOnly end _ = Unit {0}
+
+never_an_end : (st : Step) → FallsOnly false st
+never_an_end (Falls ops s) = refl
+never_an_end (Emits events ops s) = refl
+never_an_end _ = tt
+
+-- the prologue's instructions never end a turn
+abbrev NeverStops : Step → Type 0
+NeverStops (Stops ops t) = ⊥
+NeverStops _ = Unit {0}
+
+got_never_stops : (ops : List Value) (g : Got State) → NeverStops (on_got g (λ t. Falls ops t))
+got_never_stops ops (Known t) = tt
+got_never_stops ops Stuck = tt
+
+kinds_count : (ops : List Value) → length (kinds_of ops) ≡ length ops
+kinds_count [] = refl
+kinds_count (v ∷ ops) = ap suc (kinds_count ops)
+
+module _ (code : CodeLists) where
+  abbrev total : ℕ
+  total = length code.instrs
+
+  -- what is held from an instruction on is at least what is there, and what is held behind it
+  deeper : (x : Instr) (ks after : List Kind) (rest : List Instr) → kinds_behind code.variables x ks ≡ Some after → (length ks ≤ deepest code.variables ks (x ∷ rest)) × (deepest code.variables after rest ≤ deepest code.variables ks (x ∷ rest))
+  deeper x ks after rest e =
+      let behind : on_kinds (kinds_behind code.variables x ks) (λ after. deepest code.variables after rest) ≡ deepest code.variables after rest = ap (λ o. on_kinds o (λ after. deepest code.variables after rest)) e in
+      (omega arith, omega (arith, behind))
+
+  -- a turn begins at the place, in a procedure that breaks no rule
+  record IsPlace (place : ℕ) : Type 0 where
+    entry : ℕ
+    procedure : List Instr
+    behind : List Instr
+    whole : procedure_break code.variables entry procedure ≡ None
+    stands : drop entry code.instrs ≡ procedure ++ behind
+    from : entry ≤ place
+    turn : is_turn (slice_get procedure (place - entry)) ≡ true
+    deep : deepest code.variables [] procedure ≤ depth_of code
+
+  abbrev Ready : State → Type 0
+  Ready s = Good code.variables (length code.procedures) (entries_of code.procedures) code.texts IsPlace s
+
+  abbrev Ends : Turned → Type 0
+  Ends t = TurnedGood code.variables (length code.procedures) (entries_of code.procedures) code.texts IsPlace t
+
+  abbrev Follows : List Kind → Step → Type 0
+  Follows after st = StepGood code.variables (length code.procedures) (entries_of code.procedures) code.texts IsPlace after st
+
+  -- a turn that ends well, and so many operands
+  abbrev Safe : Turned → ℕ → Type 0
+  Safe t n = Ends t × (n ≤ depth_of code)
+
+  target_place : (entry : ℕ) (procedure behind : List Instr) → procedure_break code.variables entry procedure ≡ None → drop entry code.instrs ≡ procedure ++ behind → deepest code.variables [] procedure ≤ depth_of code → (to : ℕ) → is_target entry procedure to ≡ true → IsPlace to
+  target_place entry procedure behind whole stands deep to e = record {
+    entry = entry;
+    procedure = procedure;
+    behind = behind;
+    whole = whole;
+    stands = stands;
+    from = (let le = and_left (nat_le entry to) _ e in grind (arith, nat_tests));
+    turn = and_right (nat_le entry to) _ e;
+    deep = deep;
+  }
+
+  -- each instruction of a procedure is reached by the search for a break
+  reached : (entry : ℕ) (procedure : List Instr) (n i : ℕ) (must : Bool) (ks : List Kind) (l : List Instr) → rest_break code.variables entry procedure i must ks l ≡ None → (must' : Bool) × (ks' : List Kind) × (rest_break code.variables entry procedure (i + n) must' ks' (drop n l) ≡ None) × (deepest code.variables ks' (drop n l) ≤ deepest code.variables ks l)
+  reached entry procedure zero i must ks l e = (must, ks, ap (λ j. rest_break code.variables entry procedure j must ks l) (omega arith) ∙ e, omega arith)
+  reached entry procedure (suc n) i must ks [] e = (must, ks, refl, omega arith)
+  reached entry procedure (suc n) i must ks (x ∷ rest) e =
+      let j = judged_none (kinds_behind code.variables x ks) (stands_well entry procedure must x (is_last rest)) i (λ after. rest_break code.variables entry procedure (i + 1) (departs x) after rest) e in
+      let r = reached entry procedure n (i + 1) (departs x) j.0 rest j.3 in
+      (r.0, r.1, ap (λ k. rest_break code.variables entry procedure k r.0 r.1 (drop n rest)) (omega arith) ∙ r.2, omega (arith, r.3, (deeper x ks j.0 rest j.1).1))
+
+  -- a procedure begins with a Turn
+  begins_with_turn : (entry : ℕ) (procedure l : List Instr) → rest_break code.variables entry procedure entry true [] l ≡ None → 0 < length l → is_turn (slice_get l 0) ≡ true
+  begins_with_turn entry procedure [] e h = absurd (omega arith)
+  begins_with_turn entry procedure (x ∷ rest) e h =
+      let j = judged_none (kinds_behind code.variables x []) (stands_well entry procedure true x (is_last rest)) entry (λ after. rest_break code.variables entry procedure (entry + 1) (departs x) after rest) e in
+      turn_stands entry procedure true x (is_last rest) j.2 refl
+
+  -- a procedure by its number
+  record Procedure (procedures : List ProcDef) (p : ℕ) : Type 0 where
+    entry : ℕ
+    end : ℕ
+    entry_is : entry_of (entries_of procedures) p ≡ entry
+    some : entry < end
+    most : end ≤ total
+    whole : procedure_break code.variables entry (slice_range code.instrs entry end) ≡ None
+    deep : deepest code.variables [] (slice_range code.instrs entry end) ≤ procedures_depth code.variables code.instrs procedures
+
+  before_next : (p : ProcDef) (ps : List ProcDef) → AllPairs (λ (a b : ProcDef). a.entry < b.entry) (p ∷ ps) → list_all (λ (a : ProcDef). nat_lt a.entry total) (p ∷ ps) ≡ true → (p.entry < next_entry total ps) × (next_entry total ps ≤ total)
+  before_next p [] order within =
+      let here = and_left (nat_lt p.entry total) _ within in
+      let less : p.entry < total = grind (arith, nat_tests) in
+      (less, omega arith)
+  before_next p (q ∷ ps) order within =
+      let there = and_left (nat_lt q.entry total) _ (and_right (nat_lt p.entry total) _ within) in
+      let less : q.entry < total = grind (arith, nat_tests) in
+      (order 0 1 p (omega arith) (omega arith), omega arith)
+
+  procedure_at : (ps : List ProcDef) (p : ℕ) → p < length ps → AllPairs (λ (a b : ProcDef). a.entry < b.entry) ps → list_all (λ (a : ProcDef). nat_lt a.entry total) ps ≡ true → procedures_break code.variables code.instrs ps ≡ None → Procedure ps p
+  procedure_at [] p h order within e = absurd (omega arith)
+  procedure_at (x ∷ ps) zero h order within e =
+      let bounds = before_next x ps order within in
+      record {
+        entry = x.entry;
+        end = next_entry total ps;
+        entry_is = refl;
+        some = bounds.0;
+        most = bounds.1;
+        whole = (first_none (procedure_break code.variables x.entry (slice_range code.instrs x.entry (next_entry total ps))) (procedures_break code.variables code.instrs ps) e).0;
+        deep = omega arith;
+      }
+  procedure_at (x ∷ ps) (suc p) h order within e =
+      let r = procedure_at ps p (omega arith) (λ i j d less inside. order (suc i) (suc j) d (omega arith) (omega arith)) (and_right (nat_lt x.entry total) _ within) (first_none (procedure_break code.variables x.entry (slice_range code.instrs x.entry (next_entry total ps))) (procedures_break code.variables code.instrs ps) e).1 in
+      record { entry = r.entry; end = r.end; entry_is = r.entry_is; some = r.some; most = r.most; whole = r.whole; deep = omega (arith, r.deep) }
+
+  procedure_place : (entry end : ℕ) → entry < end → end ≤ total → procedure_break code.variables entry (slice_range code.instrs entry end) ≡ None → deepest code.variables [] (slice_range code.instrs entry end) ≤ depth_of code → IsPlace entry
+  procedure_place entry end some most whole deep =
+      let procedure = slice_range code.instrs entry end in
+      let count : length procedure ≡ end - entry = omega (arith, length-take (end - entry) (drop entry code.instrs), length-drop entry code.instrs) in
+      let first = begins_with_turn entry procedure procedure whole (omega arith) in
+      record {
+        entry = entry;
+        procedure = procedure;
+        behind = drop (end - entry) (drop entry code.instrs);
+        whole = whole;
+        stands = sym (take-append-drop (end - entry) (drop entry code.instrs));
+        from = omega arith;
+        turn = ap (λ (n : ℕ). is_turn (slice_get procedure n)) (omega arith) ∙ first;
+        deep = deep;
+      }
+
+  all_within : (o : Bool) → (if o then None else Some (total - 1)) ≡ None → o ≡ true
+  all_within true e = refl
+  all_within false e = absurd cc
+
+  module _ (range : IsInRange code) (valid : IsValid code) where
+    prologue_ok : prologue_break code.variables 0 [] (slice_range code.instrs 0 (next_entry total code.procedures)) ≡ None
+    prologue_ok = (first_none (prologue_break code.variables 0 [] (slice_range code.instrs 0 (next_entry total code.procedures))) (first_of (procedures_break code.variables code.instrs code.procedures) (entry_break total code.procedures)) valid).0
+
+    rest_ok : (procedures_break code.variables code.instrs code.procedures ≡ None) × (entry_break total code.procedures ≡ None)
+    rest_ok = first_none (procedures_break code.variables code.instrs code.procedures) (entry_break total code.procedures) (first_none (prologue_break code.variables 0 [] (slice_range code.instrs 0 (next_entry total code.procedures))) (first_of (procedures_break code.variables code.instrs code.procedures) (entry_break total code.procedures)) valid).1
+
+    within : list_all (λ (p : ProcDef). nat_lt p.entry total) code.procedures ≡ true
+    within = all_within (list_all (λ (p : ProcDef). nat_lt p.entry total) code.procedures) rest_ok.1
+
+    begin : (p : ℕ) → p < length code.procedures → IsPlace (entry_of (entries_of code.procedures) p)
+    begin p h =
+        let r = procedure_at code.procedures p h (λ i j d less inside. (range.procedures.in_order i j d less inside).1) within rest_ok.0 in
+        subst IsPlace (sym r.entry_is) (procedure_place r.entry r.end r.some r.most r.whole (omega (arith, r.deep)))
+
+    falls_inside : (here : ℕ) (x : Instr) (ops : List Value) (s : State) → FallsOnly (is_end x) (step (entries_of code.procedures) code.texts here x ops s)
+    falls_inside here EndProc ops s = tt
+    falls_inside here x ops s = never_an_end (step (entries_of code.procedures) code.texts here x ops s)
+
+    preceded_good : (events : List Event) (t : Turned) → Ends t → Ends (preceded events t)
+    preceded_good events (Leads more place s) g = g
+    preceded_good events (Over more ending s) g = g
+    preceded_good events (NoTurn more) g = g
+
+    continue_good : (end : Bool) (after : List Kind) (st : Step) (go : List Value → State → Turned) (count : List Value → State → ℕ) → Follows after st → FallsOnly end st → ((ops : List Value) (t : State) → end ≡ false → kinds_of ops ≡ after → Ready t → Safe (go ops t) (count ops t)) → Safe (continues st go) (held_behind st count)
+    continue_good end after (Falls ops t) go count g f rest = rest ops t f g.0 g.1
+    continue_good end after (Emits events ops t) go count g f rest = let r = rest ops t f g.0 g.1 in (preceded_good events (go ops t) r.0, r.1)
+    continue_good end after (Stops ops t) go count g f rest = (subst (λ o. Ends (at_end o t)) (sym g.0) g.1, omega arith)
+    continue_good end after Wrong go count g f rest = absurd g
+
+    module _ (entry : ℕ) (procedure behind : List Instr) (whole : procedure_break code.variables entry procedure ≡ None) (stands : drop entry code.instrs ≡ procedure ++ behind) (deep : deepest code.variables [] procedure ≤ depth_of code) where
+      turn_place : (j : ℕ) (x : Instr) (rest : List Instr) → drop j procedure ≡ x ∷ rest → is_turn (Some x) ≡ true → IsPlace (entry + j)
+      turn_place j x rest d e = record {
+        entry = entry;
+        procedure = procedure;
+        behind = behind;
+        whole = whole;
+        stands = stands;
+        from = omega arith;
+        turn = ap (λ (n : ℕ). is_turn (slice_get procedure n)) (omega arith) ∙ ap is_turn (get_head j procedure ∙ ap head_of d) ∙ e;
+        deep = deep;
+      }
+
+      -- the rest of a turn
+      rest_good : (rest : List Instr) (j : ℕ) (must : Bool) (ops : List Value) (s : State) → Ready s → drop j procedure ≡ rest → drop (entry + j) code.instrs ≡ rest ++ behind → 0 < length rest → rest_break code.variables entry procedure (entry + j) must (kinds_of ops) rest ≡ None → deepest code.variables (kinds_of ops) rest ≤ depth_of code → Safe (stretch (entries_of code.procedures) code.texts total (rest ++ behind) ops s) (held (entries_of code.procedures) code.texts total (rest ++ behind) ops s)
+      rest_good [] j must ops s good d at some e below = absurd (omega arith)
+      rest_good (x ∷ rest) j must ops s good d at some e below =
+          let k = judged_none (kinds_behind code.variables x (kinds_of ops)) (stands_well entry procedure must x (is_last rest)) (entry + j) (λ after. rest_break code.variables entry procedure (entry + j + 1) (departs x) after rest) e in
+          let here : total - suc (length (rest ++ behind)) ≡ entry + j = omega (arith, ap length at, length-drop (entry + j) code.instrs) in
+          let more : drop (j + 1) procedure ≡ rest = rw add-one (drop_tail j procedure ∙ ap (drop 1) d) in
+          let one : entry + (j + 1) ≡ suc (entry + j) = omega arith in
+          let again : entry + (j + 1) ≡ entry + j + 1 = omega arith in
+          let next : drop (entry + (j + 1)) code.instrs ≡ rest ++ behind = ap (λ (n : ℕ). drop n code.instrs) one ∙ drop_tail (entry + j) code.instrs ∙ ap (drop 1) at in
+          let r = all_dropped (IsInstr (length code.variables) (length code.texts)) (entry + j) code.instrs x (rest ++ behind) range.instrs at in
+          let sg = step_good code.variables (length code.procedures) (entries_of code.procedures) code.texts IsPlace begin entry procedure (target_place entry procedure behind whole stands deep) s good (total - suc (length (rest ++ behind))) k.0 x ops k.1 (target_stands entry procedure must x (is_last rest) k.2) r (λ t. subst IsPlace (sym here) (turn_place j x rest d t)) in
+          let under = deeper x (kinds_of ops) k.0 rest k.1 in
+          let c = continue_good (is_end x) k.0 (step (entries_of code.procedures) code.texts (total - suc (length (rest ++ behind))) x ops s) (stretch (entries_of code.procedures) code.texts total (rest ++ behind)) (held (entries_of code.procedures) code.texts total (rest ++ behind)) sg (falls_inside _ x ops s) (λ o t end kinds g.
+          rest_good rest (j + 1) (departs x) o t g more next (more_follow rest (not_last (is_end x) (is_last rest) (end_stands entry procedure must x (is_last rest) k.2) end))
+          (ap (λ n. rest_break code.variables entry procedure n (departs x) (kinds_of o) rest) again ∙ ap (λ ks. rest_break code.variables entry procedure (entry + j + 1) (departs x) ks rest) kinds ∙ k.3)
+          (subst (λ ks. deepest code.variables ks rest ≤ depth_of code) (sym kinds) (omega (arith, under.1, below)))) in
+          let few : length ops ≤ depth_of code = omega (arith, under.0, below, kinds_count ops) in
+          (c.0, omega (arith, c.1, few))
+
+      -- a turn that begins in the procedure
+      turn_from : (j : ℕ) (s : State) → Ready s → is_turn (slice_get procedure j) ≡ true → Safe (code_turn (entries_of code.procedures) code.texts code.instrs (entry + j) s) (turn_held (entries_of code.procedures) code.texts code.instrs (entry + j) s)
+      turn_from j s good e = from (drop j procedure) refl
+        where
+          some : (l : List Instr) → drop j procedure ≡ l → is_turn (head_of l) ≡ true
+          some l d = ap is_turn (sym (get_head j procedure ∙ ap head_of d)) ∙ e
+
+          at_most : (l : List Instr) → drop j procedure ≡ l → 0 < length l → j ≤ length procedure
+          at_most l d h = omega (arith, ap length d, length-drop j procedure)
+
+          by_turn : (piece : ℕ) (rest : List Instr) → drop j procedure ≡ Turn piece ∷ rest → drop (entry + j) code.instrs ≡ Turn piece ∷ rest ++ behind → Safe (begins (entries_of code.procedures) code.texts total (Turn piece ∷ rest ++ behind) s) (begin_held (entries_of code.procedures) code.texts total (Turn piece ∷ rest ++ behind) s)
+          by_turn piece rest d at =
+              let r = reached entry procedure j entry true [] procedure whole in
+              let k = judged_none (kinds_behind code.variables (Turn piece) r.1) (stands_well entry procedure r.0 (Turn piece) (is_last rest)) (entry + j) (λ after. rest_break code.variables entry procedure (entry + j + 1) (departs (Turn piece)) after rest) (ap (rest_break code.variables entry procedure (entry + j) r.0 r.1) (sym d) ∙ r.2) in
+              let more : drop (j + 1) procedure ≡ rest = rw add-one (drop_tail j procedure ∙ ap (drop 1) d) in
+              let one : entry + (j + 1) ≡ suc (entry + j) = omega arith in
+              let again : entry + (j + 1) ≡ entry + j + 1 = omega arith in
+              let next : drop (entry + (j + 1)) code.instrs ≡ rest ++ behind = ap (λ (n : ℕ). drop n code.instrs) one ∙ drop_tail (entry + j) code.instrs ∙ ap (drop 1) at in
+              let none = no_kinds r.1 k.0 k.1 in
+              let there : deepest code.variables r.1 (Turn piece ∷ rest) ≤ depth_of code = subst (λ l. deepest code.variables r.1 l ≤ depth_of code) d (omega (arith, r.3, deep)) in
+              let below : deepest code.variables k.0 rest ≤ depth_of code = omega (arith, (deeper (Turn piece) r.1 k.0 rest k.1).1, there) in
+              rest_good rest (j + 1) false [] s good more next (more_follow rest (not_last false (is_last rest) (end_stands entry procedure r.0 (Turn piece) (is_last rest) k.2) refl))
+              (ap (λ n. rest_break code.variables entry procedure n false [] rest) again ∙ ap (λ ks. rest_break code.variables entry procedure (entry + j + 1) false ks rest) (sym none) ∙ k.3)
+              (subst (λ ks. deepest code.variables ks rest ≤ depth_of code) none below)
+
+          from : (l : List Instr) → drop j procedure ≡ l → Safe (begins (entries_of code.procedures) code.texts total (drop (entry + j) code.instrs) s) (begin_held (entries_of code.procedures) code.texts total (drop (entry + j) code.instrs) s)
+          from [] d = absurd (let a = some [] d in cc)
+          from (x ∷ rest) d =
+              let t = is_a_turn x (some (x ∷ rest) d) in
+              let is : drop j procedure ≡ Turn t.0 ∷ rest = d ∙ ap (λ y. y ∷ rest) t.1 in
+              let at : drop (entry + j) code.instrs ≡ Turn t.0 ∷ rest ++ behind = sym (drop-drop j entry code.instrs) ∙ ap (drop j) stands ∙ drop-append-le j procedure behind (at_most (x ∷ rest) d (omega arith)) ∙ ap (λ l. l ++ behind) is in
+              subst (λ l. Safe (begins (entries_of code.procedures) code.texts total l s) (begin_held (entries_of code.procedures) code.texts total l s)) (sym at) (by_turn t.0 rest is at)
+
+    turn_good : (place : ℕ) (s : State) → IsPlace place → Ready s → Safe (code_turn (entries_of code.procedures) code.texts code.instrs place s) (turn_held (entries_of code.procedures) code.texts code.instrs place s)
+    turn_good place s at good =
+        let same : at.entry + (place - at.entry) ≡ place = omega (arith, at.from) in
+        subst (λ n. Safe (code_turn (entries_of code.procedures) code.texts code.instrs n s) (turn_held (entries_of code.procedures) code.texts code.instrs n s)) same (turn_from at.entry at.procedure at.behind at.whole at.stands at.deep (place - at.entry) s good at.turn)
+
+    place_turn : (place : ℕ) → IsPlace place → is_turn (head_of (drop place code.instrs)) ≡ true
+    place_turn place at = from (drop j at.procedure) refl
+      where
+        j : ℕ
+        j = place - at.entry
+
+        some : (l : List Instr) → drop j at.procedure ≡ l → is_turn (head_of l) ≡ true
+        some l d = ap is_turn (sym (get_head j at.procedure ∙ ap head_of d)) ∙ at.turn
+
+        from : (l : List Instr) → drop j at.procedure ≡ l → is_turn (head_of (drop place code.instrs)) ≡ true
+        from [] d = absurd (let a = some [] d in cc)
+        from (x ∷ rest) d =
+            let within : j ≤ length at.procedure = omega (arith, ap length d, length-drop j at.procedure) in
+            let same : place ≡ at.entry + j = omega (arith, at.from) in
+            let is : drop place code.instrs ≡ x ∷ rest ++ at.behind = ap (λ (n : ℕ). drop n code.instrs) same ∙ sym (drop-drop j at.entry code.instrs) ∙ ap (drop j) at.stands ∙ drop-append-le j at.procedure at.behind within ∙ ap (λ l. l ++ at.behind) d in
+            ap (λ l. is_turn (head_of l)) is ∙ some (x ∷ rest) d
+
+    -- the prologue falls into the first Turn
+    abbrev Begins : Turned → Type 0
+    Begins (Leads events place s) = Ready s
+    Begins (Over events ending s) = ⊥
+    Begins (NoTurn events) = ⊥
+
+    abbrev BeginsSafe : Turned → ℕ → Type 0
+    BeginsSafe t n = Begins t × (n ≤ depth_of code)
+
+    preceded_begins : (events : List Event) (t : Turned) → Begins t → Begins (preceded events t)
+    preceded_begins events (Leads more place s) g = g
+    preceded_begins events (Over more ending s) g = g
+    preceded_begins events (NoTurn more) g = g
+
+    continue_begins : (after : List Kind) (st : Step) (go : List Value → State → Turned) (count : List Value → State → ℕ) → Follows after st → NeverStops st → ((ops : List Value) (t : State) → kinds_of ops ≡ after → Ready t → BeginsSafe (go ops t) (count ops t)) → BeginsSafe (continues st go) (held_behind st count)
+    continue_begins after (Falls ops t) go count g f rest = rest ops t g.0 g.1
+    continue_begins after (Emits events ops t) go count g f rest = let r = rest ops t g.0 g.1 in (preceded_begins events (go ops t) r.0, r.1)
+    continue_begins after (Stops ops t) go count g f rest = absurd f
+    continue_begins after Wrong go count g f rest = absurd g
+
+    store_never_stops : (n here : ℕ) (ops : List Value) (s : State) → NeverStops (step (entries_of code.procedures) code.texts here (Store n) ops s)
+    store_never_stops n here [] s = tt
+    store_never_stops n here (v ∷ ops) s = got_never_stops ops (assigned n s v)
+
+    never_stops : (x : Instr) (here : ℕ) (ops : List Value) (s : State) → sets_up x ≡ true → NeverStops (step (entries_of code.procedures) code.texts here x ops s)
+    never_stops (Push z) here ops s e = tt
+    never_stops (Store n) here ops s e = store_never_stops n here ops s
+    never_stops _ here ops s e = absurd cc
+
+    leads_nowhere : (x : Instr) → sets_up x ≡ true → leads_well 0 [] x ≡ true
+    leads_nowhere (Push z) e = refl
+    leads_nowhere (Store n) e = refl
+    leads_nowhere _ e = absurd cc
+
+    no_turn : (x : Instr) → sets_up x ≡ true → is_turn (Some x) ≡ true → ⊥
+    no_turn (Turn piece) e t = cc
+    no_turn _ e t = cc
+
+    no_target : (to : ℕ) → is_target 0 [] to ≡ true → IsPlace to
+    no_target to e = absurd (let a = and_right (nat_le 0 to) (is_turn (slice_get [] (to - 0))) e in cc)
+
+    -- behind the last instruction of the prologue no operand is left
+    none_kept : (rest : List Instr) (o : Option (List Kind)) (after : List Kind) → kinds_kept (is_last rest) o ≡ Some after → (o ≡ Some after) × (rest ≡ [] → after ≡ [])
+    none_kept [] (Some []) after e = (cc, λ _. cc)
+    none_kept [] (Some (k ∷ ks)) after e = absurd cc
+    none_kept [] None after e = absurd cc
+    none_kept (x ∷ rest) o after e = (e, λ f. absurd cc)
+
+    no_operands : (ops : List Value) → kinds_of ops ≡ [] → ops ≡ []
+    no_operands [] e = refl
+    no_operands (v ∷ ops) e = absurd cc
+
+    prologue_good : (prologue behind : List Instr) (i : ℕ) (ops : List Value) (s : State) → is_turn (head_of behind) ≡ true → Ready s → drop i code.instrs ≡ prologue ++ behind → (prologue ≡ [] → ops ≡ []) → prologue_break code.variables i (kinds_of ops) prologue ≡ None → deepest code.variables (kinds_of ops) prologue ≤ depth_of code → BeginsSafe (stretch (entries_of code.procedures) code.texts total (prologue ++ behind) ops s) (held (entries_of code.procedures) code.texts total (prologue ++ behind) ops s)
+    prologue_good [] [] i ops s turn good at none e below = absurd cc
+    prologue_good [] (y ∷ behind) i ops s turn good at none e below =
+        let t = is_a_turn y turn in
+        subst (λ o. BeginsSafe (stretch (entries_of code.procedures) code.texts total (y ∷ behind) o s) (held (entries_of code.procedures) code.texts total (y ∷ behind) o s)) (sym (none refl))
+        (subst (λ z. BeginsSafe (stretch (entries_of code.procedures) code.texts total (z ∷ behind) [] s) (held (entries_of code.procedures) code.texts total (z ∷ behind) [] s)) (sym t.1) (good, omega arith))
+    prologue_good (x ∷ rest) behind i ops s turn good at none e below =
+        let k = judged_none (kinds_kept (is_last rest) (kinds_behind code.variables x (kinds_of ops))) (sets_up x) i (λ after. prologue_break code.variables (i + 1) after rest) e in
+        let kept = none_kept rest (kinds_behind code.variables x (kinds_of ops)) k.0 k.1 in
+        let next : drop (i + 1) code.instrs ≡ rest ++ behind = rw add-one (drop_tail i code.instrs ∙ ap (drop 1) at) in
+        let r = all_dropped (IsInstr (length code.variables) (length code.texts)) i code.instrs x (rest ++ behind) range.instrs at in
+        let here = total - suc (length (rest ++ behind)) in
+        let sg = step_good code.variables (length code.procedures) (entries_of code.procedures) code.texts IsPlace begin 0 [] no_target s good here k.0 x ops kept.0 (leads_nowhere x k.2) r (λ t. absurd (no_turn x k.2 t)) in
+        let under = deeper x (kinds_of ops) k.0 rest kept.0 in
+        let c = continue_begins k.0 (step (entries_of code.procedures) code.texts here x ops s) (stretch (entries_of code.procedures) code.texts total (rest ++ behind)) (held (entries_of code.procedures) code.texts total (rest ++ behind)) sg (never_stops x here ops s k.2) (λ o t kinds g.
+        prologue_good rest behind (i + 1) o t turn g next (λ f. no_operands o (kinds ∙ kept.1 f)) (ap (λ ks. prologue_break code.variables (i + 1) ks rest) kinds ∙ k.3)
+        (subst (λ ks. deepest code.variables ks rest ≤ depth_of code) (sym kinds) (omega (arith, under.1, below)))) in
+        let few : length ops ≤ depth_of code = omega (arith, under.0, below, kinds_count ops) in
+        (c.0, omega (arith, c.1, few))
+
+    begun_good : (t : Turned) → Begins t → Ends (begun (entries_of code.procedures) code.texts t)
+    begun_good (Leads events place s) g = chosen_good code.variables (length code.procedures) (entries_of code.procedures) code.texts IsPlace begin s g s.chosen g.chosen_below
+    begun_good (Over events ending s) g = absurd g
+    begun_good (NoTurn events) g = absurd g
+
+    first_turn : is_turn (head_of (drop (next_entry total code.procedures) code.instrs)) ≡ true
+    first_turn = at_first code.procedures refl
+      where
+        at_first : (ps : List ProcDef) → code.procedures ≡ ps → is_turn (head_of (drop (next_entry total ps) code.instrs)) ≡ true
+        at_first [] is = absurd (omega (arith, range.procedures.some, ap length is))
+        at_first (p ∷ ps) is =
+            let at = begin 0 (omega (arith, range.procedures.some)) in
+            let first : entry_of (entries_of code.procedures) 0 ≡ p.entry = ap (λ qs. entry_of (entries_of qs) 0) is in
+            subst (λ (n : ℕ). is_turn (head_of (drop n code.instrs)) ≡ true) first (place_turn (entry_of (entries_of code.procedures) 0) at)
+
+    never_stopped : (n : ℕ) (t : Turned) (s : State) → Ends t → (goes_on t s (code_run (entries_of code.procedures) code.texts code.instrs n)).outcome ≢ Stopped
+    never_stopped n (NoTurn events) s g e = g
+    never_stopped n (Over events ending u) s g e = cc
+    never_stopped zero (Leads events place u) s g e = cc
+    never_stopped (suc n) (Leads events place u) s g e = never_stopped n (code_turn (entries_of code.procedures) code.texts code.instrs place u) u (turn_good place u g.0 g.1).0 e
+
+    run_within : (n : ℕ) (t : Turned) → Ends t → ticks_then t (run_held (entries_of code.procedures) code.texts code.instrs n) ≤ depth_of code
+    run_within n (NoTurn events) g = absurd g
+    run_within n (Over events ending s) g = omega arith
+    run_within zero (Leads events place s) g = omega arith
+    run_within (suc n) (Leads events place s) g =
+        let t = turn_good place s g.0 g.1 in
+        omega (arith, t.1, run_within n (code_turn (entries_of code.procedures) code.texts code.instrs place s) t.0)
+
+    module _ (chosen : List ℕ) (below : AllBelow (length code.procedures) chosen) (variables : List Held) (fit : AllFit code.variables variables) where
+      prologue_runs : BeginsSafe (stretch (entries_of code.procedures) code.texts total code.instrs [] (start chosen variables)) (held (entries_of code.procedures) code.texts total code.instrs [] (start chosen variables))
+      prologue_runs =
+          let s : State = start chosen variables in
+          let good : Ready s = record { variables_fit = fit; chosen_below = below } in
+          let first = next_entry total code.procedures in
+          let prologue = slice_range code.instrs 0 first in
+          let from : first - 0 ≡ first = omega arith in
+          let whole : prologue ++ drop first code.instrs ≡ code.instrs = ap (λ (n : ℕ). take n code.instrs ++ drop first code.instrs) from ∙ take-append-drop first code.instrs in
+          let deep : deepest code.variables [] prologue ≤ depth_of code = omega arith in
+          subst (λ l. BeginsSafe (stretch (entries_of code.procedures) code.texts total l [] s) (held (entries_of code.procedures) code.texts total l [] s)) whole
+          (prologue_good prologue (drop first code.instrs) 0 [] s first_turn good (sym whole) (λ _. refl) prologue_ok deep)
+
+      pub never_stuck : (n : ℕ) → (code_play (entries_of code.procedures) code.texts code.instrs chosen variables n).outcome ≢ Stopped
+      never_stuck n = never_stopped n (begun (entries_of code.procedures) code.texts (stretch (entries_of code.procedures) code.texts total code.instrs [] (start chosen variables))) (start chosen variables) (begun_good _ prologue_runs.0)
+
+      pub within_depth : (n : ℕ) → play_held (entries_of code.procedures) code.texts code.instrs chosen variables n ≤ depth_of code
+      within_depth n = omega (arith, prologue_runs.1, run_within n (begun (entries_of code.procedures) code.texts (stretch (entries_of code.procedures) code.texts total code.instrs [] (start chosen variables))) (begun_good _ prologue_runs.0))

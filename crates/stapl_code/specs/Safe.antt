@@ -1,0 +1,62 @@
+-- What holds of every run of a valid code. Source of the kinds of variables: JESD71, variables. The bounds are this profile's.
+use Rattle.std.specs.Prelude.{◌≡◌, ◌≢◌, ℕ, ◌+◌, ◌*◌, ◌<◌, ◌≤◌, List, [], ◌∷◌, length, map}
+use Rattle.stapl_meaning.specs.declared.values.Held.{Held}
+use Rattle.stapl_meaning.specs.declared.values.Held.TheVariants as held
+use Rattle.stapl_meaning.specs.States.{State}
+use Rattle.stapl_meaning.specs.Plays.{Stopped}
+use Rattle.stapl_code.specs.declared.raw.VarDef.{VarDef}
+use Rattle.stapl_code.specs.declared.raw.ProcDef.{ProcDef}
+use Rattle.stapl_code.specs.declared.raw.CodeLists.{CodeLists}
+use Rattle.stapl_code.specs.declared.instr.Instr.{Instr}
+use Rattle.stapl_code.specs.Machine.{code_play}
+use Rattle.stapl_code.specs.Ticks.{turn_ticks, play_ticks}
+use Rattle.stapl_code.specs.Ranges.{IsInRange}
+use Rattle.stapl_code.specs.Valid.{IsValid}
+use Rattle.stapl_code.specs.Depth.{depth_of, play_held}
+
+-- where the procedures begin
+abbrev pub entries_of : List ProcDef → List ℕ
+entries_of procedures = map (λ p. p.entry) procedures
+
+-- a variable holds what its kind and size say
+abbrev pub Fits : VarDef → Held → Type 0
+Fits v (held.Int z) = v.kind ≡ 0
+Fits v (held.Bit b) = v.kind ≡ 1
+Fits v (held.Ints zs) = (v.kind ≡ 2) × (length zs ≡ v.size)
+Fits v (held.Bits bs) = (v.kind ≡ 3) × (length bs ≡ v.size)
+
+abbrev pub AllFit : List VarDef → List Held → Type 0
+AllFit [] [] = Unit {0}
+AllFit (v ∷ vs) (h ∷ hs) = Fits v h × AllFit vs hs
+AllFit _ _ = ⊥
+
+-- these numbers are below a count
+abbrev pub AllBelow : ℕ → List ℕ → Type 0
+AllBelow n [] = Unit {0}
+AllBelow n (p ∷ ps) = (p < n) × AllBelow n ps
+
+-- A valid code never stops for want of an operand, at an operand of the wrong kind, or where no turn begins: whichever procedures are chosen,
+-- whatever the variables hold, and however many turns there are.
+abbrev pub NeverStuck : Type 0
+NeverStuck =
+    (code : CodeLists) → IsInRange code → IsValid code → (chosen : List ℕ) → AllBelow (length code.procedures) chosen →
+    (variables : List Held) → AllFit code.variables variables → (n : ℕ) →
+    (code_play (entries_of code.procedures) code.texts code.instrs chosen variables n).outcome ≢ Stopped
+
+-- No play of a valid code holds more operands at once than its depth.
+abbrev pub DepthIsKept : Type 0
+DepthIsKept =
+    (code : CodeLists) → IsInRange code → IsValid code → (chosen : List ℕ) → AllBelow (length code.procedures) chosen →
+    (variables : List Held) → AllFit code.variables variables → (n : ℕ) →
+    play_held (entries_of code.procedures) code.texts code.instrs chosen variables n ≤ depth_of code
+
+-- From one Turn to the next a code takes no more instructions than it has.
+abbrev pub TurnsAreBounded : Type 0
+TurnsAreBounded =
+    (entries : List ℕ) (texts : List (List ℕ)) (code : List Instr) (place : ℕ) (s : State) → turn_ticks entries texts code place s ≤ length code
+
+-- A play takes no more instructions than the code has, for the prologue and for each of its turns.
+abbrev pub PlaysAreBounded : Type 0
+PlaysAreBounded =
+    (entries : List ℕ) (texts : List (List ℕ)) (code : List Instr) (chosen : List ℕ) (variables : List Held) (n : ℕ) →
+    play_ticks entries texts code chosen variables n ≤ (n + 1) * length code

@@ -1,0 +1,36 @@
+//! The instructions of the stack machine.
+use lists_and_numbers::ItemList;
+
+/// A part of what a Print prints.
+#[derive(Clone, Copy, Debug, PartialEq, Eq)]
+pub enum PrintPart {
+    /// The text of a number.
+    Text(u32),
+    /// An integer, from the operands.
+    Int,
+}
+
+/// One instruction. Variables, texts and procedures are told by their numbers, and targets are numbers of instructions, all from 0.
+#[derive(Drop)]
+pub enum Instr {
+    /// The turn of a piece begins. Pieces are counted from 1.
+    Turn(u32),
+    /// Puts an integer on the operands.
+    Push(i32),
+    /// Puts the value of a scalar variable on the operands.
+    Load(u32),
+    /// Takes a value off the operands, into a scalar variable.
+    Store(u32),
+    /// Takes two operands off, and puts on what an operator makes of them: 0 is `+`, 12 is `<`.
+    Binary(u8),
+    /// Goes to a turn of the same procedure.
+    Jump(u32),
+    /// Takes a Boolean off the operands, and goes to a turn of the same procedure where it is 0.
+    JumpIfZero(u32),
+    /// The procedure ends.
+    EndProc,
+    /// Prints its joined parts as one line. It takes an operand for each part that is no text; the last part's is the topmost.
+    Print(ItemList<PrintPart>),
+    /// Takes an integer off the operands, and ends the play with it.
+    Exit,
+}

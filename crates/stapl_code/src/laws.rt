@@ -1,0 +1,23 @@
+//! Laws of the definitions.
+ghost use Rattle.stapl_code.specs.Safe.{NeverStuck, DepthIsKept, TurnsAreBounded, PlaysAreBounded};
+
+/// A valid code in range never gets stuck: where the chosen procedures exist and the variables hold what their kinds say, no play of it finds
+/// an operand missing or of the wrong kind, or goes to a place where no turn begins.
+pub fn never_stuck()
+    ensures { NeverStuck }
+{}
+
+/// No play of a valid code in range holds more operands at once than its depth.
+pub fn operands_keep_the_depth()
+    ensures { DepthIsKept }
+{}
+
+/// From one Turn to the next a code takes at most as many instructions as it has.
+pub fn turns_are_bounded()
+    ensures { TurnsAreBounded }
+{}
+
+/// A play of some turns takes at most as many instructions as the code has, times the turns and one more.
+pub fn plays_are_bounded()
+    ensures { PlaysAreBounded }
+{}

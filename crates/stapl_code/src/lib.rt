@@ -1,0 +1,16 @@
+//! The code of the stack machine, and what it means.
+#![tactic(auto)]
+
+mod depth;
+mod instr;
+mod kinds;
+pub mod laws;
+mod parts;
+mod ranges;
+mod raw;
+mod valid;
+
+pub use instr::{Instr, PrintPart};
+pub use kinds::Kind;
+pub use raw::{ActionDef, CodeLists, ItemDef, ProcDef, RawCode, VarDef};
+pub use valid::{Code, ValidateRefused, validate};

@@ -1,0 +1,185 @@
+//! The test of the ranges of a code's fields.
+ghost use Rattle.std.specs.Prelude.{◌≡◌, ◌≢◌, ◌<◌, ◌≤◌, ◌↔◌, IsTrue, All, AllPairs, sum_by, length};
+ghost use Rattle.stapl_code.specs.Ranges.{IsVariable, elements_of, AreVariables, IsFreeName, AreProcedures, IsItem, IsAction, AreActions, IsPart, IsInstr, IsInRange};
+
+use crate::instr::{Instr, PrintPart};
+use crate::raw::{ActionDef, CodeLists, ItemDef, ProcDef, VarDef};
+use stapl_lexer::Name;
+use stapl_meaning::Text;
+
+fn is_variable(variable: &VarDef) -> bool
+    ensures { IsTrue result ↔ IsVariable variable.now }
+{
+    match variable.kind {
+        0 | 1 => variable.size == 1,
+        2 => variable.size >= 1,
+        3 => variable.size >= 1 && variable.size <= 4_194_304,
+        _ => false,
+    }
+}
+
+fn elements_of(scalar: u8, array: u8, variable: &VarDef) -> u32
+    ensures { result ≡ elements_of scalar array variable.now }
+{
+    if variable.kind == scalar || variable.kind == array {
+        variable.size
+    } else {
+        0
+    }
+}
+
+/// Whether the elements of these two kinds keep a limit.
+fn keep_limit(scalar: u8, array: u8, limit: u32, variables: &[VarDef]) -> bool
+    ensures { IsTrue result ↔ (sum_by (elements_of scalar array) variables.now ≤ limit) }
+{
+    let mut left = limit;
+    for variable in variables {
+        let size = elements_of(scalar, array, variable);
+        if size > left {
+            return false;
+        }
+        left -= size;
+    }
+    true
+}
+
+fn are_variables(variables: &[VarDef]) -> bool
+    ensures { IsTrue result ↔ AreVariables variables.now }
+{
+    variables.iter().all(|variable| is_variable(variable))
+        && keep_limit(0, 2, 1_048_576, variables)
+        && keep_limit(1, 3, 16_777_216, variables)
+}
+
+fn are_texts(texts: &[Text]) -> bool
+    ensures { IsTrue result ↔ All (λ text. length text ≤ 4194304) texts.now }
+{
+    texts.iter().all(|text| text.len() <= 4_194_304)
+}
+
+fn is_free_name(name: &Name) -> bool
+    ensures { IsTrue result ↔ IsFreeName name.now }
+{
+    let _bytes = name.bytes();
+    !name.is_reserved()
+}
+
+fn is_item(procedures: usize, item: &ItemDef) -> bool
+    ensures { IsTrue result ↔ IsItem procedures item.now }
+{
+    (item.procedure as usize) < procedures && item.flag <= 2
+}
+
+fn is_action(procedures: usize, action: &ActionDef) -> bool
+    ensures { IsTrue result ↔ IsAction procedures action.now }
+{
+    let items = action.items.as_slice();
+    is_free_name(&action.name)
+        && !items.is_empty()
+        && items.iter().all(|item| is_item(procedures, item))
+}
+
+fn is_part(texts: usize, part: &PrintPart) -> bool
+    ensures { IsTrue result ↔ IsPart texts part.now }
+{
+    match part {
+        PrintPart::Text(n) => (*n as usize) < texts,
+        PrintPart::Int => true,
+    }
+}
+
+fn is_instr(variables: usize, texts: usize, instr: &Instr) -> bool
+    ensures { IsTrue result ↔ IsInstr variables texts instr.now }
+{
+    match instr {
+        Instr::Turn(piece) => 1 <= *piece && *piece <= 100_000,
+        Instr::Load(n) | Instr::Store(n) => (*n as usize) < variables,
+        Instr::Binary(op) => *op == 0 || *op == 12,
+        Instr::Print(parts) => {
+            let parts = parts.as_slice();
+            !parts.is_empty() && parts.iter().all(|part| is_part(texts, part))
+        }
+        Instr::Push(_) | Instr::Jump(_) | Instr::JumpIfZero(_) | Instr::EndProc | Instr::Exit =>
+            true,
+    }
+}
+
+/// Whether a procedure has another name than each of these, and begins behind each of them.
+fn is_behind(procedures: &[ProcDef], procedure: &ProcDef) -> bool
+    ensures { IsTrue result ↔ All (λ p. (p.name ≢ procedure.now.name) × (p.entry < procedure.now.entry)) procedures.now }
+{
+    procedures
+        .iter()
+        .all(|p| p.name != procedure.name && p.entry < procedure.entry)
+}
+
+fn are_in_order(procedures: &[ProcDef]) -> bool
+    ensures { IsTrue result ↔ AllPairs (λ p q. (p.name ≢ q.name) × (p.entry < q.entry)) procedures.now }
+{
+    for i in 0..procedures.len() {
+        if !is_behind(&procedures[..i], &procedures[i]) {
+            return false;
+        }
+    }
+    true
+}
+
+/// Whether an action has another name than each of these.
+fn is_apart(actions: &[ActionDef], action: &ActionDef) -> bool
+    ensures { IsTrue result ↔ All (λ a. a.name ≢ action.now.name) actions.now }
+{
+    actions.iter().all(|a| a.name != action.name)
+}
+
+fn are_apart(actions: &[ActionDef]) -> bool
+    ensures { IsTrue result ↔ AllPairs (λ a b. a.name ≢ b.name) actions.now }
+{
+    for i in 0..actions.len() {
+        if !is_apart(&actions[..i], &actions[i]) {
+            return false;
+        }
+    }
+    true
+}
+
+fn have_free_names(procedures: &[ProcDef]) -> bool
+    ensures { IsTrue result ↔ All (λ p. IsFreeName p.name) procedures.now }
+{
+    procedures.iter().all(|p| is_free_name(&p.name))
+}
+
+fn are_procedures(procedures: &[ProcDef]) -> bool
+    ensures { IsTrue result ↔ AreProcedures procedures.now }
+{
+    if procedures.is_empty() || !have_free_names(procedures) {
+        return false;
+    }
+    are_in_order(procedures)
+}
+
+fn are_actions(procedures: usize, actions: &[ActionDef]) -> bool
+    ensures { IsTrue result ↔ AreActions procedures actions.now }
+{
+    !actions.is_empty() && actions.iter().all(|a| is_action(procedures, a)) && are_apart(actions)
+}
+
+fn are_instrs(variables: usize, texts: usize, instrs: &[Instr]) -> bool
+    ensures { IsTrue result ↔ All (IsInstr variables texts) instrs.now }
+{
+    instrs.iter().all(|instr| is_instr(variables, texts, instr))
+}
+
+impl CodeLists {
+    /// Whether the fields are in their ranges. It compares the names of procedures, and those of actions, pair by pair.
+    pub fn is_in_range(&self) -> bool
+        ensures { IsTrue result ↔ IsInRange self.now }
+    {
+        let instrs = self.instrs.as_slice();
+        are_variables(self.variables.as_slice())
+            && are_texts(self.texts.as_slice())
+            && are_procedures(self.procedures.as_slice())
+            && are_actions(self.procedures.len(), self.actions.as_slice())
+            && are_instrs(self.variables.len(), self.texts.len(), instrs)
+            && instrs.len() < 1 << 32
+    }
+}
