@@ -1,0 +1,33 @@
+-- The first element behind a front.
+use Rattle.std.proofs.Common.{◌≡◌, ℕ, zero, suc, ◌+◌, ◌<◌, List, [], ◌∷◌, map, drop, length, get_or, Option, Some, None, arith, refl, sym, ap, ◌∙◌}
+use Rattle.std.specs.Prelude.{slice_get}
+
+-- the first element, if there is one
+abbrev pub head_of : {A : Type 0} → List A → Option A
+head_of [] = None
+head_of (x ∷ xs) = Some x
+
+pub get_head : {A : Type 0} (i : ℕ) (xs : List A) → slice_get xs i ≡ head_of (drop i xs)
+get_head zero [] = refl
+get_head zero (x ∷ xs) = refl
+get_head (suc i) [] = refl
+get_head (suc i) (x ∷ xs) = get_head i xs
+
+pub drop_tail : {A : Type 0} (i : ℕ) (xs : List A) → drop (suc i) xs ≡ drop 1 (drop i xs)
+drop_tail zero xs = refl
+drop_tail (suc i) [] = refl
+drop_tail (suc i) (x ∷ xs) = drop_tail i xs
+
+drop_at_place : {A B : Type 0} (f : A → B) (i : ℕ) (xs : List A) (d : A) → i < length xs → drop i (map f xs) ≡ f (get_or xs i d) ∷ drop (suc i) (map f xs)
+drop_at_place f zero [] d below = absurd (omega (arith, below))
+drop_at_place f zero (x ∷ xs) d below = refl
+drop_at_place f (suc i) [] d below = absurd (omega (arith, below))
+drop_at_place f (suc i) (x ∷ xs) d below = drop_at_place f i xs d (omega (arith, below))
+
+-- what the elements from a place on are mapped to, which is not the end
+pub mapped_more : {A B : Type 0} (f : A → B) (i : ℕ) (xs : List A) (x : A) → i < length xs → x ≡ get_or xs i x → drop i (map f xs) ≡ f x ∷ drop (i + 1) (map f xs)
+mapped_more f i xs x below is =
+    let next : suc i ≡ i + 1 = omega arith in
+    drop_at_place f i xs x below
+    ∙ ap (λ y. f y ∷ drop (suc i) (map f xs)) (sym is)
+    ∙ ap (λ k. f x ∷ drop k (map f xs)) next

@@ -1,0 +1,115 @@
+-- The fields of the code of an accepted program are in their ranges.
+use Rattle.std.proofs.Common.{◌≡◌, ℕ, zero, suc, ◌+◌, ◌*◌, ◌<◌, ◌≤◌, inl, inr, List, [], ◌∷◌, length, length-append, replicate, Some, arith, refl, ap}
+use Rattle.std.specs.Prelude.{slice_get, All, sum_by}
+use Rattle.std.proofs.lemmas.List.Folds.{sum_by-replicate}
+use Rattle.stapl_syntax.specs.declared.statement.BinOp.TheVariants.{Add, Less}
+use Rattle.stapl_syntax.specs.Trees.{ExprTree, number, scalar, binary, PartTree, string, value, BodyTree, action, procedure, end_procedure, integer, assign, goto, if_then, print, exit, StmtTree}
+use Rattle.stapl_meaning.specs.Scopes.{Scope, block_after, declared_by, variables_from}
+use Rattle.stapl_code.specs.declared.instr.Instr.{Instr}
+use Rattle.stapl_code.specs.declared.instr.Instr.TheVariants.{Store, Binary, JumpIfZero, Print, Exit}
+use Rattle.stapl_code.specs.declared.raw.VarDef.{VarDef}
+use Rattle.stapl_code.specs.declared.kinds.Kind.TheVariants as kinds
+use Rattle.stapl_code.specs.Kinds.{variable_kind}
+use Rattle.stapl_code.specs.Ranges.{IsVariable, elements_of, AreVariables, IsPart, IsInstr}
+use Rattle.stapl_codegen.specs.Emit.{expr_code, values_code, print_parts, part_texts, body_texts, operator_number, body_code}
+use Rattle.stapl_codegen.proofs.Good.{IsInteger, IsBoolean, ArePrinted, IsGood}
+
+-- something is so of each element
+abbrev pub Each : {A : Type 0} → (A → Type 0) → List A → Type 0
+Each P [] = Unit {0}
+Each P (x ∷ xs) = P x × Each P xs
+
+pub each_all : {A : Type 0} (P : A → Type 0) (xs : List A) → Each P xs → All P xs
+each_all P [] each k d below = absurd (omega (arith, below))
+each_all P (x ∷ xs) each zero d below = each.0
+each_all P (x ∷ xs) each (suc k) d below = each_all P xs each.1 k d (omega (arith, below))
+
+abbrev pub integer_def : VarDef
+integer_def = record { kind = 0; size = 1 }
+
+pub integer_is : IsVariable integer_def
+integer_is = record {
+  kind = omega arith;
+  some = omega arith;
+  scalar = λ low. refl;
+  boolean_array = λ is. absurd cc;
+}
+
+integers_each : (n : ℕ) → Each IsVariable (replicate n integer_def)
+integers_each zero = tt
+integers_each (suc n) = (integer_is, integers_each n)
+
+pub integers_are : (n : ℕ) → n ≤ 1048576 → AreVariables (replicate n integer_def)
+integers_are n few = record {
+  each = each_all IsVariable (replicate n integer_def) (integers_each n);
+  integers = let sum : sum_by (elements_of 0 2) (replicate n integer_def) ≡ n * 1 = sum_by-replicate (elements_of 0 2) n integer_def in omega (arith, sum, few);
+  booleans = let sum : sum_by (elements_of 1 3) (replicate n integer_def) ≡ n * 0 = sum_by-replicate (elements_of 1 3) n integer_def in omega (arith, sum);
+}
+
+pub all_integers : (m n : ℕ) → n < length (replicate m integer_def) → variable_kind (slice_get (replicate m integer_def) n) ≡ Some kinds.Int
+all_integers zero n below = absurd (omega (arith, below))
+all_integers (suc m) zero below = refl
+all_integers (suc m) (suc n) below = all_integers m n (omega (arith, below))
+
+-- a statement declares at most one variable
+one_declared : (b : ℕ) (body : BodyTree) → length (declared_by b body) ≤ 1
+one_declared b (integer name) = omega arith
+one_declared b _ = omega arith
+
+pub few_variables : (b : ℕ) (sts : List StmtTree) → length (variables_from b sts) ≤ length sts
+few_variables b [] = omega arith
+few_variables b (st ∷ rest) =
+    let c = block_after b st.body in
+    omega (arith, length-append (declared_by c st.body) (variables_from c rest), one_declared c st.body, few_variables c rest)
+
+parts_range : (texts first : ℕ) (list : List PartTree) → first + length (part_texts list) ≤ texts → Each (IsPart texts) (print_parts first list)
+parts_range texts first [] few = tt
+parts_range texts first (string bytes ∷ list) few = (omega (arith, few), parts_range texts (suc first) list (omega (arith, few)))
+parts_range texts first (value e ∷ list) few = (tt, parts_range texts first list few)
+
+parts_count : (first : ℕ) (list : List PartTree) → length (print_parts first list) ≡ length list
+parts_count first [] = refl
+parts_count first (string bytes ∷ list) = ap suc (parts_count (suc first) list)
+parts_count first (value e ∷ list) = ap suc (parts_count first list)
+
+module _ (variables texts : ℕ) where
+  abbrev pub InRange : List Instr → Type 0
+  InRange code = Each (IsInstr variables texts) code
+
+  module _ (Leads : List ℕ → Type 0) (v : List ℕ → ℕ) where
+    expr_range : (e : ExprTree) (rest : List Instr) → IsInteger v variables Leads e → InRange rest → InRange (expr_code v e rest)
+    expr_range (number z) rest good more = (tt, more)
+    expr_range (scalar name) rest good more = (good, more)
+    expr_range (binary Add a b) rest good more =
+        expr_range a (expr_code v b (Binary (operator_number Add) ∷ rest)) good.0 (expr_range b (Binary (operator_number Add) ∷ rest) good.1 (inl refl, more))
+    expr_range (binary Less a b) rest good more = absurd good
+
+    boolean_range : (e : ExprTree) (rest : List Instr) → IsBoolean v variables Leads e → InRange rest → InRange (expr_code v e rest)
+    boolean_range (binary Less a b) rest good more =
+        expr_range a (expr_code v b (Binary (operator_number Less) ∷ rest)) good.0 (expr_range b (Binary (operator_number Less) ∷ rest) good.1 (inr refl, more))
+    boolean_range (binary Add a b) rest good more = absurd good
+    boolean_range (number z) rest good more = absurd good
+    boolean_range (scalar name) rest good more = absurd good
+
+    values_range : (list : List PartTree) (rest : List Instr) → ArePrinted v variables Leads list → InRange rest → InRange (values_code v list rest)
+    values_range [] rest good more = more
+    values_range (string bytes ∷ list) rest good more = values_range list rest good more
+    values_range (value e ∷ list) rest good more = expr_range e (values_code v list rest) good.0 (values_range list rest good.1 more)
+
+  pub body_range : (Leads : List ℕ → Type 0) (scope : Scope) (place : ℕ → ℕ) (first : ℕ) (b : BodyTree) (rest : List Instr) →
+      IsGood scope.variable variables Leads b → first + length (body_texts b) ≤ texts → InRange rest → InRange (body_code scope place first b rest)
+  body_range Leads scope place first (action name procedures) rest good few more = more
+  body_range Leads scope place first (procedure name) rest good few more = more
+  body_range Leads scope place first end_procedure rest good few more = (tt, more)
+  body_range Leads scope place first (integer name) rest good few more = more
+  body_range Leads scope place first (assign name e) rest good few more =
+      expr_range Leads scope.variable e (Store (scope.variable name) ∷ rest) good.1 (good.0, more)
+  body_range Leads scope place first (goto name) rest good few more = (tt, more)
+  body_range Leads scope place first (if_then e b) rest good few more =
+      boolean_range Leads scope.variable e (JumpIfZero (place scope.follow) ∷ body_code scope place first b rest) good.0
+      (tt, body_range Leads scope place first b rest good.1 few more)
+  body_range Leads scope place first (print list) rest good few more =
+      let some : 1 ≤ length (print_parts first list) = omega (arith, parts_count first list, good.0) in
+      values_range Leads scope.variable list (Print (print_parts first list) ∷ rest) good.1
+      ((some, each_all (IsPart texts) (print_parts first list) (parts_range texts first list few)), more)
+  body_range Leads scope place first (exit e) rest good few more = expr_range Leads scope.variable e (Exit ∷ rest) good (tt, more)

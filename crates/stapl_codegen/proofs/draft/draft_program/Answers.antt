@@ -1,0 +1,33 @@
+use Rattle.std.proofs.Common.{sym, ◌∙◌, subst, ◌+◌}
+use Rattle.stapl_syntax.specs.Trees.{stmt_tree, body_tree}
+use Rattle.stapl_codegen.specs.Tables.{trees}
+use Rattle.stapl_codegen.specs.Drafts.{StartsTo}
+use Rattle.stapl_codegen.proofs.Heads.{mapped_more}
+use Rattle.stapl_codegen.proofs.Collect.{block_few}
+use Rattle.stapl_codegen.proofs.Drafts.{blocks_more, texts_more, code_more, start_more, starts_more}
+use Rattle.stapl_codegen.proofs.draft.draft_program.Goals as goal
+
+pub emit_piece-requires-clause-block : goal.emit_piece-requires-clause-block
+emit_piece-requires-clause-block c =
+    let program = c.args.program.now in
+    let st = c.index-program-i.result in
+    blocks_more (trees program) c.loop-i.i (stmt_tree st) (mapped_more stmt_tree c.loop-i.i program st c.loop-i-test.true c.index-program-i.is)
+    c.loop-i.block _ c.loop-i.invariant.block c.block_behind-block.ensures
+
+pub loop-i-preserved : goal.loop-i-preserved
+loop-i-preserved c =
+    let program = c.args.program.now in
+    let i = c.loop-i.i in
+    let st = c.index-program-i.result in
+    let is = mapped_more stmt_tree i program st c.loop-i-test.true c.index-program-i.is in
+    let old = c.loop-i.invariant in
+    let ensures = c.in_ok-emit_piece.ensures in
+    let starts = starts_more (trees program) i c.start_at.result c.loop-i.starts.items old.starts
+    (start_more (trees program) i (stmt_tree st) is c.loop-i.code.items _ c.start_at.result old.code (c.len-in-loop-i.ensures ∙ c.loop-i.code.ok.0) c.start_at.ensures) in
+    record {
+      code = code_more (trees program) i (stmt_tree st) is _ _ _ old.code ensures.code;
+      texts = texts_more (trees program) i (stmt_tree st) is c.loop-i.texts.items _ old.texts ensures.texts;
+      starts = subst (StartsTo (trees program) (i + 1)) (sym c.in_ok-push.ensures.items) starts;
+      block = blocks_more (trees program) i (stmt_tree st) is c.loop-i.block _ old.block c.block_behind-block.ensures;
+      few = block_few (body_tree st.body) c.loop-i.block _ i c.block_behind-block.ensures old.few;
+    }

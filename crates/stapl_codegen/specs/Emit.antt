@@ -1,0 +1,120 @@
+-- The code of a program. How statements are written as instructions is this profile's.
+use Rattle.std.specs.Prelude.{ℕ, suc, ◌+◌, ◌-◌, Bool, true, false, List, [], ◌∷◌, ◌++◌, length, take, drop, Option, Some, None, if◌then◌else◌, slice_get}
+use Rattle.stapl_syntax.specs.declared.statement.BinOp.{BinOp}
+use Rattle.stapl_syntax.specs.declared.statement.BinOp.TheVariants.{Add, Less}
+use Rattle.stapl_syntax.specs.Trees.{ExprTree, number, scalar, binary, PartTree, string, value, BodyTree, action, procedure, end_procedure, integer, assign, goto, if_then, print, exit, StmtTree}
+use Rattle.stapl_meaning.specs.Scopes.{Scope, scope_at, begins_block, number_of, variables_of}
+use Rattle.stapl_code.specs.declared.instr.PrintPart.{PrintPart}
+use Rattle.stapl_code.specs.declared.instr.PrintPart.TheVariants as parts
+use Rattle.stapl_code.specs.declared.instr.Instr.{Instr}
+use Rattle.stapl_code.specs.declared.instr.Instr.TheVariants.{Turn, Push, Load, Store, Binary, Jump, JumpIfZero, EndProc, Print, Exit}
+use Rattle.stapl_code.specs.Machine.{nowhere}
+
+-- the number of an operator
+abbrev pub operator_number : BinOp → ℕ
+operator_number Add = 0
+operator_number Less = 12
+
+-- where a name stands for the variable of a number
+module _ (variable : List ℕ → ℕ) where
+  -- the code of an expression, before the rest
+  abbrev pub expr_code : ExprTree → List Instr → List Instr
+  expr_code (number z) rest = Push z ∷ rest
+  expr_code (scalar name) rest = Load (variable name) ∷ rest
+  expr_code (binary op a b) rest = expr_code a (expr_code b (Binary (operator_number op) ∷ rest))
+
+  -- the code of the values that a PRINT prints
+  abbrev pub values_code : List PartTree → List Instr → List Instr
+  values_code [] rest = rest
+  values_code (string bytes ∷ list) rest = values_code list rest
+  values_code (value e ∷ list) rest = expr_code e (values_code list rest)
+
+-- the parts of a PRINT whose first text has a number
+abbrev pub print_parts : ℕ → List PartTree → List PrintPart
+print_parts first [] = []
+print_parts first (string bytes ∷ list) = parts.Text first ∷ print_parts (suc first) list
+print_parts first (value e ∷ list) = parts.Int ∷ print_parts first list
+
+-- the texts of a program, in their order
+abbrev pub part_texts : List PartTree → List (List ℕ)
+part_texts [] = []
+part_texts (string bytes ∷ list) = bytes ∷ part_texts list
+part_texts (value e ∷ list) = part_texts list
+
+abbrev pub body_texts : BodyTree → List (List ℕ)
+body_texts (print list) = part_texts list
+body_texts (if_then e body) = body_texts body
+body_texts _ = []
+
+abbrev pub texts_of : List StmtTree → List (List ℕ)
+texts_of [] = []
+texts_of (st ∷ rest) = body_texts st.body ++ texts_of rest
+
+-- the number of the first text behind the place of a piece
+abbrev pub first_text : List StmtTree → ℕ → ℕ
+first_text program i = length (texts_of (take i program))
+
+-- The code of a statement, whose first text has a number; place says where the code of a piece begins.
+abbrev pub body_code : Scope → (ℕ → ℕ) → ℕ → BodyTree → List Instr → List Instr
+body_code scope place first (action name procedures) rest = rest
+body_code scope place first (procedure name) rest = rest
+body_code scope place first end_procedure rest = EndProc ∷ rest
+body_code scope place first (integer name) rest = rest
+body_code scope place first (assign name e) rest = expr_code scope.variable e (Store (scope.variable name) ∷ rest)
+body_code scope place first (goto name) rest = Jump (place (scope.label name)) ∷ rest
+body_code scope place first (if_then e body) rest =
+    expr_code scope.variable e (JumpIfZero (place scope.follow) ∷ body_code scope place first body rest)
+body_code scope place first (print list) rest = values_code scope.variable list (Print (print_parts first list) ∷ rest)
+body_code scope place first (exit e) rest = expr_code scope.variable e (Exit ∷ rest)
+
+-- the statement stands outside procedures, and has no code
+abbrev pub is_outer : BodyTree → Bool
+is_outer (action name procedures) = true
+is_outer (procedure name) = true
+is_outer _ = false
+
+module _ (program : List StmtTree) (place : ℕ → ℕ) where
+  -- the code of the piece at a place: its turn, and its statement
+  abbrev pub piece_code : ℕ → StmtTree → List Instr → List Instr
+  piece_code i st rest =
+      if is_outer st.body then rest
+      else Turn (i + 1) ∷ body_code (scope_at program i) place (first_text program i) st.body rest
+
+  -- the code of the pieces from a place on
+  abbrev pub pieces_code : ℕ → List StmtTree → List Instr
+  pieces_code i [] = []
+  pieces_code i (st ∷ rest) = piece_code i st (pieces_code (i + 1) rest)
+
+-- How long the code is, and where the code of a piece begins. Neither depends on the targets of jumps.
+abbrev pub total_of : List StmtTree → ℕ
+total_of program = length (pieces_code program (λ i. i) 0 program)
+
+abbrev pub start_in : List StmtTree → ℕ → Option StmtTree → ℕ
+start_in program i None = nowhere
+start_in program i (Some st) =
+    if is_outer st.body then nowhere else total_of program - length (pieces_code program (λ j. j) i (drop i program))
+
+abbrev pub start_of : List StmtTree → ℕ → ℕ
+start_of program i = start_in program i (slice_get program i)
+
+abbrev pub program_code : List StmtTree → List Instr
+program_code program = pieces_code program (start_of program) 0 program
+
+-- where the procedures begin
+abbrev pub entries_from : (ℕ → ℕ) → ℕ → List StmtTree → List ℕ
+entries_from place i [] = []
+entries_from place i (st ∷ rest) =
+    if begins_block st.body then place (i + 1) ∷ entries_from place (i + 1) rest else entries_from place (i + 1) rest
+
+abbrev pub program_entries : List StmtTree → List ℕ
+program_entries program = entries_from (start_of program) 0 program
+
+-- an instruction with another target
+abbrev pub retarget : (ℕ → ℕ) → Instr → Instr
+retarget place (Jump to) = Jump (place to)
+retarget place (JumpIfZero to) = JumpIfZero (place to)
+retarget place i = i
+
+-- the number of a variable of a block by its name
+abbrev pub variable_in : List StmtTree → ℕ → List ℕ → ℕ
+variable_in program block name = number_of block name (variables_of program)

@@ -1,0 +1,204 @@
+//! The instructions of a program: first with targets that are places of the program, then with numbers of instructions.
+ghost use Rattle.std.specs.Prelude.{◌≡◌, [], ◌∷◌, ◌++◌, ◌<◌, ◌≤◌, ◌^◌, ◌-◌, ◌+◌, length, map, OnOk, IfOk, if◌then◌else◌};
+ghost use Rattle.stapl_syntax.specs.Trees.{body_tree, stmt_tree};
+ghost use Rattle.stapl_meaning.specs.Scopes.{block_at};
+ghost use Rattle.stapl_code.specs.Machine.{nowhere};
+ghost use Rattle.stapl_codegen.specs.Emit.{is_outer, first_text, body_texts, texts_of, piece_code, pieces_code, program_code, program_entries, entries_from, start_of, retarget};
+ghost use Rattle.stapl_codegen.specs.Tables.{trees, AreTables};
+ghost use Rattle.stapl_codegen.specs.Drafts.{AreStarts};
+
+use crate::emit::{emit_body, put};
+use crate::tables::{Tables, begins_block, block_behind};
+use stapl_code::Instr;
+use stapl_meaning::Text;
+use stapl_syntax::{Body, Stmt};
+use std::alloc::{AllocError, Global};
+
+/// Instructions whose targets are places of the program, the texts, and where the code of each place begins.
+#[derive(Drop)]
+struct Draft {
+    code: Vec<Instr>,
+    texts: Vec<Text>,
+    starts: Vec<u32>,
+}
+
+// Whether a statement stands outside procedures.
+fn is_outer(body: &Body) -> bool
+    ensures { result ≡ is_outer (body_tree body.now) }
+{
+    matches!(body, Body::Action(_, _) | Body::Procedure(_))
+}
+
+// A piece more.
+#[tactic(auto, using(std::proofs::Common::append_assoc))]
+fn emit_piece(
+    alloc: Global,
+    code: &mut Vec<Instr>,
+    texts: &mut Vec<Text>,
+    program: &[Stmt],
+    tables: &Tables,
+    place: u32,
+    block: u32,
+    st: &Stmt,
+) -> Result<(), AllocError>
+    requires tables { AreTables (trees program.now) tables.now }
+    requires block { block ≡ block_at (trees program.now) place }
+    requires countable { place < 2 ^ 32 - 1 }
+    requires first { length texts.old.items ≡ first_text (trees program.now) place }
+    ensures code { OnOk result (code.new.items ≡ code.old.items ++ piece_code (trees program.now) (λ j. j) place (stmt_tree st.now) []) }
+    ensures texts { OnOk result (texts.new.items ≡ texts.old.items ++ body_texts (body_tree st.now.body)) }
+{
+    if is_outer(&st.body) {
+        return Ok(());
+    }
+    put(code, Instr::Turn(place + 1))?;
+    emit_body(alloc, code, texts, program, tables, place, block, &st.body)?;
+    Ok(())
+}
+
+// Where the code of a piece begins, behind so many instructions.
+fn start_at(before: usize, st: &Stmt) -> u32
+    requires { before < 2 ^ 32 - 1 }
+    ensures { result ≡ (if is_outer (body_tree st.now.body) then nowhere else before) }
+{
+    if is_outer(&st.body) {
+        return u32::MAX;
+    }
+    before as u32
+}
+
+fn draft_program(alloc: Global, program: &[Stmt], tables: &Tables) -> Result<Draft, AllocError>
+    requires tables { AreTables (trees program.now) tables.now }
+    requires countable { length program.now < 2 ^ 32 - 1 }
+    ensures code { IfOk result (λ d. d.code.items ≡ pieces_code (trees program.now) (λ j. j) 0 (trees program.now)) }
+    ensures texts { IfOk result (λ d. d.texts.items ≡ texts_of (trees program.now)) }
+    ensures starts { IfOk result (λ d. AreStarts (trees program.now) d.starts.items) }
+{
+    let mut code = Vec::new(alloc);
+    let mut texts = Vec::new(alloc);
+    let mut starts = Vec::new(alloc);
+    let mut block = 0;
+    for i in 0..program.len() {
+        let st = &program[i];
+        if code.len() >= u32::MAX as usize {
+            return Err(AllocError);
+        }
+        starts.push(start_at(code.len(), st))?;
+        block = block_behind(block, &st.body);
+        emit_piece(
+            alloc, &mut code, &mut texts, program, tables, i as u32, block, st,
+        )?;
+    }
+    Ok(Draft {
+        code,
+        texts,
+        starts,
+    })
+}
+
+// Where the code of a place of the program begins.
+fn start_of_place(program: &[Stmt], starts: &[u32], place: u32) -> u32
+    requires { AreStarts (trees program.now) starts.now }
+    ensures { result ≡ start_of (trees program.now) place }
+{
+    let _program = program;
+    match starts.get(place as usize) {
+        Some(start) => *start,
+        None => u32::MAX,
+    }
+}
+
+fn retargeted(program: &[Stmt], starts: &[u32], instr: Instr) -> Instr
+    requires { AreStarts (trees program.now) starts.now }
+    ensures { result ≡ retarget (start_of (trees program.now)) instr }
+{
+    match instr {
+        Instr::Jump(to) => Instr::Jump(start_of_place(program, starts, to)),
+        Instr::JumpIfZero(to) => Instr::JumpIfZero(start_of_place(program, starts, to)),
+        other => other,
+    }
+}
+
+// The same instructions, whose targets are numbers of instructions.
+fn retarget_all(
+    alloc: Global,
+    program: &[Stmt],
+    starts: &[u32],
+    draft: Vec<Instr>,
+) -> Result<Vec<Instr>, AllocError>
+    requires { AreStarts (trees program.now) starts.now }
+    ensures { IfOk result (λ code. code.items ≡ map (retarget (start_of (trees program.now))) draft.items) }
+{
+    let mut code = Vec::new(alloc);
+    for instr in draft {
+        code.push(retargeted(program, starts, instr))?;
+    }
+    Ok(code)
+}
+
+// Where the procedures begin.
+fn entries(alloc: Global, program: &[Stmt], starts: &[u32]) -> Result<Vec<u32>, AllocError>
+    requires starts { AreStarts (trees program.now) starts.now }
+    requires countable { length program.now < 2 ^ 32 - 1 }
+    ensures { IfOk result (λ entries. entries.items ≡ program_entries (trees program.now)) }
+{
+    let mut entries = Vec::new(alloc);
+    for i in 0..program.len() {
+        let st = &program[i];
+        put_entry(&mut entries, program, starts, i as u32, st)?;
+    }
+    Ok(entries)
+}
+
+// The entry of a procedure more, where a statement begins one.
+fn put_entry(
+    entries: &mut Vec<u32>,
+    program: &[Stmt],
+    starts: &[u32],
+    place: u32,
+    st: &Stmt,
+) -> Result<(), AllocError>
+    requires starts { AreStarts (trees program.now) starts.now }
+    requires countable { place < 2 ^ 32 - 1 }
+    ensures { OnOk result (entries.new.items ≡ entries.old.items ++ entries_from (start_of (trees program.now)) place (stmt_tree st.now ∷ [])) }
+{
+    if begins_block(&st.body) {
+        entries.push(start_of_place(program, starts, place + 1))?;
+    }
+    Ok(())
+}
+
+/// The instructions of a program, its texts, and where its procedures begin.
+#[derive(Drop)]
+pub(crate) struct Written {
+    pub(crate) code: Vec<Instr>,
+    pub(crate) texts: Vec<Text>,
+    pub(crate) entries: Vec<u32>,
+}
+
+/// Writes the instructions of a program.
+pub(crate) fn write_program(
+    alloc: Global,
+    program: &[Stmt],
+    tables: &Tables,
+) -> Result<Written, AllocError>
+    requires tables { AreTables (trees program.now) tables.now }
+    requires countable { length program.now < 2 ^ 32 - 1 }
+    ensures code { IfOk result (λ w. w.code.items ≡ program_code (trees program.now)) }
+    ensures texts { IfOk result (λ w. w.texts.items ≡ texts_of (trees program.now)) }
+    ensures entries { IfOk result (λ w. w.entries.items ≡ program_entries (trees program.now)) }
+{
+    let draft = draft_program(alloc, program, tables)?;
+    let Draft {
+        code,
+        texts,
+        starts,
+    } = draft;
+    let code = retarget_all(alloc, program, &starts, code)?;
+    let entries = entries(alloc, program, &starts)?;
+    Ok(Written {
+        code,
+        texts,
+        entries,
+    })
+}

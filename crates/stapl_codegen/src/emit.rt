@@ -1,0 +1,212 @@
+//! The instructions of statements. Their targets are places of the program.
+ghost use Rattle.std.specs.Prelude.{◌≡◌, [], ◌∷◌, ◌++◌, ◌<◌, ◌^◌, ◌-◌, ◌+◌, length, map, OnOk, IfOk};
+ghost use Rattle.stapl_syntax.specs.Trees.{expr_tree, part_tree, body_tree};
+ghost use Rattle.stapl_meaning.specs.Scopes.{scope_at, block_at};
+ghost use Rattle.stapl_code.specs.declared.instr.Instr.TheVariants.{Print};
+ghost use Rattle.stapl_codegen.specs.Emit.{operator_number, variable_in, expr_code, values_code, print_parts, part_texts, body_texts, body_code};
+ghost use Rattle.stapl_codegen.specs.Tables.{trees, AreTables};
+
+use crate::tables::Tables;
+use lists_and_numbers::ItemList;
+use stapl_code::{Instr, PrintPart};
+use stapl_lexer::Name;
+use stapl_meaning::Text;
+use stapl_syntax::{BinOp, Body, Expr, Part, Stmt};
+use std::alloc::{AllocError, Global};
+
+pub(crate) fn put(code: &mut Vec<Instr>, instr: Instr) -> Result<(), AllocError>
+    ensures { OnOk result (code.new.items ≡ code.old.items ++ instr ∷ []) }
+{
+    code.push(instr)?;
+    Ok(())
+}
+
+fn operator_number(op: BinOp) -> u8
+    ensures { result ≡ operator_number op }
+{
+    match op {
+        BinOp::Add => 0,
+        BinOp::Less => 12,
+    }
+}
+
+// The number of a variable.
+fn variable(program: &[Stmt], tables: &Tables, block: u32, name: Name) -> u32
+    requires { AreTables (trees program.now) tables.now }
+    ensures { result ≡ variable_in (trees program.now) block name }
+{
+    tables.variable(program, block, name)
+}
+
+// An expression more.
+#[tactic(auto, using(crate::proofs::Lists::expr_before, std::proofs::Common::append_assoc))]
+fn emit_expr(
+    code: &mut Vec<Instr>,
+    program: &[Stmt],
+    tables: &Tables,
+    block: u32,
+    e: &Expr,
+) -> Result<(), AllocError>
+    requires { AreTables (trees program.now) tables.now }
+    ensures { OnOk result (code.new.items ≡ code.old.items ++ expr_code (variable_in (trees program.now) block) (expr_tree e.now) []) }
+{
+    match e {
+        Expr::Number(n) => put(code, Instr::Push(*n)),
+        Expr::Scalar(name) => put(code, Instr::Load(variable(program, tables, block, *name))),
+        Expr::Binary(op, a, b) => {
+            emit_expr(code, program, tables, block, a)?;
+            emit_expr(code, program, tables, block, b)?;
+            put(code, Instr::Binary(operator_number(*op)))?;
+            Ok(())
+        }
+    }
+}
+
+// The value of a part more, where it has one.
+fn emit_part(
+    code: &mut Vec<Instr>,
+    program: &[Stmt],
+    tables: &Tables,
+    block: u32,
+    part: &Part,
+) -> Result<(), AllocError>
+    requires { AreTables (trees program.now) tables.now }
+    ensures { OnOk result (code.new.items ≡ code.old.items ++ values_code (variable_in (trees program.now) block) (part_tree part.now ∷ []) []) }
+{
+    match part {
+        Part::Text(_) => Ok(()),
+        Part::Value(e) => emit_expr(code, program, tables, block, e),
+    }
+}
+
+// The values of the parts of a PRINT more.
+fn emit_values(
+    code: &mut Vec<Instr>,
+    program: &[Stmt],
+    tables: &Tables,
+    block: u32,
+    parts: &[Part],
+) -> Result<(), AllocError>
+    requires { AreTables (trees program.now) tables.now }
+    ensures { OnOk result (code.new.items ≡ code.old.items ++ values_code (variable_in (trees program.now) block) (map part_tree parts.now) []) }
+{
+    for i in 0..parts.len() {
+        let part = &parts[i];
+        emit_part(code, program, tables, block, part)?;
+    }
+    Ok(())
+}
+
+// The text that a part is more, where it is one.
+fn put_text(alloc: Global, texts: &mut Vec<Text>, part: &Part) -> Result<(), AllocError>
+    ensures { OnOk result (texts.new.items ≡ texts.old.items ++ part_texts (part_tree part.now ∷ [])) }
+{
+    if let Part::Text(bytes) = part {
+        let copy = Vec::from_slice(alloc, bytes.as_slice())?;
+        texts.push(Text::of(copy))?;
+    }
+    Ok(())
+}
+
+// What a part of a PRINT prints, where its text has a number.
+fn print_part(first: u32, part: &Part) -> PrintPart
+    ensures { result ∷ [] ≡ print_parts first (part_tree part.now ∷ []) }
+{
+    match part {
+        Part::Text(_) => PrintPart::Text(first),
+        Part::Value(_) => PrintPart::Int,
+    }
+}
+
+// The parts of a PRINT, whose texts go behind the others.
+fn put_parts(
+    alloc: Global,
+    texts: &mut Vec<Text>,
+    parts: &[Part],
+) -> Result<Vec<PrintPart>, AllocError>
+    ensures parts { IfOk result (λ list. list.items ≡ print_parts (length texts.old.items) (map part_tree parts.now)) }
+    ensures texts { OnOk result (texts.new.items ≡ texts.old.items ++ part_texts (map part_tree parts.now)) }
+{
+    let mut list = Vec::new(alloc);
+    for i in 0..parts.len() {
+        let part = &parts[i];
+        if texts.len() >= u32::MAX as usize {
+            return Err(AllocError);
+        }
+        list.push(print_part(texts.len() as u32, part))?;
+        put_text(alloc, texts, part)?;
+    }
+    Ok(list)
+}
+
+// A PRINT more: its instructions, and its texts.
+#[tactic(auto, using(crate::proofs::Emits::print_is))]
+fn emit_print(
+    alloc: Global,
+    code: &mut Vec<Instr>,
+    texts: &mut Vec<Text>,
+    program: &[Stmt],
+    tables: &Tables,
+    block: u32,
+    parts: &[Part],
+) -> Result<(), AllocError>
+    requires { AreTables (trees program.now) tables.now }
+    ensures code { OnOk result (code.new.items ≡ code.old.items ++ values_code (variable_in (trees program.now) block) (map part_tree parts.now) (Print (print_parts (length texts.old.items) (map part_tree parts.now)) ∷ [])) }
+    ensures texts { OnOk result (texts.new.items ≡ texts.old.items ++ part_texts (map part_tree parts.now)) }
+{
+    emit_values(code, program, tables, block, parts)?;
+    let list = put_parts(alloc, texts, parts)?;
+    put(code, Instr::Print(ItemList::of(list)))?;
+    Ok(())
+}
+
+/// A statement more: its instructions, whose targets are places of the program, and its texts.
+#[tactic(auto, using(crate::proofs::Lists::expr_before, crate::proofs::Lists::values_before, crate::proofs::Lists::body_before, std::proofs::Common::append_assoc))]
+pub(crate) fn emit_body(
+    alloc: Global,
+    code: &mut Vec<Instr>,
+    texts: &mut Vec<Text>,
+    program: &[Stmt],
+    tables: &Tables,
+    place: u32,
+    block: u32,
+    body: &Body,
+) -> Result<(), AllocError>
+    requires tables { AreTables (trees program.now) tables.now }
+    requires block { block ≡ block_at (trees program.now) place }
+    requires countable { place < 2 ^ 32 - 1 }
+    ensures code { OnOk result (code.new.items ≡ code.old.items ++ body_code (scope_at (trees program.now) place) (λ j. j) (length texts.old.items) (body_tree body.now) []) }
+    ensures texts { OnOk result (texts.new.items ≡ texts.old.items ++ body_texts (body_tree body.now)) }
+{
+    match body {
+        Body::Action(_, _) | Body::Procedure(_) | Body::Integer(_) => Ok(()),
+        Body::EndProcedure => {
+            put(code, Instr::EndProc)?;
+            Ok(())
+        }
+        Body::Assign(name, e) => {
+            emit_expr(code, program, tables, block, e)?;
+            put(code, Instr::Store(variable(program, tables, block, *name)))?;
+            Ok(())
+        }
+        Body::Goto(name) => {
+            put(code, Instr::Jump(tables.label(program, block, *name)))?;
+            Ok(())
+        }
+        Body::If(e, inner) => {
+            emit_expr(code, program, tables, block, e)?;
+            put(code, Instr::JumpIfZero(place + 1))?;
+            emit_body(alloc, code, texts, program, tables, place, block, inner)?;
+            Ok(())
+        }
+        Body::Print(parts) => {
+            emit_print(alloc, code, texts, program, tables, block, parts.as_slice())?;
+            Ok(())
+        }
+        Body::Exit(e) => {
+            emit_expr(code, program, tables, block, e)?;
+            put(code, Instr::Exit)?;
+            Ok(())
+        }
+    }
+}
