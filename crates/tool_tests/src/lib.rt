@@ -4,7 +4,17 @@
 #[cfg(test)]
 mod bits;
 #[cfg(test)]
+mod boards;
+#[cfg(test)]
 mod cards;
+#[cfg(test)]
+mod chain;
+#[cfg(test)]
+mod checking;
+#[cfg(test)]
+mod codes;
+#[cfg(test)]
+mod devices;
 #[cfg(test)]
 mod lists;
 #[cfg(test)]

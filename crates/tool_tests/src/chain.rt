@@ -1,0 +1,256 @@
+//! Tests of chains of boxed devices, and of moves and stays over a cable that fails.
+ghost use Rattle.std.specs.Prelude.{◌≡◌, ◌≤◌, ◌^◌, ◌-◌, ℕ, true, not, None, map, slice_get, length, All, IfOk, IsTrue};
+ghost use Rattle.std.proofs.lemmas.Option.{none-some};
+ghost use Rattle.std.specs.Option.{option_map};
+ghost use Rattle.stapl_lexer.specs.Names.{IsUpperName};
+ghost use Rattle.tap_states.specs.declared.Tap.TheVariants.{Reset, Idle};
+ghost use Rattle.dev_card.specs.Descriptions.{IsGood};
+ghost use Rattle.dev_card.specs.Board.{AllIn, board_after};
+ghost use Rattle.dev_card.specs.Clocks.{move_inputs};
+ghost use Rattle.scan_paths.specs.Cables.{whole, whole_if, WhereTold};
+ghost use Rattle.chain_sim.specs.Places.{cards_at, IsAbsent, is_chain};
+ghost use Rattle.chain_sim.specs.Rack.{IsRack, IsPlain};
+
+use chain_sim::{Chain, fit_board};
+use dev_card::{Desc, Device, IdCode, Kind};
+use dev_kinds::Plain;
+use lists_and_numbers::ItemList;
+use scan_paths::{Cable, move_to, stay};
+use stapl_lexer::Name;
+use std::alloc::{AllocError, Global};
+use std::test::Fail;
+use tap_states::Tap;
+use tool_io::Failed;
+
+/// Chains by the identities of their devices, where 0 stands for none, and clocks on them as IEEE 1149.1 gives them, from idle on behind reset. A
+/// clock is a digit: TMS counts 4, TDI counts 2 and TDO counts 1. TDO is 1 outside the shift states. Instruction registers have 4 bits, and the
+/// opcode of the identification register is 0010.
+const CASES: [(&[u32], &[u8]); 8] = [
+    // Without identities all have BYPASS selected in reset, which captures 0 and delays by one clock: 101100 through one device and through two.
+    (&[0], b"511212310"),
+    (&[0, 0], b"511203211"),
+    // The same through sixteen devices: 1011 comes out behind sixteen zeros.
+    (
+        &[0, 0, 0, 0, 0, 0, 0, 0, 0, 0, 0, 0, 0, 0, 0, 0],
+        b"51120220000000000001011",
+    ),
+    // In reset the identification register is selected where there is one: 0x80000003 of the first device, its lowest bit first, and behind it the
+    // 0 of the second one's BYPASS, and 1 that came in first.
+    (&[0x8000_0003, 0], b"5113300000000000000000000000000000101"),
+    // Two identities, 0x80000003 and 0x40000005.
+    (
+        &[0x8000_0003, 0x4000_0005],
+        b"5111100000000000000000000000000000110100000000000000000000000000010",
+    ),
+    // The instruction registers capture 01 in their two lowest bits, here with zeros above, and ones come through behind them.
+    (&[0], b"551132223"),
+    (&[0x8000_0003, 0], b"5511322232223"),
+    // BYPASS to the first device, and the opcode of its identification register to the second: their instructions are captured in the one scan
+    // of both, and then the one bit of BYPASS stands before the identity 0x40000005.
+    (
+        &[0x8000_0003, 0x4000_0005],
+        b"5511322212045511010100000000000000000000000000010",
+    ),
+];
+
+// Whether the rack is as `fit_board` wants it: sixteen devices of kind `Plain`.
+fn is_rack<D: Device>(rack: &[D]) -> bool
+    ensures { IsTrue result → IsRack (map D.kind_of rack.now) }
+{
+    for i in 0..rack.len() {
+        if rack[i].kind() != Kind::Plain {
+            return false;
+        }
+    }
+    rack.len() == 16
+}
+
+// A description of a `Plain` with this identity, and with none where it is even.
+fn described(alloc: Global, name: Name, identity: u32) -> Desc
+    requires { IsUpperName name }
+    ensures good { IsGood result }
+    ensures plain { IsPlain result }
+{
+    let mut id = None;
+    if identity % 2 == 1 {
+        id = Some(IdCode {
+            value: identity,
+            op: 0b0010,
+        });
+    }
+    Desc {
+        kind: Kind::Plain,
+        name,
+        ir_len: 4,
+        id,
+        registers: ItemList::of(Vec::new(alloc)),
+        flash: None,
+    }
+}
+
+// Descriptions for these identities.
+fn board(alloc: Global, name: Name, identities: &[u32]) -> Result<Vec<Desc>, AllocError>
+    requires { IsUpperName name }
+    ensures good { IfOk result (λ v. All IsGood v.items) }
+    ensures plain { IfOk result (λ v. All IsPlain v.items) }
+{
+    let mut descs = Vec::new(alloc);
+    for identity in identities {
+        descs.push(described(alloc, name, *identity))?;
+    }
+    Ok(descs)
+}
+
+// Whether these clocks have the TDO that their digits say.
+fn gives<C: Cable>(cable: &mut C, clocks: &[u8]) -> Result<bool, Failed>
+    requires { C.breakage cable.old ≡ whole }
+{
+    let mut same = true;
+    for digit in clocks {
+        let tdo = cable.clock(*digit & 4 != 0, *digit & 2 != 0)?;
+        same = same && tdo == (*digit & 1 != 0);
+    }
+    Ok(same)
+}
+
+// Moves the devices at these places from reset to idle. The lender of the rack knows then what became of it.
+fn wake(rack: &mut Vec<Box<dyn Device>>, places: &[u32]) -> bool
+    requires chain { IsTrue (is_chain (map fitted rack.old.items) places.now) }
+    requires at { WhereTold (cards_at (map fitted rack.old.items) places.now) (AllIn Reset) }
+    ensures woken { result ≡ true }
+    ensures kinds { map kind_of rack.new.items ≡ map kind_of rack.old.items }
+    ensures others { (k : ℕ) → IsAbsent k places.now → slice_get rack.new.items k ≡ slice_get rack.old.items k }
+    ensures cards { cards_at (map fitted rack.new.items) places.now
+        ≡ option_map (λ cs. board_after cs (move_inputs Reset Idle)) (cards_at (map fitted rack.old.items) places.now) }
+    ensures chain { IsTrue (is_chain (map fitted rack.new.items) places.now) }
+{
+    let mut chain = Chain::over(rack, places);
+    match move_to(&mut chain, Tap::Reset, Tap::Idle) {
+        Ok(_) => true,
+        Err(_) => false,
+    }
+}
+
+// Fits the board and moves it to idle, and whether these clocks have their TDO on its chain then.
+fn fits_and_gives(
+    alloc: Global,
+    rack: &mut Vec<Box<dyn Device>>,
+    descs: &[Desc],
+    clocks: &[u8],
+) -> Result<bool, Fail>
+    requires rack { IsRack (map kind_of rack.old.items) }
+    requires some { 1 ≤ length descs.now }
+    requires most { length descs.now ≤ 16 }
+    requires good { All IsGood descs.now }
+    requires plain { All IsPlain descs.now }
+{
+    let places = fit_board(alloc, rack, descs)?;
+    let woken = wake(rack, &places);
+    let mut chain = Chain::over(rack, &places);
+    Ok(woken && gives(&mut chain, clocks)?)
+}
+
+#[test]
+fn clocks_chains_as_the_standard_says(rt: HostRuntime) -> Result<(), Fail> {
+    let alloc = rt.alloc();
+    let name = Name::read(b"U1").ok_or("no name")?;
+    let mut rack: Vec<Box<dyn Device>> = Vec::new(alloc);
+    for _turn in 0..16u32 {
+        rack.push(Box::new(alloc, Plain::unfitted())?)?;
+    }
+    for (identities, clocks) in CASES {
+        let descs = board(alloc, name, identities)?;
+        assert!(rt; !descs.is_empty() && descs.len() <= 16);
+        assert!(rt; is_rack(&rack));
+        let same = fits_and_gives(alloc, &mut rack, &descs, clocks)?;
+        assert!(rt; same, "{identities:?}");
+    }
+    Ok(())
+}
+
+/// A cable that tells nothing and answers 0 for each bit. The clock with the number `failing`, counted from 1, fails.
+#[derive(Drop)]
+struct SilentCable {
+    clocks: u32,
+    failing: u32,
+    faults: u32,
+    is_broken: bool,
+}
+
+impl SilentCable {
+    fn new(failing: u32) -> SilentCable
+        ensures { ⟦<SilentCable as Cable>⟧.breakage result ≡ whole }
+    {
+        SilentCable {
+            clocks: 0,
+            failing,
+            faults: 0,
+            is_broken: false,
+        }
+    }
+}
+
+impl Cable for SilentCable {
+    ghost board = { λ _. None };
+
+    ghost made = { λ _ _ _. Unit {0} };
+
+    ghost line_faults = { λ c. c.faults };
+
+    ghost is_line_last = { λ c. c.faults ≡ 2 ^ 32 - 1 };
+
+    ghost pin_faults = { λ _. 0 };
+
+    ghost is_pin_last = { λ _. ⊥ };
+
+    ghost breakage = { λ c. whole_if (not c.is_broken) };
+
+    fn clock(&mut self, _tms: bool, _tdi: bool) -> Result<bool, Failed> {
+        self.clocks = self.clocks.saturating_add(1);
+        if self.clocks == self.failing {
+            self.faults = self.faults.saturating_add(1);
+            self.is_broken = true;
+            return Err(Failed);
+        }
+        Ok(false)
+    }
+
+    fn usec(&mut self, _n: u32) -> Result<(), Failed> {
+        Ok(())
+    }
+
+    fn hertz(&mut self, _n: u32) -> Result<(), Failed> {
+        Ok(())
+    }
+
+    ghost sound = { λ c cs told. absurd (none-some cs told) };
+
+    ghost none_made = { λ _. tt };
+
+    ghost both_made = { λ _ _ _ _ _ _ _. tt };
+}
+
+#[test]
+fn stops_at_the_clock_that_fails(rt: HostRuntime) -> Result<(), Fail> {
+    // From the state diagram of IEEE 1149.1: from DRPAUSE to IRSHIFT there are six clocks.
+    for failing in 1..8u32 {
+        let mut cable = SilentCable::new(failing);
+        let moved = move_to(&mut cable, Tap::DrPause, Tap::IrShift);
+        assert_eq!(rt;
+            moved.ok(),
+            if failing > 6 {
+                Some(Tap::IrShift)
+            } else {
+                None
+            }
+        );
+        assert_eq!(rt; cable.clocks, failing.min(6));
+    }
+    for failing in 1..8u32 {
+        let mut cable = SilentCable::new(failing);
+        let stayed = stay(&mut cable, Tap::IrPause, 5);
+        assert_eq!(rt; stayed.is_ok(), failing > 5);
+        assert_eq!(rt; cable.clocks, failing.min(5));
+    }
+    Ok(())
+}

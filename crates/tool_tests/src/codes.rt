@@ -1,0 +1,494 @@
+//! Codes: which are in range, and the first instruction that breaks a rule.
+use lists_and_numbers::ItemList;
+use stapl_code::{
+    ActionDef, CodeLists, Instr, ItemDef, PrintPart, ProcDef, RawCode, ValidateRefused, VarDef,
+    validate,
+};
+use stapl_lexer::Name;
+use std::alloc::Global;
+use std::test::Fail;
+
+// An instruction of a table. A print is told by its parts, where true stands for the first text and false for an integer.
+#[derive(Clone, Copy)]
+enum Op {
+    Turn(u32),
+    Push(i32),
+    Load(u32),
+    Store(u32),
+    Binary(u8),
+    Jump(u32),
+    JumpIfZero(u32),
+    EndProc,
+    Print(&'static [bool]),
+    Exit,
+}
+
+use Op::{Binary, EndProc, Exit, Jump, JumpIfZero, Load, Print, Push, Store, Turn};
+
+const ADD: Op = Binary(0);
+
+const LESS: Op = Binary(12);
+
+// The variables of each table: an INTEGER, a BOOLEAN, an array of 4 INTEGER and one of 4 BOOLEAN.
+const INTEGER: u32 = 0;
+
+const BOOLEAN: u32 = 1;
+
+const INTEGERS: u32 = 2;
+
+const BOOLEANS: u32 = 3;
+
+fn instr_of(alloc: Global, op: Op) -> Result<Instr, Fail> {
+    Ok(match op {
+        Turn(piece) => Instr::Turn(piece),
+        Push(value) => Instr::Push(value),
+        Load(variable) => Instr::Load(variable),
+        Store(variable) => Instr::Store(variable),
+        Binary(op) => Instr::Binary(op),
+        Jump(target) => Instr::Jump(target),
+        JumpIfZero(target) => Instr::JumpIfZero(target),
+        EndProc => Instr::EndProc,
+        Print(parts) => {
+            let mut list = Vec::new(alloc);
+            for text in parts {
+                list.push(if *text {
+                    PrintPart::Text(0)
+                } else {
+                    PrintPart::Int
+                })?;
+            }
+            Instr::Print(ItemList::of(list))
+        }
+        Exit => Instr::Exit,
+    })
+}
+
+// The action A of one procedure.
+fn action(alloc: Global, procedure: u32, flag: u8) -> Result<ActionDef, Fail> {
+    Ok(ActionDef {
+        name: Name::read(b"A").ok_or("no name")?,
+        items: ItemList::of(vec![in alloc; ItemDef { procedure, flag }]?),
+    })
+}
+
+// The lists of a code with the procedures P, Q and so on at these entries, one text and one action.
+fn lists(
+    alloc: Global,
+    variables: &[(u8, u32)],
+    entries: &[u32],
+    ops: &[Op],
+) -> Result<CodeLists, Fail> {
+    let mut defs = Vec::new(alloc);
+    for (kind, size) in variables {
+        defs.push(VarDef {
+            kind: *kind,
+            size: *size,
+        })?;
+    }
+    let mut procedures = Vec::new(alloc);
+    for (entry, letter) in entries.iter().zip(b"PQRSTUVW") {
+        let name = Name::read(&[*letter]).ok_or("no name")?;
+        procedures.push(ProcDef {
+            name,
+            entry: *entry,
+        })?;
+    }
+    let mut instrs = Vec::new(alloc);
+    for op in ops {
+        instrs.push(instr_of(alloc, *op)?)?;
+    }
+    Ok(CodeLists {
+        variables: ItemList::of(defs),
+        texts: ItemList::of(vec![in alloc; ItemList::of(b"A".to_vec(alloc)?)]?),
+        procedures: ItemList::of(procedures),
+        actions: ItemList::of(vec![in alloc; action(alloc, 0, 0)?]?),
+        instrs: ItemList::of(instrs),
+    })
+}
+
+const VARIABLES: [(u8, u32); 4] = [(0, 1), (1, 1), (2, 4), (3, 4)];
+
+// What `validate` answers to a code in range: the most operands that it holds at once, or the first instruction that breaks a rule.
+fn answer(rt: &HostRuntime, entries: &[u32], ops: &[Op]) -> Result<Result<u32, usize>, Fail> {
+    let code = lists(rt.alloc(), &VARIABLES, entries, ops)?;
+    if !code.is_in_range() {
+        return Err("not in range".into());
+    }
+    match validate(rt.alloc(), RawCode::of(code)) {
+        Ok(code) if code.raw().lists().instrs.len() == ops.len() => Ok(Ok(code.depth())),
+        Ok(_) => Err("another code".into()),
+        Err(ValidateRefused::Invalid(i)) => Ok(Err(i)),
+        Err(ValidateRefused::Memory) => Err("no memory".into()),
+    }
+}
+
+// Valid codes, with the most operands that each holds at once.
+#[test]
+fn accepts_valid_codes(rt: HostRuntime) -> Result<(), Fail> {
+    let table: [(&[u32], &[Op], u32); 10] = [
+        (&[0], &[Turn(3), Push(0), Exit, Turn(4), EndProc], 1),
+        (&[0], &[Turn(3), Jump(0), Turn(4), EndProc], 0),
+        (
+            &[0],
+            &[
+                Turn(3),
+                Turn(4),
+                Push(0),
+                Store(INTEGER),
+                Turn(5),
+                Load(INTEGER),
+                Print(&[false]),
+                Turn(6),
+                Load(INTEGER),
+                Push(1),
+                ADD,
+                Store(INTEGER),
+                Turn(7),
+                Load(INTEGER),
+                Push(3),
+                LESS,
+                JumpIfZero(18),
+                Jump(4),
+                Turn(8),
+                EndProc,
+            ],
+            2,
+        ),
+        (&[2], &[Push(5), Store(INTEGER), Turn(3), EndProc], 1),
+        (
+            &[4],
+            &[
+                Push(1),
+                Push(2),
+                Store(INTEGER),
+                Store(INTEGER),
+                Turn(3),
+                EndProc,
+            ],
+            2,
+        ),
+        (&[0, 2], &[Turn(3), EndProc, Turn(6), EndProc], 0),
+        (
+            &[0, 2],
+            &[
+                Turn(3),
+                EndProc,
+                Turn(6),
+                Push(1),
+                Push(2),
+                Push(3),
+                Print(&[false, false, false]),
+                EndProc,
+            ],
+            3,
+        ),
+        (&[0], &[Turn(3), Load(BOOLEAN), Store(BOOLEAN), EndProc], 1),
+        (
+            &[0],
+            &[
+                Turn(3),
+                Load(BOOLEAN),
+                JumpIfZero(5),
+                Push(0),
+                Print(&[false]),
+                Turn(4),
+                EndProc,
+            ],
+            1,
+        ),
+        (
+            &[0],
+            &[
+                Turn(3),
+                Push(1),
+                Push(2),
+                Print(&[false, true, false]),
+                EndProc,
+            ],
+            2,
+        ),
+    ];
+    for (row, (entries, ops, depth)) in table.iter().enumerate() {
+        assert_eq!(rt; answer(&rt, entries, ops)?, Ok(*depth), "row {row}");
+    }
+    Ok(())
+}
+
+// Codes with the instruction that breaks a rule first: where instructions stand, and where they lead.
+#[test]
+fn names_the_first_break_of_order(rt: HostRuntime) -> Result<(), Fail> {
+    let table: [(&[u32], &[Op], usize); 23] = [
+        // targets
+        (&[0], &[Turn(3), Jump(1), Turn(4), EndProc], 1),
+        (
+            &[0],
+            &[Turn(3), Load(BOOLEAN), JumpIfZero(4), Turn(4), EndProc],
+            2,
+        ),
+        (&[0], &[Turn(3), Jump(9), Turn(4), EndProc], 1),
+        (
+            &[0, 4],
+            &[Turn(3), Jump(4), Turn(4), EndProc, Turn(7), EndProc],
+            1,
+        ),
+        (
+            &[0, 2],
+            &[Turn(3), EndProc, Turn(6), Jump(0), Turn(7), EndProc],
+            3,
+        ),
+        // the ends of procedures
+        (&[0], &[Turn(3), Push(0), Exit], 2),
+        (&[0], &[Turn(3), Jump(0)], 1),
+        (&[0], &[Turn(3), EndProc, Turn(4), EndProc], 1),
+        (&[0, 2], &[Turn(3), Turn(4), Turn(6), EndProc], 1),
+        (&[0], &[Turn(3)], 0),
+        // their beginnings
+        (&[0], &[Push(0), Exit, Turn(4), EndProc], 0),
+        (
+            &[0, 2],
+            &[Turn(3), EndProc, Push(0), Exit, Turn(4), EndProc],
+            2,
+        ),
+        (&[0, 1], &[EndProc, Turn(3), EndProc], 0),
+        // behind a jump and an exit
+        (&[0], &[Turn(3), Jump(0), EndProc], 2),
+        (&[0], &[Turn(3), Push(0), Exit, Push(0), Exit, EndProc], 3),
+        // what the prologue holds
+        (&[1], &[Turn(3), Turn(4), EndProc], 0),
+        (&[2], &[Load(INTEGER), Store(INTEGER), Turn(3), EndProc], 0),
+        (&[1], &[EndProc, Turn(3), EndProc], 0),
+        // procedures that begin where there is no instruction
+        (&[0, 9], &[Turn(3), EndProc], 1),
+        (&[2], &[Push(5), Store(INTEGER)], 1),
+        (&[7], &[Push(5), Load(INTEGER), Store(INTEGER)], 1),
+        (&[0, 9], &[Turn(3), Store(INTEGER), EndProc], 1),
+        // of two breaks the first
+        (&[0], &[Turn(3), Store(INTEGER), Jump(7), EndProc], 1),
+    ];
+    for (row, (entries, ops, first)) in table.iter().enumerate() {
+        assert_eq!(rt; answer(&rt, entries, ops)?, Err(*first), "row {row}");
+    }
+    // a code without instructions
+    assert_eq!(rt; answer(&rt, &[0], &[])?, Err(0));
+    assert_eq!(rt; answer(&rt, &[7], &[])?, Err(0));
+    Ok(())
+}
+
+// The same of operands: how many there are, and of which kinds.
+#[test]
+fn names_the_first_break_of_operands(rt: HostRuntime) -> Result<(), Fail> {
+    let table: [(&[u32], &[Op], usize); 25] = [
+        // operands that are left
+        (&[0], &[Turn(3), Push(0), Turn(4), EndProc], 2),
+        (&[0], &[Turn(3), Push(0), EndProc], 2),
+        (&[0], &[Turn(3), Push(0), Jump(0), Turn(4), EndProc], 2),
+        (
+            &[0],
+            &[Turn(3), Push(0), Push(0), Exit, Turn(4), EndProc],
+            3,
+        ),
+        (
+            &[0],
+            &[
+                Turn(3),
+                Push(0),
+                Load(BOOLEAN),
+                JumpIfZero(4),
+                Turn(4),
+                EndProc,
+            ],
+            3,
+        ),
+        (&[1], &[Push(5), Turn(3), EndProc], 0),
+        (&[2], &[Push(1), Push(2), Turn(3), EndProc], 1),
+        (
+            &[3],
+            &[Push(1), Push(2), Store(INTEGER), Turn(3), EndProc],
+            2,
+        ),
+        // operands that are missing
+        (&[0], &[Turn(3), Store(INTEGER), EndProc], 1),
+        (&[0], &[Turn(3), Push(0), ADD, EndProc], 2),
+        (&[0], &[Turn(3), Print(&[false]), EndProc], 1),
+        (
+            &[0],
+            &[Turn(3), Push(1), Print(&[false, true, false]), EndProc],
+            2,
+        ),
+        (&[0], &[Turn(3), JumpIfZero(0), EndProc], 1),
+        (&[0], &[Turn(3), Exit, Turn(4), EndProc], 1),
+        (&[1], &[Store(INTEGER), Turn(3), EndProc], 0),
+        // operands of the wrong kind
+        (&[0], &[Turn(3), Push(0), Store(BOOLEAN), EndProc], 2),
+        (&[0], &[Turn(3), Load(BOOLEAN), Store(INTEGER), EndProc], 2),
+        (
+            &[0],
+            &[Turn(3), Push(0), JumpIfZero(3), Turn(4), EndProc],
+            2,
+        ),
+        (&[0], &[Turn(3), Load(BOOLEAN), Exit, Turn(4), EndProc], 2),
+        (
+            &[0],
+            &[Turn(3), Push(1), Push(2), LESS, Store(INTEGER), EndProc],
+            4,
+        ),
+        (
+            &[0],
+            &[
+                Turn(3),
+                Load(BOOLEAN),
+                Push(0),
+                ADD,
+                Store(INTEGER),
+                EndProc,
+            ],
+            3,
+        ),
+        (&[0], &[Turn(3), Load(BOOLEAN), Print(&[false]), EndProc], 2),
+        // arrays are no operands
+        (&[0], &[Turn(3), Load(INTEGERS), Store(INTEGER), EndProc], 1),
+        (&[0], &[Turn(3), Load(BOOLEANS), Store(BOOLEAN), EndProc], 1),
+        (&[0], &[Turn(3), Push(0), Store(BOOLEANS), EndProc], 2),
+    ];
+    for (row, (entries, ops, first)) in table.iter().enumerate() {
+        assert_eq!(rt; answer(&rt, entries, ops)?, Err(*first), "row {row}");
+    }
+    Ok(())
+}
+
+// Instructions with whether their fields are in range.
+#[test]
+fn tests_the_ranges_of_instructions(rt: HostRuntime) -> Result<(), Fail> {
+    let table: [(Op, bool); 16] = [
+        (Turn(0), false),
+        (Turn(1), true),
+        (Turn(100_000), true),
+        (Turn(100_001), false),
+        (Push(i32::MIN), true),
+        (Load(3), true),
+        (Load(4), false),
+        (Store(3), true),
+        (Store(4), false),
+        (Binary(0), true),
+        (Binary(1), false),
+        (Binary(12), true),
+        (Binary(13), false),
+        (Jump(u32::MAX), true),
+        (Print(&[]), false),
+        (Print(&[true]), true),
+    ];
+    for (row, (op, fits)) in table.iter().enumerate() {
+        let code = lists(rt.alloc(), &VARIABLES, &[0], &[*op])?;
+        assert_eq!(rt; code.is_in_range(), *fits, "row {row}");
+    }
+    Ok(())
+}
+
+// Variables with whether they keep the limits, alone and together.
+#[test]
+fn tests_the_sizes_of_variables(rt: HostRuntime) -> Result<(), Fail> {
+    let table: [(&[(u8, u32)], bool); 14] = [
+        (&[], true),
+        (&[(0, 1), (1, 1)], true),
+        (&[(0, 2)], false),
+        (&[(1, 0)], false),
+        (&[(2, 0)], false),
+        (&[(3, 0)], false),
+        (&[(4, 1)], false),
+        (&[(2, 1_048_576)], true),
+        (&[(2, 1_048_576), (0, 1)], false),
+        (&[(2, 1_048_577)], false),
+        (
+            &[
+                (3, 4_194_304),
+                (3, 4_194_304),
+                (3, 4_194_304),
+                (3, 4_194_304),
+            ],
+            true,
+        ),
+        (
+            &[
+                (3, 4_194_304),
+                (3, 4_194_304),
+                (3, 4_194_304),
+                (1, 1),
+                (3, 4_194_304),
+            ],
+            false,
+        ),
+        (&[(3, 4_194_305)], false),
+        (&[(2, 1_048_575), (3, 4_194_304), (0, 1), (1, 1)], true),
+    ];
+    for (row, (variables, fits)) in table.iter().enumerate() {
+        let code = lists(rt.alloc(), variables, &[0], &[Turn(3), EndProc])?;
+        assert_eq!(rt; code.is_in_range(), *fits, "row {row}");
+    }
+    Ok(())
+}
+
+// Entries, and actions by the procedure of their item and its flag.
+#[test]
+fn tests_the_ranges_of_procedures_and_actions(rt: HostRuntime) -> Result<(), Fail> {
+    let entries: [(&[u32], bool); 5] = [
+        (&[], false),
+        (&[7], true),
+        (&[0, 2, u32::MAX], true),
+        (&[2, 2], false),
+        (&[2, 0], false),
+    ];
+    for (row, (entries, fits)) in entries.iter().enumerate() {
+        let code = lists(rt.alloc(), &VARIABLES, entries, &[])?;
+        assert_eq!(rt; code.is_in_range(), *fits, "row {row}");
+    }
+    let items: [(u32, u8, bool); 4] = [(0, 2, true), (1, 0, true), (2, 0, false), (0, 3, false)];
+    for (procedure, flag, fits) in items {
+        let mut code = lists(rt.alloc(), &VARIABLES, &[0, 1], &[])?;
+        code.actions = ItemList::of(vec![in rt.alloc(); action(rt.alloc(), procedure, flag)?]?);
+        assert_eq!(rt;
+            code.is_in_range(),
+            fits,
+            "procedure {procedure}, flag {flag}"
+        );
+    }
+    let mut code = lists(rt.alloc(), &VARIABLES, &[0], &[])?;
+    code.actions = ItemList::of(Vec::new(rt.alloc()));
+    assert!(rt; !code.is_in_range());
+    let twice = vec![in rt.alloc(); action(rt.alloc(), 0, 0)?, action(rt.alloc(), 0, 1)?]?;
+    code.actions = ItemList::of(twice);
+    assert!(rt; !code.is_in_range());
+    let named = ActionDef {
+        name: Name::read(b"EXIT").ok_or("no name")?,
+        items: ItemList::of(vec![in rt.alloc();
+            ItemDef {
+                procedure: 0,
+                flag: 0
+            },
+        ]?),
+    };
+    code.actions = ItemList::of(vec![in rt.alloc(); named]?);
+    assert!(rt; !code.is_in_range());
+    Ok(())
+}
+
+// Procedures of one name, and names that are reserved.
+#[test]
+fn tests_the_names_of_procedures(rt: HostRuntime) -> Result<(), Fail> {
+    let table: [(&str, &str, bool); 4] = [
+        ("P", "Q", true),
+        ("P", "p", false),
+        ("RESET", "Q", false),
+        ("P", "UNTIL", true),
+    ];
+    for (first, second, fits) in table {
+        let mut code = lists(rt.alloc(), &VARIABLES, &[0], &[])?;
+        let mut procedures = Vec::new(rt.alloc());
+        let name = Name::read(first.as_bytes()).ok_or("no name")?;
+        procedures.push(ProcDef { name, entry: 0 })?;
+        let name = Name::read(second.as_bytes()).ok_or("no name")?;
+        procedures.push(ProcDef { name, entry: 1 })?;
+        code.procedures = ItemList::of(procedures);
+        assert_eq!(rt; code.is_in_range(), fits, "{first} and {second}");
+    }
+    Ok(())
+}
