@@ -19,3 +19,4 @@ pub mod Shapes
 pub mod Valid
 pub mod Ranges
 pub mod Generated
+pub mod Accepted

@@ -1,7 +1,20 @@
 //! Laws of the definitions.
+ghost use Rattle.std.specs.Prelude.{ℕ, List};
+ghost use Rattle.stapl_syntax.specs.Trees.{StmtTree};
+ghost use Rattle.stapl_syntax.specs.Faults.{IsProgram};
+ghost use Rattle.stapl_codegen.specs.Accepted.{IsAccepted};
 ghost use Rattle.stapl_codegen.specs.Correct.{CodeStands};
+
+use stapl_syntax::laws::a_program_is_one_procedure;
 
 /// The code of a program does what the program does.
 pub fn code_stands()
     ensures { CodeStands }
 {}
+
+/// The compiler takes each text that is a program.
+pub fn programs_are_accepted()
+    ensures { (text : List ℕ) (program : List StmtTree) → IsProgram text program → IsAccepted program }
+{
+    a_program_is_one_procedure();
+}
