@@ -1,9 +1,9 @@
 -- A piece more in the tables.
-use Rattle.std.proofs.Common.{◌≡◌, ℕ, suc, ◌+◌, ◌≤◌, Bool, true, false, cond, List, ◌∷◌, ◌++◌, length, arith, refl, sym, ap, ◌∙◌}
+use Rattle.std.proofs.Common.{◌≡◌, ℕ, ◌+◌, ◌≤◌, Bool, true, false, cond, List, ◌∷◌, ◌++◌, length, arith, refl, sym, ap, ◌∙◌}
 use Rattle.stapl_syntax.specs.Trees.{BodyTree, integer, StmtTree}
-use Rattle.stapl_meaning.specs.Scopes.{blocks_in, begins_block, block_after, declared_by, variables_from}
+use Rattle.stapl_meaning.specs.Scopes.{begins_block, block_after, declared_by, variables_from}
 use Rattle.stapl_codegen.specs.declared.tables.Key.{Key}
-use Rattle.stapl_codegen.specs.Tables.{key_eq, name_eq, firsts_behind, variable_entry, behind_variable, variable_entries, label_entry, label_entries, procedure_entry, behind_procedure, procedure_entries}
+use Rattle.stapl_codegen.specs.Tables.{key_eq, firsts_behind, variable_entry, behind_variable, variable_entries, label_entry, label_entries}
 use Rattle.stapl_codegen.proofs.Firsts.{firsts_more}
 
 module _ (st : StmtTree) (rest all : List StmtTree) (is : all ≡ st ∷ rest) where
@@ -41,37 +41,13 @@ module _ (st : StmtTree) (rest all : List StmtTree) (is : all ≡ st ∷ rest) w
       ∙ sym (ap (λ l. firsts_behind key_eq es (label_entries i b l)) is)
       ∙ so_far
 
-  pub procedures_more : (n n' : ℕ) (es es' done : List (List ℕ × ℕ)) → n' ≡ behind_procedure n st.body →
-      es' ≡ firsts_behind name_eq es (procedure_entry n st.body) → firsts_behind name_eq es (procedure_entries n all) ≡ done →
-      firsts_behind name_eq es' (procedure_entries n' rest) ≡ done
-  procedures_more n n' es es' done n-is es-is so_far =
-      ap (λ x. firsts_behind name_eq x (procedure_entries n' rest)) es-is
-      ∙ ap (λ m. firsts_behind name_eq (firsts_behind name_eq es (procedure_entry n st.body)) (procedure_entries m rest)) n-is
-      ∙ sym (firsts_more name_eq es (procedure_entry n st.body) (procedure_entries (behind_procedure n st.body) rest))
-      ∙ sym (ap (λ l. firsts_behind name_eq es (procedure_entries n l)) is)
-      ∙ so_far
-
-  procedures_by : (n : ℕ) (t : Bool) → cond t (n + 1) n + blocks_in rest ≡ n + cond t (suc (blocks_in rest)) (blocks_in rest)
-  procedures_by n true = omega arith
-  procedures_by n false = refl
-
-  pub procedures_counted : (n n' done : ℕ) → n' ≡ behind_procedure n st.body → n + blocks_in all ≡ done → n' + blocks_in rest ≡ done
-  procedures_counted n n' done n-is so_far =
-      ap (λ m. m + blocks_in rest) n-is
-      ∙ procedures_by n (begins_block st.body)
-      ∙ sym (ap (λ l. n + blocks_in l) is)
-      ∙ so_far
-
--- a statement begins at most one block, declares at most one variable, and begins at most one procedure
+-- a statement begins at most one block, and declares at most one variable
 one_more : (t : Bool) (b b' i : ℕ) → b' ≡ cond t (b + 1) b → b ≤ i → b' ≤ i + 1
 one_more true b b' i e few = omega (arith, e, few)
 one_more false b b' i e few = omega (arith, e, few)
 
 pub block_few : (body : BodyTree) (b b' i : ℕ) → b' ≡ block_after b body → b ≤ i → b' ≤ i + 1
 block_few body b b' i e few = one_more (begins_block body) b b' i e few
-
-pub procedure_few : (body : BodyTree) (n n' i : ℕ) → n' ≡ behind_procedure n body → n ≤ i → n' ≤ i + 1
-procedure_few body n n' i e few = one_more (begins_block body) n n' i e few
 
 pub variable_few : (body : BodyTree) (n n' i : ℕ) → n' ≡ behind_variable n body → n ≤ i → n' ≤ i + 1
 variable_few (integer name) n n' i e few = one_more true n n' i e few

@@ -4,11 +4,11 @@ use Rattle.std.specs.Map.{lookup}
 use Rattle.std.specs.Str.{bytes_eq}
 use Rattle.std.proofs.lemmas.Slice.Eq.{bytes_eq-Decides}
 use Rattle.std.proofs.lemmas.Bool.{eqb-true}
-use Rattle.stapl_syntax.specs.Trees.{BodyTree, procedure, integer, StmtTree}
-use Rattle.stapl_meaning.specs.Scopes.{blocks_in, begins_block, block_after, Variable, variables_from, variables_of, number_of, label_from, is_name, procedure_before, procedure_number}
+use Rattle.stapl_syntax.specs.Trees.{BodyTree, integer, StmtTree}
+use Rattle.stapl_meaning.specs.Scopes.{block_after, Variable, variables_from, variables_of, number_of, label_from, is_name}
 use Rattle.stapl_codegen.specs.declared.tables.Key.{Key}
 use Rattle.stapl_codegen.specs.declared.tables.Tables.{Tables}
-use Rattle.stapl_codegen.specs.Tables.{key_eq, name_eq, found_or, variable_entries, label_entries, label_entry, procedure_entry, behind_procedure, procedure_entries, AreTables}
+use Rattle.stapl_codegen.specs.Tables.{key_eq, found_or, variable_entries, label_entries, label_entry, AreTables}
 use Rattle.stapl_codegen.proofs.Firsts.{found_first}
 
 abbrev key_at : ℕ → List ℕ → Key
@@ -19,7 +19,7 @@ both_true true true e = (refl, refl)
 both_true true false e = absurd cc
 both_true false b e = absurd cc
 
-name_same : (a b : List ℕ) → name_eq a b ≡ true → a ≡ b
+name_same : (a b : List ℕ) → bytes_eq a b ≡ true → a ≡ b
 name_same a b e = (bytes_eq-Decides a b).0 e
 
 key_same : (a b : Key) → key_eq a b ≡ true → a ≡ b
@@ -96,35 +96,4 @@ label_found program tables block name n are is =
     ∙ ap (found_or tables.labels.count) (found_first key_eq key_same (key_at block name) (label_entries 0 0 program))
     ∙ ap (λ c. found_or c (lookup (key_eq (key_at block name)) (label_entries 0 0 program))) (are.labels.count ∙ sym same)
     ∙ labels_found block 0 0 name program
-    ∙ from
-
-procedures_found : (n : ℕ) (name : List ℕ) (sts : List StmtTree) →
-    found_or (n + blocks_in sts) (lookup (name_eq name) (procedure_entries n sts)) ≡ n + procedure_number sts name
-procedures_found n name [] = refl
-procedures_found n name (st ∷ rest) = by_body st.body (λ m. procedures_found m name rest)
-  where
-    by_name : (t : Bool) → found_or (n + 1 + blocks_in rest) (lookup (name_eq name) (procedure_entries (n + 1) rest)) ≡ n + 1 + procedure_number rest name →
-        found_or (n + suc (blocks_in rest)) (cond t (Some n) (lookup (name_eq name) (procedure_entries (n + 1) rest))) ≡ n + cond t 0 (suc (procedure_number rest name))
-    by_name true more = omega arith
-    by_name false more =
-        let same : n + suc (blocks_in rest) ≡ n + 1 + blocks_in rest = omega arith in
-        let last : n + 1 + procedure_number rest name ≡ n + suc (procedure_number rest name) = omega arith in
-        ap (λ m. found_or m (lookup (name_eq name) (procedure_entries (n + 1) rest))) same ∙ more ∙ last
-
-    by_body : (body : BodyTree) → ((m : ℕ) → found_or (m + blocks_in rest) (lookup (name_eq name) (procedure_entries m rest)) ≡ m + procedure_number rest name) →
-        found_or (n + cond (begins_block body) (suc (blocks_in rest)) (blocks_in rest)) (lookup (name_eq name) (procedure_entry n body ++ procedure_entries (behind_procedure n body) rest))
-        ≡ n + procedure_before body name (procedure_number rest name)
-    by_body (procedure declared) more = by_name (bytes_eq name declared) (more (n + 1))
-    by_body _ more = more n
-
-pub procedure_found : (program : List StmtTree) (tables : Tables) (name : List ℕ) (n : ℕ) → AreTables program tables →
-    n ≡ found_or tables.procedures.count (lookup (name_eq name) tables.procedures.table.entries) → n ≡ procedure_number program name
-procedure_found program tables name n are is =
-    let same : 0 + blocks_in program ≡ blocks_in program = omega arith in
-    let from : 0 + procedure_number program name ≡ procedure_number program name = omega arith in
-    is
-    ∙ ap (λ es. found_or tables.procedures.count (lookup (name_eq name) es)) are.procedures.entries
-    ∙ ap (found_or tables.procedures.count) (found_first name_eq name_same name (procedure_entries 0 program))
-    ∙ ap (λ c. found_or c (lookup (name_eq name) (procedure_entries 0 program))) (are.procedures.count ∙ sym same)
-    ∙ procedures_found 0 name program
     ∙ from

@@ -3,14 +3,11 @@ use Rattle.std.specs.Prelude.{◌≡◌, ℕ, ◌+◌, Bool, ◌&&◌, List, [],
 use Rattle.std.specs.Map.{lookup}
 use Rattle.std.specs.Cmp.Lexicographic.{pointwise}
 use Rattle.stapl_syntax.specs.declared.statement.Stmt.{Stmt}
-use Rattle.stapl_syntax.specs.Trees.{BodyTree, procedure, integer, StmtTree, stmt_tree}
-use Rattle.stapl_meaning.specs.Scopes.{begins_block, blocks_in, block_after, variables_of}
+use Rattle.stapl_syntax.specs.Trees.{BodyTree, integer, StmtTree, stmt_tree}
+use Rattle.stapl_meaning.specs.Scopes.{block_after, variables_of}
 use Rattle.stapl_codegen.specs.declared.tables.Key.{Key}
 use Rattle.stapl_codegen.specs.declared.tables.Numbers.{Numbers}
 use Rattle.stapl_codegen.specs.declared.tables.Tables.{Tables}
-
-abbrev pub name_eq : List ℕ → List ℕ → Bool
-name_eq a b = pointwise nat_eq a b
 
 abbrev pub key_eq : Key → Key → Bool
 key_eq a b = nat_eq a.block b.block && pointwise nat_eq a.name b.name
@@ -58,24 +55,11 @@ label_entries i block [] = []
 label_entries i block (st ∷ rest) =
     label_entry i (block_after block st.body) st.label ++ label_entries (i + 1) (block_after block st.body) rest
 
--- the procedure that a statement begins, with its number, and the number of the next one
-abbrev pub procedure_entry : ℕ → BodyTree → List (List ℕ × ℕ)
-procedure_entry n (procedure name) = (name, n) ∷ []
-procedure_entry n _ = []
-
-abbrev pub behind_procedure : ℕ → BodyTree → ℕ
-behind_procedure n body = if begins_block body then n + 1 else n
-
--- the procedures of these pieces with their numbers, from a number on
-abbrev pub procedure_entries : ℕ → List StmtTree → List (List ℕ × ℕ)
-procedure_entries n [] = []
-procedure_entries n (st ∷ rest) = procedure_entry n st.body ++ procedure_entries (behind_procedure n st.body) rest
-
 -- the trees of statements
 abbrev pub trees : List Stmt → List StmtTree
 trees program = map stmt_tree program
 
--- these are the numbers of the variables, the places of the labels, the numbers of the procedures
+-- these are the numbers of the variables, and the places of the labels
 pub record AreVariables (program : List StmtTree) (numbers : Numbers Key) : Type 0 where
   pub entries : numbers.table.entries ≡ firsts key_eq (variable_entries 0 0 program)
   pub count : numbers.count ≡ length (variables_of program)
@@ -84,12 +68,7 @@ pub record AreLabels (program : List StmtTree) (numbers : Numbers Key) : Type 0 
   pub entries : numbers.table.entries ≡ firsts key_eq (label_entries 0 0 program)
   pub count : numbers.count ≡ length program
 
-pub record AreProcedures (program : List StmtTree) (numbers : Numbers (List ℕ)) : Type 0 where
-  pub entries : numbers.table.entries ≡ firsts name_eq (procedure_entries 0 program)
-  pub count : numbers.count ≡ blocks_in program
-
 -- these are the tables of a program
 pub record AreTables (program : List StmtTree) (tables : Tables) : Type 0 where
   pub variables : AreVariables program tables.variables
   pub labels : AreLabels program tables.labels
-  pub procedures : AreProcedures program tables.procedures

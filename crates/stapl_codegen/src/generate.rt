@@ -128,7 +128,7 @@ fn lists_of(
     })
 }
 
-// A name is spelled in upper case.
+// Tells the proofs what `Name::bytes` says of a name: it is spelled in upper case.
 fn check_spelling(name: &Name)
     ensures { IsUpperName name.now }
 {

@@ -1,9 +1,9 @@
-//! The numbers of variables and procedures, and the places of labels, by name.
+//! The numbers of variables and the places of labels, by name.
 ghost use Rattle.std.specs.Prelude.{◌≡◌, ◌<◌, ◌^◌, ◌-◌, ◌+◌, length, OnOk, IfOk, nat_eq};
 ghost use Rattle.std.specs.Map.{lookup};
 ghost use Rattle.stapl_syntax.specs.Trees.{body_tree, stmt_tree};
-ghost use Rattle.stapl_meaning.specs.Scopes.{begins_block, block_after, number_of, variables_of, label_from, procedure_number};
-ghost use Rattle.stapl_codegen.specs.Tables.{key_eq, name_eq, put_first, firsts_behind, found_or, variable_entry, behind_variable, label_entry, procedure_entry, behind_procedure, trees, AreVariables, AreLabels, AreProcedures, AreTables};
+ghost use Rattle.stapl_meaning.specs.Scopes.{begins_block, block_after, number_of, variables_of, label_from};
+ghost use Rattle.stapl_codegen.specs.Tables.{key_eq, put_first, firsts_behind, found_or, variable_entry, behind_variable, label_entry, trees, AreVariables, AreLabels, AreTables};
 
 use indexmap::IndexMap;
 use stapl_lexer::Name;
@@ -90,19 +90,6 @@ fn put_label(numbers: &mut Numbers<Key>, block: u32, label: Option<Name>) -> Res
     Ok(())
 }
 
-fn put_procedure(numbers: &mut Numbers<Name>, body: &Body) -> Result<(), AllocError>
-    requires { numbers.old.count < 2 ^ 32 - 1 }
-    ensures entries { OnOk result (numbers.new.table.entries ≡ firsts_behind name_eq numbers.old.table.entries (procedure_entry numbers.old.count (body_tree body.now))) }
-    ensures count { OnOk result (numbers.new.count ≡ behind_procedure numbers.old.count (body_tree body.now)) }
-{
-    if let Body::Procedure(name) = body {
-        let number = numbers.count;
-        numbers.put(*name, number)?;
-        numbers.count += 1;
-    }
-    Ok(())
-}
-
 // The numbers of the variables of a program.
 fn variables(alloc: Global, program: &[Stmt]) -> Result<Numbers<Key>, AllocError>
     requires { length program.now < 2 ^ 32 - 1 }
@@ -139,28 +126,11 @@ fn labels(alloc: Global, program: &[Stmt]) -> Result<Numbers<Key>, AllocError>
     Ok(numbers)
 }
 
-// The numbers of the procedures of a program.
-fn procedures(alloc: Global, program: &[Stmt]) -> Result<Numbers<Name>, AllocError>
-    requires { length program.now < 2 ^ 32 - 1 }
-    ensures { IfOk result (AreProcedures (trees program.now)) }
-{
-    let mut numbers = Numbers {
-        table: IndexMap::new(alloc),
-        count: 0,
-    };
-    for i in 0..program.len() {
-        let st = &program[i];
-        put_procedure(&mut numbers, &st.body)?;
-    }
-    Ok(numbers)
-}
-
 /// The tables of a program.
 #[derive(Drop)]
 pub(crate) struct Tables {
     pub(crate) variables: Numbers<Key>,
     pub(crate) labels: Numbers<Key>,
-    pub(crate) procedures: Numbers<Name>,
 }
 
 impl Tables {
@@ -171,12 +141,7 @@ impl Tables {
     {
         let variables = variables(alloc, program)?;
         let labels = labels(alloc, program)?;
-        let procedures = procedures(alloc, program)?;
-        Ok(Tables {
-            variables,
-            labels,
-            procedures,
-        })
+        Ok(Tables { variables, labels })
     }
 
     /// The number of a variable of a block.
@@ -197,15 +162,5 @@ impl Tables {
     {
         let _program = program;
         self.labels.of(Key { block, name })
-    }
-
-    /// The number of a procedure.
-    #[tactic(auto)]
-    pub(crate) fn procedure(&self, program: &[Stmt], name: Name) -> u32
-        requires { AreTables (trees program.now) self.now }
-        ensures { result ≡ procedure_number (trees program.now) name }
-    {
-        let _program = program;
-        self.procedures.of(name)
     }
 }
