@@ -1,9 +1,11 @@
-//! Lists and stacks that contracts see as lists, and numbers as lists of bits.
+//! Lists and stacks that contracts see as lists, numbers as lists of bits, and a count of steps.
 #![tactic(auto)]
 
 mod item_list;
 pub mod laws;
 mod stack;
+mod steps;
 
 pub use item_list::ItemList;
 pub use stack::Stack;
+pub use steps::Steps;
