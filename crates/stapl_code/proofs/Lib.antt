@@ -4,3 +4,4 @@ pub mod ValidRuns
 pub mod Pairs
 pub mod KindCounts
 pub mod DepthSteps
+pub mod Preceded

@@ -8,7 +8,7 @@ use Rattle.stapl_meaning.specs.declared.events.Event.{Event}
 use Rattle.stapl_meaning.specs.declared.values.Held.{Held}
 use Rattle.stapl_meaning.specs.declared.values.Value.{Value}
 use Rattle.stapl_meaning.specs.Values.{Got, Known, Stuck}
-use Rattle.stapl_meaning.specs.States.{State, Turned, Leads, Over, NoTurn, assigned}
+use Rattle.stapl_meaning.specs.States.{State, Turned, Leads, Over, NoTurn, assigned, next_chosen}
 use Rattle.stapl_meaning.specs.Plays.{goes_on, Stopped, start}
 use Rattle.stapl_code.specs.declared.kinds.Kind.{Kind}
 use Rattle.stapl_code.specs.declared.raw.ProcDef.{ProcDef}
@@ -436,7 +436,9 @@ module _ (code : CodeLists) where
         (c.0, omega (arith, c.1, few))
 
     begun_good : (t : Turned) → Begins t → Ends (begun (entries_of code.procedures) code.texts t)
-    begun_good (Leads events place s) g = chosen_good code.variables (length code.procedures) (entries_of code.procedures) code.texts IsPlace begin s g s.chosen g.chosen_below
+    begun_good (Leads events place s) g =
+        preceded_good events (next_chosen (entry_of (entries_of code.procedures)) s s.chosen)
+        (chosen_good code.variables (length code.procedures) (entries_of code.procedures) code.texts IsPlace begin s g s.chosen g.chosen_below)
     begun_good (Over events ending s) g = absurd g
     begun_good (NoTurn events) g = absurd g
 

@@ -138,9 +138,9 @@ module _ (entries : List ℕ) (texts : List (List ℕ)) where
 
   -- behind the prologue, which falls into the first Turn, the first chosen procedure begins
   abbrev pub begun : Turned → Turned
-  begun (Leads events place s) = next_chosen (entry_of entries) s s.chosen
-  begun (Over events ending s) = NoTurn []
-  begun (NoTurn events) = NoTurn []
+  begun (Leads events place s) = preceded events (next_chosen (entry_of entries) s s.chosen)
+  begun (Over events ending s) = NoTurn events
+  begun (NoTurn events) = NoTurn events
 
   -- the prologue and then the chosen procedures, for at most n turns
   abbrev pub code_play : List Instr → List ℕ → List Held → ℕ → Run

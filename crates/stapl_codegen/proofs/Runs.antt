@@ -10,6 +10,7 @@ use Rattle.stapl_meaning.specs.Plays.{Outcome, Ended, Going, Stopped, Run, after
 use Rattle.stapl_code.specs.declared.instr.Instr.{Instr}
 use Rattle.stapl_code.specs.declared.instr.Instr.TheVariants.{Turn}
 use Rattle.stapl_code.specs.Machine.{nowhere, entry_of, stretch, begins, code_turn, code_run, begun, code_play}
+use Rattle.stapl_code.proofs.Preceded.{preceded_nothing}
 use Rattle.stapl_codegen.specs.Emit.{is_outer, body_code, first_text, texts_of, pieces_code, program_code, start_of, program_entries}
 use Rattle.stapl_codegen.specs.Correct.{GoesOn, IsClosed, Stands}
 use Rattle.stapl_codegen.proofs.Heads.{head_of, get_head, drop_tail}
@@ -143,7 +144,7 @@ module _ (program : List StmtTree) where
       begun_is s = by_turn (pieces_begin program place 0 program some)
         where
           by_turn : BeginsWithTurn Code → begun Entries Texts (stretch Entries Texts All Code [] s) ≡ next_chosen (entry_of Entries) s s.chosen
-          by_turn b = ap (λ c. begun Entries Texts (stretch Entries Texts All c [] s)) b.is
+          by_turn b = ap (λ c. begun Entries Texts (stretch Entries Texts All c [] s)) b.is ∙ sym (preceded_nothing (next_chosen (entry_of Entries) s s.chosen))
 
       play_follows : (chosen : List ℕ) (n : ℕ) → code_play Entries Texts Code chosen (zeros_of program) n ≡ placed_run (play program chosen n)
       play_follows chosen n =

@@ -3,7 +3,7 @@ use Rattle.std.specs.Prelude.{slice_index_or}
 use Rattle.stapl_codegen.specs.Tables.{trees}
 use Rattle.stapl_codegen.proofs.Ranges.{integer_def}
 use Rattle.stapl_codegen.proofs.Generated.{AreMade, all_good}
-use Rattle.stapl_codegen.proofs.generate.program_lists.Goals as goal
+use Rattle.stapl_codegen.proofs.compiling.program_lists.Goals as goal
 
 pub returns-clause-code : goal.returns-clause-code
 returns-clause-code c =

@@ -1,0 +1,4 @@
+pub mod PrintLemmas
+pub mod TurnLemmas
+pub mod RunLemmas
+pub mod Machines

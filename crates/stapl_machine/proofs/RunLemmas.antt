@@ -1,0 +1,264 @@
+-- On the turns of a run, one after another.
+use Rattle.std.proofs.Common.{◌≡◌, ◌≤◌, ◌<◌, ℕ, suc, ◌+◌, ◌-◌, List, [], ◌++◌, refl, sym, ap, ◌∙◌, append_assoc, arith, Option, Some, None, pos, subst, length}
+use Rattle.std.specs.List.{flat_map}
+use Rattle.std.proofs.lemmas.List.{append-nil}
+use Rattle.std.proofs.lemmas.Grind.{flat_map-append}
+use Rattle.tool_io.specs.declared.lines.Lines.{Lines}
+use Rattle.tool_io.proofs.PutLemmas.{put_then, puts_nothing, front_with, put_then_front}
+use Rattle.stapl_meaning.specs.declared.events.Event.{Event}
+use Rattle.stapl_meaning.specs.declared.events.Ending.{Ending}
+use Rattle.stapl_meaning.specs.declared.events.Ending.TheVariants.{Exit}
+use Rattle.stapl_meaning.specs.declared.values.Held.{Held}
+use Rattle.stapl_meaning.specs.declared.values.Value.{Value}
+use Rattle.stapl_meaning.specs.States.{State, Turned, Leads, Over, NoTurn, next_chosen}
+use Rattle.stapl_meaning.specs.Plays.{Run, Ended, Stopped, after, goes_on, told}
+use Rattle.stapl_meaning.specs.Texts.{event_line}
+use Rattle.stapl_code.specs.Machine.{preceded, entry_of, stretch, begun}
+use Rattle.stapl_code.proofs.Preceded.{preceded_nothing, begun_preceded}
+use Rattle.stapl_code.specs.Safe.{entries_of}
+use Rattle.stapl_code.specs.Ticks.{ticks, ticks_then}
+use Rattle.stapl_code.specs.declared.raw.CodeLists.{CodeLists}
+use Rattle.stapl_machine.specs.declared.act.Regs.{Regs}
+use Rattle.stapl_machine.specs.declared.turns.Went.{Went}
+use Rattle.stapl_machine.specs.declared.turns.Went.TheVariants as went
+use Rattle.stapl_machine.specs.Acts.{state_of}
+use Rattle.stapl_machine.specs.Turns.{rest_of, ticks_from, turn_at, ticks_at, led_to, Does, DoesFront}
+use Rattle.stapl_machine.specs.Runs.{run_of, run_ticks_of, chosen_run, chosen_ticks, begun_run, begun_ticks, play_from, play_ticks_from, Runs, RunsTo, RunsFront, LeavesVariables}
+
+-- events in front of a turn are events in front of its run
+pub goes_after : (seen : List Event) (t : Turned) (s : State) (go : ℕ → State → Run) → goes_on (preceded seen t) s go ≡ after seen (goes_on t s go)
+goes_after seen (Leads events place u) s go = ap (λ (l : List Event). let r : Run = record (go place u) { events = l } in r) (append_assoc seen events (go place u).events)
+goes_after seen (Over events ending u) s go = refl
+goes_after seen (NoTurn events) s go = refl
+
+pub after_twice : (first second : List Event) (r : Run) → after first (after second r) ≡ after (first ++ second) r
+after_twice first second r = ap (λ (l : List Event). let q : Run = record r { events = l } in q) (sym (append_assoc first second r.events))
+
+-- events do not count
+pub ticks_preceded : (seen : List Event) (t : Turned) (go : ℕ → State → ℕ) → ticks_then (preceded seen t) go ≡ ticks_then t go
+ticks_preceded seen (Leads events place u) go = refl
+ticks_preceded seen (Over events ending u) go = refl
+ticks_preceded seen (NoTurn events) go = refl
+
+-- a play that met what no valid code meets before its first turn
+abbrev pub stopped_at_once : State → Run
+stopped_at_once u = record { events = []; outcome = Stopped; state = u }
+
+-- a play that is over before its first turn
+abbrev pub over_at_once : State → Run
+over_at_once u = record { events = []; outcome = Ended (Exit (pos 0)); state = u }
+
+module _ {K : Type 0} {written : K → Option (List ℕ)} where
+  pub runs_start : (whole : Run) (lines : Lines K) → Runs written whole lines whole lines
+  runs_start whole lines = record { events = []; put = puts_nothing written lines; runs = refl }
+
+  -- what is left, by another name
+  pub runs_same : {whole rest other : Run} {a b : Lines K} → rest ≡ other → Runs written whole a rest b → Runs written whole a other b
+  runs_same e r = record { events = r.events; put = r.put; runs = r.runs ∙ ap (after r.events) e }
+
+  -- one turn more
+  pub runs_more : {whole : Run} {a b c : Lines K} (turn rest : Turned) (s : State) (go : ℕ → State → Run) →
+      Runs written whole a (goes_on turn s go) b → Does written turn b rest c → Runs written whole a (goes_on rest s go) c
+  runs_more turn rest s go first second = record {
+    events = first.events ++ second.events;
+    put = rw (flat_map-append event_line first.events second.events) (put_then first.put second.put);
+    runs = first.runs ∙ ap (after first.events) (ap (λ (t : Turned). goes_on t s go) second.does ∙ goes_after second.events rest s go)
+        ∙ after_twice first.events second.events (goes_on rest s go);
+  }
+
+  -- a run that is left with no event
+  pub runs_end : {whole rest : Run} {a b : Lines K} → Runs written whole a rest b → rest.events ≡ [] → RunsTo written whole a (told rest.outcome) b
+  runs_end {whole = whole} {rest = rest} r none =
+      let all : whole.events ≡ r.events = ap (λ (q : Run). q.events) r.runs ∙ ap (λ (l : List Event). r.events ++ l) none ∙ append-nil r.events in
+      record { put = rw all r.put; ended = ap (λ (q : Run). told q.outcome) r.runs }
+
+  -- the variables behind the run
+  pub runs_variables : {whole rest : Run} {a b : Lines K} → Runs written whole a rest b → whole.state.variables ≡ rest.state.variables
+  runs_variables r = ap (λ (q : Run). q.state.variables) r.runs
+
+  -- a turn that was broken off
+  pub runs_front : {whole : Run} {a b c : Lines K} (turn : Turned) (s : State) (go : ℕ → State → Run) →
+      Runs written whole a (goes_on turn s go) b → DoesFront written turn b c → RunsFront written whole a c
+  runs_front {whole = whole} turn s go first second =
+      let all : whole.events ≡ first.events ++ (second.events ++ (goes_on second.rest s go).events) =
+      ap (λ (r : Run). r.events) (first.runs ∙ ap (after first.events) (ap (λ (t : Turned). goes_on t s go) second.does ∙ goes_after second.events second.rest s go)) in
+      record {
+        front = rw (all, flat_map-append event_line first.events (second.events ++ (goes_on second.rest s go).events), flat_map-append event_line second.events (goes_on second.rest s go).events)
+            (put_then_front first.put (front_with (flat_map event_line (goes_on second.rest s go).events) second.front));
+      }
+
+-- one turn of a run of a code
+module _ {K : Type 0} {written : K → Option (List ℕ)} (code : CodeLists) (left more place : ℕ) (s u : State) where
+  -- the turn leads on
+  pub run_on : {whole : Run} {a b c : Lines K} (to : ℕ) → left ≡ suc more → Runs written whole a (run_of code left place s) b →
+      Does written (turn_at code place s) b (led_to (went.On to) u) c → Runs written whole a (run_of code more to u) c
+  run_on to e r d =
+      runs_more (turn_at code place s) (led_to (went.On to) u) s (run_of code more) (runs_same (ap (λ n. run_of code n place s) e) r) d
+
+  -- it ends the run
+  pub run_over : {whole : Run} {a b c : Lines K} (w : Went) → left ≡ suc more → Runs written whole a (run_of code left place s) b →
+      Does written (turn_at code place s) b (led_to w u) c → Runs written whole a (goes_on (led_to w u) s (run_of code more)) c
+  run_over w e r d =
+      runs_more (turn_at code place s) (led_to w u) s (run_of code more) (runs_same (ap (λ n. run_of code n place s) e) r) d
+
+  -- it is broken off
+  pub run_front : {whole : Run} {a b c : Lines K} → left ≡ suc more → Runs written whole a (run_of code left place s) b →
+      DoesFront written (turn_at code place s) b c → RunsFront written whole a c
+  run_front e r d =
+      runs_front (turn_at code place s) s (run_of code more) (runs_same (ap (λ n. run_of code n place s) e) r) d
+
+  -- nothing is done yet
+  pub run_start : (lines : Lines K) → Runs written (run_of code left place s) lines (run_of code (left - 0) place s) lines
+  run_start lines = let same : left ≡ left - 0 = omega arith in runs_same (ap (λ n. run_of code n place s) same) (runs_start (run_of code left place s) lines)
+
+-- how many instructions a run takes
+module _ (code : CodeLists) (left more place : ℕ) (s : State) (e : left ≡ suc more) where
+  pub run_ticks_is : run_ticks_of code left place s ≡ ticks_at code place s + ticks_then (turn_at code place s) (run_ticks_of code more)
+  run_ticks_is = ap (λ n. run_ticks_of code n place s) e
+
+  pub run_ticks_on : (events : List Event) (w : Went) (u : State) → turn_at code place s ≡ preceded events (led_to w u) →
+      run_ticks_of code left place s ≡ ticks_at code place s + ticks_then (led_to w u) (run_ticks_of code more)
+  run_ticks_on events w u d =
+      run_ticks_is
+      ∙ ap (λ (t : Turned). ticks_at code place s + ticks_then t (run_ticks_of code more)) d
+      ∙ ap (λ (n : ℕ). ticks_at code place s + n) (ticks_preceded events (led_to w u) (run_ticks_of code more))
+
+pub none_left : (code : CodeLists) (first all place : ℕ) (s : State) → first + run_ticks_of code (all - 0) place s ≡ first + run_ticks_of code all place s
+none_left code first all place s = let same : all - 0 ≡ all = omega arith in ap (λ (n : ℕ). first + run_ticks_of code n place s) same
+
+pub one_left : (all i : ℕ) → i < all → all - i ≡ suc (all - (i + 1))
+one_left all i h = omega arith
+
+-- the count behind a turn, where the turn leads on or ends the run
+pub ticked_on : (first before now turn left more all : ℕ) → now ≡ before + turn → before + left ≡ first + all → left ≡ turn + more → now + more ≡ first + all
+ticked_on first before now turn left more all e f g = omega arith
+
+pub ticked_end : (first before now turn left all : ℕ) → now ≡ before + turn → before + left ≡ first + all → left ≡ turn + 0 → now ≡ first + all
+ticked_end first before now turn left all e f g = omega arith
+
+pub ticked_most : (first before now turn left more all : ℕ) → now ≤ before + turn → before + left ≡ first + all → left ≡ turn + more → now ≤ first + all
+ticked_most first before now turn left more all e f g = omega arith
+
+-- the variables behind a run, by another name
+pub leaves_same : {a b : Run} (ending : Option Ending) (variables : List Held) → a ≡ b → LeavesVariables a ending variables → LeavesVariables b ending variables
+leaves_same ending variables e l = subst (λ (r : Run). LeavesVariables r ending variables) e l
+
+-- behind the prologue
+module _ (code : CodeLists) (n : ℕ) (t : Turned) where
+  pub begun_on : (place : ℕ) (u before : State) → t ≡ Leads [] place u → chosen_run code n u before ≡ begun_run code n t before
+  begun_on place u before e =
+      ap (λ (z : Turned). goes_on z before (run_of code n)) (preceded_nothing (next_chosen (entry_of (entries_of code.procedures)) u u.chosen)
+      ∙ ap (begun (entries_of code.procedures) code.texts) (sym e))
+
+  pub begun_ticks_on : (place : ℕ) (u : State) → t ≡ Leads [] place u → chosen_ticks code n u ≡ begun_ticks code n t
+  begun_ticks_on place u e =
+      ap (λ (z : Turned). ticks_then z (run_ticks_of code n)) (preceded_nothing (next_chosen (entry_of (entries_of code.procedures)) u u.chosen)
+      ∙ ap (begun (entries_of code.procedures) code.texts) (sym e))
+
+  pub begun_over : (ending : Ending) (u before : State) → t ≡ Over [] ending u → stopped_at_once before ≡ begun_run code n t before
+  begun_over ending u before e = ap (λ (z : Turned). begun_run code n z before) (sym e)
+
+  pub begun_ticks_over : (ending : Ending) (u : State) → t ≡ Over [] ending u → 0 ≡ begun_ticks code n t
+  begun_ticks_over ending u e = ap (begun_ticks code n) (sym e)
+
+  pub begun_wrong : (before : State) → t ≡ NoTurn [] → stopped_at_once before ≡ begun_run code n t before
+  begun_wrong before e = ap (λ (z : Turned). begun_run code n z before) (sym e)
+
+  pub begun_ticks_wrong : t ≡ NoTurn [] → 0 ≡ begun_ticks code n t
+  begun_ticks_wrong e = ap (begun_ticks code n) (sym e)
+
+-- the first chosen procedure begins, or none is left
+module _ (code : CodeLists) (n : ℕ) (s u : State) where
+  abbrev begins : State → Turned
+  begins v = next_chosen (entry_of (entries_of code.procedures)) v v.chosen
+
+  pub chosen_on : (start : ℕ) (before : State) → begins s ≡ Leads [] start u → run_of code n start u ≡ chosen_run code n s before
+  chosen_on start before e = sym (ap (λ (t : Turned). goes_on t before (run_of code n)) e)
+
+  pub chosen_ticks_on : (start : ℕ) → begins s ≡ Leads [] start u → run_ticks_of code n start u ≡ chosen_ticks code n s
+  chosen_ticks_on start e = sym (ap (λ (t : Turned). ticks_then t (run_ticks_of code n)) e)
+
+  pub chosen_none : (before : State) → begins s ≡ Over [] (Exit (pos 0)) u → over_at_once u ≡ chosen_run code n s before
+  chosen_none before e = sym (ap (λ (t : Turned). goes_on t before (run_of code n)) e)
+
+  pub chosen_ticks_none : begins s ≡ Over [] (Exit (pos 0)) u → 0 ≡ chosen_ticks code n s
+  chosen_ticks_none e = sym (ap (λ (t : Turned). ticks_then t (run_ticks_of code n)) e)
+
+module _ {K : Type 0} {written : K → Option (List ℕ)} where
+  pub runs_to_same : {a b : Run} {old new : Lines K} {ending : Option Ending} → a ≡ b → RunsTo written a old ending new → RunsTo written b old ending new
+  runs_to_same e r = record { put = rw (← e) r.put; ended = rw (← e) r.ended }
+
+  pub runs_front_same : {a b : Run} {old new : Lines K} → a ≡ b → RunsFront written a old new → RunsFront written b old new
+  runs_front_same e r = record { front = rw (← e) r.front }
+
+  -- a play without a procedure
+  pub over_to : (u : State) (lines : Lines K) → RunsTo written (over_at_once u) lines (Some (Exit (pos 0))) lines
+  over_to u lines = record { put = puts_nothing written lines; ended = refl }
+
+  pub stopped_to : (u : State) (lines : Lines K) → RunsTo written (stopped_at_once u) lines None lines
+  stopped_to u lines = record { put = puts_nothing written lines; ended = refl }
+
+  -- a run, and then what is left of it
+  pub runs_then : {whole rest : Run} {a b c : Lines K} {ending : Option Ending} → Runs written whole a rest b → RunsTo written rest b ending c → RunsTo written whole a ending c
+  runs_then {whole = whole} {rest = rest} first second =
+      let all : whole.events ≡ first.events ++ rest.events = ap (λ (q : Run). q.events) first.runs in
+      record {
+        put = rw (all, flat_map-append event_line first.events rest.events) (put_then first.put second.put);
+        ended = ap (λ (q : Run). told q.outcome) first.runs ∙ second.ended;
+      }
+
+  pub runs_then_front : {whole rest : Run} {a b c : Lines K} → Runs written whole a rest b → RunsFront written rest b c → RunsFront written whole a c
+  runs_then_front {whole = whole} {rest = rest} first second =
+      let all : whole.events ≡ first.events ++ rest.events = ap (λ (q : Run). q.events) first.runs in
+      record { front = rw (all, flat_map-append event_line first.events rest.events) (put_then_front first.put second.front) }
+
+  pub runs_then_leaves : {whole rest : Run} {a b : Lines K} (ending : Option Ending) (variables : List Held) → Runs written whole a rest b → LeavesVariables rest ending variables →
+      LeavesVariables whole ending variables
+  runs_then_leaves None variables first l = tt
+  runs_then_leaves (Some ending) variables first l = runs_variables first ∙ l
+
+  -- the prologue was played
+  pub play_does : {whole rest : Turned} {a b : Lines K} (code : CodeLists) (n : ℕ) (s : State) → Does written whole a rest b →
+      Runs written (begun_run code n whole s) a (begun_run code n rest s) b
+  play_does {rest = rest} code n s d = record {
+    events = d.events;
+    put = d.put;
+    runs = ap (λ (t : Turned). goes_on t s (run_of code n))
+        (ap (begun (entries_of code.procedures) code.texts) d.does ∙ begun_preceded (entries_of code.procedures) code.texts d.events rest)
+        ∙ goes_after d.events (begun (entries_of code.procedures) code.texts rest) s (run_of code n);
+  }
+
+  -- it was broken off
+  pub play_front : {whole : Turned} {a b : Lines K} (code : CodeLists) (n : ℕ) (s : State) → DoesFront written whole a b →
+      RunsFront written (begun_run code n whole s) a b
+  play_front {whole = whole} code n s d =
+      let left : Run = begun_run code n d.rest s in
+      let all : (begun_run code n whole s).events ≡ d.events ++ left.events =
+      ap (λ (r : Run). r.events) (ap (λ (t : Turned). goes_on t s (run_of code n))
+      (ap (begun (entries_of code.procedures) code.texts) d.does ∙ begun_preceded (entries_of code.procedures) code.texts d.events d.rest)
+      ∙ goes_after d.events (begun (entries_of code.procedures) code.texts d.rest) s (run_of code n)) in
+      record { front = rw (all, flat_map-append event_line d.events left.events) (front_with (flat_map event_line left.events) d.front) }
+
+-- a play from registers with no operand
+module _ (code : CodeLists) (chosen : List ℕ) (regs : Regs) (n : ℕ) (none : regs.operands ≡ []) where
+  pub play_is : begun_run code n (rest_of code 0 chosen regs) (state_of chosen regs) ≡ play_from code chosen regs.variables.items n
+  play_is = ap (λ (ops : List Value). begun_run code n (stretch (entries_of code.procedures) code.texts (length code.instrs) code.instrs ops (state_of chosen regs)) (state_of chosen regs)) none
+
+  pub play_ticks_is : ticks_from code 0 chosen regs + begun_ticks code n (rest_of code 0 chosen regs) ≡ play_ticks_from code chosen regs.variables.items n
+  play_ticks_is =
+      ap (λ (ops : List Value). ticks (entries_of code.procedures) code.texts (length code.instrs) code.instrs ops (state_of chosen regs)
+      + begun_ticks code n (stretch (entries_of code.procedures) code.texts (length code.instrs) code.instrs ops (state_of chosen regs))) none
+
+pub play_ticks_does : (code : CodeLists) (n : ℕ) (whole rest : Turned) (events : List Event) → whole ≡ preceded events rest → begun_ticks code n whole ≡ begun_ticks code n rest
+play_ticks_does code n whole rest events e =
+    ap (λ (t : Turned). ticks_then t (run_ticks_of code n)) (ap (begun (entries_of code.procedures) code.texts) e ∙ begun_preceded (entries_of code.procedures) code.texts events rest)
+    ∙ ticks_preceded events (begun (entries_of code.procedures) code.texts rest) (run_ticks_of code n)
+
+pub ticked_twice : (a b c x y z all : ℕ) → b ≡ a + x → c ≡ b + y → z ≡ y → x + z ≡ all → c ≡ a + all
+ticked_twice a b c x y z all e f g h = omega arith
+
+pub ticked_twice_most : (a b c x y z all : ℕ) → b ≡ a + x → c ≤ b + y → z ≡ y → x + z ≡ all → c ≤ a + all
+ticked_twice_most a b c x y z all e f g h = omega arith
+
+pub ticked_once_most : (a b x z all : ℕ) → b ≤ a + x → x + z ≡ all → b ≤ a + all
+ticked_once_most a b x z all e h = omega arith

@@ -1,0 +1,9 @@
+use Rattle.std.proofs.Common.{◌≡◌, ℕ, List, drop}
+use Rattle.stapl_code.specs.Machine.{parts_text}
+use Rattle.stapl_machine.specs.Prints.{with_front}
+use Rattle.stapl_machine.proofs.printing.join.Given as goal
+
+abbrev pub invariant-loop-part : goal.invariant-loop-part
+invariant-loop-part l =
+    (entries : List ℕ) → with_front l.text.items (parts_text entries l.texts (drop l.part-index l.list) l.values)
+    ≡ parts_text entries l.texts l.list l.fn.values

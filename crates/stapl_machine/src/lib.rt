@@ -1,0 +1,14 @@
+//! The machine that runs code.
+#![tactic(auto)]
+
+mod act;
+mod operate;
+mod printing;
+mod running;
+mod runs;
+mod turns;
+mod writing;
+mod zeros;
+
+pub use running::Machine;
+pub use turns::Trouble;
