@@ -1,5 +1,5 @@
 -- The lists that are made for an accepted program are its code, and in their ranges, and valid.
-use Rattle.std.proofs.Common.{◌≡◌, ◌≢◌, ℕ, zero, suc, ◌-◌, ◌<◌, ◌≤◌, ◌^◌, true, false, List, [], ◌∷◌, ◌++◌, length, replicate, Some, None, arith, refl, sym, ap, subst, ◌∙◌}
+use Rattle.std.proofs.Common.{◌≡◌, ◌≢◌, ℕ, zero, suc, ◌<◌, ◌≤◌, true, false, List, [], ◌∷◌, ◌++◌, length, replicate, Some, None, arith, refl, sym, ap, subst, ◌∙◌, codes}
 use Rattle.std.specs.Prelude.{slice_index_or, All}
 use Rattle.std.specs.List.{list_all}
 use Rattle.std.proofs.lemmas.List.{length-replicate}
@@ -22,6 +22,7 @@ use Rattle.stapl_codegen.specs.Correct.{IsClosed, GoesOn, falls, Stands}
 use Rattle.stapl_codegen.specs.Accepted.{IsFormed, IsAccepted}
 use Rattle.stapl_codegen.specs.Generated.{action_name, procedure_name, first_action, second_procedure, IsCodeOf}
 use Rattle.stapl_codegen.proofs.Runs.{stands}
+use Rattle.stapl_codegen.proofs.Sizes.{code_size}
 use Rattle.stapl_codegen.proofs.Ranges.{each_all, integer_def, integers_are, all_integers, few_variables}
 use Rattle.stapl_codegen.proofs.Shapes.{AreInner, inner_not_outer, are_inner, means_body}
 use Rattle.stapl_codegen.proofs.Valid.{no_break, entries_are, code_some, code_range}
@@ -100,7 +101,38 @@ pub record AreMade (program : List StmtTree) (lists : CodeLists) (name run : Lis
   pub actions : lists.actions ≡ record { name = name; items = record { procedure = 0; flag = 0 } ∷ [] } ∷ []
   pub instrs : lists.instrs ≡ program_code program
   pub begins_at : entry ≡ slice_index_or (program_entries program) 0 entry
-  pub countable : length (program_code program) < 2 ^ 32 - 1
+
+not_empty : {A : Type 0} (xs : List A) → 0 < length xs → xs ≢ []
+not_empty [] below e = absurd (omega (arith, below))
+not_empty (x ∷ xs) below e = absurd cc
+
+one_procedure : (name : List ℕ) → IsFreeName name → AreProcedures (record { name = name; entry = 0 } ∷ [])
+one_procedure name free = record {
+  some = omega arith;
+  named = each_all (λ p. IsFreeName p.name) (record { name = name; entry = 0 } ∷ []) (free, tt);
+  in_order = λ i j d before below. absurd (omega (arith, before, below));
+}
+
+one_action : (name : List ℕ) → IsFreeName name → (n : ℕ) → 0 < n → AreActions n (record { name = name; items = record { procedure = 0; flag = 0 } ∷ [] } ∷ [])
+one_action name free n some = record {
+  some = omega arith;
+  each = each_all (IsAction n) (record { name = name; items = record { procedure = 0; flag = 0 } ∷ [] } ∷ []) (
+    record {
+      named = free;
+      some = omega arith;
+      each = each_all (IsItem n) (record { procedure = 0; flag = 0 } ∷ []) (record { there = some; flag = omega arith }, tt);
+    },
+    tt,
+  );
+  names_apart = λ i j d before below. absurd (omega (arith, before, below));
+}
+
+-- a name that any procedure and any action may have
+abbrev pub some_name : List ℕ
+some_name = codes "A"
+
+free_some_name : IsFreeName some_name
+free_some_name = record { spelled = record { spelled = refl; some = omega arith; short = omega arith; upper = refl }; free = refl }
 
 module _ (name run : List ℕ) (inner : List StmtTree) (last : StmtTree) (between : list_all is_between inner ≡ true) (is : last.body ≡ end_procedure)
     (formed : All IsFormed (unlabelled (action name (run ∷ [])) ∷ unlabelled (procedure run) ∷ inner ++ last ∷ []))
@@ -147,12 +179,13 @@ module _ (name run : List ℕ) (inner : List StmtTree) (last : StmtTree) (betwee
       let some = code_some name run own are formed_own named defs many (all_integers count) first.st first.rest first.is in
       let procedures : lists.procedures ≡ record { name = run; entry = 0 } ∷ [] = made.procedures ∙ ap (λ n. record { name = run; entry = n } ∷ []) entry-is in
       let few_defs = few_variables 0 program in
+      let size = code_size program formed few in
       record {
         code = record {
           stands = subst (λ (c : List Instr). Stands program (entries_of lists.procedures) lists.texts c (zeros_of program)) (sym made.instrs)
               (subst (λ (t : List (List ℕ)). Stands program (entries_of lists.procedures) t (program_code program) (zeros_of program)) (sym made.texts)
               (subst (λ (e : List ℕ). Stands program e (texts_of program) (program_code program) (zeros_of program)) (entries ∙ sym (ap entries_of procedures))
-              (stands program closed (omega (arith, made.countable)) (not_empty (program_code program) some))));
+              (stands program closed (omega (arith, size)) (not_empty (program_code program) some))));
           action = name;
           procedure = run;
           action_is = refl;
@@ -164,45 +197,52 @@ module _ (name run : List ℕ) (inner : List StmtTree) (last : StmtTree) (betwee
         in_range = record {
           variables = subst AreVariables (sym made.variables) (integers_are count (omega (arith, few_defs, few)));
           texts = subst (All (λ text. length text ≤ 4194304)) (sym made.texts) short;
-          procedures = subst AreProcedures (sym procedures) (one_procedure upper_run);
-          actions = subst (AreActions (length lists.procedures)) (sym made.actions) (one_action (length lists.procedures) (omega (arith, ap length procedures)) upper_name);
+          procedures = subst AreProcedures (sym procedures) (one_procedure run (record { spelled = upper_run; free = free_run }));
+          actions = subst (AreActions (length lists.procedures)) (sym made.actions) (one_action name (record { spelled = upper_name; free = free_name }) (length lists.procedures) (omega (arith, ap length procedures)));
           instrs = subst (λ (c : List Instr). All (IsInstr (length lists.variables) (length lists.texts)) c) (sym made.instrs)
               (subst (λ (t : List (List ℕ)). All (IsInstr (length lists.variables) (length t)) (program_code program)) (sym made.texts)
               (subst (λ (v : List VarDef). All (IsInstr (length v) (length (texts_of program))) (program_code program)) (sym made.variables)
               (code_range name run own are formed_own named defs many (all_integers count) few)));
-          countable = omega (arith, ap length made.instrs, made.countable);
+          countable = omega (arith, ap length made.instrs, size);
         };
         valid = no_break name run own are formed_own named defs many (all_integers count) inner last first.st first.rest (record { name = run; entry = 0 })
             lists.variables lists.texts lists.procedures lists.actions lists.instrs refl between is first.is refl made.variables procedures made.instrs;
       }
-    where
-      not_empty : {A : Type 0} (xs : List A) → 0 < length xs → xs ≢ []
-      not_empty [] below e = absurd (omega (arith, below))
-      not_empty (x ∷ xs) below e = absurd cc
 
-      one_procedure : IsUpperName run → AreProcedures (record { name = run; entry = 0 } ∷ [])
-      one_procedure upper = record {
-        some = omega arith;
-        named = each_all (λ p. IsFreeName p.name) (record { name = run; entry = 0 } ∷ []) (record { spelled = upper; free = free_run }, tt);
-        in_order = λ i j d before below. absurd (omega (arith, before, below));
-      }
+  -- the same code under names that any procedure and any action may have
+  abbrev pub some_lists : CodeLists
+  some_lists = record {
+    variables = defs;
+    texts = texts_of program;
+    procedures = record { name = some_name; entry = 0 } ∷ [];
+    actions = record { name = some_name; items = record { procedure = 0; flag = 0 } ∷ [] } ∷ [];
+    instrs = program_code program;
+  }
 
-      one_action : (n : ℕ) → 0 < n → IsUpperName name → AreActions n (record { name = name; items = record { procedure = 0; flag = 0 } ∷ [] } ∷ [])
-      one_action n some upper = record {
-        some = omega arith;
-        each = each_all (IsAction n) (record { name = name; items = record { procedure = 0; flag = 0 } ∷ [] } ∷ []) (
-          record {
-            named = record { spelled = upper; free = free_name };
-            some = omega arith;
-            each = each_all (IsItem n) (record { procedure = 0; flag = 0 } ∷ []) (record { there = some; flag = omega arith }, tt);
-          },
-          tt,
-        );
-        names_apart = λ i j d before below. absurd (omega (arith, before, below));
-      }
+  pub some_code : length program ≤ 100000 → All (λ text. length text ≤ 4194304) (texts_of program) →
+      Stands program (0 ∷ []) (texts_of program) (program_code program) (zeros_of program) × IsInRange some_lists × IsValid some_lists
+  some_code few short =
+      let first = begins inner last in
+      let entries : program_entries program ≡ 0 ∷ [] = entries_are name run own are formed_own named defs many (all_integers count) first.st first.rest first.is in
+      let some = code_some name run own are formed_own named defs many (all_integers count) first.st first.rest first.is in
+      let few_defs = few_variables 0 program in
+      let size = code_size program formed few in (
+        subst (λ (e : List ℕ). Stands program e (texts_of program) (program_code program) (zeros_of program)) entries
+            (stands program closed (omega (arith, size)) (not_empty (program_code program) some)),
+        record {
+          variables = integers_are count (omega (arith, few_defs, few));
+          texts = short;
+          procedures = one_procedure some_name free_some_name;
+          actions = one_action some_name free_some_name 1 (omega arith);
+          instrs = code_range name run own are formed_own named defs many (all_integers count) few;
+          countable = omega (arith, size);
+        },
+        no_break name run own are formed_own named defs many (all_integers count) inner last first.st first.rest (record { name = some_name; entry = 0 })
+            defs (texts_of program) some_lists.procedures some_lists.actions (program_code program) refl between is first.is refl refl refl refl,
+      )
 
 -- a program, by the parts of its shape
-abbrev parts : {program : List StmtTree} → IsOneProcedure program → List StmtTree
+abbrev pub parts : {program : List StmtTree} → IsOneProcedure program → List StmtTree
 parts shape = unlabelled (action shape.name (shape.run ∷ [])) ∷ unlabelled (procedure shape.run) ∷ shape.inner ++ shape.last ∷ []
 
 pub all_good : (program : List StmtTree) → IsAccepted program → (lists : CodeLists) (name run : List ℕ) (entry : ℕ) → first_action program ≡ Some name → second_procedure program ≡ Some run →

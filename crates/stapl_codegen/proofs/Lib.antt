@@ -20,3 +20,5 @@ pub mod Valid
 pub mod Ranges
 pub mod Generated
 pub mod Accepted
+pub mod Sizes
+pub mod Unstuck

@@ -52,7 +52,7 @@ inner_at zero (x ∷ xs) st rest are e = let same : x ≡ st = cc in subst (λ (
 inner_at (suc k) [] st rest are e = absurd cc
 inner_at (suc k) (x ∷ xs) st rest are e = inner_at k xs st rest are.1 e
 
-no_blocks : (n : ℕ) (sts : List StmtTree) → AreInner sts → blocks_in (take n sts) ≡ 0
+pub no_blocks : (n : ℕ) (sts : List StmtTree) → AreInner sts → blocks_in (take n sts) ≡ 0
 no_blocks zero sts are = refl
 no_blocks (suc n) [] are = refl
 no_blocks (suc n) (st ∷ rest) are =

@@ -144,9 +144,6 @@ fn program_lists(alloc: Global, program: &[Stmt]) -> Result<CodeLists, AllocErro
 {
     let tables = Tables::of(alloc, program)?;
     let written = write_program(alloc, program, &tables)?;
-    if written.code.len() >= u32::MAX as usize {
-        return Err(AllocError);
-    }
     let Some(action) = first_action(program) else {
         unreachable!()
     };
@@ -169,7 +166,7 @@ fn program_lists(alloc: Global, program: &[Stmt]) -> Result<CodeLists, AllocErro
 
 /// The code of an accepted program, which stands for it.
 ///
-/// `AllocError` comes only for want of memory; a code of 2^32 - 1 instructions or more counts as such, and no text of 4,194,304 bytes has one.
+/// `AllocError` comes only for want of memory.
 pub fn generate(alloc: Global, program: &[Stmt]) -> Result<Code, AllocError>
     requires { IsAccepted (trees program.now) }
     ensures { IfOk result (IsCodeOf (trees program.now)) }

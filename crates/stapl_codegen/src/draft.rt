@@ -1,9 +1,10 @@
 //! The instructions of a program: first with targets that are places of the program, then with numbers of instructions.
-ghost use Rattle.std.specs.Prelude.{◌≡◌, [], ◌∷◌, ◌++◌, ◌<◌, ◌≤◌, ◌^◌, ◌-◌, ◌+◌, length, map, OnOk, IfOk, if◌then◌else◌};
+ghost use Rattle.std.specs.Prelude.{◌≡◌, All, [], ◌∷◌, ◌++◌, ◌<◌, ◌≤◌, ◌^◌, ◌-◌, ◌+◌, length, map, OnOk, IfOk, if◌then◌else◌};
 ghost use Rattle.stapl_syntax.specs.Trees.{body_tree, stmt_tree};
 ghost use Rattle.stapl_meaning.specs.Scopes.{block_at};
 ghost use Rattle.stapl_code.specs.Machine.{nowhere};
 ghost use Rattle.stapl_codegen.specs.Emit.{is_outer, first_text, body_texts, texts_of, piece_code, pieces_code, program_code, program_entries, entries_from, start_of, retarget};
+ghost use Rattle.stapl_codegen.specs.Accepted.{IsFormed};
 ghost use Rattle.stapl_codegen.specs.Tables.{trees, AreTables};
 ghost use Rattle.stapl_codegen.specs.Drafts.{AreStarts};
 
@@ -45,6 +46,7 @@ fn emit_piece(
     requires block { block ≡ block_at (trees program.now) place }
     requires countable { place < 2 ^ 32 - 1 }
     requires first { length texts.old.items ≡ first_text (trees program.now) place }
+    requires few { length texts.old.items + length (body_texts (body_tree st.now.body)) < 2 ^ 32 }
     ensures code { OnOk result (code.new.items ≡ code.old.items ++ piece_code (trees program.now) (λ j. j) place (stmt_tree st.now) []) }
     ensures texts { OnOk result (texts.new.items ≡ texts.old.items ++ body_texts (body_tree st.now.body)) }
 {
@@ -69,7 +71,8 @@ fn start_at(before: usize, st: &Stmt) -> u32
 
 fn draft_program(alloc: Global, program: &[Stmt], tables: &Tables) -> Result<Draft, AllocError>
     requires tables { AreTables (trees program.now) tables.now }
-    requires countable { length program.now < 2 ^ 32 - 1 }
+    requires formed { All IsFormed (trees program.now) }
+    requires few { length program.now ≤ 100000 }
     ensures code { IfOk result (λ d. d.code.items ≡ pieces_code (trees program.now) (λ j. j) 0 (trees program.now)) }
     ensures texts { IfOk result (λ d. d.texts.items ≡ texts_of (trees program.now)) }
     ensures starts { IfOk result (λ d. AreStarts (trees program.now) d.starts.items) }
@@ -80,9 +83,6 @@ fn draft_program(alloc: Global, program: &[Stmt], tables: &Tables) -> Result<Dra
     let mut block = 0;
     for i in 0..program.len() {
         let st = &program[i];
-        if code.len() >= u32::MAX as usize {
-            return Err(AllocError);
-        }
         starts.push(start_at(code.len(), st))?;
         block = block_behind(block, &st.body);
         emit_piece(
@@ -183,7 +183,8 @@ pub(crate) fn write_program(
     tables: &Tables,
 ) -> Result<Written, AllocError>
     requires tables { AreTables (trees program.now) tables.now }
-    requires countable { length program.now < 2 ^ 32 - 1 }
+    requires formed { All IsFormed (trees program.now) }
+    requires few { length program.now ≤ 100000 }
     ensures code { IfOk result (λ w. w.code.items ≡ program_code (trees program.now)) }
     ensures texts { IfOk result (λ w. w.texts.items ≡ texts_of (trees program.now)) }
     ensures entries { IfOk result (λ w. w.entries.items ≡ program_entries (trees program.now)) }

@@ -124,15 +124,13 @@ fn put_parts(
     texts: &mut Vec<Text>,
     parts: &[Part],
 ) -> Result<Vec<PrintPart>, AllocError>
+    requires { length texts.old.items + length (part_texts (map part_tree parts.now)) < 2 ^ 32 }
     ensures parts { IfOk result (λ list. list.items ≡ print_parts (length texts.old.items) (map part_tree parts.now)) }
     ensures texts { OnOk result (texts.new.items ≡ texts.old.items ++ part_texts (map part_tree parts.now)) }
 {
     let mut list = Vec::new(alloc);
     for i in 0..parts.len() {
         let part = &parts[i];
-        if texts.len() >= u32::MAX as usize {
-            return Err(AllocError);
-        }
         list.push(print_part(texts.len() as u32, part))?;
         put_text(alloc, texts, part)?;
     }
@@ -150,7 +148,8 @@ fn emit_print(
     block: u32,
     parts: &[Part],
 ) -> Result<(), AllocError>
-    requires { AreTables (trees program.now) tables.now }
+    requires tables { AreTables (trees program.now) tables.now }
+    requires few { length texts.old.items + length (part_texts (map part_tree parts.now)) < 2 ^ 32 }
     ensures code { OnOk result (code.new.items ≡ code.old.items ++ values_code (variable_in (trees program.now) block) (map part_tree parts.now) (Print (print_parts (length texts.old.items) (map part_tree parts.now)) ∷ [])) }
     ensures texts { OnOk result (texts.new.items ≡ texts.old.items ++ part_texts (map part_tree parts.now)) }
 {
@@ -175,6 +174,7 @@ pub(crate) fn emit_body(
     requires tables { AreTables (trees program.now) tables.now }
     requires block { block ≡ block_at (trees program.now) place }
     requires countable { place < 2 ^ 32 - 1 }
+    requires few { length texts.old.items + length (body_texts (body_tree body.now)) < 2 ^ 32 }
     ensures code { OnOk result (code.new.items ≡ code.old.items ++ body_code (scope_at (trees program.now) place) (λ j. j) (length texts.old.items) (body_tree body.now) []) }
     ensures texts { OnOk result (texts.new.items ≡ texts.old.items ++ body_texts (body_tree body.now)) }
 {

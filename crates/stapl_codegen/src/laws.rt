@@ -4,7 +4,9 @@ ghost use Rattle.stapl_syntax.specs.Trees.{StmtTree};
 ghost use Rattle.stapl_syntax.specs.Faults.{IsProgram};
 ghost use Rattle.stapl_codegen.specs.Accepted.{IsAccepted};
 ghost use Rattle.stapl_codegen.specs.Correct.{CodeStands};
+ghost use Rattle.stapl_codegen.specs.Unstuck.{ProgramsAreNotStuck};
 
+use stapl_code::laws::never_stuck;
 use stapl_syntax::laws::a_program_is_one_procedure;
 
 /// The code of a program does what the program does.
@@ -17,4 +19,11 @@ pub fn programs_are_accepted()
     ensures { (text : List ℕ) (program : List StmtTree) → IsProgram text program → IsAccepted program }
 {
     a_program_is_one_procedure();
+}
+
+/// No play of an accepted program gets stuck: it has an ending after its turns, or it still goes on, and then there is exactly one turn.
+pub fn programs_are_not_stuck()
+    ensures { ProgramsAreNotStuck }
+{
+    never_stuck();
 }

@@ -1,10 +1,11 @@
 -- A run of n + m turns is a run of n turns and then one of m.
-use Rattle.std.proofs.Common.{◌≡◌, ℕ, zero, suc, ◌+◌, List, [], ◌∷◌, ◌++◌, refl, sym, ap, arith, ◌∙◌, append_assoc}
+use Rattle.std.proofs.Common.{◌≡◌, ℕ, zero, suc, ◌+◌, List, ◌++◌, refl, sym, ap, arith, ◌∙◌, append_assoc}
 use Rattle.stapl_syntax.specs.Trees.{StmtTree}
 use Rattle.stapl_meaning.specs.declared.events.Event.{Event}
-use Rattle.stapl_meaning.specs.States.{State, Turned, Leads, Over, NoTurn}
+use Rattle.stapl_meaning.specs.States.{State, Turned, Leads, Over, NoTurn, next_chosen}
+use Rattle.stapl_meaning.specs.Scopes.{entry_from, zeros_of}
 use Rattle.stapl_meaning.specs.Turns.{turn}
-use Rattle.stapl_meaning.specs.Plays.{Outcome, Ended, Going, Stopped, Run, after, goes_on, run, continued, then_runs}
+use Rattle.stapl_meaning.specs.Plays.{Outcome, Ended, Going, Stopped, Run, after, goes_on, run, continued, then_runs, start, play}
 
 after_twice : (xs ys : List Event) (r : Run) → after (xs ++ ys) r ≡ after xs (after ys r)
 after_twice xs ys r = ap (λ es. record r { events = es }) (append_assoc xs ys r.events)
@@ -30,3 +31,8 @@ runs_add program zero m i s =
 runs_add program (suc n) m i s =
     let same : suc n + m ≡ suc (n + m) = omega arith in
     ap (λ k. run program k i s) same ∙ on_turn program n m s (turn program i s) (runs_add program n m)
+
+-- the same of a play
+pub plays_add : (program : List StmtTree) (chosen : List ℕ) (n m : ℕ) → play program chosen (n + m) ≡ then_runs (play program chosen n) (run program m)
+plays_add program chosen n m =
+    on_turn program n m (start chosen (zeros_of program)) (next_chosen (entry_from program) (start chosen (zeros_of program)) chosen) (runs_add program n m)

@@ -1,12 +1,12 @@
 -- A statement does one thing: what it does as a relation is what it does as a function.
-use Rattle.std.proofs.Common.{◌≡◌, ℕ, ℤ, Bool, true, false, List, [], ◌∷◌, Option, Some, None, refl, sym, ap, ◌∙◌, if◌then◌else◌, slice_get}
-use Rattle.stapl_syntax.specs.Trees.{ExprTree, PartTree, BodyTree, action, procedure, end_procedure, integer, assign, goto, if_then, print, exit, StmtTree}
+use Rattle.std.proofs.Common.{◌≡◌, ℕ, true, false, List, [], ◌∷◌, Option, Some, None, refl, sym, ap, ◌∙◌, if◌then◌else◌, slice_get}
+use Rattle.stapl_syntax.specs.Trees.{PartTree, BodyTree, action, procedure, end_procedure, integer, assign, goto, if_then, print, exit, StmtTree}
 use Rattle.stapl_meaning.specs.declared.events.Event.TheVariants.{Print}
 use Rattle.stapl_meaning.specs.declared.events.Ending.TheVariants.{Exit}
 use Rattle.stapl_meaning.specs.declared.values.Value.{Value}
 use Rattle.stapl_meaning.specs.declared.values.Value.TheVariants.{Int, Bit}
 use Rattle.stapl_meaning.specs.Values.{Got, Known, Stuck, value_of, part_values, joined, integer_of, truth_of}
-use Rattle.stapl_meaning.specs.States.{State, Turned, Leads, Over, NoTurn, with_got, assigned, next_chosen}
+use Rattle.stapl_meaning.specs.States.{State, Turned, Leads, Over, with_got, assigned, next_chosen}
 use Rattle.stapl_meaning.specs.Scopes.{Scope, scope_at}
 use Rattle.stapl_meaning.specs.Turns.{Does, declares, assigns, jumps, holds, holds_not, prints, exits, begins_next, ends, IsTurn, done, turn_of, turn, IsFound}
 

@@ -1,9 +1,9 @@
 -- Runs and plays. Source: JESD71, actions and procedures. The bound on turns is this profile's.
-use Rattle.std.specs.Prelude.{◌≡◌, ℕ, zero, suc, List, [], ◌∷◌, ◌++◌, Option, Some, None}
+use Rattle.std.specs.Prelude.{ℕ, zero, suc, List, [], ◌++◌, Option, Some, None}
 use Rattle.stapl_syntax.specs.Trees.{StmtTree}
 use Rattle.stapl_meaning.specs.declared.events.Event.{Event}
 use Rattle.stapl_meaning.specs.declared.events.Ending.{Ending}
-use Rattle.stapl_meaning.specs.declared.events.Ending.TheVariants.{Exit, Spent}
+use Rattle.stapl_meaning.specs.declared.events.Ending.TheVariants.{Spent}
 use Rattle.stapl_meaning.specs.declared.values.Held.{Held}
 use Rattle.stapl_meaning.specs.States.{State, Turned, Leads, Over, NoTurn, next_chosen}
 use Rattle.stapl_meaning.specs.Scopes.{entry_from, zeros_of}

@@ -1,5 +1,5 @@
 -- What the names of a program stand for. Source: JESD71, procedures and variables. Places are those of pieces, counted from 0.
-use Rattle.std.specs.Prelude.{ℕ, zero, suc, pos, ◌+◌, ◌&&◌, nat_eq, Bool, true, false, List, [], ◌∷◌, ◌++◌, length, take, Option, Some, None, if◌then◌else◌, map}
+use Rattle.std.specs.Prelude.{ℕ, zero, suc, pos, ◌+◌, ◌&&◌, nat_eq, Bool, true, false, List, [], ◌∷◌, ◌++◌, take, Option, Some, None, if◌then◌else◌, map}
 use Rattle.std.specs.Str.{bytes_eq}
 use Rattle.stapl_syntax.specs.Trees.{BodyTree, procedure, integer, action, StmtTree}
 use Rattle.stapl_meaning.specs.declared.values.Held.{Held}

@@ -1,7 +1,6 @@
 -- Turns: the execution of one piece. Source: JESD71, statements.
-use Rattle.std.specs.Prelude.{◌≡◌, ◌≢◌, ℕ, ◌+◌, ℤ, pos, Bool, true, false, List, [], ◌∷◌, Option, Some, None, if◌then◌else◌, slice_get}
+use Rattle.std.specs.Prelude.{◌≡◌, ℕ, ℤ, pos, true, false, List, [], ◌∷◌, Option, Some, None, if◌then◌else◌, slice_get}
 use Rattle.stapl_syntax.specs.Trees.{ExprTree, PartTree, BodyTree, action, procedure, end_procedure, integer, assign, goto, if_then, print, exit, StmtTree}
-use Rattle.stapl_meaning.specs.declared.events.Event.{Event}
 use Rattle.stapl_meaning.specs.declared.events.Event.TheVariants.{Print}
 use Rattle.stapl_meaning.specs.declared.events.Ending.TheVariants.{Exit}
 use Rattle.stapl_meaning.specs.declared.values.Value.{Value}

@@ -1,4 +1,4 @@
-use Rattle.std.proofs.Common.{sym, ap, ◌∙◌, replicate, arith, length}
+use Rattle.std.proofs.Common.{sym, ap, ◌∙◌, replicate}
 use Rattle.std.specs.Prelude.{slice_index_or}
 use Rattle.stapl_codegen.specs.Tables.{trees}
 use Rattle.stapl_codegen.proofs.Ranges.{integer_def}
@@ -14,7 +14,6 @@ returns-clause-code c =
       actions = c.in_ok-lists.ensures.actions;
       instrs = c.in_ok-lists.ensures.instrs ∙ c.in_ok-written.ensures.code;
       begins_at = c.index-entry.ensures ∙ ap (λ l. slice_index_or l 0 c.index-entry.result.now) c.in_ok-written.ensures.entries;
-      countable = omega (arith, ap length c.in_ok-written.ensures.code, c.len.ensures, c.in_ok-written.written.code.ok.0);
     } in
     (all_good (trees c.args.program.now) c.requires c.in_ok-lists.lists c.in-Some.action c.in-Some-second_procedure.procedure _
     (sym c.first_action.ensures ∙ c.in-Some.is) (sym c.second_procedure.ensures ∙ c.in-Some-second_procedure.is) c.check_spelling.ensures c.check_spelling-2.ensures made).code
@@ -28,7 +27,6 @@ returns-clause-in_range c =
       actions = c.in_ok-lists.ensures.actions;
       instrs = c.in_ok-lists.ensures.instrs ∙ c.in_ok-written.ensures.code;
       begins_at = c.index-entry.ensures ∙ ap (λ l. slice_index_or l 0 c.index-entry.result.now) c.in_ok-written.ensures.entries;
-      countable = omega (arith, ap length c.in_ok-written.ensures.code, c.len.ensures, c.in_ok-written.written.code.ok.0);
     } in
     (all_good (trees c.args.program.now) c.requires c.in_ok-lists.lists c.in-Some.action c.in-Some-second_procedure.procedure _
     (sym c.first_action.ensures ∙ c.in-Some.is) (sym c.second_procedure.ensures ∙ c.in-Some-second_procedure.is) c.check_spelling.ensures c.check_spelling-2.ensures made).in_range
@@ -42,7 +40,6 @@ returns-clause-valid c =
       actions = c.in_ok-lists.ensures.actions;
       instrs = c.in_ok-lists.ensures.instrs ∙ c.in_ok-written.ensures.code;
       begins_at = c.index-entry.ensures ∙ ap (λ l. slice_index_or l 0 c.index-entry.result.now) c.in_ok-written.ensures.entries;
-      countable = omega (arith, ap length c.in_ok-written.ensures.code, c.len.ensures, c.in_ok-written.written.code.ok.0);
     } in
     (all_good (trees c.args.program.now) c.requires c.in_ok-lists.lists c.in-Some.action c.in-Some-second_procedure.procedure _
     (sym c.first_action.ensures ∙ c.in-Some.is) (sym c.second_procedure.ensures ∙ c.in-Some-second_procedure.is) c.check_spelling.ensures c.check_spelling-2.ensures made).valid
