@@ -1,7 +1,6 @@
-pub mod TokenReading
-pub mod FormLemmas
-pub mod StageLemmas
+pub mod NumberLemmas
 pub mod WordLemmas
+pub mod OneRequest
 pub mod PlayLemmas
 pub mod AnswerLemmas
 pub mod OneAnswer

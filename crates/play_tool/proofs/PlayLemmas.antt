@@ -1,155 +1,278 @@
--- On the play of forms.
-use Rattle.std.proofs.Common.{◌≡◌, ◌≤◌, ℕ, ℤ, List, [], ◌∷◌, ◌++◌, length, take, drop, refl, sym, ap, ◌∙◌, Bool, true, false, arith, subst, None, Some, Option, map, slice_get, zero, suc, if◌then◌else◌, codes}
-use Rattle.std.proofs.lemmas.List.{append-nil, length-map, length-append}
+-- On plays of a program through its code.
+use Rattle.std.proofs.Common.{◌≡◌, ◌≢◌, ◌<◌, ◌+◌, ℕ, pos, List, [], ◌∷◌, ◌++◌, length, map, replicate, refl, sym, ap, ◌∙◌, subst, suc, zero, arith, Bool, true, false, ◌&&◌, Option, Some, None, if◌then◌else◌, codes, get_or, drop, ◌≤◌}
+use Rattle.std.proofs.lemmas.Slice.Eq.{bytes_eq-Decides}
+use Rattle.std.proofs.Math.Seq.{drop-cons}
+use Rattle.std.proofs.Math.ListN.{drop_of_length-le}
 use Rattle.std.specs.List.{list_all, flat_map}
 use Rattle.std.specs.Str.{bytes_eq}
-use Rattle.stapl_syntax.specs.Statements.{BodyTree, procedure, end_procedure, print, exit}
-use Rattle.stapl_syntax.specs.Statements.{action as body_action}
-use Rattle.stapl_syntax.specs.Programs.{IsProgramOrder}
-use Rattle.stapl_meaning.specs.declared.events.Ending.TheVariants.{Exit}
-use Rattle.stapl_meaning.specs.Runs.{procedures_of}
-use Rattle.stapl_meaning.specs.Texts.{event_line, ending_line, text_of}
-use Rattle.stapl_meaning.proofs.RunLemmas.{events_of, code_of, ends_with, action_is}
 use Rattle.tool_io.specs.Bytes.{then_bytes, MovesFront}
-use Rattle.play_tool.specs.declared.status.Status.TheVariants.{Done, NoAction}
-use Rattle.play_tool.specs.declared.forms.Form.{Form}
-use Rattle.play_tool.specs.declared.forms.Form.TheVariants as forms
-use Rattle.play_tool.specs.Forms.{body_of}
-use Rattle.play_tool.specs.Texts.{form_line, print_line}
-use Rattle.play_tool.specs.Playing.{is_print_form, IsPrintRun, code_behind, names_first}
-use Rattle.play_tool.specs.Answers.{ProgramPlays, no_action, played, ProgramPlaysTo, ProgramPlaysFront}
+use Rattle.tool_io.specs.declared.lines.Lines.{Lines}
+use Rattle.tool_io.specs.Lines.{gathered, taken, Puts, PutsFront}
+use Rattle.tool_io.proofs.BytesLemmas.{moves_front_nothing}
+use Rattle.tool_io.proofs.PutLemmas.{put_then_front, front_with, front_written, finish_front}
+use Rattle.stapl_syntax.specs.Trees.{BodyTree, action, procedure, end_procedure, integer, assign, goto, if_then, print, exit, StmtTree}
+use Rattle.stapl_syntax.specs.Grammar.{unlabelled}
+use Rattle.stapl_syntax.specs.Faults.{is_inside}
+use Rattle.stapl_syntax.specs.Shapes.{is_between, IsOneProcedure}
+use Rattle.stapl_meaning.specs.declared.events.Event.{Event}
+use Rattle.stapl_meaning.specs.declared.events.Ending.{Ending}
+use Rattle.stapl_meaning.specs.declared.values.Held.{Held}
+use Rattle.stapl_meaning.specs.declared.values.Held.TheVariants as held
+use Rattle.stapl_meaning.specs.Scopes.{Variable, variables_of, zeros_of, procedure_number, chosen_before, chosen_from, chosen_of}
+use Rattle.stapl_meaning.specs.Scopes as scopes
+use Rattle.stapl_meaning.specs.Plays.{Outcome, Ended, Going, Stopped, Run, play, told}
+use Rattle.stapl_meaning.specs.declared.events.Ending.TheVariants.{Spent}
+use Rattle.stapl_meaning.specs.Texts.{event_line, ending_line, text_of}
+use Rattle.stapl_code.specs.declared.raw.VarDef.{VarDef}
+use Rattle.stapl_code.specs.declared.raw.ActionDef.{ActionDef}
+use Rattle.stapl_code.specs.declared.raw.CodeLists.{CodeLists}
+use Rattle.stapl_code.specs.Safe.{AllFit, AllBelow}
+use Rattle.stapl_codegen.specs.Accepted.{IsAccepted}
+use Rattle.stapl_codegen.specs.Generated.{first_action, IsCodeOf}
+use Rattle.stapl_machine.specs.Zeros.{zero_of, zeros_of_code}
+use Rattle.stapl_machine.specs.Machines.{play_of}
+use Rattle.play_tool.specs.declared.status.Status.{Status}
+use Rattle.play_tool.specs.declared.status.Status.TheVariants.{NoAction}
+use Rattle.play_tool.specs.Answers.{done_with, ProgramPlays, no_action, played, ProgramPlaysTo, ProgramPlaysFront, IsPrefixOfProgram}
+use Rattle.play_tool.specs.CodePlays.{procedures_in, procedures_named, HasEnding, RunWritten, RunFront, PutsRunFront, IsPlayOf}
 
-stops_here : (form : Form) (items : List Form) → ((f : Form) → slice_get (form ∷ items) 0 ≡ Some f → is_print_form f ≡ false) → is_print_form form ≡ false
-stops_here form items h = h form refl
+-- The variables of the code of a program begin as the program's do.
 
--- the events of forms whose front are n PRINTs
-pub events_text : (items : List Form) (n : ℕ) → n ≤ length items → list_all is_print_form (take n items) ≡ true →
-    ((form : Form) → slice_get items n ≡ Some form → is_print_form form ≡ false) →
-    flat_map event_line (events_of (map body_of items)) ≡ flat_map form_line (take n items)
-events_text [] zero le passes stops = refl
-events_text [] (suc n) le passes stops = refl
-events_text (forms.Print text ∷ items) zero le passes stops = let h = stops_here (forms.Print text) items stops in absurd cc
-events_text (forms.Exit code ∷ items) zero le passes stops = refl
-events_text (forms.EndProcedure ∷ items) zero le passes stops = refl
-events_text (forms.Action name run ∷ items) zero le passes stops = refl
-events_text (forms.Procedure name ∷ items) zero le passes stops = refl
-events_text (forms.Print text ∷ items) (suc n) le passes stops =
-    ap (λ (z : List ℕ). print_line z ++ flat_map event_line (events_of (map body_of items))) (append-nil text)
-    ∙ ap (λ (z : List ℕ). print_line text ++ z) (events_text items n (omega arith) passes stops)
-events_text (forms.Exit code ∷ items) (suc n) le passes stops = absurd cc
-events_text (forms.EndProcedure ∷ items) (suc n) le passes stops = absurd cc
-events_text (forms.Action name run ∷ items) (suc n) le passes stops = absurd cc
-events_text (forms.Procedure name ∷ items) (suc n) le passes stops = absurd cc
+abbrev integer_def : VarDef
+integer_def = record { kind = 0; size = 1 }
 
--- and the code that they end with
-pub code_is : (items : List Form) (n : ℕ) → n ≤ length items → list_all is_print_form (take n items) ≡ true →
-    ((form : Form) → slice_get items n ≡ Some form → is_print_form form ≡ false) →
-    code_of (map body_of items) ≡ code_behind items n
-code_is [] zero le passes stops = refl
-code_is [] (suc n) le passes stops = refl
-code_is (forms.Print text ∷ items) zero le passes stops = let h = stops_here (forms.Print text) items stops in absurd cc
-code_is (forms.Exit code ∷ items) zero le passes stops = refl
-code_is (forms.EndProcedure ∷ items) zero le passes stops = refl
-code_is (forms.Action name run ∷ items) zero le passes stops = refl
-code_is (forms.Procedure name ∷ items) zero le passes stops = refl
-code_is (forms.Print text ∷ items) (suc n) le passes stops = code_is items n (omega arith) passes stops
-code_is (forms.Exit code ∷ items) (suc n) le passes stops = absurd cc
-code_is (forms.EndProcedure ∷ items) (suc n) le passes stops = absurd cc
-code_is (forms.Action name run ∷ items) (suc n) le passes stops = absurd cc
-code_is (forms.Procedure name ∷ items) (suc n) le passes stops = absurd cc
+zeros_are : (vs : List Variable) → map zero_of (replicate (length vs) integer_def) ≡ map scopes.zero_of vs
+zeros_are [] = refl
+zeros_are (v ∷ vs) = ap (λ (z : List Held). held.Int (pos 0) ∷ z) (zeros_are vs)
 
-drop_map : (items : List Form) (k : ℕ) → drop k (map body_of items) ≡ map body_of (drop k items)
-drop_map [] zero = refl
-drop_map [] (suc k) = refl
-drop_map (x ∷ xs) zero = refl
-drop_map (x ∷ xs) (suc k) = drop_map xs k
+pub same_zeros : (program : List StmtTree) (code : CodeLists) → IsCodeOf program code → zeros_of_code code ≡ zeros_of program
+same_zeros program code is = ap (map zero_of) is.variables ∙ zeros_are (variables_of program)
 
--- the text of a play
-pub play_text : (items : List Form) (n : ℕ) → IsPrintRun (drop 2 items) n →
-    text_of (events_of (drop 2 (map body_of items))) (Exit (code_of (drop 2 (map body_of items))))
-    ≡ flat_map form_line (take n (drop 2 items)) ++ ending_line (Exit (code_behind (drop 2 items) n))
-play_text items n run =
-    ap (λ (z : List BodyTree). text_of (events_of z) (Exit (code_of z))) (drop_map items 2)
-    ∙ ap (λ (z : List ℕ). z ++ ending_line (Exit (code_of (map body_of (drop 2 items))))) (events_text (drop 2 items) n run.within run.passes run.stops)
-    ∙ ap (λ (z : ℤ). flat_map form_line (take n (drop 2 items)) ++ ending_line (Exit z)) (code_is (drop 2 items) n run.within run.passes run.stops)
+integers_fit : (n : ℕ) → AllFit (replicate n integer_def) (map zero_of (replicate n integer_def))
+integers_fit zero = tt
+integers_fit (suc n) = (refl, integers_fit n)
 
--- the statement is an action
-abbrev is_action_body : BodyTree → Bool
-is_action_body (body_action name procedures) = true
-is_action_body (procedure name) = false
-is_action_body end_procedure = false
-is_action_body (print parts) = false
-is_action_body (exit code) = false
+pub zeros_fit : (program : List StmtTree) (code : CodeLists) → IsCodeOf program code → AllFit code.variables (zeros_of_code code)
+zeros_fit program code is =
+    subst (λ (vs : List VarDef). AllFit vs (map zero_of vs)) (sym is.variables) (integers_fit (length (variables_of program)))
 
-not_action : (b : BodyTree) (n : List ℕ) (r : List (List ℕ)) (xs ys : List BodyTree) → is_action_body b ≡ false → b ∷ xs ≡ body_action n r ∷ ys → ⊥
-not_action b n r xs ys other e =
-    let same : b ≡ body_action n r = cc in
-    let yes : is_action_body b ≡ true = ap is_action_body same in cc
+-- An accepted program has one action, which runs its one procedure.
 
-nil_cons : (b : BodyTree) (xs : List BodyTree) → [] ≡ b ∷ xs → ⊥
-nil_cons b xs e = cc
+passes_by : (program : List StmtTree) (body : BodyTree) (name : List ℕ) (others : Option (List ℕ)) → is_inside body ≡ true →
+    chosen_before program body name others ≡ others
+passes_by program (action a procedures) name others inside = absurd cc
+passes_by program (procedure p) name others inside = refl
+passes_by program end_procedure name others inside = refl
+passes_by program (integer v) name others inside = refl
+passes_by program (assign v e) name others inside = refl
+passes_by program (goto l) name others inside = refl
+passes_by program (if_then e b) name others inside = refl
+passes_by program (print parts) name others inside = refl
+passes_by program (exit e) name others inside = refl
 
-same_action : (a b r s : List ℕ) (xs ys : List BodyTree) → body_action a (r ∷ []) ∷ xs ≡ body_action b (s ∷ []) ∷ ys → a ≡ b
-same_action a b r s xs ys e = cc
+both_left : (a b : Bool) → (a && b) ≡ true → a ≡ true
+both_left true b h = refl
+both_left false b h = absurd cc
 
--- the action of a program in order is its first form
-pub first_is : (items : List Form) (o : IsProgramOrder (map body_of items)) (name : List ℕ) → names_first items name ≡ bytes_eq o.name name
-first_is [] o name = absurd (nil_cons _ _ o.order)
-first_is (forms.Action a run ∷ items) o name = ap (λ (z : List ℕ). bytes_eq z name) (same_action a o.name run o.run _ _ o.order)
-first_is (forms.Procedure a ∷ items) o name = absurd (not_action (procedure a) o.name (o.run ∷ []) _ _ refl o.order)
-first_is (forms.EndProcedure ∷ items) o name = absurd (not_action end_procedure o.name (o.run ∷ []) _ _ refl o.order)
-first_is (forms.Print text ∷ items) o name = absurd (not_action (body_of (forms.Print text)) o.name (o.run ∷ []) _ _ refl o.order)
-first_is (forms.Exit code ∷ items) o name = absurd (not_action (body_of (forms.Exit code)) o.name (o.run ∷ []) _ _ refl o.order)
+both_right : (a b : Bool) → (a && b) ≡ true → b ≡ true
+both_right true b h = h
+both_right false b h = absurd cc
 
-none_named : (items : List Form) (name : List ℕ) (o : IsProgramOrder (map body_of items)) → names_first items name ≡ false → procedures_of (map body_of items) name ≡ None
-none_named items name o none =
-    action_is (map body_of items) o name ∙ ap (λ (z : Bool). if z then Some (o.run ∷ []) else None) (sym (first_is items o name) ∙ none)
+none_inside : (program inner : List StmtTree) (last : StmtTree) (name : List ℕ) → list_all is_between inner ≡ true → last.body ≡ end_procedure →
+    chosen_from program (inner ++ last ∷ []) name ≡ None
+none_inside program [] last name between is = ap (λ (b : BodyTree). chosen_before program b name None) is
+none_inside program (st ∷ inner) last name between is =
+    passes_by program st.body name (chosen_from program (inner ++ last ∷ []) name) (both_left (is_inside st.body) _ (both_left (is_between st) _ between))
+    ∙ none_inside program inner last name (both_right (is_between st) _ between) is
 
-some_named : (items : List Form) (name : List ℕ) (o : IsProgramOrder (map body_of items)) → names_first items name ≡ true → procedures_of (map body_of items) name ≡ Some (o.run ∷ [])
-some_named items name o named =
-    action_is (map body_of items) o name ∙ ap (λ (z : Bool). if z then Some (o.run ∷ []) else None) (sym (first_is items o name) ∙ named)
+equals_itself : (name : List ℕ) → bytes_eq name name ≡ true
+equals_itself name = (bytes_eq-Decides name name).1 refl
 
--- a program in order has three forms at least
-pub order_length : (items : List Form) → IsProgramOrder (map body_of items) → 3 ≤ length items
-order_length items o =
-    let e = ap length o.order in
-    omega (arith, length-map items body_of, length-append o.inner (end_procedure ∷ []))
+the_procedure : (name run : List ℕ) (rest : List StmtTree) →
+    procedure_number (unlabelled (action name (run ∷ [])) ∷ unlabelled (procedure run) ∷ rest) run ≡ 0
+the_procedure name run rest = rw (equals_itself run) refl
 
--- without the action there is none of that name
-pub no_such_action : (items : List Form) (name : List ℕ) (before after : Option (List ℕ)) → IsProgramOrder (map body_of items) → names_first items name ≡ false →
-    after ≡ then_bytes before (codes "R action\n") → ProgramPlaysTo (map body_of items) name before after NoAction
-no_such_action items name before after o none e = record { text = codes "R action\n"; plays = no_action (none_named items name o none); written = e }
+abbrev only_action : List ℕ → List ℕ → Option (List ℕ)
+only_action own name = if bytes_eq name own then Some (0 ∷ []) else None
 
-pub no_such_action_front : (items : List Form) (name : List ℕ) (before after : Option (List ℕ)) → IsProgramOrder (map body_of items) → names_first items name ≡ false →
-    MovesFront before (codes "R action\n") after → ProgramPlaysFront (map body_of items) name before after
-no_such_action_front items name before after o none m =
-    record { text = codes "R action\n"; status = NoAction; plays = no_action (none_named items name o none); front = m }
+chosen_in_order : (own run : List ℕ) (inner : List StmtTree) (last : StmtTree) (name : List ℕ) → list_all is_between inner ≡ true → last.body ≡ end_procedure →
+    chosen_of (unlabelled (action own (run ∷ [])) ∷ unlabelled (procedure run) ∷ inner ++ last ∷ []) name ≡ only_action own name
+chosen_in_order own run inner last name between is =
+    let program : List StmtTree = unlabelled (action own (run ∷ [])) ∷ unlabelled (procedure run) ∷ inner ++ last ∷ [] in
+    ap (λ (n : ℕ). if bytes_eq name own then Some (n ∷ []) else chosen_from program (inner ++ last ∷ []) name) (the_procedure own run (inner ++ last ∷ []))
+    ∙ ap (λ (others : Option (List ℕ)). if bytes_eq name own then Some (0 ∷ []) else others) (none_inside program inner last name between is)
 
--- with it, the play is written
-pub plays_program : (items : List Form) (name : List ℕ) (n : ℕ) (o : IsProgramOrder (map body_of items)) → names_first items name ≡ true → IsPrintRun (drop 2 items) n →
-    ProgramPlays (map body_of items) name (flat_map form_line (take n (drop 2 items)) ++ ending_line (Exit (code_behind (drop 2 items) n))) (Done (code_behind (drop 2 items) n))
-plays_program items name n o named run =
-    let code : code_of (drop 2 (map body_of items)) ≡ code_behind (drop 2 items) n =
-    ap code_of (drop_map items 2) ∙ code_is (drop 2 items) n run.within run.passes run.stops in
-    subst (λ (z : List ℕ). ProgramPlays (map body_of items) name z (Done (code_behind (drop 2 items) n))) (play_text items n run)
-    (subst (λ (z : ℤ). ProgramPlays (map body_of items) name (text_of (events_of (drop 2 (map body_of items))) (Exit (code_of (drop 2 (map body_of items))))) (Done z)) code
-    (played (o.run ∷ []) (events_of (drop 2 (map body_of items))) (Exit (code_of (drop 2 (map body_of items)))) (some_named items name o named) (ends_with (map body_of items) o)))
+chosen_is : (program : List StmtTree) (shape : IsOneProcedure program) (name : List ℕ) → chosen_of program name ≡ only_action shape.name name
+chosen_is program shape name =
+    ap (λ (p : List StmtTree). chosen_of p name) shape.order
+    ∙ chosen_in_order shape.name shape.run shape.inner shape.last name shape.between shape.last_is
 
-pub plays_to : (items : List Form) (name : List ℕ) (n : ℕ) (code : ℤ) (before after : Option (List ℕ)) → IsProgramOrder (map body_of items) → names_first items name ≡ true →
-    IsPrintRun (drop 2 items) n → code ≡ code_behind (drop 2 items) n → after ≡ then_bytes before (flat_map form_line (take n (drop 2 items)) ++ ending_line (Exit code)) →
-    ProgramPlaysTo (map body_of items) name before after (Done code)
-plays_to items name n code before after o named run is e = record {
-  text = flat_map form_line (take n (drop 2 items)) ++ ending_line (Exit code);
-  plays = rw is (plays_program items name n o named run);
-  written = e;
+first_name : (program : List StmtTree) (shape : IsOneProcedure program) (name : List ℕ) → first_action program ≡ Some name → name ≡ shape.name
+first_name program shape name e = let f : first_action program ≡ Some shape.name = ap first_action shape.order in cc
+
+-- the code's action of a name has the program's procedures
+pub same_chosen : (program : List StmtTree) (code : CodeLists) (name : List ℕ) → IsAccepted program → IsCodeOf program code →
+    procedures_named code.actions name ≡ chosen_of program name
+same_chosen program code name accepted is =
+    ap (λ (actions : List ActionDef). procedures_named actions name) is.actions
+    ∙ ap (λ (own : List ℕ). only_action own name) (first_name program accepted.shape is.action is.action_is)
+    ∙ sym (chosen_is program accepted.shape name)
+
+some_of_only : (b : Bool) (chosen : List ℕ) → (if b then Some (0 ∷ []) else None) ≡ Some chosen → chosen ≡ 0 ∷ []
+some_of_only true chosen e = cc
+some_of_only false chosen e = absurd cc
+
+pub chosen_below : (program : List StmtTree) (code : CodeLists) (name chosen : List ℕ) → IsCodeOf program code → procedures_named code.actions name ≡ Some chosen →
+    AllBelow (length code.procedures) chosen
+chosen_below program code name chosen is e =
+    let one : chosen ≡ 0 ∷ [] = some_of_only (bytes_eq name is.action) chosen (sym (ap (λ (actions : List ActionDef). procedures_named actions name) is.actions) ∙ e) in
+    let count : length code.procedures ≡ 1 = ap length is.procedures in
+    rw (one, count) (omega arith, tt)
+
+-- The code's play of the chosen procedures is the program's.
+pub play_of_action : (program : List StmtTree) (code : CodeLists) (name chosen : List ℕ) (turns : ℕ) → IsAccepted program → IsCodeOf program code →
+    procedures_named code.actions name ≡ Some chosen → IsPlayOf program name turns (play_of code chosen turns)
+play_of_action program code name chosen turns accepted is e =
+    let zeros = same_zeros program code is in
+    record {
+      chosen = chosen;
+      is_chosen = sym (same_chosen program code name accepted is) ∙ e;
+      same_events = rw zeros (is.stands.same_events chosen turns);
+      same_ending = rw zeros (is.stands.same_ending chosen turns);
+    }
+
+-- The same, where the code's actions are told.
+pub none_chosen : (program : List StmtTree) (name : List ℕ) (code : CodeLists) (actions : List ActionDef) → IsAccepted program → IsCodeOf program code →
+    actions ≡ code.actions → procedures_named actions name ≡ None → chosen_of program name ≡ None
+none_chosen program name code actions accepted is same none =
+    sym (same_chosen program code name accepted is) ∙ ap (λ (z : List ActionDef). procedures_named z name) (sym same) ∙ none
+
+pub play_chosen_of : {program : List StmtTree} {name : List ℕ} {turns : ℕ} (code : CodeLists) (actions : List ActionDef) (chosen : List ℕ) → IsAccepted program →
+    IsCodeOf program code → actions ≡ code.actions → procedures_named actions name ≡ Some chosen → IsPlayOf program name turns (play_of code chosen turns)
+play_chosen_of {program = program} {name = name} {turns = turns} code actions chosen accepted is same some =
+    play_of_action program code name chosen turns accepted is (ap (λ (z : List ActionDef). procedures_named z name) (sym same) ∙ some)
+
+pub chosen_below_of : {program : List StmtTree} (name : List ℕ) (code : CodeLists) (actions : List ActionDef) (chosen : List ℕ) →
+    IsCodeOf program code → actions ≡ code.actions → procedures_named actions name ≡ Some chosen → AllBelow (length code.procedures) chosen
+chosen_below_of {program = program} name code actions chosen is same some =
+    chosen_below program code name chosen is (ap (λ (z : List ActionDef). procedures_named z name) (sym same) ∙ some)
+
+-- A run that does not stop comes to an ending.
+pub has_ending : (run : Run) → run.outcome ≢ Stopped → HasEnding run
+has_ending run goes = of_outcome run.outcome refl
+  where
+    of_outcome : (outcome : Outcome) → run.outcome ≡ outcome → HasEnding run
+    of_outcome (Ended ending) e = record { ending = ending; comes = ap told e }
+    of_outcome (Going place) e = record { ending = Spent; comes = ap told e }
+    of_outcome Stopped e = absurd (goes e)
+
+-- Without the action there is none of that name.
+pub no_such_action : {program : List StmtTree} {name : List ℕ} {turns : ℕ} {before after : Option (List ℕ)} → chosen_of program name ≡ None →
+    after ≡ then_bytes before (codes "R action\n") → ProgramPlaysTo program name turns before after NoAction
+no_such_action none e = record { text = codes "R action\n"; plays = no_action none; written = e }
+
+pub no_such_action_front : {program : List StmtTree} {name : List ℕ} {turns : ℕ} {before after : Option (List ℕ)} → chosen_of program name ≡ None →
+    MovesFront before (codes "R action\n") after → ProgramPlaysFront program name turns before after
+no_such_action_front none m = record { text = codes "R action\n"; status = NoAction; plays = no_action none; front = m }
+
+-- With it, what the run writes is the program's.
+plays_so : {program : List StmtTree} {name : List ℕ} {turns : ℕ} (run : Run) (ending : Ending) → IsPlayOf program name turns run → told run.outcome ≡ Some ending →
+    ProgramPlays program name turns (text_of run.events ending) (done_with ending)
+plays_so {program = program} {name = name} {turns = turns} run ending p e =
+    subst (λ (events : List Event). ProgramPlays program name turns (text_of events ending) (done_with ending)) (sym p.same_events)
+    (played p.chosen ending p.is_chosen (sym p.same_ending ∙ e))
+
+pub run_to : {program : List StmtTree} {name : List ℕ} {turns : ℕ} {before after : Option (List ℕ)} {ending : Ending} (run : Run) → IsPlayOf program name turns run →
+    RunWritten run before after ending → ProgramPlaysTo program name turns before after (done_with ending)
+run_to {ending = ending} run p w = record { text = text_of run.events ending; plays = plays_so run ending p w.ended; written = w.written }
+
+pub run_front : {program : List StmtTree} {name : List ℕ} {turns : ℕ} {before after : Option (List ℕ)} (run : Run) → IsPlayOf program name turns run →
+    HasEnding run → RunFront run before after → ProgramPlaysFront program name turns before after
+run_front run p h f = record {
+  text = text_of run.events h.ending;
+  status = done_with h.ending;
+  plays = plays_so run h.ending p h.comes;
+  front = f.front h.ending h.comes;
 }
 
-pub plays_front : (items : List Form) (name : List ℕ) (n : ℕ) (code : ℤ) (before after : Option (List ℕ)) → IsProgramOrder (map body_of items) → names_first items name ≡ true →
-    IsPrintRun (drop 2 items) n → code ≡ code_behind (drop 2 items) n → MovesFront before (flat_map form_line (take n (drop 2 items)) ++ ending_line (Exit code)) after →
-    ProgramPlaysFront (map body_of items) name before after
-plays_front items name n code before after o named run is m = record {
-  text = flat_map form_line (take n (drop 2 items)) ++ ending_line (Exit code);
-  status = Done code;
-  plays = rw is (plays_program items name n o named run);
-  front = m;
+not_chosen : (program : List StmtTree) (name chosen : List ℕ) → chosen_of program name ≡ Some chosen → chosen_of program name ≡ None → ⊥
+not_chosen program name chosen e f = cc
+
+same_run_text : {program : List StmtTree} {name text : List ℕ} {turns : ℕ} {before after : Option (List ℕ)} {status : Status} (run : Run) → IsPlayOf program name turns run →
+    RunFront run before after → ProgramPlays program name turns text status → MovesFront before text after
+same_run_text {program = program} {name = name} run p f (no_action none) = absurd (not_chosen program name p.chosen p.is_chosen none)
+same_run_text {program = program} {turns = turns} {before = before} {after = after} run p f (played chosen ending is e) =
+    let same : p.chosen ≡ chosen = let a = p.is_chosen in cc in
+    let events : run.events ≡ (play program chosen turns).events = p.same_events ∙ ap (λ (z : List ℕ). (play program z turns).events) same in
+    let ended : told run.outcome ≡ Some ending = p.same_ending ∙ ap (λ (z : List ℕ). told (play program z turns).outcome) same ∙ e in
+    subst (λ (z : List Event). MovesFront before (text_of z ending) after) events (f.front ending ended)
+
+pub run_prefix : {program : List StmtTree} {name : List ℕ} {turns : ℕ} {before after : Option (List ℕ)} (run : Run) → IsPlayOf program name turns run →
+    RunFront run before after → IsPrefixOfProgram program name turns before after
+run_prefix run p f = record { prefix = λ text status plays. same_run_text run p f plays }
+
+-- What was written of a run.
+
+pub front_of_nothing : (run : Run) (before : Option (List ℕ)) → RunFront run before before
+front_of_nothing run before = record { front = λ ending e. moves_front_nothing before (text_of run.events ending) }
+
+-- the machine failed
+pub run_failed : {K : Type 0} {written : K → Option (List ℕ)} {a b : Lines K} (run : Run) → PutsFront written a (flat_map event_line run.events) b →
+    PutsRunFront written run a b
+run_failed run front = record { front = λ ending e. front_with (ending_line ending) front }
+
+one_ending : (outcome : Outcome) (x y : Ending) → told outcome ≡ Some x → told outcome ≡ Some y → x ≡ y
+one_ending outcome x y p q = cc
+
+-- the line of the ending failed
+pub ending_failed : {K : Type 0} {written : K → Option (List ℕ)} {a b c : Lines K} (run : Run) (ending : Ending) → told run.outcome ≡ Some ending →
+    Puts written a (flat_map event_line run.events) b → PutsFront written b (ending_line ending) c → PutsRunFront written run a c
+ending_failed {written = written} {a = a} {c = c} run ending e puts front = record {
+  front = λ other o.
+      subst (λ (z : Ending). PutsFront written a (text_of run.events z) c) (one_ending run.outcome ending other e o) (put_then_front puts front);
 }
+
+-- what was put went to the sink
+pub front_of_puts : {K : Type 0} {written : K → Option (List ℕ)} {a b : Lines K} {run : Run} → gathered a ≡ [] → PutsRunFront written run a b →
+    RunFront run (taken written a) (taken written b)
+front_of_puts empty puts = record { front = λ ending e. front_written empty (puts.front ending e) }
+
+pub front_of_finish : {K : Type 0} {written : K → Option (List ℕ)} {a b c : Lines K} (run : Run) (ending : Ending) → gathered a ≡ [] → told run.outcome ≡ Some ending →
+    Puts written a (text_of run.events ending) b → PutsFront written b [] c → RunFront run (taken written a) (taken written c)
+front_of_finish {written = written} {a = a} {c = c} run ending empty e puts front = record {
+  front = λ other o.
+      subst (λ (z : Ending). MovesFront (taken written a) (text_of run.events z) (taken written c)) (one_ending run.outcome ending other e o)
+      (front_written empty (finish_front puts front));
+}
+
+-- The search for the action of a name.
+
+cons_at : (actions : List ActionDef) (i : ℕ) (def : ActionDef) → i < length actions → def ≡ get_or actions i def →
+    drop i actions ≡ def ∷ drop (i + 1) actions
+cons_at actions i def lt is =
+    let next : suc i ≡ i + 1 = omega arith in
+    drop-cons actions i def lt ∙ ap (λ (a : ActionDef). a ∷ drop (suc i) actions) (sym is) ∙ ap (λ (k : ℕ). def ∷ drop k actions) next
+
+named_head : (def : ActionDef) (rest : List ActionDef) (name : List ℕ) → bytes_eq name def.name ≡ true →
+    procedures_named (def ∷ rest) name ≡ Some (procedures_in def.items)
+named_head def rest name e = rw e refl
+
+named_tail : (def : ActionDef) (rest : List ActionDef) (name : List ℕ) → bytes_eq name def.name ≡ false →
+    procedures_named (def ∷ rest) name ≡ procedures_named rest name
+named_tail def rest name e = rw e refl
+
+pub named_here : (actions : List ActionDef) (i : ℕ) (name : List ℕ) (def : ActionDef) → i < length actions → def ≡ get_or actions i def →
+    procedures_named (drop i actions) name ≡ procedures_named actions name → bytes_eq name def.name ≡ true →
+    procedures_named actions name ≡ Some (procedures_in def.items)
+named_here actions i name def lt is so_far e =
+    sym so_far ∙ ap (λ (z : List ActionDef). procedures_named z name) (cons_at actions i def lt is) ∙ named_head def (drop (i + 1) actions) name e
+
+pub named_behind : (actions : List ActionDef) (i : ℕ) (name : List ℕ) (def : ActionDef) → i < length actions → def ≡ get_or actions i def →
+    procedures_named (drop i actions) name ≡ procedures_named actions name → bytes_eq name def.name ≡ false →
+    procedures_named (drop (i + 1) actions) name ≡ procedures_named actions name
+named_behind actions i name def lt is so_far e =
+    sym (ap (λ (z : List ActionDef). procedures_named z name) (cons_at actions i def lt is) ∙ named_tail def (drop (i + 1) actions) name e) ∙ so_far
+
+pub named_nowhere : (actions : List ActionDef) (i : ℕ) (name : List ℕ) → length actions ≤ i → procedures_named (drop i actions) name ≡ procedures_named actions name →
+    procedures_named actions name ≡ None
+named_nowhere actions i name le so_far = sym so_far ∙ ap (λ (z : List ActionDef). procedures_named z name) (drop_of_length-le actions le)

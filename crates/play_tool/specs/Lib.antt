@@ -1,8 +1,6 @@
-pub mod Reading
-pub mod Forms
-pub mod Stages
 pub mod Codes
 pub mod Words
+pub mod GivenParts
 pub mod Texts
-pub mod Playing
+pub mod CodePlays
 pub mod Answers

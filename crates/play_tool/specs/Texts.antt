@@ -3,9 +3,6 @@ use Rattle.std.specs.Prelude.{ℕ, ℤ, pos, List, [], ◌∷◌, ◌++◌, code
 use Rattle.std.specs.Fmt.{signed_decimal}
 use Rattle.stapl_lexer.specs.declared.reason.Reason.{Reason}
 use Rattle.stapl_lexer.specs.Reasons.{reason_name}
-use Rattle.stapl_meaning.specs.Texts.{escaped}
-use Rattle.play_tool.specs.declared.forms.Form.{Form}
-use Rattle.play_tool.specs.declared.forms.Form.TheVariants as forms
 
 -- a label and a number
 abbrev pub labelled : List ℕ → ℤ → List ℕ
@@ -26,15 +23,3 @@ place_text piece line = labelled (codes "R program ") (pos piece) ++ labelled (c
 -- the line of a refused program: its piece, the line of that, and the reason
 abbrev pub refusal_line : ℕ → ℕ → Reason → List ℕ
 refusal_line piece line reason = place_text piece line ++ codes " " ++ word_line (reason_name reason)
-
--- the line of a PRINT
-abbrev pub print_line : List ℕ → List ℕ
-print_line bytes = codes "P " ++ escaped bytes ++ 10 ∷ []
-
--- what a form writes: the line of a PRINT, and nothing for the others
-abbrev pub form_line : Form → List ℕ
-form_line (forms.Action name run) = []
-form_line (forms.Procedure name) = []
-form_line forms.EndProcedure = []
-form_line (forms.Print text) = print_line text
-form_line (forms.Exit code) = []

@@ -1,12 +1,9 @@
 //! The tool: its words, its answers, and its top call.
 #![tactic(auto)]
 
-mod forms;
 pub mod laws;
 mod playing;
-mod programs;
 mod status;
-mod tokens;
 mod top;
 mod words;
 mod writing;

@@ -1,75 +1,197 @@
-//! The play of a program of one action and one procedure.
-ghost use Rattle.std.specs.Prelude.{◌≡◌, ◌≤◌, ◌<◌, length, map, take, drop, true, false, OnOk, OnErr, IsOk, IfOk, IfErr};
-ghost use Rattle.std.specs.List.{list_all};
-ghost use Rattle.stapl_syntax.specs.Programs.{IsProgramOrder};
+//! The play of a program, through its code.
+ghost use Rattle.std.specs.Prelude.{◌≡◌, ◌<◌, length, map, Some, None, OnOk, OnErr, IfOk, IfSome, IfNone, IsErrOf};
 ghost use Rattle.tool_io.specs.Causes.{HasRisen, NeverFalls};
-ghost use Rattle.play_tool.specs.Forms.{body_of};
-ghost use Rattle.play_tool.specs.Playing.{is_print_form, IsPrintRun, code_behind, names_first};
-ghost use Rattle.play_tool.specs.Answers.{IsFault, ProgramPlaysTo, ProgramPlaysFront};
+ghost use Rattle.tool_io.specs.Lines.{IsWhole, IsOverSame, SinkNeverFalls, sink_of, Puts};
+ghost use Rattle.stapl_syntax.specs.Trees.{stmt_tree};
+ghost use Rattle.stapl_meaning.specs.Plays.{told};
+ghost use Rattle.stapl_meaning.specs.Texts.{text_of};
+ghost use Rattle.stapl_code.specs.Safe.{AllBelow, AllFit};
+ghost use Rattle.stapl_codegen.specs.Accepted.{IsAccepted};
+ghost use Rattle.stapl_machine.specs.Zeros.{zeros_of_code};
+ghost use Rattle.stapl_machine.specs.Machines.{IsPrepared, play_of};
+ghost use Rattle.play_tool.specs.Answers.{done_with, IsFault, ProgramPlaysTo, ProgramPlaysFront, IsPrefixOfProgram};
+ghost use Rattle.play_tool.specs.CodePlays.{procedures_in, procedures_named, HasEnding, RunWritten, RunFront, PutsRunFront};
 
 use crate::Status;
-use crate::forms::Form;
 use crate::status::Trouble;
-use crate::writing::{write_play, write_text};
+use crate::writing::{put_ending, write_text};
+use lists_and_numbers::Steps;
+use stapl_code::laws::never_stuck;
+use stapl_code::{ActionDef, Code, ItemDef};
+use stapl_codegen::generate;
 use stapl_lexer::Name;
-use tool_io::Sink;
+use stapl_machine::Machine;
+use stapl_meaning::Ending;
+use stapl_syntax::Stmt;
+use std::alloc::{AllocError, Global};
+use std::marker::Brand;
+use std::sync::ledger::{Blank, Ledger};
+use tool_io::{Lines, Sink};
 
-fn is_print(form: &Form) -> bool
-    ensures { result ≡ is_print_form form.now }
+// The action of a name.
+fn find_action<'a>(actions: &'a [ActionDef], name: &Name) -> Option<&'a ActionDef>
+    ensures some { IfSome result (λ action. procedures_named actions.now name.now ≡ Some (procedures_in action.now.items)) }
+    ensures none { IfNone result (procedures_named actions.now name.now ≡ None) }
 {
-    matches!(form, Form::Print(_))
-}
-
-// How many PRINTs stand in front.
-fn prints_in_front(forms: &[Form]) -> usize
-    ensures { IsPrintRun forms.now result }
-{
-    for (i, form) in forms.iter().enumerate() {
-        if !is_print(form) {
-            return i;
+    for action in actions {
+        if *name == action.name {
+            return Some(action);
         }
     }
-    forms.len()
+    None
 }
 
-// The code that a play ends with at an index: that of an EXIT there, and else 0.
-fn exit_code_at(forms: &[Form], index: usize) -> i32
-    ensures { result ≡ code_behind forms.now index }
+// The procedures of items, by number.
+fn procedures_in(alloc: Global, items: &[ItemDef]) -> Result<Vec<u32>, AllocError>
+    ensures { IfOk result (λ procedures. procedures.items ≡ procedures_in items.now) }
 {
-    match forms.get(index) {
-        Some(Form::Exit(code)) => *code,
-        _ => 0,
-    }
+    items.iter().map(|item| item.procedure).collect(alloc)
 }
 
-// Whether the first form is the action of this name.
-fn names_action(forms: &[Form], action: &Name) -> bool
-    requires { 0 < length forms.now }
-    ensures { result ≡ names_first forms.now action.now }
+// Tells the proofs that a play of a code comes to an ending.
+fn check_ending(code: &Code, chosen: &[u32], turns: u32)
+    requires below { AllBelow (length code.now.procedures) chosen.now }
+    requires fit { AllFit code.now.variables (zeros_of_code code.now) }
+    ensures { HasEnding (play_of code.now chosen.now turns) }
 {
-    match &forms[0] {
-        Form::Action(name, _) => *name == *action,
-        _ => false,
-    }
+    let _raw = code.raw();
+    never_stuck();
 }
 
-// Plays an action of a program.
-pub fn play_program<K: Sink>(forms: &[Form], action: &Name, out: &mut K) -> Result<Status, Trouble>
-    requires { IsProgramOrder (map body_of forms.now) }
-    ensures answered { IfOk result (λ status. IsFault status → ⊥) }
-    ensures ok { IfOk result (ProgramPlaysTo (map body_of forms.now) action.now (K.written out.old) (K.written out.new)) }
-    ensures error { IfErr result (λ trouble. trouble ≡ Trouble.Write) }
-    ensures write { OnErr result (HasRisen K.faults K.is_last out.old out.new) }
-    ensures front { OnErr result (ProgramPlaysFront (map body_of forms.now) action.now (K.written out.old) (K.written out.new)) }
+// Puts the lines of a play. Its steps are counted in a ledger that nobody asks.
+#[tactic(auto, using(tool_io::proofs::PutLemmas::put_then, crate::proofs::PlayLemmas::run_failed, crate::proofs::PlayLemmas::ending_failed))]
+fn put_play<K: Sink, L: Ledger>(
+    machine: &mut Machine,
+    code: &Code,
+    chosen: &[u32],
+    turns: u32,
+    lines: &mut Lines<K>,
+    blank: Blank,
+) -> Result<Ending, Trouble>
+    requires name { blank.name ≡ L.name }
+    requires parts { blank.parts ≡ L.parts }
+    requires some { 0 < L.parts }
+    requires prepared { IsPrepared code.now machine.old }
+    requires below { AllBelow (length code.now.procedures) chosen.now }
+    requires whole { IsWhole lines.old }
+    ensures same_sink { IsOverSame lines.old lines.new }
+    ensures whole { OnOk result (IsWhole lines.new) }
+    ensures ended { IfOk result (λ ending. told (play_of code.now chosen.now turns).outcome ≡ Some ending) }
+    ensures ok { IfOk result (λ ending. Puts K.written lines.old (text_of (play_of code.now chosen.now turns).events ending) lines.new) }
+    ensures front { OnErr result (PutsRunFront K.written (play_of code.now chosen.now turns) lines.old lines.new) }
+    ensures read { IsErrOf result Trouble.Read → ⊥ }
+    ensures write { IsErrOf result Trouble.Write → HasRisen K.faults K.is_last (sink_of lines.old) (sink_of lines.new) }
+    ensures kept { SinkNeverFalls K.faults K.is_last lines.old lines.new }
+{
+    let mut steps = Steps::<L>::none(blank);
+    let ending = machine.run(code, chosen, lines, turns, &mut steps)?;
+    put_ending(lines, ending)?;
+    Ok(ending)
+}
+
+// Writes the lines of a play and nothing else. Its steps are counted in a ledger that nobody asks.
+#[tactic(auto, using(crate::proofs::PlayLemmas::front_of_puts, crate::proofs::PlayLemmas::front_of_finish))]
+fn write_play<K: Sink, L: Ledger>(
+    machine: &mut Machine,
+    code: &Code,
+    chosen: &[u32],
+    turns: u32,
+    out: &mut K,
+    blank: Blank,
+) -> Result<Ending, Trouble>
+    requires name { blank.name ≡ L.name }
+    requires parts { blank.parts ≡ L.parts }
+    requires some { 0 < L.parts }
+    requires prepared { IsPrepared code.now machine.old }
+    requires below { AllBelow (length code.now.procedures) chosen.now }
+    ensures ok { IfOk result (RunWritten (play_of code.now chosen.now turns) (K.written out.old) (K.written out.new)) }
+    ensures front { OnErr result (RunFront (play_of code.now chosen.now turns) (K.written out.old) (K.written out.new)) }
+    ensures read { IsErrOf result Trouble.Read → ⊥ }
+    ensures write { IsErrOf result Trouble.Write → HasRisen K.faults K.is_last out.old out.new }
     ensures later { NeverFalls K.faults K.is_last out.old out.new }
 {
-    if !names_action(forms, action) {
+    let mut lines = Lines::new(out);
+    let ending = put_play::<K, L>(machine, code, chosen, turns, &mut lines, blank)?;
+    lines.finish()?;
+    Ok(ending)
+}
+
+// Plays the chosen procedures of a code.
+fn play_chosen<K: Sink>(
+    alloc: Global,
+    code: &Code,
+    chosen: &[u32],
+    turns: u32,
+    out: &mut K,
+) -> Result<Ending, Trouble>
+    requires below { AllBelow (length code.now.procedures) chosen.now }
+    ensures ok { IfOk result (RunWritten (play_of code.now chosen.now turns) (K.written out.old) (K.written out.new)) }
+    ensures front { OnErr result (RunFront (play_of code.now chosen.now turns) (K.written out.old) (K.written out.new)) }
+    ensures read { IsErrOf result Trouble.Read → ⊥ }
+    ensures write { IsErrOf result Trouble.Write → HasRisen K.faults K.is_last out.old out.new }
+    ensures later { NeverFalls K.faults K.is_last out.old out.new }
+{
+    let mut machine = Machine::prepare(alloc, code)?;
+    let blank = Blank::new(1);
+    let ending = write_play::<K, Brand>(&mut machine, code, chosen, turns, out, blank)?;
+    Ok(ending)
+}
+
+// Plays an action of a code.
+fn play_action<K: Sink>(
+    alloc: Global,
+    code: &Code,
+    action: &ActionDef,
+    turns: u32,
+    out: &mut K,
+) -> Result<Ending, Trouble>
+    requires below { AllBelow (length code.now.procedures) (procedures_in action.now.items) }
+    requires fit { AllFit code.now.variables (zeros_of_code code.now) }
+    ensures comes { IsErrOf result Trouble.Write → HasEnding (play_of code.now (procedures_in action.now.items) turns) }
+    ensures ok { IfOk result (RunWritten (play_of code.now (procedures_in action.now.items) turns) (K.written out.old) (K.written out.new)) }
+    ensures front { OnErr result (RunFront (play_of code.now (procedures_in action.now.items) turns) (K.written out.old) (K.written out.new)) }
+    ensures read { IsErrOf result Trouble.Read → ⊥ }
+    ensures write { IsErrOf result Trouble.Write → HasRisen K.faults K.is_last out.old out.new }
+    ensures later { NeverFalls K.faults K.is_last out.old out.new }
+{
+    let chosen = procedures_in(alloc, action.items.as_slice())?;
+    check_ending(code, &chosen, turns);
+    let ending = play_chosen(alloc, code, &chosen, turns, out)?;
+    Ok(ending)
+}
+
+// The status of a play that ends so.
+fn status_of(ending: Ending) -> Status
+    ensures { result ≡ done_with ending }
+{
+    match ending {
+        Ending::Exit(code) => Status::Done(code),
+        Ending::Spent => Status::Spent,
+    }
+}
+
+/// Plays an action of an accepted program, for at most so many turns.
+pub fn play_program<K: Sink>(
+    alloc: Global,
+    program: &[Stmt],
+    action: &Name,
+    turns: u32,
+    out: &mut K,
+) -> Result<Status, Trouble>
+    requires { IsAccepted (map stmt_tree program.now) }
+    ensures answered { IfOk result (λ status. IsFault status → ⊥) }
+    ensures ok { IfOk result (ProgramPlaysTo (map stmt_tree program.now) action.now turns (K.written out.old) (K.written out.new)) }
+    ensures read { IsErrOf result Trouble.Read → ⊥ }
+    ensures write { IsErrOf result Trouble.Write → HasRisen K.faults K.is_last out.old out.new }
+    ensures front { IsErrOf result Trouble.Write → ProgramPlaysFront (map stmt_tree program.now) action.now turns (K.written out.old) (K.written out.new) }
+    ensures memory { IsErrOf result Trouble.Memory → IsPrefixOfProgram (map stmt_tree program.now) action.now turns (K.written out.old) (K.written out.new) }
+    ensures later { NeverFalls K.faults K.is_last out.old out.new }
+{
+    let code = generate(alloc, program)?;
+    let Some(found) = find_action(code.raw().lists().actions.as_slice(), action) else {
         write_text(out, b"R action\n")?;
         return Ok(Status::NoAction);
-    }
-    let inner = &forms[2..];
-    let printed = prints_in_front(inner);
-    let code = exit_code_at(inner, printed);
-    write_play(out, &inner[..printed], code)?;
-    Ok(Status::Done(code))
+    };
+    let ending = play_action(alloc, &code, found, turns, out)?;
+    Ok(status_of(ending))
 }

@@ -2,8 +2,10 @@
 ghost use Rattle.std.specs.Prelude.{◌≡◌};
 ghost use Rattle.play_tool.specs.Codes.{exit_code_of};
 ghost use Rattle.play_tool.specs.declared.status.Trouble.TheVariants.{Write, Memory};
+ghost use Rattle.play_tool.specs.CodePlays.{trouble_of};
 
 use stapl_lexer::Reason;
+use stapl_machine::Trouble as MachineTrouble;
 use std::alloc::AllocError;
 use thiserror::Error;
 use tool_io::Failed;
@@ -13,7 +15,7 @@ use tool_io::Failed;
 pub enum Status {
     /// The work is done; a play ended with this code.
     Done(i32),
-    /// The play still goes on after the turns that it was given. No play of today's programs is given a number of turns.
+    /// The play still goes on after the turns that it was given.
     Spent,
     /// The program is refused: the piece, counted from 1, of its first fault, or 0 where the text is too long, and the reason.
     Refused(u32, Reason),
@@ -56,6 +58,17 @@ impl From<AllocError> for Trouble {
 
     fn from(_: AllocError) -> Trouble {
         Trouble::Memory
+    }
+}
+
+impl From<MachineTrouble> for Trouble {
+    ghost from_gives = { λ trouble of_tool. of_tool ≡ trouble_of trouble };
+
+    fn from(trouble: MachineTrouble) -> Trouble {
+        match trouble {
+            MachineTrouble::WriteFault => Trouble::Write,
+            MachineTrouble::Memory => Trouble::Memory,
+        }
     }
 }
 

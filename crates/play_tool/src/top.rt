@@ -1,52 +1,61 @@
 //! The top call.
-ghost use Rattle.std.specs.Prelude.{◌≡◌, ℕ, ◌≤◌, List, length, map, string_bytes, IfSome, IfOk, IfErr, IsErrOf};
+ghost use Rattle.std.specs.Prelude.{◌≡◌, ℕ, List, map, string_bytes, IfSome, IfOk, IsErrOf};
 ghost use Rattle.tool_io.specs.Causes.{HasRisen, HasRisenAt, NeverFalls, NoneFalls};
 ghost use Rattle.tool_io.specs.Files.{file_of};
 ghost use Rattle.play_tool.specs.Words.{IsRequest};
-ghost use Rattle.play_tool.specs.Answers.{Answers, AnswersFront, IsPrefixOfAnswers, IsFault, PlaysTo, PlaysFront, FilePlaysTo, FilePlaysFront, GivenPlaysTo, GivenPlaysFront, GivenAnswers, GivenAnswersFront};
+ghost use Rattle.play_tool.specs.Answers.{Answers, AnswersFront, IsPrefixOfAnswers, IsFault, PlaysTo, PlaysFront, IsPrefixOfPlays, FilePlaysTo, FilePlaysFront, IsPrefixOfFile, GivenPlaysTo, GivenPlaysFront, GivenAnswers, GivenAnswersFront};
 
 use crate::Status;
 use crate::playing::play_program;
-use crate::programs::{Verdict, read_program};
 use crate::status::Trouble;
 use crate::words::{Request, read_words};
 use crate::writing::{write_refusal, write_usage};
-use stapl_lexer::{Name, Reason, cut};
+use stapl_checker::{CheckRefused, check};
+use stapl_codegen::laws::programs_are_accepted;
+use stapl_lexer::Reason;
 use std::alloc::Global;
 use tool_io::{ReadRefused, Shelf, Sink, read_whole};
 
 /// The most bytes of a program text.
 const TEXT_LIMIT: u32 = 4_194_304;
 
-// Plays an action of the program that some bytes are.
-#[tactic(auto, using(crate::proofs::AnswerLemmas::accepted_to, crate::proofs::AnswerLemmas::accepted_front, crate::proofs::AnswerLemmas::refused_to, crate::proofs::AnswerLemmas::refused_front))]
+// Plays what the words ask of the program that some bytes are.
+#[tactic(auto, using(crate::proofs::AnswerLemmas::accepted_to, crate::proofs::AnswerLemmas::accepted_front, crate::proofs::AnswerLemmas::accepted_prefix, crate::proofs::AnswerLemmas::refused_to, crate::proofs::AnswerLemmas::refused_front, crate::proofs::AnswerLemmas::nothing_of_plays))]
 fn play_bytes<K: Sink>(
     alloc: Global,
     bytes: &[u8],
-    action: &Name,
+    request: &Request<'_>,
     out: &mut K,
 ) -> Result<Status, Trouble>
-    requires { length bytes.now ≤ 4194304 }
     ensures answered { IfOk result (λ status. IsFault status → ⊥) }
-    ensures ok { IfOk result (PlaysTo bytes.now action.now (K.written out.old) (K.written out.new)) }
+    ensures ok { IfOk result (PlaysTo bytes.now request.now.action request.now.turns (K.written out.old) (K.written out.new)) }
     ensures read { IsErrOf result Trouble.Read → ⊥ }
     ensures write { IsErrOf result Trouble.Write → HasRisen K.faults K.is_last out.old out.new }
-    ensures front { IsErrOf result Trouble.Write → PlaysFront bytes.now action.now (K.written out.old) (K.written out.new) }
-    ensures memory { IsErrOf result Trouble.Memory → K.written out.new ≡ K.written out.old }
+    ensures front { IsErrOf result Trouble.Write → PlaysFront bytes.now request.now.action request.now.turns (K.written out.old) (K.written out.new) }
+    ensures memory { IsErrOf result Trouble.Memory → IsPrefixOfPlays bytes.now request.now.action request.now.turns (K.written out.old) (K.written out.new) }
     ensures later { NeverFalls K.faults K.is_last out.old out.new }
 {
-    let pieces = cut(alloc, bytes)?;
-    match read_program(alloc, bytes, &pieces)? {
-        Verdict::Program(forms) => play_program(&forms, action, out),
-        Verdict::Fault(piece, line) => {
-            write_refusal(out, piece, line, Reason::NotYetBuilt)?;
-            Ok(Status::Refused(piece, Reason::NotYetBuilt))
+    match check(alloc, bytes) {
+        Ok(program) => {
+            programs_are_accepted();
+            play_program(alloc, &program, &request.action, request.turns, out)
         }
+        Err(
+            CheckRefused::Refused {
+                piece,
+                line,
+                reason,
+            },
+        ) => {
+            write_refusal(out, piece, line, reason)?;
+            Ok(Status::Refused(piece, reason))
+        }
+        Err(CheckRefused::Memory) => Err(Trouble::Memory),
     }
 }
 
 // Plays an action of the program in a file.
-#[tactic(auto, using(crate::proofs::AnswerLemmas::file_to, crate::proofs::AnswerLemmas::file_front, crate::proofs::AnswerLemmas::long_to, crate::proofs::AnswerLemmas::long_front, crate::proofs::AnswerLemmas::given_to, crate::proofs::AnswerLemmas::given_front, crate::proofs::AnswerLemmas::given_long_to, crate::proofs::AnswerLemmas::given_long_front))]
+#[tactic(auto, using(crate::proofs::AnswerLemmas::file_to, crate::proofs::AnswerLemmas::file_front, crate::proofs::AnswerLemmas::file_prefix, crate::proofs::AnswerLemmas::nothing_of_file, crate::proofs::AnswerLemmas::long_to, crate::proofs::AnswerLemmas::long_front, crate::proofs::AnswerLemmas::given_to, crate::proofs::AnswerLemmas::given_front, crate::proofs::AnswerLemmas::given_long_to, crate::proofs::AnswerLemmas::given_long_front))]
 fn play_file<S: Shelf, K: Sink>(
     alloc: Global,
     request: &Request<'_>,
@@ -55,21 +64,22 @@ fn play_file<S: Shelf, K: Sink>(
 ) -> Result<Status, Trouble>
     ensures answered { IfOk result (λ status. IsFault status → ⊥) }
     ensures ok { IfOk result (λ status. IfSome (S.told shelf.old) (λ files.
-        FilePlaysTo (file_of files request.now.program.now) request.now.action (K.written out.old) (K.written out.new) status)) }
+        FilePlaysTo (file_of files request.now.program.now) request.now.action request.now.turns (K.written out.old) (K.written out.new) status)) }
     ensures read { IsErrOf result Trouble.Read → HasRisenAt S.faults S.is_last request.now.program.now shelf.old shelf.new }
     ensures nothing { IsErrOf result Trouble.Read → K.written out.new ≡ K.written out.old }
     ensures write { IsErrOf result Trouble.Write → HasRisen K.faults K.is_last out.old out.new }
     ensures front { IsErrOf result Trouble.Write → IfSome (S.told shelf.old) (λ files.
-        FilePlaysFront (file_of files request.now.program.now) request.now.action (K.written out.old) (K.written out.new)) }
-    ensures given { IfOk result (GivenPlaysTo request.now.action (K.written out.old) (K.written out.new)) }
-    ensures given_front { IsErrOf result Trouble.Write → GivenPlaysFront request.now.action (K.written out.old) (K.written out.new) }
-    ensures memory { IsErrOf result Trouble.Memory → K.written out.new ≡ K.written out.old }
+        FilePlaysFront (file_of files request.now.program.now) request.now.action request.now.turns (K.written out.old) (K.written out.new)) }
+    ensures given { IfOk result (GivenPlaysTo request.now.action request.now.turns (K.written out.old) (K.written out.new)) }
+    ensures given_front { IsErrOf result Trouble.Write → GivenPlaysFront request.now.action request.now.turns (K.written out.old) (K.written out.new) }
+    ensures memory { IsErrOf result Trouble.Memory → IfSome (S.told shelf.old) (λ files.
+        IsPrefixOfFile (file_of files request.now.program.now) request.now.action request.now.turns (K.written out.old) (K.written out.new)) }
     ensures keeps { S.told shelf.new ≡ S.told shelf.old }
     ensures later { NoneFalls S.faults S.is_last shelf.old shelf.new }
     ensures out_later { NeverFalls K.faults K.is_last out.old out.new }
 {
     match read_whole(alloc, shelf, request.program, TEXT_LIMIT) {
-        Ok(bytes) => play_bytes(alloc, &bytes, &request.action, out),
+        Ok(bytes) => play_bytes(alloc, &bytes, request, out),
         Err(ReadRefused::TooLong) => {
             write_refusal(out, 0, 0, Reason::TooLong)?;
             Ok(Status::Refused(0, Reason::TooLong))
@@ -80,7 +90,7 @@ fn play_file<S: Shelf, K: Sink>(
 }
 
 // Does what the words ask.
-#[tactic(auto, using(crate::proofs::AnswerLemmas::usage_to, crate::proofs::AnswerLemmas::usage_front, crate::proofs::AnswerLemmas::request_to, crate::proofs::AnswerLemmas::request_front, crate::proofs::AnswerLemmas::given_usage_to, crate::proofs::AnswerLemmas::given_usage_front, crate::proofs::AnswerLemmas::given_request_to, crate::proofs::AnswerLemmas::given_request_front))]
+#[tactic(auto, using(crate::proofs::AnswerLemmas::usage_to, crate::proofs::AnswerLemmas::usage_front, crate::proofs::AnswerLemmas::request_to, crate::proofs::AnswerLemmas::request_front, crate::proofs::AnswerLemmas::request_prefix, crate::proofs::AnswerLemmas::given_usage_to, crate::proofs::AnswerLemmas::given_usage_front, crate::proofs::AnswerLemmas::given_request_to, crate::proofs::AnswerLemmas::given_request_front))]
 fn run<S: Shelf, K: Sink>(
     alloc: Global,
     words: &[String],
@@ -90,7 +100,7 @@ fn run<S: Shelf, K: Sink>(
     ensures answered { IfOk result (λ status. IsFault status → ⊥) }
     ensures ok { IfOk result (λ status. IfSome (S.told shelf.old) (λ files.
         Answers (map string_bytes words.now) files (K.written out.old) (K.written out.new) status)) }
-    ensures read { IsErrOf result Trouble.Read → (path action : List ℕ) × IsRequest (map string_bytes words.now) path action
+    ensures read { IsErrOf result Trouble.Read → (path action : List ℕ) × (turns : ℕ) × IsRequest (map string_bytes words.now) path action turns
         × HasRisenAt S.faults S.is_last path shelf.old shelf.new }
     ensures nothing { IsErrOf result Trouble.Read → K.written out.new ≡ K.written out.old }
     ensures write { IsErrOf result Trouble.Write → HasRisen K.faults K.is_last out.old out.new }
@@ -98,7 +108,8 @@ fn run<S: Shelf, K: Sink>(
         AnswersFront (map string_bytes words.now) files (K.written out.old) (K.written out.new)) }
     ensures given { IfOk result (GivenAnswers (map string_bytes words.now) (K.written out.old) (K.written out.new)) }
     ensures given_front { IsErrOf result Trouble.Write → GivenAnswersFront (map string_bytes words.now) (K.written out.old) (K.written out.new) }
-    ensures memory { IsErrOf result Trouble.Memory → K.written out.new ≡ K.written out.old }
+    ensures memory { IsErrOf result Trouble.Memory → IfSome (S.told shelf.old) (λ files.
+        IsPrefixOfAnswers (map string_bytes words.now) files (K.written out.old) (K.written out.new)) }
     ensures keeps { S.told shelf.new ≡ S.told shelf.old }
     ensures later { NoneFalls S.faults S.is_last shelf.old shelf.new }
     ensures out_later { NeverFalls K.faults K.is_last out.old out.new }
@@ -112,8 +123,8 @@ fn run<S: Shelf, K: Sink>(
     }
 }
 
-/// Does what the words ask: `play`, `program=` with a path, and `action=` with a name, in this order. What the tool says goes
-/// to the sink.
+/// Does what the words ask: `play`, and behind it in any order `program=` with a path, `action=` with a name, and perhaps `turns=` with the
+/// most turns that the play may take. What the tool says goes to the sink.
 pub fn run_tool<S: Shelf, K: Sink>(
     alloc: Global,
     words: &[String],
@@ -125,7 +136,7 @@ pub fn run_tool<S: Shelf, K: Sink>(
         Answers (map string_bytes words.now) files (K.written out.old) (K.written out.new) result) }
 
     // A read fault comes only where the count of the file that the words name rose, and then nothing is written.
-    ensures read { result ≡ Status.ReadFault → (path action : List ℕ) × IsRequest (map string_bytes words.now) path action
+    ensures read { result ≡ Status.ReadFault → (path action : List ℕ) × (turns : ℕ) × IsRequest (map string_bytes words.now) path action turns
         × HasRisenAt S.faults S.is_last path shelf.old shelf.new }
     ensures nothing { result ≡ Status.ReadFault → K.written out.new ≡ K.written out.old }
 

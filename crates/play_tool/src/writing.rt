@@ -1,77 +1,16 @@
 //! What is written.
-ghost use Rattle.std.specs.Prelude.{◌≡◌, ◌≤◌, ◌<◌, ◌/◌, ◌%◌, ◌++◌, [], codes, pos, OnOk, OnErr, map};
-ghost use Rattle.std.specs.List.{flat_map};
+ghost use Rattle.std.specs.Prelude.{◌≡◌, codes, pos, OnOk, OnErr};
 ghost use Rattle.tool_io.specs.Causes.{HasCause};
 ghost use Rattle.tool_io.specs.Bytes.{then_bytes, MovesFront};
 ghost use Rattle.tool_io.specs.Lines.{IsWhole, IsOverSame, HasSinkCause, Puts, PutsFront};
 ghost use Rattle.stapl_lexer.specs.Reasons.{reason_name};
-ghost use Rattle.stapl_meaning.specs.Texts.{hex_digit, is_plain, escaped_byte, escaped, ending_line};
+ghost use Rattle.stapl_meaning.specs.Texts.{ending_line};
 ghost use Rattle.stapl_meaning.specs.declared.events.Ending.TheVariants.{Exit};
-ghost use Rattle.play_tool.specs.Texts.{labelled, word_line, number_line, place_text, refusal_line, print_line, form_line};
+ghost use Rattle.play_tool.specs.Texts.{labelled, word_line, number_line, place_text, refusal_line};
 
-use crate::forms::Form;
 use stapl_lexer::Reason;
+use stapl_meaning::Ending;
 use tool_io::{Failed, Lines, Sink};
-
-// An upper-case hexadecimal digit.
-fn hex_byte(digit: u8) -> u8
-    requires { digit < 16 }
-    ensures { result ≡ hex_digit digit }
-{
-    if digit < 10 { 48 + digit } else { 55 + digit }
-}
-
-fn is_plain_byte(byte: u8) -> bool
-    ensures { result ≡ is_plain byte }
-{
-    byte >= 32 && byte <= 126 && byte != b'\\'
-}
-
-// Puts a byte of a text, which is escaped where it is not plain.
-fn put_escaped_byte<K: Sink>(lines: &mut Lines<K>, byte: u8) -> Result<(), Failed>
-    requires { IsWhole lines.old }
-    ensures same_sink { IsOverSame lines.old lines.new }
-    ensures whole { OnOk result (IsWhole lines.new) }
-    ensures ok { OnOk result (Puts K.written lines.old (escaped_byte byte) lines.new) }
-    ensures front { OnErr result (PutsFront K.written lines.old (escaped_byte byte) lines.new) }
-    ensures cause { HasSinkCause K.faults K.is_last lines.old lines.new result }
-{
-    if is_plain_byte(byte) {
-        return lines.put(&[byte]);
-    }
-    lines.put(&[b'\\', hex_byte(byte / 16), hex_byte(byte % 16)])
-}
-
-// Puts a text, escaped.
-fn put_escaped<K: Sink>(lines: &mut Lines<K>, bytes: &[u8]) -> Result<(), Failed>
-    requires { IsWhole lines.old }
-    ensures same_sink { IsOverSame lines.old lines.new }
-    ensures whole { OnOk result (IsWhole lines.new) }
-    ensures ok { OnOk result (Puts K.written lines.old (escaped bytes.now) lines.new) }
-    ensures front { OnErr result (PutsFront K.written lines.old (escaped bytes.now) lines.new) }
-    ensures cause { HasSinkCause K.faults K.is_last lines.old lines.new result }
-{
-    for byte in bytes {
-        put_escaped_byte(lines, *byte)?;
-    }
-    Ok(())
-}
-
-// Puts the line of a PRINT.
-#[tactic(auto, using(tool_io::proofs::PutLemmas::put_then, tool_io::proofs::PutLemmas::put_then_front, tool_io::proofs::PutLemmas::front_with))]
-fn put_print<K: Sink>(lines: &mut Lines<K>, bytes: &[u8]) -> Result<(), Failed>
-    requires { IsWhole lines.old }
-    ensures same_sink { IsOverSame lines.old lines.new }
-    ensures whole { OnOk result (IsWhole lines.new) }
-    ensures ok { OnOk result (Puts K.written lines.old (print_line bytes.now) lines.new) }
-    ensures front { OnErr result (PutsFront K.written lines.old (print_line bytes.now) lines.new) }
-    ensures cause { HasSinkCause K.faults K.is_last lines.old lines.new result }
-{
-    lines.put(b"P ")?;
-    put_escaped(lines, bytes)?;
-    lines.put(b"\n")?;
-    Ok(())
-}
 
 // Puts a label and a number.
 #[tactic(auto, using(tool_io::proofs::PutLemmas::put_then, tool_io::proofs::PutLemmas::put_then_front, tool_io::proofs::PutLemmas::front_with))]
@@ -167,62 +106,32 @@ fn put_refusal<K: Sink>(
     Ok(())
 }
 
-// Puts the line of a form, where it is a PRINT.
-fn put_form<K: Sink>(lines: &mut Lines<K>, form: &Form) -> Result<(), Failed>
+// Puts the line of an exit.
+fn put_exit<K: Sink>(lines: &mut Lines<K>, code: i32) -> Result<(), Failed>
     requires { IsWhole lines.old }
     ensures same_sink { IsOverSame lines.old lines.new }
     ensures whole { OnOk result (IsWhole lines.new) }
-    ensures ok { OnOk result (Puts K.written lines.old (form_line form.now) lines.new) }
-    ensures front { OnErr result (PutsFront K.written lines.old (form_line form.now) lines.new) }
+    ensures ok { OnOk result (Puts K.written lines.old (ending_line (Exit code)) lines.new) }
+    ensures front { OnErr result (PutsFront K.written lines.old (ending_line (Exit code)) lines.new) }
     ensures cause { HasSinkCause K.faults K.is_last lines.old lines.new result }
 {
-    match form {
-        Form::Print(text) => put_print(lines, text.as_slice()),
-        _ => Ok(()),
-    }
-}
-
-// Puts the lines of the PRINTs among some forms.
-fn put_forms<K: Sink>(lines: &mut Lines<K>, forms: &[Form]) -> Result<(), Failed>
-    requires { IsWhole lines.old }
-    ensures same_sink { IsOverSame lines.old lines.new }
-    ensures whole { OnOk result (IsWhole lines.new) }
-    ensures ok { OnOk result (Puts K.written lines.old (flat_map form_line forms.now) lines.new) }
-    ensures front { OnErr result (PutsFront K.written lines.old (flat_map form_line forms.now) lines.new) }
-    ensures cause { HasSinkCause K.faults K.is_last lines.old lines.new result }
-{
-    for form in forms {
-        put_form(lines, form)?;
-    }
-    Ok(())
-}
-
-// Puts the lines of a play: those of its PRINTs, and that of its exit.
-#[tactic(auto, using(tool_io::proofs::PutLemmas::put_then, tool_io::proofs::PutLemmas::put_then_front, tool_io::proofs::PutLemmas::front_with))]
-fn put_play<K: Sink>(lines: &mut Lines<K>, printed: &[Form], code: i32) -> Result<(), Failed>
-    requires { IsWhole lines.old }
-    ensures same_sink { IsOverSame lines.old lines.new }
-    ensures whole { OnOk result (IsWhole lines.new) }
-    ensures ok { OnOk result (Puts K.written lines.old (flat_map form_line printed.now ++ ending_line (Exit code)) lines.new) }
-    ensures front { OnErr result (PutsFront K.written lines.old (flat_map form_line printed.now ++ ending_line (Exit code)) lines.new) }
-    ensures cause { HasSinkCause K.faults K.is_last lines.old lines.new result }
-{
-    put_forms(lines, printed)?;
     put_number_line(lines, b"E exit ", i64::from(code))?;
     Ok(())
 }
 
-/// Writes the lines of a play and nothing else.
-#[tactic(auto, using(tool_io::proofs::PutLemmas::front_written, tool_io::proofs::PutLemmas::finish_front))]
-pub fn write_play<K: Sink>(out: &mut K, printed: &[Form], code: i32) -> Result<(), Failed>
-    ensures ok { OnOk result (K.written out.new ≡ then_bytes (K.written out.old) (flat_map form_line printed.now ++ ending_line (Exit code))) }
-    ensures front { OnErr result (MovesFront (K.written out.old) (flat_map form_line printed.now ++ ending_line (Exit code)) (K.written out.new)) }
-    ensures cause { HasCause K.faults K.is_last out.old out.new result }
+/// Puts the line of how a play ends.
+pub fn put_ending<K: Sink>(lines: &mut Lines<K>, ending: Ending) -> Result<(), Failed>
+    requires { IsWhole lines.old }
+    ensures same_sink { IsOverSame lines.old lines.new }
+    ensures whole { OnOk result (IsWhole lines.new) }
+    ensures ok { OnOk result (Puts K.written lines.old (ending_line ending) lines.new) }
+    ensures front { OnErr result (PutsFront K.written lines.old (ending_line ending) lines.new) }
+    ensures cause { HasSinkCause K.faults K.is_last lines.old lines.new result }
 {
-    let mut lines = Lines::new(out);
-    put_play(&mut lines, printed, code)?;
-    lines.finish()?;
-    Ok(())
+    match ending {
+        Ending::Exit(code) => put_exit(lines, code),
+        Ending::Spent => lines.put(b"E spent\n"),
+    }
 }
 
 /// Writes the line of a refused program and nothing else.

@@ -28,6 +28,11 @@ fn answer(
 
 const HELLO: &str = "ACTION A=P;PROCEDURE P;PRINT \"HELLO\";EXIT 0;ENDPROC;";
 
+const COUNTING: &str =
+    "ACTION A=P;PROCEDURE P;INTEGER I;L: PRINT I;I=I+1;IF I<3 THEN GOTO L;ENDPROC;";
+
+const ENDLESS: &str = "ACTION A=P;PROCEDURE P;L: GOTO L;ENDPROC;";
+
 const PLAY: [&str; 3] = ["play", "program=p", "action=A"];
 
 #[test]
@@ -43,7 +48,18 @@ fn prints_and_exits(rt: HostRuntime) -> Result<(), Fail> {
 // Programs that are played, each with what is written and the code that it ends with.
 #[test]
 fn plays_programs(rt: HostRuntime) -> Result<(), Fail> {
-    let table: [(&str, &str, i32); 9] = [
+    let table: [(&str, &str, i32); 12] = [
+        (COUNTING, "P 0\nP 1\nP 2\nE exit 0\n", 0),
+        (
+            "ACTION A=P;PROCEDURE P;INTEGER X;X=2147483647;X=X+1;PRINT X;EXIT X;ENDPROC;",
+            "P -2147483648\nE exit -2147483648\n",
+            -2147483648,
+        ),
+        (
+            "ACTION A=P;PROCEDURE P;GOTO L;PRINT \"NEVER\";L: IF 2<1 THEN EXIT 1;EXIT 5;ENDPROC;",
+            "E exit 5\n",
+            5,
+        ),
         (
             "' a ; comment\nACTION A=P;PROCEDURE P;PRINT \"A;'B\";ENDPROC;",
             "P A;'B\nE exit 0\n",
@@ -94,15 +110,76 @@ fn plays_programs(rt: HostRuntime) -> Result<(), Fail> {
     Ok(())
 }
 
+// Programs with the most turns that they may take, each with what is written and the status. Each piece behind the PROCEDURE that is
+// played takes one turn.
+#[test]
+fn spends_its_turns(rt: HostRuntime) -> Result<(), Fail> {
+    let table: [(&str, &str, &str, Status); 7] = [
+        (
+            COUNTING,
+            "turns=11",
+            "P 0\nP 1\nP 2\nE exit 0\n",
+            Status::Done(0),
+        ),
+        (
+            COUNTING,
+            "turns=10",
+            "P 0\nP 1\nP 2\nE spent\n",
+            Status::Spent,
+        ),
+        (ENDLESS, "turns=1000", "E spent\n", Status::Spent),
+        (
+            HELLO,
+            "turns=1000000000",
+            "P HELLO\nE exit 0\n",
+            Status::Done(0),
+        ),
+        (HELLO, "turns=2", "P HELLO\nE exit 0\n", Status::Done(0)),
+        (HELLO, "turns=1", "P HELLO\nE spent\n", Status::Spent),
+        (HELLO, "turns=0", "E spent\n", Status::Spent),
+    ];
+    for (program, turns, want, status) in table {
+        let words = ["play", turns, "program=p", "action=A"];
+        let (found, written) = answer(&rt, &words, program.as_bytes().to_vec(rt.alloc())?, 100, 0)?;
+        assert_eq!(rt; found, status, "at {program:?} with {turns}");
+        assert_eq!(rt;
+            written.as_slice(),
+            want.as_bytes(),
+            "at {program:?} with {turns}"
+        );
+    }
+    Ok(())
+}
+
 // Texts that are refused, each with the line that is written and the piece of its first fault.
 #[test]
 fn refuses_at_the_first_fault(rt: HostRuntime) -> Result<(), Fail> {
-    let table: [(&str, &str, u32); 20] = [
+    let table: [(&str, &str, u32); 24] = [
         ("", "R program 1 line 1 NotYetBuilt\n", 1),
         (" \n' c", "R program 1 line 2 NotYetBuilt\n", 1),
         (
-            "ACTION A=P;PROCEDURE P;PRINT \"A\";PRINT 1;ENDPROC;",
+            "ACTION A=P;PROCEDURE P;PRINT \"A\";PRINT (1);ENDPROC;",
             "R program 4 line 1 NotYetBuilt\n",
+            4,
+        ),
+        (
+            "ACTION A=P;PROCEDURE P;\nPRINT X;ENDPROC;",
+            "R program 3 line 2 NotYetBuilt\n",
+            3,
+        ),
+        (
+            "ACTION A=P;PROCEDURE P;EXIT 0;GOTO L;ENDPROC;",
+            "R program 4 line 1 NotYetBuilt\n",
+            4,
+        ),
+        (
+            "ACTION A=P;PROCEDURE P;INTEGER I;INTEGER i;ENDPROC;",
+            "R program 4 line 1 NotYetBuilt\n",
+            4,
+        ),
+        (
+            "ACTION A=P;PROCEDURE P;L: EXIT 0;\nL: EXIT 1;ENDPROC;",
+            "R program 4 line 2 NotYetBuilt\n",
             4,
         ),
         (
@@ -223,13 +300,27 @@ fn refuses_a_text_that_is_too_long(rt: HostRuntime) -> Result<(), Fail> {
 // Words, each list with what is written, and the status.
 #[test]
 fn answers_words(rt: HostRuntime) -> Result<(), Fail> {
-    let table: [(&[&str], &str, Status); 15] = [
+    let hello = "P HELLO\nE exit 0\n";
+    let table: [(&[&str], &str, Status); 28] = [
         (&[], "R usage 1\n", Status::Usage(1)),
         (&["list"], "R usage 1\n", Status::Usage(1)),
+        (&["PLAY"], "R usage 1\n", Status::Usage(1)),
+        (&["program=p", "play"], "R usage 1\n", Status::Usage(1)),
         (&["play"], "R usage 2\n", Status::Usage(2)),
+        (&["play", "play"], "R usage 2\n", Status::Usage(2)),
         (&["play", "program="], "R usage 2\n", Status::Usage(2)),
-        (&["play", "action=A"], "R usage 2\n", Status::Usage(2)),
+        (
+            &["play", "program=", "action=A"],
+            "R usage 2\n",
+            Status::Usage(2),
+        ),
+        (&["play", "action=A"], "R usage 3\n", Status::Usage(3)),
         (&["play", "program=p"], "R usage 3\n", Status::Usage(3)),
+        (
+            &["play", "program=p", "turns=1"],
+            "R usage 4\n",
+            Status::Usage(4),
+        ),
         (
             &["play", "program=p", "action="],
             "R usage 3\n",
@@ -246,12 +337,47 @@ fn answers_words(rt: HostRuntime) -> Result<(), Fail> {
             Status::Usage(3),
         ),
         (
+            &["play", "program=p", "program=q", "action=A"],
+            "R usage 3\n",
+            Status::Usage(3),
+        ),
+        (
             &["play", "program=p", "action=A", "x"],
             "R usage 4\n",
             Status::Usage(4),
         ),
         (
             &["play", "program=p", "action=A", "", "y"],
+            "R usage 4\n",
+            Status::Usage(4),
+        ),
+        (
+            &["play", "program=p", "action=A", "action=A"],
+            "R usage 4\n",
+            Status::Usage(4),
+        ),
+        (
+            &["play", "program=p", "action=A", "turns="],
+            "R usage 4\n",
+            Status::Usage(4),
+        ),
+        (
+            &["play", "program=p", "action=A", "turns=01"],
+            "R usage 4\n",
+            Status::Usage(4),
+        ),
+        (
+            &["play", "program=p", "action=A", "turns=+1"],
+            "R usage 4\n",
+            Status::Usage(4),
+        ),
+        (
+            &["play", "program=p", "action=A", "turns=1000000001"],
+            "R usage 4\n",
+            Status::Usage(4),
+        ),
+        (
+            &["play", "turns=5", "program=p", "turns=5", "action=A"],
             "R usage 4\n",
             Status::Usage(4),
         ),
@@ -266,9 +392,10 @@ fn answers_words(rt: HostRuntime) -> Result<(), Fail> {
             "R usage 4\n",
             Status::Usage(4),
         ),
+        (&["play", "program=p", "action=a"], hello, Status::Done(0)),
         (
-            &["play", "program=p", "action=a"],
-            "P HELLO\nE exit 0\n",
+            &["play", "action=A", "turns=9", "program=p"],
+            hello,
             Status::Done(0),
         ),
     ];
@@ -294,10 +421,11 @@ fn keeps_a_prefix_where_the_third_write_fails(rt: HostRuntime) -> Result<(), Fai
 // The exit code of each status.
 #[test]
 fn gives_exit_codes(rt: HostRuntime) -> Result<(), Fail> {
-    let table: [(Status, u8); 9] = [
+    let table: [(Status, u8); 10] = [
         (Status::Done(0), 0),
         (Status::Done(-1), 1),
         (Status::Done(256), 1),
+        (Status::Spent, 3),
         (Status::Refused(1, Reason::NotYetBuilt), 4),
         (Status::NoAction, 6),
         (Status::Usage(1), 7),

@@ -4,9 +4,11 @@ use tool_io::{Lines, Sink};
 
 const HELP: &[u8] = b"zanutero: plays STAPL programs (JEDEC JESD71)
 
-  zanutero play program=PATH action=NAME
+  zanutero play program=PATH action=NAME [turns=N]
       plays the action NAME of the program in the file PATH, and writes what it
-      prints and how it ends; the keys stand in this order
+      prints and how it ends; the keys stand in any order
+      turns=N  the most turns of the play, 0 to 1000000000; where it is missing,
+               100000000; each statement that is played takes one
   zanutero --help
   zanutero --version
 
@@ -16,6 +18,7 @@ For example:
 Exit codes:
   0  the play ended with code 0
   1  the play ended with another code
+  3  the play still went on after its turns
   4  the program is refused: the line R program PIECE line LINE REASON
   6  the program has no such action: the line R action
   7  the words are refused: the line R usage WORD

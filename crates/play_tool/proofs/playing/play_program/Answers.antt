@@ -1,34 +1,43 @@
-use Rattle.std.proofs.Common.{rules, w32, sym, ◌∙◌}
-use Rattle.std.proofs.lemmas.Int.{to_z-of_z}
-use Rattle.std.proofs.lemmas.List.{take_rest}
-use mir.Val.{SFits}
-use Rattle.tool_io.proofs.BytesLemmas.{on_err}
-use Rattle.play_tool.proofs.PlayLemmas.{no_such_action, no_such_action_front, plays_to, plays_front}
+use Rattle.std.proofs.Common.{refl, ap, ◌∙◌, rules}
+use Rattle.stapl_code.specs.declared.raw.CodeLists.{CodeLists}
+use Rattle.stapl_machine.specs.Machines.{play_of}
+use Rattle.play_tool.specs.CodePlays.{procedures_in}
+use Rattle.play_tool.proofs.AnswerLemmas.{nothing_of_program}
+use Rattle.play_tool.proofs.PlayLemmas.{none_chosen, play_chosen_of, zeros_fit, no_such_action, no_such_action_front, run_to, run_front, run_prefix}
 use Rattle.play_tool.proofs.playing.play_program.Goals as goal
 
+pub returns-in_err-code-clause-memory : goal.returns-in_err-code-clause-memory
+returns-in_err-code-clause-memory g c = λ _. nothing_of_program refl
+
 pub returns-in_err-write_text-clause-front : goal.returns-in_err-write_text-clause-front
-returns-in_err-write_text-clause-front g c =
-    on_err c.from_residual.result
-    (no_such_action_front c.args.forms.now c.args.action.now _ _ c.requires (sym c.names_action.ensures ∙ c.if-not-names_action.true) c.in_err-write_text.ensures.front)
+returns-in_err-write_text-clause-front g c = λ _.
+    no_such_action_front (none_chosen _ c.args.action.now c.in_ok-code.code c.as_slice.result.now c.requires c.in_ok-code.ensures (c.as_slice.ensures ∙ ap (λ l. l.actions) c.lists.ensures.lists ∙ ap (λ (l : CodeLists). l.actions) c.raw.ensures.raw) c.in_default.ensures.none)
+    c.in_err-write_text.ensures.front
 
-pub returns-then-not-names_action-clause-ok : goal.returns-then-not-names_action-clause-ok
-returns-then-not-names_action-clause-ok g c =
-    no_such_action c.args.forms.now c.args.action.now _ _ c.requires (sym c.names_action.ensures ∙ c.if-not-names_action.true) c.in_ok-write_text.ensures.ok
+pub returns-in_default-clause-ok : goal.returns-in_default-clause-ok
+returns-in_default-clause-ok g c =
+    no_such_action (none_chosen _ c.args.action.now c.in_ok-code.code c.as_slice.result.now c.requires c.in_ok-code.ensures (c.as_slice.ensures ∙ ap (λ l. l.actions) c.lists.ensures.lists ∙ ap (λ (l : CodeLists). l.actions) c.raw.ensures.raw) c.in_default.ensures.none)
+    c.in_ok-write_text.ensures.ok
 
-pub returns-in_err-write_play-clause-front : goal.returns-in_err-write_play-clause-front
-returns-in_err-write_play-clause-front g c =
-    let fits : SFits w32 c.exit_code_at-code.result = search rules in
-    let same = to_z-of_z w32 c.exit_code_at-code.result fits in
-    on_err c.from_residual-in_err-write_play.result
-    (plays_front c.args.forms.now c.args.action.now c.prints_in_front-printed.result c.exit_code_at-code.result _ _ c.requires
-    (sym c.names_action.ensures ∙ c.if-not-names_action.false) (rw take_rest at c.prints_in_front-printed.ensures) (rw take_rest at c.exit_code_at-code.ensures)
-    (rw (take_rest, same) at c.in_err-write_play.ensures.front))
+pub play_action-requires-clause-fit : goal.play_action-requires-clause-fit
+play_action-requires-clause-fit g c = zeros_fit _ c.in_ok-code.code c.in_ok-code.ensures
+
+pub returns-in_err-ending-clause-front : goal.returns-in_err-ending-clause-front
+returns-in_err-ending-clause-front g c = λ e.
+    run_front (play_of c.in_ok-code.code (procedures_in c.in-Some.found.now.items) c.args.turns)
+    (play_chosen_of c.in_ok-code.code c.as_slice.result.now (procedures_in c.in-Some.found.now.items) c.requires c.in_ok-code.ensures (c.as_slice.ensures ∙ ap (λ l. l.actions) c.lists.ensures.lists ∙ ap (λ (l : CodeLists). l.actions) c.raw.ensures.raw) c.in-Some.ensures.some)
+    (c.in_err-ending.ensures.comes (search rules))
+    c.in_err-ending.ensures.front
+
+pub returns-in_err-ending-clause-memory : goal.returns-in_err-ending-clause-memory
+returns-in_err-ending-clause-memory g c = λ _.
+    run_prefix (play_of c.in_ok-code.code (procedures_in c.in-Some.found.now.items) c.args.turns)
+    (play_chosen_of c.in_ok-code.code c.as_slice.result.now (procedures_in c.in-Some.found.now.items) c.requires c.in_ok-code.ensures (c.as_slice.ensures ∙ ap (λ l. l.actions) c.lists.ensures.lists ∙ ap (λ (l : CodeLists). l.actions) c.raw.ensures.raw) c.in-Some.ensures.some)
+    c.in_err-ending.ensures.front
 
 pub returns-clause-ok : goal.returns-clause-ok
 returns-clause-ok g c =
-    let fits : SFits w32 c.exit_code_at-code.result = search rules in
-    let same = to_z-of_z w32 c.exit_code_at-code.result fits in
-    rw same
-    (plays_to c.args.forms.now c.args.action.now c.prints_in_front-printed.result c.exit_code_at-code.result _ _ c.requires
-    (sym c.names_action.ensures ∙ c.if-not-names_action.false) (rw take_rest at c.prints_in_front-printed.ensures) (rw take_rest at c.exit_code_at-code.ensures)
-    (rw (take_rest, same) at c.in_ok-write_play.ensures.ok))
+    rw c.status_of.ensures
+    (run_to (play_of c.in_ok-code.code (procedures_in c.in-Some.found.now.items) c.args.turns)
+    (play_chosen_of c.in_ok-code.code c.as_slice.result.now (procedures_in c.in-Some.found.now.items) c.requires c.in_ok-code.ensures (c.as_slice.ensures ∙ ap (λ l. l.actions) c.lists.ensures.lists ∙ ap (λ (l : CodeLists). l.actions) c.raw.ensures.raw) c.in-Some.ensures.some)
+    c.in_ok-ending.ensures.ok)

@@ -1,0 +1,71 @@
+"""What the benches share: they time whole runs of ./zanutero and print the ratios between sizes."""
+import argparse
+import pathlib
+import resource
+import subprocess
+import sys
+import tempfile
+import time
+
+TOP = pathlib.Path(__file__).resolve().parent.parent
+
+
+def processor_time():
+    """The processor time of all runs so far."""
+    used = resource.getrusage(resource.RUSAGE_CHILDREN)
+    return used.ru_utime + used.ru_stime
+
+
+class Bench:
+    """A command line with --runs and --processor, and a text in a file of its own that ./zanutero plays."""
+
+    def __init__(self, description):
+        parser = argparse.ArgumentParser(description=description)
+        parser.add_argument("--runs", type=int, default=5, help="runs of each play (5)")
+        parser.add_argument("--processor", action="store_true", help="measure processor time in place of wall time")
+        words = parser.parse_args()
+        self.runs = words.runs
+        self.clock = processor_time if words.processor else time.perf_counter
+
+    def __enter__(self):
+        self.folder = tempfile.TemporaryDirectory()
+        self.path = pathlib.Path(self.folder.name) / "text.stp"
+        self.path.write_bytes(b"")
+        self.shortest(4, 1)  # builds the program where that is needed
+        self.start = self.shortest(4, 3 * self.runs)
+        print(f"An empty text: {self.start:.4f} s. The seconds below are above that.\n")
+        return self
+
+    def __exit__(self, *error):
+        self.folder.cleanup()
+
+    def shortest(self, code, runs, *more):
+        """The shortest time of so many plays of the text, which end with this code."""
+        best = float("inf")
+        for _ in range(runs):
+            begun = self.clock()
+            done = subprocess.run(
+                [TOP / "zanutero", "play", f"program={self.path}", "action=A", *more], stdout=subprocess.DEVNULL
+            )
+            best = min(best, self.clock() - begun)
+            if done.returncode != code:
+                sys.exit(f"exit code {done.returncode} in place of {code}")
+        return best
+
+    def seconds(self, text, code, *more):
+        """The shortest time of a play of this text, above that of an empty one."""
+        self.path.write_bytes(text)
+        return self.shortest(code, self.runs, *more) - self.start
+
+
+def head(first, sizes):
+    """The head of a table: what is played, the sizes, and the ratios between them."""
+    ratios = [f"{b} to {a}" for a, b in zip(sizes, sizes[1:])]
+    print("| " + " | ".join([first] + sizes + ratios) + " |")
+    print("|" + "---|" * (1 + len(sizes) + len(ratios)))
+
+
+def row(kind, times):
+    """A row of it."""
+    cells = [f"{t:.4f} s" for t in times] + [f"{b / a:.2f}" for a, b in zip(times, times[1:])]
+    print("| " + " | ".join([kind] + cells) + " |", flush=True)

@@ -1,0 +1,45 @@
+-- On numbers in words.
+use Rattle.std.proofs.Common.{◌≡◌, ◌<◌, ◌^◌, ℕ, List, [], ◌∷◌, length, refl, ap, arith, rules, Bool, true, false, ◌&&◌, not, ◌==◌}
+use Rattle.std.proofs.lemmas.Str.Parse.{IsNumeralModel, numerals_by_value, without_leading_plus_none, not_in_digits}
+use Rattle.std.specs.Char.{is_ascii_digit}
+use Rattle.std.specs.List.{list_all}
+use Rattle.std.specs.Str.Parse.{digits_value, without_leading_plus, IsNumeral}
+use Rattle.play_tool.specs.Words.{is_decimal, SpellsTurns}
+
+own : IsNumeralModel (λ ds. list_all is_ascii_digit ds ≡ true) (digits_value 10)
+own = numerals_by_value _ (search rules)
+
+both_left : (a b : Bool) → (a && b) ≡ true → a ≡ true
+both_left true b h = refl
+both_left false b h = absurd cc
+
+both_right : (a b : Bool) → (a && b) ≡ true → b ≡ true
+both_right true b h = h
+both_right false b h = absurd cc
+
+not_empty : (spelling : List ℕ) → not (length spelling == 0) ≡ true → 0 < length spelling
+not_empty [] h = absurd cc
+not_empty (b ∷ bytes) h = omega arith
+
+-- what is spelled as a decimal number has digits alone, and one at least
+digits_of : (spelling : List ℕ) → is_decimal spelling ≡ true → (list_all is_ascii_digit spelling ≡ true) × (0 < length spelling)
+digits_of spelling h =
+    let front = both_left (not (length spelling == 0) && list_all is_ascii_digit spelling) _ h in
+    (both_right (not (length spelling == 0)) _ front, not_empty spelling (both_left _ (list_all is_ascii_digit spelling) front))
+
+no_plus : (spelling : List ℕ) → list_all is_ascii_digit spelling ≡ true → 0 < length spelling → without_leading_plus spelling ≡ spelling
+no_plus spelling digits some =
+    without_leading_plus_none spelling (not_in_digits own spelling 43 digits (λ r. omega (arith, r.0, r.1)) 0 some)
+
+-- what spells a number of turns is read as one
+pub turns_parsed : (spelling : List ℕ) (turns : ℕ) → SpellsTurns spelling turns →
+    IsNumeral 10 (without_leading_plus spelling) × (digits_value 10 (without_leading_plus spelling) < 2 ^ 32)
+turns_parsed spelling turns s =
+    let d = digits_of spelling s.spelled in
+    let value = s.value in
+    let few = s.few in
+    rw (no_plus spelling d.0 d.1) ((d.1, own.to spelling d.0), omega arith)
+
+-- and that number is its value
+pub value_parsed : (spelling : List ℕ) → is_decimal spelling ≡ true → digits_value 10 (without_leading_plus spelling) ≡ digits_value 10 spelling
+value_parsed spelling h = let d = digits_of spelling h in ap (digits_value 10) (no_plus spelling d.0 d.1)

@@ -1,7 +1,0 @@
-use Rattle.std.proofs.Common.{◌≡◌, take, true}
-use Rattle.std.specs.List.{list_all}
-use Rattle.stapl_lexer.specs.Names.{is_name_byte}
-use Rattle.play_tool.proofs.tokens.name_len.Given as goal
-
-abbrev pub invariant-loop-i : goal.invariant-loop-i
-invariant-loop-i l = list_all is_name_byte (take l.i l.bytes) ≡ true
