@@ -11,7 +11,7 @@ use Rattle.stapl_lexer.specs.declared.front.Front.{Front}
 use Rattle.stapl_lexer.specs.declared.token.Token.{Token}
 use Rattle.stapl_lexer.specs.declared.token.TokenKind.{TokenKind}
 use Rattle.stapl_lexer.specs.declared.token.TokenKind.TheVariants as kinds
-use Rattle.stapl_lexer.specs.Tokens.{IsSolid}
+use Rattle.stapl_lexer.specs.Runs.{IsSolid}
 use Rattle.stapl_lexer.specs.PieceTokens.{AreBlanks, Spells, number_value, value_of, kind_at, first_word, Lexeme, BeginsWith, HasLexemes, LiesBetween}
 use Rattle.stapl_lexer.specs.PieceFaults.{is_number, is_large_number}
 use Rattle.stapl_lexer.specs.TokenReading.{cap, capped_value, IsBlankFront, IsFront, held_value, IsReadUpTo, AreRead}

@@ -4,7 +4,7 @@ pub mod PieceLemmas
 pub mod SegmentLemmas
 pub mod ScanLemmas
 pub mod Unique
-pub mod TokenLemmas
+pub mod EndLemmas
 pub mod PieceTokenLemmas
 pub mod CrcLemmas
 pub mod RunLemmas

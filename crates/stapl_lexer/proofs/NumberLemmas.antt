@@ -9,7 +9,7 @@ use Rattle.std.proofs.lemmas.List.Sums.{take_while-cons}
 use Rattle.std.specs.Char.{is_ascii_digit, digit_value}
 use Rattle.std.specs.List.{list_all}
 use Rattle.std.specs.Str.Parse.{digits_value}
-use Rattle.stapl_lexer.specs.Tokens.{StartsWithout}
+use Rattle.stapl_lexer.specs.Runs.{StartsWithout}
 use Rattle.stapl_lexer.specs.PieceTokens.{is_exponent_mark, begins_exponent, IsExponent, front_digits, number_value}
 use Rattle.stapl_lexer.specs.TokenReading.{cap, IsRun, IsNumberFront}
 use Rattle.stapl_lexer.proofs.RunLemmas.{run_has}

@@ -14,9 +14,9 @@ use Rattle.stapl_lexer.specs.Names.{is_name_byte}
 use Rattle.stapl_lexer.specs.Pieces.{is_white}
 use Rattle.stapl_lexer.specs.ReservedWords.{is_one_of}
 use Rattle.stapl_lexer.specs.Segments.{Segment, spelled}
-use Rattle.stapl_lexer.specs.Tokens.{StartsWithout, IsSolid, IsDigits}
+use Rattle.stapl_lexer.specs.Runs.{StartsWithout, IsSolid, IsDigits}
 use Rattle.stapl_lexer.specs.PieceTokens.{AreBlanks, spells_word, IsWordTail, IsWord, is_exponent_mark, begins_exponent, IsExponent, IsNumber, is_literal_digit, HasNoDigit, SpacedDigits, IsLiteral, IsCheckWord, double_marks, is_whole_mark, IsMark, is_closed, Spells, kind_at, first_word, value_of, Lexeme, BeginsWith, HasLexemes}
-use Rattle.stapl_lexer.proofs.TokenLemmas.{same_run, same_solid}
+use Rattle.stapl_lexer.proofs.EndLemmas.{same_run, same_solid}
 use Rattle.stapl_lexer.specs.PieceFaults.{fault_of_bytes, fault_of_tokens, first_fault, IsLexed}
 use Rattle.stapl_lexer.proofs.Unique.{same_segment, tails, one_way}
 

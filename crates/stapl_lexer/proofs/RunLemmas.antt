@@ -5,7 +5,7 @@ use Rattle.std.proofs.lemmas.List.Folds.{list_all-append}
 use Rattle.stapl_lexer.specs.Segments.{Divides}
 use Rattle.stapl_lexer.specs.Pieces.{is_white, is_blank}
 use Rattle.stapl_lexer.specs.Scanning.{BeginsWithSegment}
-use Rattle.stapl_lexer.specs.Tokens.{StartsWithout}
+use Rattle.stapl_lexer.specs.Runs.{StartsWithout}
 use Rattle.stapl_lexer.specs.PieceTokens.{AreBlanks}
 use Rattle.stapl_lexer.specs.TokenReading.{IsRun}
 use Rattle.stapl_lexer.proofs.ScanLemmas.{divides_more, blank_by_head, head, head_is}

@@ -4,7 +4,7 @@ pub mod Scanning
 pub mod Names
 pub mod ReservedWords
 pub mod Reasons
-pub mod Tokens
+pub mod Runs
 pub mod PieceTokens
 pub mod Depth
 pub mod PieceFaults

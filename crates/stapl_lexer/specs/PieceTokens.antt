@@ -13,7 +13,7 @@ use Rattle.stapl_lexer.specs.Names.{is_name_byte}
 use Rattle.stapl_lexer.specs.Pieces.{is_blank}
 use Rattle.stapl_lexer.specs.ReservedWords.{is_one_of}
 use Rattle.stapl_lexer.specs.Segments.{Segment, Closed, spelled, IsSegment, Divides}
-use Rattle.stapl_lexer.specs.Tokens.{StartsWithout, IsSolid, IsDigits}
+use Rattle.stapl_lexer.specs.Runs.{StartsWithout, IsSolid, IsDigits}
 
 -- white space and comments, and then the rest
 pub record AreBlanks (bytes rest : List ℕ) : Type 0 where

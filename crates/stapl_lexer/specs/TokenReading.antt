@@ -6,7 +6,7 @@ use Rattle.stapl_lexer.specs.declared.front.Front.{Front}
 use Rattle.stapl_lexer.specs.declared.token.Token.{Token}
 use Rattle.stapl_lexer.specs.declared.token.TokenKind.{TokenKind}
 use Rattle.stapl_lexer.specs.declared.token.TokenKind.TheVariants as kinds
-use Rattle.stapl_lexer.specs.Tokens.{StartsWithout, IsSolid}
+use Rattle.stapl_lexer.specs.Runs.{StartsWithout, IsSolid}
 use Rattle.stapl_lexer.specs.PieceTokens.{AreBlanks, IsNumber, number_value, is_literal_digit, SpacedDigits, Spells, Lexeme, HasLexemes, LiesBetween}
 use Rattle.stapl_lexer.specs.declared.reason.Reason.{Reason}
 use Rattle.stapl_lexer.specs.PieceFaults.{is_foreign, is_open_string, is_compressed, is_large_number, fault_of_bytes}

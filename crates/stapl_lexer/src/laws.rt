@@ -4,9 +4,8 @@ ghost use Rattle.stapl_lexer.specs.declared.piece.Piece.{Piece};
 ghost use Rattle.stapl_lexer.specs.Pieces.{IsCut};
 ghost use Rattle.stapl_lexer.specs.Segments.{Segment, Divides};
 ghost use Rattle.stapl_lexer.specs.declared.reason.Reason.{Reason};
-ghost use Rattle.stapl_lexer.specs.declared.token.Token.{Token as PlacedToken};
+ghost use Rattle.stapl_lexer.specs.declared.token.Token.{Token};
 ghost use Rattle.stapl_lexer.specs.PieceFaults.{IsLexed};
-ghost use Rattle.stapl_lexer.specs.Tokens.{Token, HasTokens};
 
 /// Each text is divided into some segments.
 pub fn every_text_is_divided()
@@ -23,12 +22,7 @@ pub fn cut_in_one_way()
     ensures { (text : List ℕ) (a b : List Piece) → IsCut text a → IsCut text b → a ≡ b }
 {}
 
-/// A list of bytes has at most one list of tokens.
-pub fn read_in_one_way()
-    ensures { (bytes : List ℕ) (a b : List Token) → HasTokens bytes a → HasTokens bytes b → a ≡ b }
-{}
-
 /// A piece of a text has at most one list of tokens, and at most one smallest reason.
 pub fn lexed_in_one_way()
-    ensures { (text : List ℕ) (piece : Piece) (a b : List PlacedToken) (f g : Option Reason) → piece.end ≤ length text → IsLexed text piece a f → IsLexed text piece b g → (a ≡ b) × (f ≡ g) }
+    ensures { (text : List ℕ) (piece : Piece) (a b : List Token) (f g : Option Reason) → piece.end ≤ length text → IsLexed text piece a f → IsLexed text piece b g → (a ≡ b) × (f ≡ g) }
 {}
