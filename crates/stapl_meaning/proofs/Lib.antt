@@ -1,3 +1,2 @@
-pub mod RunLemmas
 pub mod TurnLemmas
 pub mod RunLaws

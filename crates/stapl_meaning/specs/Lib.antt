@@ -3,5 +3,4 @@ pub mod States
 pub mod Scopes
 pub mod Turns
 pub mod Plays
-pub mod Runs
 pub mod Texts

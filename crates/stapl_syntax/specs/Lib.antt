@@ -1,6 +1,4 @@
 pub mod Trees
-pub mod Statements
-pub mod Programs
 pub mod Grammar
 pub mod Forms
 pub mod Declarations
