@@ -10,7 +10,7 @@ use std::test::Fail;
 
 // An instruction of a table. A print is told by its parts, where true stands for the first text and false for an integer.
 #[derive(Clone, Copy)]
-enum Op {
+pub enum Op {
     Turn(u32),
     Push(i32),
     Load(u32),
@@ -23,16 +23,16 @@ enum Op {
     Exit,
 }
 
-use Op::{Binary, EndProc, Exit, Jump, JumpIfZero, Load, Print, Push, Store, Turn};
+pub use Op::{Binary, EndProc, Exit, Jump, JumpIfZero, Load, Print, Push, Store, Turn};
 
 const ADD: Op = Binary(0);
 
 const LESS: Op = Binary(12);
 
 // The variables of each table: an INTEGER, a BOOLEAN, an array of 4 INTEGER and one of 4 BOOLEAN.
-const INTEGER: u32 = 0;
+pub const INTEGER: u32 = 0;
 
-const BOOLEAN: u32 = 1;
+pub const BOOLEAN: u32 = 1;
 
 const INTEGERS: u32 = 2;
 
@@ -72,7 +72,7 @@ fn action(alloc: Global, procedure: u32, flag: u8) -> Result<ActionDef, Fail> {
 }
 
 // The lists of a code with the procedures P, Q and so on at these entries, one text and one action.
-fn lists(
+pub fn lists(
     alloc: Global,
     variables: &[(u8, u32)],
     entries: &[u32],
@@ -106,7 +106,7 @@ fn lists(
     })
 }
 
-const VARIABLES: [(u8, u32); 4] = [(0, 1), (1, 1), (2, 4), (3, 4)];
+pub const VARIABLES: [(u8, u32); 4] = [(0, 1), (1, 1), (2, 4), (3, 4)];
 
 // What `validate` answers to a code in range: the most operands that it holds at once, or the first instruction that breaks a rule.
 fn answer(rt: &HostRuntime, entries: &[u32], ops: &[Op]) -> Result<Result<u32, usize>, Fail> {

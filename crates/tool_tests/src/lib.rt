@@ -18,6 +18,8 @@ mod devices;
 #[cfg(test)]
 mod lists;
 #[cfg(test)]
+mod machines;
+#[cfg(test)]
 mod outside;
 #[cfg(test)]
 mod pieces;
