@@ -4,3 +4,9 @@ pub mod Forms
 pub mod Declarations
 pub mod Faults
 pub mod Shapes
+pub mod WholeTrees
+pub mod WholeSymbols
+pub mod WholeGrammar
+pub mod WholeParts
+pub mod WholeProductions
+pub mod WholeStatements

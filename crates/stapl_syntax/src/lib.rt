@@ -2,6 +2,8 @@
 #![tactic(auto)]
 
 pub mod laws;
+mod signs;
 mod statement;
+pub mod whole;
 
 pub use statement::{BinOp, Body, Expr, Part, Stmt};

@@ -1,0 +1,168 @@
+-- Which tokens mean which statement, and why a piece is no statement (JESD71, statements). The reasons are this profile's.
+use Rattle.std.specs.Prelude.{◌≡◌, ℕ, List, [], ◌∷◌, ◌++◌, Option, Some, None, Bool, true, false, not}
+use Rattle.std.specs.List.{list_any}
+use Rattle.stapl_lexer.specs.declared.piece.Piece.{Piece}
+use Rattle.stapl_lexer.specs.declared.reason.Reason.{Reason}
+use Rattle.stapl_lexer.specs.declared.reason.Reason.TheVariants as reasons
+use Rattle.stapl_lexer.specs.declared.token.Token.{Token}
+use Rattle.stapl_lexer.specs.PieceFaults.{IsLexed}
+use Rattle.stapl_lexer.specs.SpelledTokens.{SpelledToken, IsSpelled}
+use Rattle.stapl_syntax.specs.declared.signs.OuterWord.{OuterWord}
+use Rattle.stapl_syntax.specs.declared.signs.OuterWord.TheVariants as outer_words
+use Rattle.stapl_syntax.specs.declared.signs.InnerWord.{InnerWord}
+use Rattle.stapl_syntax.specs.declared.signs.InnerWord.TheVariants as inner_words
+use Rattle.stapl_syntax.specs.declared.signs.SimpleWord.{SimpleWord}
+use Rattle.stapl_syntax.specs.declared.signs.SimpleWord.TheVariants as simple_words
+use Rattle.stapl_syntax.specs.declared.signs.PortWord.{PortWord}
+use Rattle.stapl_syntax.specs.declared.signs.PortWord.TheVariants as port_words
+use Rattle.stapl_syntax.specs.declared.signs.JoinWord.TheVariants as joins
+use Rattle.stapl_syntax.specs.declared.signs.Mark.TheVariants as marks
+use Rattle.stapl_syntax.specs.declared.signs.Sign.{Sign}
+use Rattle.stapl_syntax.specs.declared.signs.Sign.TheVariants as signs
+use Rattle.stapl_syntax.specs.WholeSymbols.{Symbol, Plain, sign_of, symbols_of}
+use Rattle.stapl_syntax.specs.WholeTrees.{BodyTree, StmtTree, exported_value, exported_array, note, action, procedure, data_block, end_data, crc, end_procedure, boolean, boolean_array, integer, integer_array, assign, assign_element, assign_array, assign_range, call, goto, if_then, for_loop, next, push, pop, print, export, exit, scan, stop, pad, state_list, wait_cycles, wait_usec, frequency}
+use Rattle.stapl_syntax.specs.WholeGrammar.{IsExpr, name, mark, left_square, right_square, dots}
+use Rattle.stapl_syntax.specs.WholeParts.{Part, IsPart, a_name, a_state, a_check_word, an_expr, an_array, a_cell, some_states, after, both}
+use Rattle.stapl_syntax.specs.WholeProductions.{equals, join, note_part, action_part, procedure_part, size_part, bit_part, bits_part, signed_part, signed_list_part, for_part, print_part, export_part, scan_part, pad_part, last_part, usec_part, first_part, frequency_part}
+
+abbrev pub outer : OuterWord → Symbol
+outer w = Plain (signs.Outer w)
+
+abbrev pub inner : InnerWord → Symbol
+inner w = Plain (signs.Inner w)
+
+abbrev pub simple : SimpleWord → Symbol
+simple w = Plain (signs.Simple w)
+
+abbrev pub port : PortWord → Symbol
+port w = Plain (signs.Port w)
+
+-- a statement that stands outside procedures, and bears no label
+abbrev pub is_outer : BodyTree → Bool
+is_outer (note key text) = true
+is_outer (action v text items) = true
+is_outer (procedure v uses) = true
+is_outer (data_block v) = true
+is_outer end_data = true
+is_outer (crc n) = true
+is_outer _ = false
+
+-- ENDPROC or a declaration
+abbrev pub is_declaration : BodyTree → Bool
+is_declaration end_procedure = true
+is_declaration (boolean v start) = true
+is_declaration (boolean_array v n bits) = true
+is_declaration (integer v start) = true
+is_declaration (integer_array v n start) = true
+is_declaration _ = false
+
+-- The symbols are the statement: one case for each production.
+abbrev pub IsBody : List Symbol → BodyTree → Type 0
+IsBody s (note key text) = IsPart (after (outer outer_words.Note) note_part) (key, text) s
+IsBody s (action v text items) = IsPart (after (outer outer_words.Action) action_part) (v, (text, items)) s
+IsBody s (procedure v uses) = IsPart (after (outer outer_words.Procedure) procedure_part) (v, uses) s
+IsBody s (data_block v) = IsPart (after (outer outer_words.Data) a_name) v s
+IsBody s end_data = s ≡ outer outer_words.EndData ∷ []
+IsBody s (crc n) = IsPart (after (outer outer_words.Crc) a_check_word) n s
+IsBody s end_procedure = s ≡ inner inner_words.EndProcedure ∷ []
+IsBody s (boolean v start) = IsPart (after (inner inner_words.Boolean) (both a_name bit_part)) (v, start) s
+IsBody s (boolean_array v n bits) = IsPart (after (inner inner_words.Boolean) (both a_name (both size_part bits_part))) (v, (n, bits)) s
+IsBody s (integer v start) = IsPart (after (inner inner_words.Integer) (both a_name signed_part)) (v, start) s
+IsBody s (integer_array v n start) = IsPart (after (inner inner_words.Integer) (both a_name (both size_part signed_list_part))) (v, (n, start)) s
+-- name "=" expr
+IsBody s (assign v e) = IsPart (both a_name (after equals an_expr)) (v, e) s
+-- name "[" expr "]" "=" expr
+IsBody s (assign_element v i e) =
+    IsPart (both a_name (after left_square (both an_expr (after right_square (after equals an_expr))))) (v, (i, e)) s
+-- name "[" "]" "=" array
+IsBody s (assign_array v a) = IsPart (both a_name (after left_square (after right_square (after equals an_array)))) (v, a) s
+-- name "[" expr ".." expr "]" "=" array
+IsBody s (assign_range v h l a) =
+    IsPart (both a_name (after left_square (both an_expr (after dots (both an_expr (after right_square (after equals an_array))))))) (v, (h, (l, a))) s
+IsBody s (call v) = IsPart (after (simple simple_words.Call) a_name) v s
+IsBody s (goto v) = IsPart (after (simple simple_words.Goto) a_name) v s
+-- IF expr THEN and a statement that is neither outer nor a declaration
+IsBody s (if_then e b) =
+    (c : List Symbol) × (r : List Symbol) × (s ≡ simple simple_words.If ∷ (c ++ (join joins.Then ∷ r)))
+    × IsExpr 10 c e × (is_outer b ≡ false) × (is_declaration b ≡ false) × IsBody r b
+IsBody s (for_loop v a b c) = IsPart (after (simple simple_words.For) for_part) (v, (a, (b, c))) s
+IsBody s (next v) = IsPart (after (simple simple_words.Next) a_name) v s
+IsBody s (push e) = IsPart (after (simple simple_words.Push) an_expr) e s
+IsBody s (pop e) = IsPart (after (simple simple_words.Pop) a_cell) e s
+IsBody s (print parts) = IsPart (after (simple simple_words.Print) print_part) parts s
+IsBody s (export key x) = IsPart (after (simple simple_words.Export) export_part) (key, x) s
+IsBody s (exit e) = IsPart (after (simple simple_words.Exit) an_expr) e s
+IsBody s (scan k e a t c) = IsPart (after (port (port_words.Scan k)) scan_part) (e, (a, (t, c))) s
+IsBody s (stop k state) = IsPart (after (port (port_words.Stop k)) a_state) state s
+IsBody s (pad k e a) = IsPart (after (port (port_words.Pad k)) pad_part) (e, a) s
+IsBody s (state_list states) = IsPart (after (port port_words.State) some_states) states s
+IsBody s (wait_cycles k e u l) =
+    IsPart (after (port port_words.Wait) (both first_part (both an_expr (after (join joins.Cycles) (both usec_part last_part))))) (k, (e, (u, l))) s
+IsBody s (wait_usec k e l) =
+    IsPart (after (port port_words.Wait) (both first_part (both an_expr (after (join joins.Usec) last_part)))) (k, (e, l)) s
+IsBody s (frequency e) = IsPart (after (port port_words.Frequency) frequency_part) e s
+
+-- the symbols are a statement with this label: none, or one before a statement of a procedure
+abbrev pub IsLabelled : List Symbol → Option (List ℕ) → BodyTree → Type 0
+IsLabelled s None body = IsBody s body
+IsLabelled s (Some v) body = (r : List Symbol) × (s ≡ name v ∷ mark marks.Colon ∷ r) × (is_outer body ≡ false) × IsBody r body
+
+-- The tokens mean the statement.
+abbrev pub Means : List SpelledToken → StmtTree → Type 0
+Means tokens st = IsLabelled (symbols_of tokens) st.label st.body
+
+-- The piece of the text is this statement: nothing is wrong with its bytes and its tokens, and its tokens mean the statement.
+pub record IsPieceStatement (text : List ℕ) (piece : Piece) (st : StmtTree) : Type 0 where
+  pub tokens : List SpelledToken
+  pub spelled : IsSpelled text piece tokens
+  pub means : Means tokens st
+
+-- ---- reasons
+
+-- the symbols behind the label, if there is one
+unfoldable pub behind_label : List Symbol → List Symbol
+behind_label (Plain (signs.Name v) ∷ Plain (signs.Mark marks.Colon) ∷ s) = s
+behind_label s = s
+
+-- a sign that may stand behind the first name of an assignment
+unfoldable pub is_assign_sign : Sign → Bool
+is_assign_sign (signs.Mark marks.Equals) = true
+is_assign_sign (signs.Mark marks.LeftSquare) = true
+is_assign_sign _ = false
+
+-- the first sign of the symbols
+abbrev pub first_sign : List Symbol → Sign
+first_sign [] = signs.Other
+first_sign (t ∷ s) = sign_of t
+
+-- a statement begins with this sign, with those symbols behind it
+unfoldable pub begins_statement : Sign → List Symbol → Bool
+begins_statement (signs.Outer w) s = true
+begins_statement (signs.Inner w) s = true
+begins_statement (signs.Simple w) s = true
+begins_statement (signs.Port w) s = true
+begins_statement signs.LeftOutStatement s = true
+begins_statement (signs.Name v) s = is_assign_sign (first_sign s)
+begins_statement _ s = false
+
+-- Something stands there, and the first of it is no statement word, and no name that `=` or `[` follows.
+unfoldable pub is_unknown : List Symbol → Bool
+is_unknown [] = false
+is_unknown (t ∷ s) = not (begins_statement (sign_of t) s)
+
+-- a word that this profile leaves out
+unfoldable pub is_left_out : Sign → Bool
+is_left_out signs.LeftOutStatement = true
+is_left_out signs.LeftOutWord = true
+is_left_out _ = false
+
+abbrev pub holds_left_out : List Symbol → Bool
+holds_left_out s = list_any (λ t. is_left_out (sign_of t)) s
+
+-- The smallest of the reasons from `Unterminated` to `Syntax` that hold of the piece.
+pub data SmallestReason (text : List ℕ) (piece : Piece) : Reason → Type 0 where
+  -- a reason that lies in the bytes or in single tokens, or else a bad token
+  in_tokens : {reason : Reason} (tokens : List Token) → IsLexed text piece tokens (Some reason) → SmallestReason text piece reason
+  unknown : (tokens : List SpelledToken) → IsSpelled text piece tokens → is_unknown (behind_label (symbols_of tokens)) ≡ true → SmallestReason text piece reasons.UnknownStatement
+  left_out : (tokens : List SpelledToken) → IsSpelled text piece tokens → is_unknown (behind_label (symbols_of tokens)) ≡ false → holds_left_out (symbols_of tokens) ≡ true → SmallestReason text piece reasons.Unsupported
+  not_in_grammar : (tokens : List SpelledToken) → IsSpelled text piece tokens → is_unknown (behind_label (symbols_of tokens)) ≡ false → holds_left_out (symbols_of tokens) ≡ false → ((st : StmtTree) → Means tokens st → ⊥) → SmallestReason text piece reasons.Syntax
