@@ -1,6 +1,7 @@
 -- What the grammar sees of tokens (JESD71, statements). Which words are reserved, and which of JESD71's words are left out, is this
 -- profile's rule.
 use Rattle.std.specs.Prelude.{ℕ, ℤ, List, [], ◌∷◌, Bool, true, false, not, ◌==◌, ◌%◌, if◌then◌else◌, codes, drop, map, Option, None, Some, find, position}
+use Rattle.std.specs.List.{list_any}
 use Rattle.std.specs.Option.{option_map_or}
 use Rattle.std.specs.Str.{bytes_eq}
 use Rattle.std.specs.Str.Parse.{digits_value}
@@ -9,7 +10,7 @@ use Rattle.stapl_lexer.specs.declared.token.TokenKind.{TokenKind}
 use Rattle.stapl_lexer.specs.declared.token.TokenKind.TheVariants as kinds
 use Rattle.stapl_lexer.specs.Names.{is_name}
 use Rattle.stapl_lexer.specs.PieceTokens.{spells_word, is_literal_digit}
-use Rattle.stapl_lexer.specs.ReservedWords.{is_one_of, state_words}
+use Rattle.stapl_lexer.specs.ReservedWords.{state_words}
 use Rattle.stapl_lexer.specs.SpelledTokens as spelled_tokens
 use Rattle.stapl_syntax.specs.declared.signs.BinOp.{BinOp}
 use Rattle.stapl_syntax.specs.declared.signs.BinOp.TheVariants as operators
@@ -189,34 +190,34 @@ left_out_words = codes "CEIL" ∷ codes "FLOOR" ∷ codes "LOG2" ∷ codes "MAX"
 abbrev pub sign_or : {A : Type 0} → (A → Sign) → Option A → Sign → Sign
 sign_or make found other = option_map_or make found other
 
+-- a word that is left out, or a state, or that other sign, where a test says which spelling the word has
+abbrev pub left_out_or_state : (List ℕ → Bool) → Sign → Sign
+left_out_or_state spells other =
+    if list_any spells left_out_statements then signs.LeftOutStatement
+    else if list_any spells left_out_words then signs.LeftOutWord
+    else sign_or signs.State (position spells state_words) other
+
+-- a word that stands inside statements, or one of those above
+abbrev pub inside_word : (List ℕ → Bool) → Sign → Sign
+inside_word spells other =
+    sign_or signs.Join (find (λ word. spells (join_spelling word)) all_join_words)
+    (sign_or signs.Function (find (λ word. spells (function_spelling word)) all_functions) (left_out_or_state spells other))
+
+-- a reserved word, or that other sign
+abbrev pub reserved_or : (List ℕ → Bool) → Sign → Sign
+reserved_or spells other =
+    sign_or signs.Outer (find (λ word. spells (outer_spelling word)) all_outer_words)
+    (sign_or signs.Inner (find (λ word. spells (inner_spelling word)) all_inner_words)
+    (sign_or signs.Simple (find (λ word. spells (simple_spelling word)) all_simple_words)
+    (sign_or signs.Port (find (λ word. spells (port_spelling word)) all_port_words) (inside_word spells other))))
+
 -- a word that is not reserved, by its bytes in upper case
 abbrev pub name_sign : List ℕ → Sign
 name_sign bytes = if is_name bytes then signs.Name bytes else signs.Other
 
--- a state or a name
-abbrev pub state_or_name : List ℕ → Sign
-state_or_name bytes = sign_or signs.State (position (λ word. spells_word word bytes) state_words) (name_sign bytes)
-
--- a word that is left out, a state or a name
-abbrev pub left_out_or_name : List ℕ → Sign
-left_out_or_name bytes =
-    if is_one_of left_out_statements bytes then signs.LeftOutStatement
-    else if is_one_of left_out_words bytes then signs.LeftOutWord
-    else state_or_name bytes
-
--- a word that stands inside statements, or one of those above
-abbrev pub inside_word_sign : List ℕ → Sign
-inside_word_sign bytes =
-    sign_or signs.Join (find (λ word. spells_word (join_spelling word) bytes) all_join_words)
-    (sign_or signs.Function (find (λ word. spells_word (function_spelling word) bytes) all_functions) (left_out_or_name bytes))
-
--- a word, by its bytes in upper case
+-- a word, by its bytes in upper case: a reserved word, or a name
 abbrev pub word_sign : List ℕ → Sign
-word_sign bytes =
-    sign_or signs.Outer (find (λ word. spells_word (outer_spelling word) bytes) all_outer_words)
-    (sign_or signs.Inner (find (λ word. spells_word (inner_spelling word) bytes) all_inner_words)
-    (sign_or signs.Simple (find (λ word. spells_word (simple_spelling word) bytes) all_simple_words)
-    (sign_or signs.Port (find (λ word. spells_word (port_spelling word) bytes) all_port_words) (inside_word_sign bytes))))
+word_sign bytes = reserved_or (λ word. spells_word word bytes) (name_sign bytes)
 
 -- a mark, by its bytes
 abbrev pub mark_sign : List ℕ → Sign

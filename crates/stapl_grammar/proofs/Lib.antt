@@ -1,0 +1,6 @@
+pub mod Tools
+pub mod Sound
+pub mod Steps
+pub mod Complete
+pub mod Loop
+pub mod Spelling

@@ -1,0 +1,4 @@
+pub mod Given
+pub mod Seen
+pub mod Reading
+pub mod PartReading

@@ -1,0 +1,111 @@
+//! Single signs.
+ghost use Rattle.std.specs.Prelude.{◌≡◌, ◌<◌};
+ghost use Rattle.stapl_syntax.specs.WholeGrammar.{level_of};
+ghost use Rattle.stapl_syntax.specs.WholeParts.{mark_number, join_number, is_mark, is_join};
+ghost use Rattle.stapl_grammar.specs.Reading.{operator_of, unary_of};
+
+use stapl_syntax::whole::{BinOp, JoinWord, Mark, Sign, UnOp};
+
+// How tightly an operator binds: 1 is the tightest, 10 the loosest.
+#[tactic(auto, unfolding(stapl_syntax::specs::WholeGrammar::level_of))]
+pub(crate) fn level(op: BinOp) -> u32
+    ensures level { result ≡ level_of op }
+    ensures above { 0 < result }
+{
+    match op {
+        BinOp::Multiply | BinOp::Divide | BinOp::Remainder => 1,
+        BinOp::Add | BinOp::Subtract => 2,
+        BinOp::ShiftLeft | BinOp::ShiftRight => 3,
+        BinOp::Less | BinOp::AtMost | BinOp::Greater | BinOp::AtLeast => 4,
+        BinOp::Equal | BinOp::NotEqual => 5,
+        BinOp::BitAnd => 6,
+        BinOp::BitXor => 7,
+        BinOp::BitOr => 8,
+        BinOp::And => 9,
+        BinOp::Or => 10,
+    }
+}
+
+// The operator with two operands that a sign is.
+#[tactic(auto, unfolding(crate::specs::Reading::operator_of))]
+pub(crate) fn operator_of(sign: Sign) -> Option<BinOp>
+    ensures { result ≡ operator_of sign }
+{
+    match sign {
+        Sign::Operator(op) => Some(op),
+        _ => None,
+    }
+}
+
+// The operator with one operand that a sign is.
+#[tactic(auto, unfolding(crate::specs::Reading::unary_of))]
+pub(crate) fn unary_of(sign: Sign) -> Option<UnOp>
+    ensures { result ≡ unary_of sign }
+{
+    match sign {
+        Sign::Operator(BinOp::Subtract) => Some(UnOp::Negate),
+        Sign::Mark(Mark::Tilde) => Some(UnOp::Complement),
+        Sign::Mark(Mark::Exclamation) => Some(UnOp::Not),
+        _ => None,
+    }
+}
+
+// The place of a mark among the marks.
+#[tactic(auto, unfolding(stapl_syntax::specs::WholeParts::mark_number))]
+fn mark_number(mark: Mark) -> u8
+    ensures { result ≡ mark_number mark }
+{
+    match mark {
+        Mark::Tilde => 0,
+        Mark::Exclamation => 1,
+        Mark::LeftRound => 2,
+        Mark::RightRound => 3,
+        Mark::LeftSquare => 4,
+        Mark::RightSquare => 5,
+        Mark::Dots => 6,
+        Mark::Comma => 7,
+        Mark::Equals => 8,
+        Mark::Colon => 9,
+    }
+}
+
+// The place of a word inside statements among those words.
+#[tactic(auto, unfolding(stapl_syntax::specs::WholeParts::join_number))]
+fn join_number(word: JoinWord) -> u8
+    ensures { result ≡ join_number word }
+{
+    match word {
+        JoinWord::Capture => 0,
+        JoinWord::Compare => 1,
+        JoinWord::Cycles => 2,
+        JoinWord::Optional => 3,
+        JoinWord::Recommended => 4,
+        JoinWord::Step => 5,
+        JoinWord::Then => 6,
+        JoinWord::To => 7,
+        JoinWord::Usec => 8,
+        JoinWord::Uses => 9,
+    }
+}
+
+// Whether a sign is this mark.
+#[tactic(auto, unfolding(stapl_syntax::specs::WholeParts::is_mark))]
+pub(crate) fn is_mark(sign: Sign, mark: Mark) -> bool
+    ensures { result ≡ is_mark sign mark }
+{
+    match sign {
+        Sign::Mark(own) => mark_number(own) == mark_number(mark),
+        _ => false,
+    }
+}
+
+// Whether a sign is this word.
+#[tactic(auto, unfolding(stapl_syntax::specs::WholeParts::is_join))]
+pub(crate) fn is_join(sign: Sign, word: JoinWord) -> bool
+    ensures { result ≡ is_join sign word }
+{
+    match sign {
+        Sign::Join(own) => join_number(own) == join_number(word),
+        _ => false,
+    }
+}
