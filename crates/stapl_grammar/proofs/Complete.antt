@@ -16,7 +16,7 @@ use Rattle.stapl_syntax.specs.WholeSymbols.{Symbol, Plain, Text, Literal, CheckW
 use Rattle.stapl_syntax.specs.WholeTrees.{ExprTree, ArrayTree, number, scalar, element, unary, binary, abs, int, literal, whole, range, of_int}
 use Rattle.stapl_syntax.specs.WholeGrammar.{level_of, operator, mark, function, name, IsExpr, IsUnary, IsPrimary, IsCell, IsTarget, IsArray, of_unary, negation, complement, negated, tighter, of_binary, of_primary, of_number, of_cell, of_scalar, of_element, of_brackets, of_abs, of_array, of_literal, of_target, of_whole, of_range, of_expr, left_square, right_square, left_round, right_round, dots}
 use Rattle.stapl_syntax.specs.WholeParts.{after_mark, is_mark, mark_number}
-use Rattle.stapl_grammar.specs.Reading.{◌>>=◌, Reader, next_sign, name_at, name_of, literal_at, operator_of, next_operator, closed_by, bracketed_by, named_by, range_by, target_from, target_by, array_from, array_by, primary_from, unary_of, unary_by, expr_in, climb_in, expr, climb}
+use Rattle.stapl_grammar.specs.Reading.{◌>>=◌, Reader, next_sign, name_at, name_of, literal_at, operator_of, next_operator, closed_by, bracketed_by, named_by, range_by, target_from, target_by, bool_from, array_from, array_by, brackets_from, function_from, primary_from, unary_of, unary_by, expr_in, climb_in, expr, climb}
 use Rattle.stapl_grammar.proofs.Tools.{AtLeastLevel, some_is, after_mark_some, after_mark_here, next_operator_some, next_operator_here, next_operator_quiet, next_operator_none, level_suc}
 use Rattle.stapl_grammar.proofs.Sound.{expr_sound}
 use Rattle.stapl_grammar.proofs.Steps.{bind_same, expr-is, climb-is, expr_shorter}
@@ -101,12 +101,12 @@ pub behind_name : {A : Type 0} → (List ℕ → Reader A) → Reader A
 behind_name read s = name_at s >>= λ v. read v.0 v.1
 
 cell_primary : {a : List Symbol} {e : ExprTree} → IsCell a e → (r : List Symbol) → primary_by (a ++ r) ≡ behind_name (named_by (expr 10)) (a ++ r)
-unfolding primary_by primary_from next_sign behind_name name_at name_of
+unfolding primary_by primary_from brackets_from function_from next_sign behind_name name_at name_of
 cell_primary of_scalar r = refl
 cell_primary (of_element m) r = refl
 
 target_array : {a : List Symbol} {x : ArrayTree} → IsTarget a x → (r : List Symbol) → array_by (expr 10) (a ++ r) ≡ behind_name (target_by (expr 10)) (a ++ r)
-unfolding array_by array_from literal_at next_sign behind_name name_at name_of
+unfolding array_by array_from bool_from literal_at next_sign behind_name name_at name_of
 target_array of_whole r = refl
 target_array (of_range h l) r = refl
 
@@ -124,7 +124,7 @@ first_of_primary (of_abs m) r = refl
 first_of_primary (of_array m) r = refl
 
 closing_none : (t : List Symbol) → expr 10 (right_square ∷ t) ≡ None
-unfolding unary_by unary_of primary_from
+unfolding unary_by unary_of primary_from brackets_from function_from
 closing_none t = expr-is 10 (right_square ∷ t)
 
 -- an expression doesn't begin with a closing bracket
@@ -143,7 +143,7 @@ unfolding target_from range_by
 range_complete v a x s y r h l = rw (not_closing (a ++ (dots ∷ s)) (x, dots ∷ s) h, h, after_mark_here marks.Dots s, l)
 
 mutual
-  unfolding unary_by unary_of primary_by primary_from named_by array_by array_from literal_at next_sign name_at name_of behind_name target_by target_from range_by after_mark is_mark mark_number
+  unfolding unary_by unary_of primary_by primary_from brackets_from function_from named_by array_by array_from bool_from literal_at next_sign name_at name_of behind_name target_by target_from range_by after_mark is_mark mark_number
 
   pub expr_complete : {n : ℕ} {a : List Symbol} {e : ExprTree} → IsExpr n a e → (r : List Symbol) → Ends n r → expr n (a ++ r) ≡ climb n e r
   expr_complete (of_unary m) r ends = expr-is 0 _ ∙ ap (λ (q : Option (ExprTree × List Symbol)). q >>= λ x. climb 0 x.0 x.1) (unary_complete m r ends.bracket)

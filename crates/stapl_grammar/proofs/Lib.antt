@@ -4,3 +4,4 @@ pub mod Steps
 pub mod Complete
 pub mod Loop
 pub mod Spelling
+pub mod ContentLemmas

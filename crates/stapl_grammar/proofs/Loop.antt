@@ -1,15 +1,17 @@
--- The loop over the operators behind an operand.
+-- The steps of the code that reads expressions.
 use Rattle.std.proofs.Common.{◌≡◌, ℕ, ◌-◌, List, Option, Some, None, refl, sym, ap, ◌∙◌}
 use Rattle.std.specs.Option.{option_map_or}
 use Rattle.stapl_syntax.specs.declared.signs.BinOp.{BinOp}
+use Rattle.stapl_syntax.specs.declared.signs.UnOp.{UnOp}
+use Rattle.stapl_syntax.specs.declared.signs.Sign.{Sign}
 use Rattle.stapl_syntax.specs.WholeSymbols.{Symbol}
-use Rattle.stapl_syntax.specs.WholeTrees.{ExprTree, binary}
+use Rattle.stapl_syntax.specs.WholeTrees.{ExprTree, unary, binary}
 use Rattle.stapl_syntax.specs.WholeGrammar.{level_of}
 use Rattle.stapl_grammar.specs.declared.refused.Refused.{Refused}
 use Rattle.stapl_grammar.specs.declared.refused.Refused.TheVariants.{Memory, Syntax}
 use Rattle.stapl_grammar.specs.Given.{Fails}
-use Rattle.stapl_grammar.specs.Reading.{◌>>=◌, next_operator, unary_by, expr, climb}
-use Rattle.stapl_grammar.proofs.Steps.{expr-is}
+use Rattle.stapl_grammar.specs.Reading.{◌>>=◌, next_sign, next_operator, unary_of, unary_by, primary_from, expr, climb}
+use Rattle.stapl_grammar.proofs.Steps.{expr-is, unary_is, unary_nothing}
 use Rattle.stapl_grammar.proofs.Complete.{climb_stops, climb_some}
 
 pub starts : (n : ℕ) (s : List Symbol) (e : ExprTree) (r : List Symbol) → unary_by (expr 10) s ≡ Some (e, r) → climb n e r ≡ expr n s
@@ -28,3 +30,18 @@ goes_on_not n e s op r Syntax h g = rw (climb_some n e s (op, r) h, g)
 
 pub is_done : (n : ℕ) (e : ExprTree) (s : List Symbol) → next_operator n s ≡ None → climb n e s ≡ Some (e, s)
 is_done n e s h = climb_stops n e s h
+
+-- ---- an operand, by its first sign
+
+pub has_operator : (s r : List Symbol) (g : Sign) (op : UnOp) (e : ExprTree) (u : List Symbol) → next_sign s ≡ Some (g, r) → unary_of g ≡ Some op → unary_by (expr 10) r ≡ Some (e, u) → unary_by (expr 10) s ≡ Some (unary op e, u)
+has_operator s r g op e u n o h = rw (unary_is (expr 10) g s r n, o, h)
+
+pub has_operator_not : (s r : List Symbol) (g : Sign) (op : UnOp) (d : Refused) → next_sign s ≡ Some (g, r) → unary_of g ≡ Some op → Fails d (unary_by (expr 10) r) → Fails d (unary_by (expr 10) s)
+has_operator_not s r g op Memory n o h = tt
+has_operator_not s r g op Syntax n o h = rw (unary_is (expr 10) g s r n, o, h)
+
+pub has_no_operator : (s r : List Symbol) (g : Sign) → next_sign s ≡ Some (g, r) → unary_of g ≡ None → unary_by (expr 10) s ≡ primary_from (expr 10) g r
+has_no_operator s r g n o = rw (unary_is (expr 10) g s r n, o)
+
+pub has_nothing : (s : List Symbol) → next_sign s ≡ None → unary_by (expr 10) s ≡ None
+has_nothing s n = unary_nothing (expr 10) s n

@@ -17,7 +17,7 @@ use Rattle.stapl_syntax.specs.WholeSymbols.{Symbol, Plain, Text, Literal, CheckW
 use Rattle.stapl_syntax.specs.WholeTrees.{ExprTree, ArrayTree, number, scalar, element, unary, binary, abs, int, literal, whole, range, of_int}
 use Rattle.stapl_syntax.specs.WholeGrammar.{level_of, operator, mark, function, name, IsExpr, IsUnary, IsPrimary, IsCell, IsTarget, IsArray, of_unary, negation, complement, negated, tighter, of_binary, of_primary, of_number, of_cell, of_scalar, of_element, of_brackets, of_abs, of_array, of_literal, of_target, of_whole, of_range, of_expr, left_square, right_square, left_round, right_round, dots}
 use Rattle.stapl_syntax.specs.WholeParts.{after_mark, is_mark, mark_number}
-use Rattle.stapl_grammar.specs.Reading.{◌>>=◌, Reader, next_sign, name_at, name_of, literal_at, operator_of, next_operator, closed_by, bracketed_by, named_by, range_by, target_from, target_by, array_from, array_by, primary_from, unary_of, unary_by, expr_in, climb_in, expr, climb}
+use Rattle.stapl_grammar.specs.Reading.{◌>>=◌, Reader, next_sign, name_at, name_of, literal_at, operator_of, next_operator, closed_by, bracketed_by, named_by, range_by, target_from, target_by, bool_from, array_from, array_by, brackets_from, function_from, primary_from, unary_of, unary_by, expr_in, climb_in, expr, climb}
 use Rattle.stapl_grammar.proofs.Tools.{by_step, some_is, choice_some, by_test, after_mark_some, next_operator_some, next_operator_none, level_suc, AtLeastLevel}
 
 -- a front of the symbols is what P says, and the rest stands behind it
@@ -134,13 +134,13 @@ target_sound v read sound s x e =
     subst (λ (l : List Symbol). IsFront IsTarget (name v ∷ l) x) (sym s-is) (target_from_sound v read sound r x e1)
 
 array_from_sound : (read : Reader ExprTree) → IsSound (IsExpr 10) read → (g : Sign) (s : List Symbol) (x : ArrayTree × List Symbol) → array_from read g s ≡ Some x → IsFront IsArray (Plain g ∷ s) x
-unfolding array_from
+unfolding array_from bool_from
 array_from_sound read sound (signs.Name v) s x e = front_as (λ y. y) (λ a m. of_target m) (target_sound v read sound s x e)
 array_from_sound read sound (signs.Function functions.Bool) s x e = word_sound (function functions.Bool) (IsExpr 10) IsArray of_int (λ a y m. of_expr m) read sound s x e
 array_from_sound read sound _ s x e = absurd cc
 
 pub array_sound : (read : Reader ExprTree) → IsSound (IsExpr 10) read → IsSound IsArray (array_by read)
-unfolding array_by array_from literal_at next_sign
+unfolding array_by array_from bool_from literal_at next_sign
 array_sound read sound [] x e = absurd cc
 array_sound read sound (Literal bits ∷ s) x e =
     subst (IsFront IsArray (Literal bits ∷ s)) (some_is (literal bits, s) x e) (record { taken = Literal bits ∷ []; parts = refl; meant = of_literal; shorter = omega arith })
@@ -149,7 +149,7 @@ array_sound read sound (Text bytes ∷ s) x e = absurd cc
 array_sound read sound (CheckWord n ∷ s) x e = absurd cc
 
 primary_from_sound : (read : Reader ExprTree) → IsSound (IsExpr 10) read → (g : Sign) (s : List Symbol) (x : ExprTree × List Symbol) → primary_from read g s ≡ Some x → IsFront IsPrimary (Plain g ∷ s) x
-unfolding primary_from
+unfolding primary_from brackets_from function_from
 primary_from_sound read sound (signs.Number z) s x e =
     subst (IsFront IsPrimary (Plain (signs.Number z) ∷ s)) (some_is (number z, s) x e) (record { taken = Plain (signs.Number z) ∷ []; parts = refl; meant = of_number; shorter = omega arith })
 primary_from_sound read sound (signs.Name v) s x e = front_as (λ y. y) (λ a m. of_cell m) (named_sound v read sound s x e)
@@ -160,7 +160,7 @@ primary_from_sound read sound (signs.Function functions.Int) s x e = word_sound 
 primary_from_sound read sound _ s x e = absurd cc
 
 primary_sound : (read : Reader ExprTree) → IsSound (IsExpr 10) read → (t : Symbol) (s : List Symbol) (x : ExprTree × List Symbol) → primary_from read (sign_of t) s ≡ Some x → IsFront IsPrimary (t ∷ s) x
-unfolding primary_from
+unfolding primary_from brackets_from function_from
 primary_sound read sound (Plain g) s x e = primary_from_sound read sound g s x e
 primary_sound read sound (Text bytes) s x e = absurd cc
 primary_sound read sound (Literal bits) s x e = absurd cc

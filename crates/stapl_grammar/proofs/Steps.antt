@@ -15,7 +15,7 @@ use Rattle.stapl_syntax.specs.WholeSymbols.{Symbol, Plain, Text, Literal, CheckW
 use Rattle.stapl_syntax.specs.WholeTrees.{ExprTree, ArrayTree, number, scalar, element, unary, binary, abs, int, literal, whole, range, of_int}
 use Rattle.stapl_syntax.specs.WholeGrammar.{level_of, operator, mark, function, name, IsExpr, IsUnary, IsPrimary, IsCell, IsTarget, IsArray, of_unary, negation, complement, negated, tighter, of_binary, of_primary, of_number, of_cell, of_scalar, of_element, of_brackets, of_abs, of_array, of_literal, of_target, of_whole, of_range, of_expr, left_square, right_square, left_round, right_round, dots}
 use Rattle.stapl_syntax.specs.WholeParts.{after_mark, is_mark, mark_number}
-use Rattle.stapl_grammar.specs.Reading.{◌>>=◌, Reader, next_sign, name_at, name_of, literal_at, operator_of, next_operator, closed_by, bracketed_by, named_by, range_by, target_from, target_by, array_from, array_by, primary_from, unary_of, unary_by, expr_in, climb_in, expr, climb}
+use Rattle.stapl_grammar.specs.Reading.{◌>>=◌, Reader, next_sign, name_at, name_of, literal_at, operator_of, next_operator, closed_by, bracketed_by, named_by, range_by, target_from, target_by, bool_from, array_from, array_by, brackets_from, function_from, primary_from, unary_of, unary_by, expr_in, climb_in, expr, climb}
 use Rattle.stapl_grammar.proofs.Tools.{after_mark_some, next_operator_some}
 use Rattle.stapl_grammar.proofs.Sound.{expr_sound, unary_sound}
 
@@ -69,7 +69,7 @@ module _ (r q : Reader ExprTree) (k : ℕ) (agree : Agree k r q) (short : Shorte
   target_same v s le = bind_same (after_mark marks.LeftSquare s) _ _ (λ t t-is. target_from_same v t (omega (arith, mark_shorter marks.LeftSquare s t t-is)))
 
   array_from_same : (g : Sign) (s : List Symbol) → length s ≤ k → array_from r g s ≡ array_from q g s
-  unfolding array_from
+  unfolding array_from bool_from
   array_from_same (signs.Name v) s le = target_same v s le
   array_from_same (signs.Function functions.Bool) s le = rw (bracketed_same r q k agree s le)
   array_from_same _ s le = refl
@@ -83,7 +83,7 @@ module _ (r q : Reader ExprTree) (k : ℕ) (agree : Agree k r q) (short : Shorte
   array_same (CheckWord n ∷ s) le = array_from_same signs.Other s (omega arith)
 
   primary_same : (g : Sign) (s : List Symbol) → length s < k → primary_from r g s ≡ primary_from q g s
-  unfolding primary_from
+  unfolding primary_from brackets_from function_from
   primary_same (signs.Name v) s le = named_same v s (omega arith)
   primary_same (signs.Mark marks.LeftRound) s le = closed_same marks.RightRound r q s (agree s le)
   primary_same (signs.Function functions.Abs) s le = rw (bracketed_same r q k agree s (omega arith))

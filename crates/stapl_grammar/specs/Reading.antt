@@ -7,6 +7,7 @@ use Rattle.stapl_syntax.specs.declared.signs.UnOp.{UnOp}
 use Rattle.stapl_syntax.specs.declared.signs.UnOp.TheVariants.{Negate, Complement, Not}
 use Rattle.stapl_syntax.specs.declared.signs.Mark.{Mark}
 use Rattle.stapl_syntax.specs.declared.signs.Mark.TheVariants as marks
+use Rattle.stapl_syntax.specs.declared.signs.Function.{Function}
 use Rattle.stapl_syntax.specs.declared.signs.Function.TheVariants as functions
 use Rattle.stapl_syntax.specs.declared.signs.Sign.{Sign}
 use Rattle.stapl_syntax.specs.declared.signs.Sign.TheVariants as signs
@@ -92,10 +93,15 @@ target_from read v s = option_map_or (λ rest. Some (whole v, rest)) (after_mark
 unfoldable pub target_by : Reader ExprTree → List ℕ → Reader ArrayTree
 target_by read v s = after_mark marks.LeftSquare s >>= target_from read v
 
+-- behind a function that gives an array
+unfoldable pub bool_from : Reader ExprTree → Function → Reader ArrayTree
+bool_from read functions.Bool s = bracketed_by read s >>= λ x. Some (of_int x.0, x.1)
+bool_from read _ s = None
+
 -- behind the first sign: an array that is no literal
 unfoldable pub array_from : Reader ExprTree → Sign → Reader ArrayTree
 array_from read (signs.Name v) s = target_by read v s
-array_from read (signs.Function functions.Bool) s = bracketed_by read s >>= λ x. Some (of_int x.0, x.1)
+array_from read (signs.Function f) s = bool_from read f s
 array_from read _ s = None
 
 unfoldable pub array_by : Reader ExprTree → Reader ArrayTree
@@ -103,13 +109,23 @@ array_by read s =
     if is_some (literal_at s) then (literal_at s >>= λ x. Some (literal x.0, x.1))
     else (next_sign s >>= λ g. array_from read g.0 g.1)
 
+-- behind an opening bracket
+unfoldable pub brackets_from : Reader ExprTree → Mark → Reader ExprTree
+brackets_from read marks.LeftRound s = closed_by marks.RightRound read s
+brackets_from read _ s = None
+
+-- behind a function that gives an integer
+unfoldable pub function_from : Reader ExprTree → Function → Reader ExprTree
+function_from read functions.Abs s = bracketed_by read s >>= λ x. Some (abs x.0, x.1)
+function_from read functions.Int s = bracketed_by (array_by read) s >>= λ x. Some (int x.0, x.1)
+function_from read _ s = None
+
 -- behind the first sign: an operand without an operator before it
 unfoldable pub primary_from : Reader ExprTree → Sign → Reader ExprTree
 primary_from read (signs.Number z) s = Some (number z, s)
 primary_from read (signs.Name v) s = named_by read v s
-primary_from read (signs.Mark marks.LeftRound) s = closed_by marks.RightRound read s
-primary_from read (signs.Function functions.Abs) s = bracketed_by read s >>= λ x. Some (abs x.0, x.1)
-primary_from read (signs.Function functions.Int) s = bracketed_by (array_by read) s >>= λ x. Some (int x.0, x.1)
+primary_from read (signs.Mark m) s = brackets_from read m s
+primary_from read (signs.Function f) s = function_from read f s
 primary_from read _ s = None
 
 -- the operator with one operand that a sign is

@@ -1,10 +1,14 @@
 //! The tokens of a piece that are still to be read.
 use std::marker::Model;
 
+use crate::contents::{between_quotes, binary_bits, check_number, hexadecimal_bits};
 use crate::looks::{is_join, is_mark, level, operator_of};
 use crate::refused::Refused;
-use crate::sign::sign_of;
-use stapl_lexer::{Name, Token};
+use crate::sign::{bytes_in, sign_of};
+use bit_list::Bits;
+use lists_and_numbers::ItemList;
+use stapl_lexer::{Name, Token, TokenKind};
+use std::alloc::Global;
 use stapl_syntax::whole::{BinOp, JoinWord, Mark, Sign};
 
 // The tokens that are still to be read, seen as their symbols. After an error nothing is said of them.
@@ -28,12 +32,13 @@ impl<'a> Model for Cursor<'a> {
 }
 
 impl<'a> Cursor<'a> {
-    ghost use Rattle.std.specs.Prelude.{◌≡◌, ◌<◌, ◌≤◌, All, length, [], ◌∷◌, IfSome, IfNone, OnOk, OnSome, MatchBool, Some, None};
+    ghost use Rattle.std.specs.Prelude.{◌≡◌, ◌<◌, ◌≤◌, All, length, [], ◌∷◌, IfSome, IfNone, OnOk, OnSome, MatchBool, Some, None, is_some};
     ghost use Rattle.std.specs.Bool.{OnTrue};
     ghost use Rattle.stapl_lexer.specs.PieceTokens.{LiesBetween};
-    ghost use Rattle.stapl_syntax.specs.WholeParts.{after_mark, after_join, after_comma_join};
+    ghost use Rattle.stapl_syntax.specs.WholeParts.{after_mark, after_join, after_comma_join, begins_text};
     ghost use Rattle.stapl_grammar.specs.Given.{Gives};
-    ghost use Rattle.stapl_grammar.specs.Reading.{next_sign, next_operator, name_at};
+    ghost use Rattle.stapl_grammar.specs.Reading.{next_sign, next_operator, name_at, literal_at};
+    ghost use Rattle.stapl_grammar.specs.PartReading.{text_at, check_word_at};
     ghost use Rattle.stapl_grammar.specs.Seen.{seen, first_seen, second_seen};
 
     // All of these tokens of a text.
@@ -157,6 +162,86 @@ impl<'a> Cursor<'a> {
         };
         match first {
             Sign::Name(v) => Ok(v),
+            _ => Err(Refused::Syntax),
+        }
+    }
+
+    // Whether a string stands first.
+    #[tactic(auto, unfolding(crate::specs::Seen::seen, crate::specs::Seen::seen_as, stapl_syntax::specs::WholeParts::begins_text))]
+    pub(crate) fn begins_text(&self) -> bool
+        ensures { result ≡ begins_text self.now }
+    {
+        match self.rest.first() {
+            Some(token) => matches!(token.kind, TokenKind::Text),
+            None => false,
+        }
+    }
+
+    // The bytes between the quotes of the string that stands first.
+    #[tactic(auto, unfolding(crate::specs::Seen::seen, crate::specs::Seen::seen_as, crate::specs::PartReading::text_at))]
+    pub(crate) fn text(&mut self, alloc: Global) -> Result<ItemList<u8>, Refused>
+        ensures read { Gives (λ bytes. (bytes, self.new)) result (text_at self.old) }
+        ensures shorter { OnOk result (length self.new < length self.old) }
+    {
+        let Some(token) = self.rest.first() else {
+            return Err(Refused::Syntax);
+        };
+        match token.kind {
+            TokenKind::Text => {
+                let own = bytes_in(self.text, token);
+                let bytes = Vec::from_slice(alloc, between_quotes(own))?;
+                self.rest = &self.rest[1..];
+                Ok(ItemList::of(bytes))
+            }
+            _ => Err(Refused::Syntax),
+        }
+    }
+
+    // Whether a literal stands first.
+    #[tactic(auto, unfolding(crate::specs::Seen::seen, crate::specs::Seen::seen_as, crate::specs::Reading::literal_at))]
+    pub(crate) fn begins_literal(&self) -> bool
+        ensures { result ≡ is_some (literal_at self.now) }
+    {
+        match self.rest.first() {
+            Some(token) => matches!(token.kind, TokenKind::Binary | TokenKind::Hexadecimal),
+            None => false,
+        }
+    }
+
+    // The bits of the literal that stands first.
+    #[tactic(auto, unfolding(crate::specs::Seen::seen, crate::specs::Seen::seen_as, crate::specs::Reading::literal_at))]
+    pub(crate) fn literal(&mut self, alloc: Global) -> Result<Bits, Refused>
+        ensures read { Gives (λ bits. (bits, self.new)) result (literal_at self.old) }
+        ensures shorter { OnOk result (length self.new < length self.old) }
+    {
+        let Some(token) = self.rest.first() else {
+            return Err(Refused::Syntax);
+        };
+        let own = bytes_in(self.text, token);
+        let bits = match token.kind {
+            TokenKind::Binary => binary_bits(alloc, &own[1..])?,
+            TokenKind::Hexadecimal => hexadecimal_bits(alloc, &own[1..])?,
+            _ => return Err(Refused::Syntax),
+        };
+        self.rest = &self.rest[1..];
+        Ok(bits)
+    }
+
+    // The number of the digits behind CRC, where they stand first.
+    #[tactic(auto, unfolding(crate::specs::Seen::seen, crate::specs::Seen::seen_as, crate::specs::PartReading::check_word_at))]
+    pub(crate) fn check_word(&mut self, alloc: Global) -> Result<u16, Refused>
+        ensures read { Gives (λ number. (number, self.new)) result (check_word_at self.old) }
+        ensures shorter { OnOk result (length self.new < length self.old) }
+    {
+        let Some(token) = self.rest.first() else {
+            return Err(Refused::Syntax);
+        };
+        match token.kind {
+            TokenKind::Hex4 => {
+                let number = check_number(alloc, bytes_in(self.text, token))?;
+                self.rest = &self.rest[1..];
+                Ok(number)
+            }
             _ => Err(Refused::Syntax),
         }
     }

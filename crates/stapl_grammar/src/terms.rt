@@ -1,0 +1,229 @@
+//! Expressions and arrays.
+use crate::cursor::Cursor;
+use crate::looks::{level, unary_of};
+use crate::refused::Refused;
+use stapl_lexer::Name;
+use stapl_syntax::whole::{ArrayExpr, Expr, Function, Mark, Sign};
+use std::alloc::Global;
+
+// The level of the loosest operators.
+const LOOSEST: u32 = 10;
+
+impl<'a> Cursor<'a> {
+    ghost use Rattle.std.specs.Prelude.{◌≡◌, ◌<◌, ◌≤◌, ◌∷◌, length, OnOk};
+    ghost use Rattle.stapl_syntax.specs.WholeTrees.{expr_tree, array_tree};
+    ghost use Rattle.stapl_grammar.specs.Given.{Gives};
+    ghost use Rattle.stapl_grammar.specs.Reading.{expr, unary_by, primary_from, brackets_from, function_from, array_by, array_from, bool_from, named_by, target_by};
+    ghost use Rattle.stapl_grammar.specs.PartReading.{array_at, cell_at, target_at};
+
+    // An expression.
+    pub(crate) fn expr(&mut self, alloc: Global) -> Result<Expr, Refused>
+        ensures read { Gives (λ e. (expr_tree e, self.new)) result (expr 10 self.old) }
+        ensures shorter { OnOk result (length self.new < length self.old) }
+    {
+        self.level_expr(alloc, LOOSEST)
+    }
+
+    // A scalar, or an element of an array.
+    #[tactic(auto, unfolding(crate::specs::PartReading::cell_at))]
+    pub(crate) fn cell(&mut self, alloc: Global) -> Result<Expr, Refused>
+        ensures read { Gives (λ e. (expr_tree e, self.new)) result (cell_at self.old) }
+    {
+        let v = self.name()?;
+        self.named(alloc, v)
+    }
+
+    // A whole array, or a range of it.
+    #[tactic(auto, unfolding(crate::specs::PartReading::target_at))]
+    pub(crate) fn target(&mut self, alloc: Global) -> Result<ArrayExpr, Refused>
+        ensures read { Gives (λ a. (array_tree a, self.new)) result (target_at self.old) }
+    {
+        let v = self.name()?;
+        self.target_of(alloc, v)
+    }
+
+    // A literal, a target, or the bits of an integer.
+    #[tactic(auto, unfolding(crate::specs::PartReading::array_at))]
+    pub(crate) fn array(&mut self, alloc: Global) -> Result<ArrayExpr, Refused>
+        ensures read { Gives (λ a. (array_tree a, self.new)) result (array_at self.old) }
+    {
+        self.array_term(alloc)
+    }
+
+    // An expression with operators of levels up to this one.
+    #[cycle(terms)]
+    #[tactic(auto, using(crate::proofs::Loop::starts, crate::proofs::Loop::starts_not, crate::proofs::Loop::goes_on, crate::proofs::Loop::goes_on_not, crate::proofs::Loop::is_done))]
+    fn level_expr(&mut self, alloc: Global, most: u32) -> Result<Expr, Refused>
+        ensures read { Gives (λ e. (expr_tree e, self.new)) result (expr most self.old) }
+        ensures shorter { OnOk result (length self.new < length self.old) }
+    {
+        let mut left = self.operand(alloc)?;
+        while let Some(op) = self.take_operator(most) {
+            let right = self.level_expr(alloc, level(op) - 1)?;
+            left = Expr::Binary(op, Box::new(alloc, left)?, Box::new(alloc, right)?);
+        }
+        Ok(left)
+    }
+
+    // An operand: a primary, or an operator and its one operand.
+    #[cycle(terms)]
+    #[tactic(auto, using(crate::proofs::Loop::has_operator, crate::proofs::Loop::has_operator_not, crate::proofs::Loop::has_no_operator, crate::proofs::Loop::has_nothing))]
+    fn operand(&mut self, alloc: Global) -> Result<Expr, Refused>
+        ensures read { Gives (λ e. (expr_tree e, self.new)) result (unary_by (expr 10) self.old) }
+        ensures shorter { OnOk result (length self.new < length self.old) }
+    {
+        let Some(first) = self.next() else {
+            return Err(Refused::Syntax);
+        };
+        match unary_of(first) {
+            Some(op) => {
+                let inner = self.operand(alloc)?;
+                Ok(Expr::Unary(op, Box::new(alloc, inner)?))
+            }
+            None => self.primary(alloc, first),
+        }
+    }
+
+    // What begins with this sign: a number, a name, an element, brackets or a function.
+    #[cycle(terms)]
+    #[tactic(auto, unfolding(crate::specs::Reading::primary_from))]
+    fn primary(&mut self, alloc: Global, first: Sign) -> Result<Expr, Refused>
+        ensures read { Gives (λ e. (expr_tree e, self.new)) result (primary_from (expr 10) first self.old) }
+        ensures shorter { OnOk result (length self.new ≤ length self.old) }
+    {
+        match first {
+            Sign::Number(n) => Ok(Expr::Number(n)),
+            Sign::Name(v) => self.named(alloc, v),
+            Sign::Mark(mark) => self.in_brackets(alloc, mark),
+            Sign::Function(function) => self.of_function(alloc, function),
+            _ => Err(Refused::Syntax),
+        }
+    }
+
+    // Behind an opening bracket: an expression, and the closing one.
+    #[cycle(terms)]
+    #[tactic(auto, unfolding(crate::specs::Reading::brackets_from, crate::specs::Reading::closed_by))]
+    fn in_brackets(&mut self, alloc: Global, mark: Mark) -> Result<Expr, Refused>
+        ensures read { Gives (λ e. (expr_tree e, self.new)) result (brackets_from (expr 10) mark self.old) }
+        ensures shorter { OnOk result (length self.new ≤ length self.old) }
+    {
+        match mark {
+            Mark::LeftRound => {
+                let inner = self.level_expr(alloc, LOOSEST)?;
+                self.expect_mark(Mark::RightRound)?;
+                Ok(inner)
+            }
+            _ => Err(Refused::Syntax),
+        }
+    }
+
+    // Behind a function that gives an integer: its argument in brackets.
+    #[cycle(terms)]
+    #[tactic(auto, unfolding(crate::specs::Reading::function_from, crate::specs::Reading::closed_by, crate::specs::Reading::bracketed_by))]
+    fn of_function(&mut self, alloc: Global, function: Function) -> Result<Expr, Refused>
+        ensures read { Gives (λ e. (expr_tree e, self.new)) result (function_from (expr 10) function self.old) }
+        ensures shorter { OnOk result (length self.new ≤ length self.old) }
+    {
+        match function {
+            Function::Abs => {
+                self.expect_mark(Mark::LeftRound)?;
+                let inner = self.level_expr(alloc, LOOSEST)?;
+                self.expect_mark(Mark::RightRound)?;
+                Ok(Expr::Abs(Box::new(alloc, inner)?))
+            }
+            Function::Int => {
+                self.expect_mark(Mark::LeftRound)?;
+                let inner = self.array_term(alloc)?;
+                self.expect_mark(Mark::RightRound)?;
+                Ok(Expr::Int(Box::new(alloc, inner)?))
+            }
+            _ => Err(Refused::Syntax),
+        }
+    }
+
+    // Behind a name: an element, or the name alone.
+    #[cycle(terms)]
+    #[tactic(auto, unfolding(crate::specs::Reading::named_by, crate::specs::Reading::closed_by))]
+    fn named(&mut self, alloc: Global, v: Name) -> Result<Expr, Refused>
+        ensures read { Gives (λ e. (expr_tree e, self.new)) result (named_by (expr 10) v self.old) }
+        ensures shorter { OnOk result (length self.new ≤ length self.old) }
+    {
+        if !self.take_mark(Mark::LeftSquare) {
+            return Ok(Expr::Scalar(v));
+        }
+        let index = self.level_expr(alloc, LOOSEST)?;
+        self.expect_mark(Mark::RightSquare)?;
+        Ok(Expr::Element(v, Box::new(alloc, index)?))
+    }
+
+    // An array.
+    #[cycle(terms)]
+    #[tactic(auto, unfolding(crate::specs::Reading::array_by))]
+    fn array_term(&mut self, alloc: Global) -> Result<ArrayExpr, Refused>
+        ensures read { Gives (λ a. (array_tree a, self.new)) result (array_by (expr 10) self.old) }
+        ensures shorter { OnOk result (length self.new < length self.old) }
+    {
+        if self.begins_literal() {
+            let bits = self.literal(alloc)?;
+            return Ok(ArrayExpr::Literal(bits));
+        }
+        let Some(first) = self.next() else {
+            return Err(Refused::Syntax);
+        };
+        self.array_behind(alloc, first)
+    }
+
+    // An array that begins with this sign, and is no literal.
+    #[cycle(terms)]
+    #[tactic(auto, unfolding(crate::specs::Reading::array_from))]
+    fn array_behind(&mut self, alloc: Global, first: Sign) -> Result<ArrayExpr, Refused>
+        ensures read { Gives (λ a. (array_tree a, self.new)) result (array_from (expr 10) first self.old) }
+        ensures shorter { OnOk result (length self.new ≤ length self.old) }
+    {
+        match first {
+            Sign::Name(v) => self.target_of(alloc, v),
+            Sign::Function(function) => self.of_bool(alloc, function),
+            _ => Err(Refused::Syntax),
+        }
+    }
+
+    // Behind a function that gives an array: its argument in brackets.
+    #[cycle(terms)]
+    #[tactic(auto, unfolding(crate::specs::Reading::bool_from, crate::specs::Reading::closed_by, crate::specs::Reading::bracketed_by))]
+    fn of_bool(&mut self, alloc: Global, function: Function) -> Result<ArrayExpr, Refused>
+        ensures read { Gives (λ a. (array_tree a, self.new)) result (bool_from (expr 10) function self.old) }
+        ensures shorter { OnOk result (length self.new ≤ length self.old) }
+    {
+        match function {
+            Function::Bool => {
+                self.expect_mark(Mark::LeftRound)?;
+                let inner = self.level_expr(alloc, LOOSEST)?;
+                self.expect_mark(Mark::RightRound)?;
+                Ok(ArrayExpr::OfInt(Box::new(alloc, inner)?))
+            }
+            _ => Err(Refused::Syntax),
+        }
+    }
+
+    // Behind a name: the whole array of this name, or a range of it.
+    #[cycle(terms)]
+    #[tactic(auto, unfolding(crate::specs::Reading::target_by, crate::specs::Reading::target_from, crate::specs::Reading::range_by, crate::specs::Reading::closed_by))]
+    fn target_of(&mut self, alloc: Global, v: Name) -> Result<ArrayExpr, Refused>
+        ensures read { Gives (λ a. (array_tree a, self.new)) result (target_by (expr 10) v self.old) }
+        ensures shorter { OnOk result (length self.new < length self.old) }
+    {
+        self.expect_mark(Mark::LeftSquare)?;
+        if self.take_mark(Mark::RightSquare) {
+            return Ok(ArrayExpr::Whole(v));
+        }
+        let high = self.level_expr(alloc, LOOSEST)?;
+        self.expect_mark(Mark::Dots)?;
+        let low = self.level_expr(alloc, LOOSEST)?;
+        self.expect_mark(Mark::RightSquare)?;
+        Ok(ArrayExpr::Range(
+            v,
+            Box::new(alloc, high)?,
+            Box::new(alloc, low)?,
+        ))
+    }
+}
