@@ -3,12 +3,17 @@ use Rattle.std.proofs.Common.{◌≡◌, ◌+◌, ◌≤◌, ◌<◌, ℕ, List,
 use Rattle.std.proofs.lemmas.Bool.{cases_lt}
 use Rattle.stapl_lexer.specs.declared.piece.Piece.{Piece}
 use Rattle.stapl_lexer.specs.declared.reason.Reason.{Reason}
+use Rattle.stapl_lexer.specs.declared.token.Token.{Token}
+use Rattle.stapl_lexer.specs.PieceFaults.{IsLexed}
+use Rattle.std.specs.Prelude.{slice_get, Bool}
 use Rattle.stapl_lexer.specs.SpelledTokens.{SpelledToken, spelled, IsSpelled}
 use Rattle.stapl_lexer.proofs.PieceLemmas.{cut_one_way}
 use Rattle.stapl_lexer.proofs.PieceTokenLemmas.{lexed_one_way}
 use Rattle.stapl_syntax.specs.Trees.{StmtTree}
 use Rattle.stapl_syntax.specs.Grammar.{Means, IsPieceStatement}
-use Rattle.stapl_syntax.specs.Faults.{IsReadAs, AreReadAs, is_refused, line_of_index, NoneBefore, IsProgram, FirstFault, is_too_long, is_first}
+use Rattle.stapl_syntax.specs.Faults.{IsReadAs, AreReadAs, is_refused, line_of_index, NoneBefore, IsProgram, IsReasonAt, is_end_of_text, is_not_built, is_one_too_many, is_no_statement, FirstFault, is_too_long, is_first}
+use Rattle.stapl_syntax.specs.WholeSymbols.{Symbol, symbols_of}
+use Rattle.stapl_syntax.specs.WholeStatements.{behind_label, is_unknown, holds_left_out, SmallestReason, in_tokens, unknown, left_out, not_in_grammar}
 use Rattle.stapl_syntax.proofs.FormLemmas.{statement_is}
 
 -- a piece is spelled in one way
@@ -64,20 +69,85 @@ record Fault : Type 0 where
   line : ℕ
   reason : Reason
 
-same_place : (text : List ℕ) (ps qs : List Piece) (i j : ℕ) (r : Reason) → ps ≡ qs → i ≡ j →
-    ◌≡◌ {A = Fault} (record { piece = i + 1; line = line_of_index text ps i; reason = r }) (record { piece = j + 1; line = line_of_index text qs j; reason = r })
-same_place text ps qs i j r e f =
+same_place : (text : List ℕ) (ps qs : List Piece) (i j : ℕ) (r s : Reason) → ps ≡ qs → i ≡ j → r ≡ s →
+    ◌≡◌ {A = Fault} (record { piece = i + 1; line = line_of_index text ps i; reason = r }) (record { piece = j + 1; line = line_of_index text qs j; reason = s })
+same_place text ps qs i j r s e f g =
     ap (λ (z : List Piece). record { piece = i + 1; line = line_of_index text z i; reason = r }) e
     ∙ ap (λ (k : ℕ). record { piece = k + 1; line = line_of_index text qs k; reason = r }) f
+    ∙ ap (λ (t : Reason). record { piece = j + 1; line = line_of_index text qs j; reason = t }) g
+
+-- tokens in which nothing is wrong, and tokens in which something is
+spelled_or_not : {A : Type 0} (text : List ℕ) (piece : Piece) (tokens : List Token) (reason : Reason) (spelled_tokens : List SpelledToken) →
+    IsLexed text piece tokens (Some reason) → IsSpelled text piece spelled_tokens → A
+spelled_or_not text piece tokens reason spelled_tokens lexed is =
+    let two = lexed_one_way text piece tokens is.tokens (Some reason) None is.within lexed is.lexed in
+    absurd (some_none two.1)
+  where
+    some_none : Some reason ≡ None → ⊥
+    some_none e = cc
+
+true_or_false : {A : Type 0} (test : List Symbol → Bool) (xs ys : List Symbol) → xs ≡ ys → test xs ≡ true → test ys ≡ false → A
+true_or_false test xs ys e p q = absurd (both (test ys) (sym (ap test e) ∙ p) q)
+  where
+    both : (b : Bool) → b ≡ true → b ≡ false → ⊥
+    both b t f = cc
+
+-- a piece has one smallest reason
+smallest_reason : {text : List ℕ} {piece : Piece} {r s : Reason} → piece.end ≤ length text → SmallestReason text piece r → SmallestReason text piece s → r ≡ s
+smallest_reason {text = text} {piece = piece} within (in_tokens {reason = r} a x) (in_tokens {reason = s} b y) =
+    some_is (lexed_one_way text piece a b (Some r) (Some s) within x y).1
+  where
+    some_is : Some r ≡ Some s → r ≡ s
+    some_is e = cc
+smallest_reason {text = text} {piece = piece} within (in_tokens {reason = r} a x) (unknown b y p) = spelled_or_not text piece a r b x y
+smallest_reason {text = text} {piece = piece} within (in_tokens {reason = r} a x) (left_out b y p q) = spelled_or_not text piece a r b x y
+smallest_reason {text = text} {piece = piece} within (in_tokens {reason = r} a x) (not_in_grammar b y p q none) = spelled_or_not text piece a r b x y
+smallest_reason {text = text} {piece = piece} within (unknown a x p) (in_tokens {reason = s} b y) = spelled_or_not text piece b s a y x
+smallest_reason {text = text} {piece = piece} within (left_out a x p q) (in_tokens {reason = s} b y) = spelled_or_not text piece b s a y x
+smallest_reason {text = text} {piece = piece} within (not_in_grammar a x p q none) (in_tokens {reason = s} b y) = spelled_or_not text piece b s a y x
+smallest_reason within (unknown a x p) (unknown b y q) = refl
+smallest_reason {text = text} {piece = piece} within (unknown a x p) (left_out b y q t) =
+    true_or_false (λ s. is_unknown (behind_label s)) (symbols_of a) (symbols_of b) (ap symbols_of (spelled_one_way text piece a b x y)) p q
+smallest_reason {text = text} {piece = piece} within (unknown a x p) (not_in_grammar b y q t none) =
+    true_or_false (λ s. is_unknown (behind_label s)) (symbols_of a) (symbols_of b) (ap symbols_of (spelled_one_way text piece a b x y)) p q
+smallest_reason {text = text} {piece = piece} within (left_out b y q t) (unknown a x p) =
+    true_or_false (λ s. is_unknown (behind_label s)) (symbols_of a) (symbols_of b) (ap symbols_of (spelled_one_way text piece a b x y)) p q
+smallest_reason within (left_out a x p q) (left_out b y t u) = refl
+smallest_reason {text = text} {piece = piece} within (left_out a x p q) (not_in_grammar b y t u none) =
+    true_or_false holds_left_out (symbols_of a) (symbols_of b) (ap symbols_of (spelled_one_way text piece a b x y)) q u
+smallest_reason {text = text} {piece = piece} within (not_in_grammar b y q t none) (unknown a x p) =
+    true_or_false (λ s. is_unknown (behind_label s)) (symbols_of a) (symbols_of b) (ap symbols_of (spelled_one_way text piece a b x y)) p q
+smallest_reason {text = text} {piece = piece} within (not_in_grammar b y t u none) (left_out a x p q) =
+    true_or_false holds_left_out (symbols_of a) (symbols_of b) (ap symbols_of (spelled_one_way text piece a b x y)) q u
+smallest_reason within (not_in_grammar a x p q none) (not_in_grammar b y t u other) = refl
+
+-- what stands at an index is refused for one reason
+one_reason_at : {text : List ℕ} {i : ℕ} {at : Option Piece} {r s : Reason} → IsReasonAt text i at r → IsReasonAt text i at s → r ≡ s
+one_reason_at is_end_of_text is_end_of_text = refl
+one_reason_at (is_not_built p st is) (is_not_built q other also) = refl
+one_reason_at (is_not_built p st is) (is_one_too_many q reason late fails) = absurd (fails.none st is)
+one_reason_at (is_not_built p st is) (is_no_statement q reason early fails) = absurd (fails.none st is)
+one_reason_at (is_one_too_many q reason late fails) (is_not_built p st is) = absurd (fails.none st is)
+one_reason_at (is_one_too_many p reason late fails) (is_one_too_many q other also also_fails) = refl
+one_reason_at (is_one_too_many p reason late fails) (is_no_statement q other early also_fails) = absurd (omega arith)
+one_reason_at (is_no_statement q reason early fails) (is_not_built p st is) = absurd (fails.none st is)
+one_reason_at (is_no_statement p reason early fails) (is_one_too_many q other late also_fails) = absurd (omega arith)
+one_reason_at (is_no_statement p reason early fails) (is_no_statement q other also also_fails) = smallest_reason fails.within fails.smallest also_fails.smallest
+
+-- and at equal places for one
+one_reason : (text : List ℕ) (ps qs : List Piece) (i j : ℕ) (r s : Reason) → ps ≡ qs → i ≡ j → IsReasonAt text i (slice_get ps i) r → IsReasonAt text j (slice_get qs j) s → r ≡ s
+one_reason text ps qs i j r s e f x y =
+    one_reason_at (subst (λ (k : ℕ). IsReasonAt text k (slice_get qs k) r) f (subst (λ (z : List Piece). IsReasonAt text i (slice_get z i) r) e x)) y
 
 one_fault : {text : List ℕ} {p l q m : ℕ} {r s : Reason} → FirstFault text p l r → FirstFault text q m s →
     ◌≡◌ {A = Fault} (record { piece = p; line = l; reason = r }) (record { piece = q; line = m; reason = s })
 one_fault (is_too_long a) (is_too_long b) = refl
-one_fault (is_too_long a) (is_first pieces read i short cut are within here before) = absurd (omega arith)
-one_fault (is_first pieces read i short cut are within here before) (is_too_long b) = absurd (omega arith)
-one_fault {text = text} (is_first ps a i short cut are within here before) (is_first qs b j short' cut' are' within' here' before') =
+one_fault (is_too_long a) (is_first pieces read i reason short cut are within here before why) = absurd (omega arith)
+one_fault (is_first pieces read i reason short cut are within here before why) (is_too_long b) = absurd (omega arith)
+one_fault {text = text} (is_first ps a i r short cut are within here before why) (is_first qs b j s short' cut' are' within' here' before' why') =
     let same = cut_one_way text ps qs cut cut' in
-    same_place text ps qs i j _ same (first_place a b i j (same_read text ps qs a b same are are') here before here' before')
+    let place = first_place a b i j (same_read text ps qs a b same are are') here before here' before' in
+    same_place text ps qs i j r s same place (one_reason text ps qs i j r s same place why why')
 
 pub one_first_fault : (text : List ℕ) (p l q m : ℕ) (r s : Reason) → FirstFault text p l r → FirstFault text q m s → (p ≡ q) × (l ≡ m) × (r ≡ s)
 one_first_fault text p l q m r s a b =
@@ -86,7 +156,7 @@ one_first_fault text p l q m r s a b =
 -- a program has no fault
 pub no_fault : {text : List ℕ} {p l : ℕ} {r : Reason} (statements : List StmtTree) → IsProgram text statements → FirstFault text p l r → ⊥
 no_fault statements program (is_too_long a) = let short = program.short in omega arith
-no_fault {text = text} statements program (is_first ps a i short cut are within here before) =
+no_fault {text = text} statements program (is_first ps a i reason short cut are within here before why) =
     let same = cut_one_way text ps program.pieces cut program.cut in
     let long : i ≤ length program.pieces = subst (λ (z : List Piece). i ≤ length z) same within in
     clash a (map Some statements) i (same_read text ps program.pieces a (map Some statements) same are program.read) here (program.sound i (omega arith))

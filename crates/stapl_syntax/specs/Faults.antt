@@ -11,6 +11,9 @@ use Rattle.stapl_lexer.specs.declared.reason.Reason.TheVariants as reasons
 use Rattle.stapl_lexer.specs.Pieces.{IsCut, line_at}
 use Rattle.stapl_syntax.specs.Trees.{BodyTree, action, procedure, end_procedure, StmtTree}
 use Rattle.stapl_syntax.specs.Grammar.{IsPieceStatement}
+use Rattle.stapl_syntax.specs.WholeTrees as whole
+use Rattle.stapl_syntax.specs.WholeStatements as statements
+use Rattle.stapl_syntax.specs.WholeStatements.{SmallestReason}
 use Rattle.stapl_syntax.specs.Declarations.{Known, known_at, variable_passes, label_passes, names_variables, names_labels}
 
 -- how many bytes a text may have, and how many pieces
@@ -120,11 +123,28 @@ pub record IsProgram (text : List ℕ) (statements : List StmtTree) : Type 0 whe
   pub read : AreReadAs text pieces (map Some statements)
   pub sound : NoneBefore (map Some statements) (length pieces + 1)
 
+-- The piece of the text is no statement, and this is the smallest reason for that.
+pub record IsNoStatement (text : List ℕ) (piece : Piece) (reason : Reason) : Type 0 where
+  pub within : piece.end ≤ length text
+  pub none : (statement : whole.StmtTree) → statements.IsPieceStatement text piece statement → ⊥
+  pub smallest : SmallestReason text piece reason
+
+-- Why what stands at an index is refused: the text ends there; it is a statement that is not built, or not there; it is no statement and one
+-- piece too many; or it is no statement.
+pub data IsReasonAt (text : List ℕ) (i : ℕ) : Option Piece → Reason → Type 0 where
+  is_end_of_text : IsReasonAt text i None reasons.NotYetBuilt
+  is_not_built : (piece : Piece) (statement : whole.StmtTree) → statements.IsPieceStatement text piece statement →
+      IsReasonAt text i (Some piece) reasons.NotYetBuilt
+  is_one_too_many : (piece : Piece) (reason : Reason) → piece_limit ≤ i → IsNoStatement text piece reason →
+      IsReasonAt text i (Some piece) reasons.TooManyPieces
+  is_no_statement : (piece : Piece) (reason : Reason) → i < piece_limit → IsNoStatement text piece reason →
+      IsReasonAt text i (Some piece) reason
+
 -- The first fault of a text: its piece, counted from 1, its line and its reason. A text that is too long has it at piece 0 and line 0.
 -- Otherwise it is the first piece that is refused, or where the pieces end too early, the number one above the last, at the line of the
--- text's end.
+-- text's end. A piece that is no statement is refused wherever it stands: it is none that is built.
 pub data FirstFault (text : List ℕ) : ℕ → ℕ → Reason → Type 0 where
   is_too_long : text_limit < length text → FirstFault text 0 0 reasons.TooLong
-  is_first : (pieces : List Piece) (read : List (Option StmtTree)) (i : ℕ) → length text ≤ text_limit → IsCut text pieces →
-      AreReadAs text pieces read → i ≤ length pieces → is_refused read i ≡ true → NoneBefore read i →
-      FirstFault text (i + 1) (line_of_index text pieces i) reasons.NotYetBuilt
+  is_first : (pieces : List Piece) (read : List (Option StmtTree)) (i : ℕ) (reason : Reason) → length text ≤ text_limit → IsCut text pieces →
+      AreReadAs text pieces read → i ≤ length pieces → is_refused read i ≡ true → NoneBefore read i → IsReasonAt text i (slice_get pieces i) reason →
+      FirstFault text (i + 1) (line_of_index text pieces i) reason

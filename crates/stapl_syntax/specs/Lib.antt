@@ -10,3 +10,4 @@ pub mod WholeGrammar
 pub mod WholeParts
 pub mod WholeProductions
 pub mod WholeStatements
+pub mod Built

@@ -1,11 +1,13 @@
 //! Laws of the definitions.
-ghost use Rattle.std.specs.Prelude.{◌≡◌, ◌↔◌, ℕ, List, Some};
+ghost use Rattle.std.specs.Prelude.{◌≡◌, ◌↔◌, ℕ, List, Option, Some, slice_get, true};
 ghost use Rattle.stapl_lexer.specs.declared.piece.Piece.{Piece};
 ghost use Rattle.stapl_lexer.specs.declared.reason.Reason.{Reason};
 ghost use Rattle.stapl_lexer.specs.SpelledTokens.{SpelledToken};
 ghost use Rattle.stapl_syntax.specs.Trees.{StmtTree};
 ghost use Rattle.stapl_syntax.specs.Faults as faults;
 ghost use Rattle.stapl_syntax.specs.Grammar.{Means, IsPieceStatement};
+ghost use Rattle.stapl_syntax.specs.Built.{whole_statement};
+ghost use Rattle.stapl_syntax.specs.WholeStatements as statements;
 ghost use Rattle.stapl_syntax.specs.Forms.{statement_of};
 ghost use Rattle.stapl_syntax.specs.Shapes.{IsOneProcedure};
 
@@ -38,4 +40,15 @@ pub fn a_program_has_no_fault()
 /// and each label that one of them names is declared among them exactly once.
 pub fn a_program_is_one_procedure()
     ensures { (text : List ℕ) (statements : List StmtTree) → faults.IsProgram text statements → IsOneProcedure statements }
+{}
+
+/// A piece that is a statement that is built is a statement of the whole language.
+pub fn built_statements_are_statements()
+    ensures { (text : List ℕ) (piece : Piece) (st : StmtTree) → IsPieceStatement text piece st → statements.IsPieceStatement text piece (whole_statement st) }
+{}
+
+/// A piece that is no statement is refused wherever it stands. So the first fault is the first piece that is no statement, or none that is built
+/// there.
+pub fn no_piece_without_a_statement_is_passed()
+    ensures { (text : List ℕ) (pieces : List Piece) (read : List (Option StmtTree)) (i : ℕ) (piece : Piece) (reason : Reason) → faults.AreReadAs text pieces read → slice_get pieces i ≡ Some piece → faults.IsNoStatement text piece reason → faults.is_refused read i ≡ true }
 {}
