@@ -1,5 +1,5 @@
 -- On numbers in words.
-use Rattle.std.proofs.Common.{◌≡◌, ◌<◌, ◌^◌, ℕ, List, [], ◌∷◌, length, refl, ap, arith, rules, Bool, true, false, ◌&&◌, not, ◌==◌}
+use Rattle.std.proofs.Common.{◌≡◌, ◌<◌, ◌^◌, ℕ, List, [], ◌∷◌, length, refl, arith, rules, Bool, true, false, ◌&&◌, not, ◌==◌}
 use Rattle.std.proofs.lemmas.Str.Parse.{IsNumeralModel, numerals_by_value, without_leading_plus_none, not_in_digits}
 use Rattle.std.specs.Char.{is_ascii_digit}
 use Rattle.std.specs.List.{list_all}
@@ -39,7 +39,3 @@ turns_parsed spelling turns s =
     let value = s.value in
     let few = s.few in
     rw (no_plus spelling d.0 d.1) ((d.1, own.to spelling d.0), omega arith)
-
--- and that number is its value
-pub value_parsed : (spelling : List ℕ) → is_decimal spelling ≡ true → digits_value 10 (without_leading_plus spelling) ≡ digits_value 10 spelling
-value_parsed spelling h = let d = digits_of spelling h in ap (digits_value 10) (no_plus spelling d.0 d.1)

@@ -26,7 +26,7 @@ use Rattle.stapl_meaning.specs.Texts.{event_line, ending_line, text_of}
 use Rattle.stapl_code.specs.declared.raw.VarDef.{VarDef}
 use Rattle.stapl_code.specs.declared.raw.ActionDef.{ActionDef}
 use Rattle.stapl_code.specs.declared.raw.CodeLists.{CodeLists}
-use Rattle.stapl_code.specs.Safe.{AllFit, AllBelow}
+use Rattle.stapl_code.specs.Safe.{AllFit}
 use Rattle.stapl_codegen.specs.Accepted.{IsAccepted}
 use Rattle.stapl_codegen.specs.Generated.{first_action, IsCodeOf}
 use Rattle.stapl_machine.specs.Zeros.{zero_of, zeros_of_code}
@@ -118,17 +118,6 @@ same_chosen program code name accepted is =
     ∙ ap (λ (own : List ℕ). only_action own name) (first_name program accepted.shape is.action is.action_is)
     ∙ sym (chosen_is program accepted.shape name)
 
-some_of_only : (b : Bool) (chosen : List ℕ) → (if b then Some (0 ∷ []) else None) ≡ Some chosen → chosen ≡ 0 ∷ []
-some_of_only true chosen e = cc
-some_of_only false chosen e = absurd cc
-
-pub chosen_below : (program : List StmtTree) (code : CodeLists) (name chosen : List ℕ) → IsCodeOf program code → procedures_named code.actions name ≡ Some chosen →
-    AllBelow (length code.procedures) chosen
-chosen_below program code name chosen is e =
-    let one : chosen ≡ 0 ∷ [] = some_of_only (bytes_eq name is.action) chosen (sym (ap (λ (actions : List ActionDef). procedures_named actions name) is.actions) ∙ e) in
-    let count : length code.procedures ≡ 1 = ap length is.procedures in
-    rw (one, count) (omega arith, tt)
-
 -- The code's play of the chosen procedures is the program's.
 pub play_of_action : (program : List StmtTree) (code : CodeLists) (name chosen : List ℕ) (turns : ℕ) → IsAccepted program → IsCodeOf program code →
     procedures_named code.actions name ≡ Some chosen → IsPlayOf program name turns (play_of code chosen turns)
@@ -151,11 +140,6 @@ pub play_chosen_of : {program : List StmtTree} {name : List ℕ} {turns : ℕ} (
     IsCodeOf program code → actions ≡ code.actions → procedures_named actions name ≡ Some chosen → IsPlayOf program name turns (play_of code chosen turns)
 play_chosen_of {program = program} {name = name} {turns = turns} code actions chosen accepted is same some =
     play_of_action program code name chosen turns accepted is (ap (λ (z : List ActionDef). procedures_named z name) (sym same) ∙ some)
-
-pub chosen_below_of : {program : List StmtTree} (name : List ℕ) (code : CodeLists) (actions : List ActionDef) (chosen : List ℕ) →
-    IsCodeOf program code → actions ≡ code.actions → procedures_named actions name ≡ Some chosen → AllBelow (length code.procedures) chosen
-chosen_below_of {program = program} name code actions chosen is same some =
-    chosen_below program code name chosen is (ap (λ (z : List ActionDef). procedures_named z name) (sym same) ∙ some)
 
 -- A run that does not stop comes to an ending.
 pub has_ending : (run : Run) → run.outcome ≢ Stopped → HasEnding run
