@@ -1,24 +1,15 @@
 -- What is in the grammar is read, whatever follows that can't continue it.
-use Rattle.std.proofs.Common.{◌≡◌, ℕ, zero, suc, ◌+◌, ◌-◌, ◌<◌, ◌≤◌, List, [], ◌∷◌, ◌++◌, length, Option, Some, None, refl, sym, ap, subst, ◌∙◌, arith, append_assoc}
+use Rattle.std.proofs.Common.{◌≡◌, ℕ, zero, suc, ◌-◌, ◌<◌, List, [], ◌∷◌, ◌++◌, length, Option, Some, None, refl, sym, ap, ◌∙◌, arith, append_assoc}
 use Rattle.std.proofs.lemmas.List.{append-nil}
-use Rattle.std.specs.Option.{option_map_or}
 use Rattle.stapl_syntax.specs.declared.signs.BinOp.{BinOp}
-use Rattle.stapl_syntax.specs.declared.signs.BinOp.TheVariants.{Subtract}
-use Rattle.stapl_syntax.specs.declared.signs.UnOp.{UnOp}
-use Rattle.stapl_syntax.specs.declared.signs.UnOp.TheVariants.{Negate, Complement, Not}
 use Rattle.stapl_syntax.specs.declared.signs.Mark.{Mark}
 use Rattle.stapl_syntax.specs.declared.signs.Mark.TheVariants as marks
-use Rattle.stapl_syntax.specs.declared.signs.Function.{Function}
-use Rattle.stapl_syntax.specs.declared.signs.Function.TheVariants as functions
-use Rattle.stapl_syntax.specs.declared.signs.Sign.{Sign}
-use Rattle.stapl_syntax.specs.declared.signs.Sign.TheVariants as signs
-use Rattle.stapl_syntax.specs.WholeSymbols.{Symbol, Plain, Text, Literal, CheckWord, sign_of}
-use Rattle.stapl_syntax.specs.WholeTrees.{ExprTree, ArrayTree, number, scalar, element, unary, binary, abs, int, literal, whole, range, of_int}
-use Rattle.stapl_syntax.specs.WholeGrammar.{level_of, operator, mark, function, name, IsExpr, IsUnary, IsPrimary, IsCell, IsTarget, IsArray, of_unary, negation, complement, negated, tighter, of_binary, of_primary, of_number, of_cell, of_scalar, of_element, of_brackets, of_abs, of_array, of_literal, of_target, of_whole, of_range, of_expr, left_square, right_square, left_round, right_round, dots}
+use Rattle.stapl_syntax.specs.WholeSymbols.{Symbol}
+use Rattle.stapl_syntax.specs.WholeTrees.{ExprTree, ArrayTree, binary, range}
+use Rattle.stapl_syntax.specs.WholeGrammar.{level_of, operator, mark, IsExpr, IsUnary, IsPrimary, IsCell, IsTarget, IsArray, of_unary, negation, complement, negated, tighter, of_binary, of_primary, of_number, of_cell, of_scalar, of_element, of_brackets, of_abs, of_array, of_literal, of_target, of_whole, of_range, of_expr, right_square, left_round, right_round, dots}
 use Rattle.stapl_syntax.specs.WholeParts.{after_mark, is_mark, mark_number}
-use Rattle.stapl_grammar.specs.Reading.{◌>>=◌, Reader, next_sign, name_at, name_of, literal_at, operator_of, next_operator, closed_by, bracketed_by, named_by, range_by, target_from, target_by, bool_from, array_from, array_by, brackets_from, function_from, primary_from, unary_of, unary_by, expr_in, climb_in, expr, climb}
-use Rattle.stapl_grammar.proofs.Tools.{AtLeastLevel, some_is, after_mark_some, after_mark_here, next_operator_some, next_operator_here, next_operator_quiet, next_operator_none, level_suc}
-use Rattle.stapl_grammar.proofs.Sound.{expr_sound}
+use Rattle.stapl_grammar.specs.Reading.{◌>>=◌, Reader, next_sign, name_at, name_of, literal_at, operator_of, next_operator, closed_by, bracketed_by, named_by, range_by, target_from, target_by, bool_from, array_from, array_by, brackets_from, function_from, primary_from, unary_of, unary_by, expr, climb}
+use Rattle.stapl_grammar.proofs.Tools.{AtLeastLevel, some_is, after_mark_some, after_mark_here, next_operator_some, next_operator_here, next_operator_quiet, next_operator_none}
 use Rattle.stapl_grammar.proofs.Steps.{bind_same, expr-is, climb-is, expr_shorter}
 
 -- where no operator of these levels stands first, nothing more is taken
@@ -97,7 +88,7 @@ pub primary_by : Reader ExprTree
 primary_by s = next_sign s >>= λ g. primary_from (expr 10) g.0 g.1
 
 -- what a reader reads behind a name
-pub behind_name : {A : Type 0} → (List ℕ → Reader A) → Reader A
+unfoldable pub behind_name : {A : Type 0} → (List ℕ → Reader A) → Reader A
 behind_name read s = name_at s >>= λ v. read v.0 v.1
 
 cell_primary : {a : List Symbol} {e : ExprTree} → IsCell a e → (r : List Symbol) → primary_by (a ++ r) ≡ behind_name (named_by (expr 10)) (a ++ r)

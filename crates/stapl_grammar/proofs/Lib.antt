@@ -5,3 +5,16 @@ pub mod Complete
 pub mod Loop
 pub mod Spelling
 pub mod ContentLemmas
+pub mod LeafLaws
+pub mod Choice
+pub mod ListLaws
+pub mod PartLaws
+pub mod ApartLaws
+pub mod BodySound
+pub mod BodyComplete
+pub mod ListSteps
+pub mod BodySteps
+pub mod ReasonSteps
+pub mod ParsingLemmas
+pub mod BodyClean
+pub mod LawLemmas

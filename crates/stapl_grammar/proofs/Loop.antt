@@ -1,6 +1,5 @@
 -- The steps of the code that reads expressions.
-use Rattle.std.proofs.Common.{◌≡◌, ℕ, ◌-◌, List, Option, Some, None, refl, sym, ap, ◌∙◌}
-use Rattle.std.specs.Option.{option_map_or}
+use Rattle.std.proofs.Common.{◌≡◌, ℕ, ◌-◌, List, Some, None}
 use Rattle.stapl_syntax.specs.declared.signs.BinOp.{BinOp}
 use Rattle.stapl_syntax.specs.declared.signs.UnOp.{UnOp}
 use Rattle.stapl_syntax.specs.declared.signs.Sign.{Sign}
@@ -10,7 +9,7 @@ use Rattle.stapl_syntax.specs.WholeGrammar.{level_of}
 use Rattle.stapl_grammar.specs.declared.refused.Refused.{Refused}
 use Rattle.stapl_grammar.specs.declared.refused.Refused.TheVariants.{Memory, Syntax}
 use Rattle.stapl_grammar.specs.Given.{Fails}
-use Rattle.stapl_grammar.specs.Reading.{◌>>=◌, next_sign, next_operator, unary_of, unary_by, primary_from, expr, climb}
+use Rattle.stapl_grammar.specs.Reading.{next_sign, next_operator, unary_of, unary_by, primary_from, expr, climb}
 use Rattle.stapl_grammar.proofs.Steps.{expr-is, unary_is, unary_nothing}
 use Rattle.stapl_grammar.proofs.Complete.{climb_stops, climb_some}
 

@@ -1,12 +1,11 @@
 -- On words and names in either case.
-use Rattle.std.proofs.Common.{◌≡◌, ◌==◌, ℕ, List, [], ◌∷◌, length, refl, sym, ap, ◌∙◌, Bool, true, ◌&&◌, nat_le, map, arith}
+use Rattle.std.proofs.Common.{◌≡◌, ℕ, List, [], ◌∷◌, length, refl, ap, ◌∙◌, Bool, ◌&&◌, nat_le, map, arith}
 use Rattle.std.proofs.lemmas.Bool.Decides.{nat_tests}
 use Rattle.std.proofs.lemmas.List.{length-map}
 use Rattle.std.specs.Char.{to_ascii_uppercase, is_ascii_alphabetic, eq_ignore_ascii_case}
 use Rattle.std.specs.List.{list_all}
 use Rattle.std.specs.Str.{str_to_ascii_uppercase, str_eq_ignore_ascii_case}
 use Rattle.stapl_lexer.specs.Names.{is_name_byte, is_name}
-use Rattle.stapl_lexer.specs.PieceTokens.{spells_word}
 use Rattle.stapl_syntax.specs.WholeSymbols.{reserved_or, name_sign, word_sign}
 use Rattle.stapl_grammar.specs.Seen.{own_word_sign}
 

@@ -1,21 +1,16 @@
 -- Reading without a bound on its steps: one equation for each function.
-use Rattle.std.proofs.Common.{◌≡◌, ℕ, zero, suc, ◌+◌, ◌-◌, ◌<◌, ◌≤◌, List, [], ◌∷◌, ◌++◌, length, Option, Some, None, refl, sym, ap, subst, ◌∙◌, arith}
+use Rattle.std.proofs.Common.{◌≡◌, ℕ, zero, suc, ◌-◌, ◌<◌, ◌≤◌, List, [], ◌∷◌, length, Option, Some, None, refl, ap, arith}
 use Rattle.std.specs.Option.{option_map_or}
-use Rattle.stapl_syntax.specs.declared.signs.BinOp.{BinOp}
-use Rattle.stapl_syntax.specs.declared.signs.BinOp.TheVariants.{Subtract}
-use Rattle.stapl_syntax.specs.declared.signs.UnOp.{UnOp}
-use Rattle.stapl_syntax.specs.declared.signs.UnOp.TheVariants.{Negate, Complement, Not}
 use Rattle.stapl_syntax.specs.declared.signs.Mark.{Mark}
 use Rattle.stapl_syntax.specs.declared.signs.Mark.TheVariants as marks
-use Rattle.stapl_syntax.specs.declared.signs.Function.{Function}
 use Rattle.stapl_syntax.specs.declared.signs.Function.TheVariants as functions
 use Rattle.stapl_syntax.specs.declared.signs.Sign.{Sign}
 use Rattle.stapl_syntax.specs.declared.signs.Sign.TheVariants as signs
 use Rattle.stapl_syntax.specs.WholeSymbols.{Symbol, Plain, Text, Literal, CheckWord, sign_of}
-use Rattle.stapl_syntax.specs.WholeTrees.{ExprTree, ArrayTree, number, scalar, element, unary, binary, abs, int, literal, whole, range, of_int}
-use Rattle.stapl_syntax.specs.WholeGrammar.{level_of, operator, mark, function, name, IsExpr, IsUnary, IsPrimary, IsCell, IsTarget, IsArray, of_unary, negation, complement, negated, tighter, of_binary, of_primary, of_number, of_cell, of_scalar, of_element, of_brackets, of_abs, of_array, of_literal, of_target, of_whole, of_range, of_expr, left_square, right_square, left_round, right_round, dots}
-use Rattle.stapl_syntax.specs.WholeParts.{after_mark, is_mark, mark_number}
-use Rattle.stapl_grammar.specs.Reading.{◌>>=◌, Reader, next_sign, name_at, name_of, literal_at, operator_of, next_operator, closed_by, bracketed_by, named_by, range_by, target_from, target_by, bool_from, array_from, array_by, brackets_from, function_from, primary_from, unary_of, unary_by, expr_in, climb_in, expr, climb}
+use Rattle.stapl_syntax.specs.WholeTrees.{ExprTree, unary, binary}
+use Rattle.stapl_syntax.specs.WholeGrammar.{level_of}
+use Rattle.stapl_syntax.specs.WholeParts.{after_mark}
+use Rattle.stapl_grammar.specs.Reading.{◌>>=◌, Reader, next_sign, literal_at, next_operator, closed_by, bracketed_by, named_by, range_by, target_from, target_by, bool_from, array_from, array_by, brackets_from, function_from, primary_from, unary_of, unary_by, expr_in, climb_in, expr, climb}
 use Rattle.stapl_grammar.proofs.Tools.{after_mark_some, next_operator_some}
 use Rattle.stapl_grammar.proofs.Sound.{expr_sound, unary_sound}
 

@@ -1,6 +1,6 @@
 -- Steps that may fail, marks, words and operators.
-use Rattle.std.proofs.Common.{◌≡◌, ℕ, zero, suc, ◌+◌, ◌-◌, ◌<◌, ◌≤◌, Bool, true, false, cond, List, [], ◌∷◌, ◌++◌, length, get_or, Option, Some, None, inl, inr, refl, sym, ap, subst, ◌∙◌, arith}
-use Rattle.std.specs.Prelude.{option_and_then, nat_le, ◌==◌}
+use Rattle.std.proofs.Common.{◌≡◌, ℕ, suc, ◌-◌, ◌≤◌, Bool, true, false, cond, List, [], ◌∷◌, get_or, Option, Some, None, inl, inr, refl, sym, ap, subst, ◌∙◌, arith}
+use Rattle.std.specs.Prelude.{nat_le}
 use Rattle.std.specs.Option.{option_map_or}
 use Rattle.std.proofs.lemmas.Bool.{eqb-true, eq-eqb, leb-true, le-leb, lt-leb, cases_lt}
 use Rattle.stapl_syntax.specs.declared.signs.BinOp.{BinOp}
@@ -9,13 +9,12 @@ use Rattle.stapl_syntax.specs.declared.signs.Mark.{Mark}
 use Rattle.stapl_syntax.specs.declared.signs.Mark.TheVariants.{Tilde, Exclamation, LeftRound, RightRound, LeftSquare, RightSquare, Dots, Comma, Equals, Colon}
 use Rattle.stapl_syntax.specs.declared.signs.JoinWord.{JoinWord}
 use Rattle.stapl_syntax.specs.declared.signs.JoinWord.TheVariants.{Capture, Compare, Cycles, Optional, Recommended, Step, Then, To, Usec, Uses}
-use Rattle.stapl_syntax.specs.declared.signs.Sign.{Sign}
 use Rattle.stapl_syntax.specs.declared.signs.Sign.TheVariants as signs
-use Rattle.stapl_syntax.specs.WholeSymbols.{Symbol, Plain, Text, Literal, CheckWord, sign_of}
+use Rattle.stapl_syntax.specs.WholeSymbols.{Symbol, Plain, sign_of}
 use Rattle.stapl_syntax.specs.WholeGrammar.{level_of, operator, mark}
 use Rattle.stapl_syntax.specs.WholeProductions.{join}
 use Rattle.stapl_syntax.specs.WholeParts.{is_mark, mark_number, after_mark, is_join, join_number, after_join}
-use Rattle.stapl_grammar.specs.Reading.{◌>>=◌, Reader, operator_of, next_operator}
+use Rattle.stapl_grammar.specs.Reading.{◌>>=◌, operator_of, next_operator}
 
 -- what a step gave, where the whole gave something
 pub bind_some : {A B : Type 0} (o : Option A) (f : A → Option B) (y : B) → (o >>= f) ≡ Some y → (x : A) × (o ≡ Some x) × (f x ≡ Some y)

@@ -2,3 +2,5 @@ pub mod Given
 pub mod Seen
 pub mod Reading
 pub mod PartReading
+pub mod BodyReading
+pub mod Answers

@@ -1,5 +1,5 @@
 -- Reading parts of statements from left to right.
-use Rattle.std.specs.Prelude.{ℕ, ℤ, pos, zero, suc, ◌==◌, List, [], ◌∷◌, ◌++◌, length, Option, Some, None, Bool, true, false, is_some, not, codes, ◌⊎◌, if◌then◌else◌}
+use Rattle.std.specs.Prelude.{◌≡◌, ◌<◌, Result, Ok, Err, ℕ, ℤ, pos, zero, suc, List, [], ◌∷◌, ◌++◌, length, Option, Some, None, Bool, true, false, codes, if◌then◌else◌}
 use Rattle.std.proofs.Common.{inl, inr}
 use Rattle.std.specs.Int.{w32, int_wrapping_neg}
 use Rattle.std.specs.Option.{option_map_or}
@@ -10,10 +10,12 @@ use Rattle.stapl_syntax.specs.declared.signs.Function.TheVariants as functions
 use Rattle.stapl_syntax.specs.declared.signs.Sign.{Sign}
 use Rattle.stapl_syntax.specs.declared.signs.Sign.TheVariants as signs
 use Rattle.stapl_syntax.specs.declared.whole.ItemChoice.{ItemChoice}
-use Rattle.stapl_syntax.specs.WholeSymbols.{Symbol, Plain, Text, Literal, CheckWord, sign_of}
+use Rattle.stapl_syntax.specs.WholeSymbols.{Symbol, Plain, Text, CheckWord, sign_of}
 use Rattle.stapl_syntax.specs.WholeTrees.{ExprTree, ArrayTree, PartTree, string, value, character, ExportTree, exported_value, exported_array}
-use Rattle.stapl_syntax.specs.WholeParts.{Part, a_name, a_state, a_number, a_signed, a_bit, a_text, a_literal, a_check_word, a_choice, an_expr, an_array, a_cell, a_target, a_print_part, an_export, some_states, after, before, maybe_hz, both, maybe, either, listed, after_mark, after_join, begins_state, begins_text, choice_of}
-use Rattle.stapl_grammar.specs.Reading.{◌>>=◌, Reader, next_sign, name_at, name_of, literal_at, named_by, target_by, array_by, bracketed_by, expr}
+use Rattle.stapl_syntax.specs.WholeParts.{Part, a_name, a_state, a_number, a_signed, a_bit, a_text, a_literal, a_check_word, a_choice, an_expr, an_array, a_cell, a_target, a_print_part, an_export, some_states, after, before, maybe_hz, both, maybe, either, listed, after_mark, after_join, begins_text, choice_of}
+use Rattle.stapl_grammar.specs.declared.refused.Refused.{Refused}
+use Rattle.stapl_grammar.specs.Given.{Fails}
+use Rattle.stapl_grammar.specs.Reading.{◌>>=◌, Reader, next_sign, name_at, literal_at, named_by, target_by, array_by, bracketed_by, expr}
 
 -- the symbols behind a mark or a word that they begin with
 abbrev pub after_sign : Sign → List Symbol → Option (List Symbol)
@@ -107,7 +109,7 @@ unfoldable pub print_part_at : Reader PartTree
 print_part_at s =
     if begins_text s then (text_at s >>= λ x. Some (string x.0, x.1))
     else option_map_or (λ r. bracketed_by (expr 10) r >>= λ x. Some (character x.0, x.1)) (after_character s)
-        (expr 10 s >>= λ x. Some (value x.0, x.1))
+    (expr 10 s >>= λ x. Some (value x.0, x.1))
 
 -- an array, or where none stands there an expression
 unfoldable pub export_at : Reader ExportTree
@@ -185,3 +187,9 @@ part_at (both p q) s = do
 part_at (maybe look p) s = if look s then (part_at p s >>= λ x. Some (Some x.0, x.1)) else Some (None, s)
 part_at (either look p q) s = if look s then (part_at p s >>= λ x. Some (inl x.0, x.1)) else (part_at q s >>= λ x. Some (inr x.0, x.1))
 part_at (listed t p) s = listed_by (part_at p) t s
+
+-- What a step through states gave: the next state, nothing where the states end, or an error where a comma stands and no state behind it.
+abbrev pub StepsOn : Result (Option ℕ) Refused → List Symbol → List Symbol → Type 0
+StepsOn (Ok (Some k)) old new = (more_states_at old ≡ with_front (k ∷ []) (more_states_at new)) × (length new < length old)
+StepsOn (Ok None) old new = (more_states_at old ≡ Some ([], old)) × (new ≡ old)
+StepsOn (Err e) old new = Fails e (more_states_at old)

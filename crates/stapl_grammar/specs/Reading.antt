@@ -1,5 +1,5 @@
 -- Reading expressions and arrays from left to right: what was read and the symbols behind it, or nothing.
-use Rattle.std.specs.Prelude.{ℕ, ℤ, zero, suc, ◌-◌, List, [], ◌∷◌, length, Bool, Option, Some, None, option_and_then, is_some, nat_le, if◌then◌else◌}
+use Rattle.std.specs.Prelude.{ℕ, zero, suc, ◌-◌, List, [], ◌∷◌, length, Bool, Option, Some, None, option_and_then, is_some, nat_le, if◌then◌else◌}
 use Rattle.std.specs.Option.{option_map_or}
 use Rattle.stapl_syntax.specs.declared.signs.BinOp.{BinOp}
 use Rattle.stapl_syntax.specs.declared.signs.BinOp.TheVariants.{Subtract}

@@ -1,5 +1,5 @@
 -- What the grammar sees of the tokens of a text.
-use Rattle.std.specs.Prelude.{ℕ, List, [], ◌∷◌, Bool, Option, Some, None}
+use Rattle.std.specs.Prelude.{ℕ, List, [], ◌∷◌, Option, Some, None}
 use Rattle.std.specs.Str.{str_to_ascii_uppercase}
 use Rattle.stapl_lexer.specs.declared.token.Token.{Token}
 use Rattle.stapl_lexer.specs.PieceTokens.{spells_word}
@@ -20,11 +20,7 @@ seen text (token ∷ tokens) = seen_as text token ∷ seen text tokens
 abbrev pub own_word_sign : List ℕ → Sign
 own_word_sign own = reserved_or (λ word. spells_word word own) (name_sign (str_to_ascii_uppercase own))
 
--- the sign of the first symbol, and that of the second
+-- the sign of the first symbol
 abbrev pub first_seen : List Symbol → Option Sign
 first_seen [] = None
 first_seen (t ∷ s) = Some (sign_of t)
-
-abbrev pub second_seen : List Symbol → Option Sign
-second_seen [] = None
-second_seen (t ∷ s) = first_seen s

@@ -1,15 +1,17 @@
 //! The tokens of a piece that are still to be read.
-use std::marker::Model;
-
 use crate::contents::{between_quotes, binary_bits, check_number, hexadecimal_bits};
-use crate::looks::{is_join, is_mark, level, operator_of};
+use crate::looks::{
+    choice_of, is_assign_sign, is_character, is_hz, is_join, is_mark, is_minus, is_state, level,
+    operator_of,
+};
 use crate::refused::Refused;
 use crate::sign::{bytes_in, sign_of};
 use bit_list::Bits;
 use lists_and_numbers::ItemList;
 use stapl_lexer::{Name, Token, TokenKind};
-use std::alloc::Global;
 use stapl_syntax::whole::{BinOp, JoinWord, Mark, Sign};
+use std::alloc::Global;
+use std::marker::Model;
 
 // The tokens that are still to be read, seen as their symbols. After an error nothing is said of them.
 #[derive(Drop)]
@@ -35,11 +37,12 @@ impl<'a> Cursor<'a> {
     ghost use Rattle.std.specs.Prelude.{◌≡◌, ◌<◌, ◌≤◌, All, length, [], ◌∷◌, IfSome, IfNone, OnOk, OnSome, MatchBool, Some, None, is_some};
     ghost use Rattle.std.specs.Bool.{OnTrue};
     ghost use Rattle.stapl_lexer.specs.PieceTokens.{LiesBetween};
-    ghost use Rattle.stapl_syntax.specs.WholeParts.{after_mark, after_join, after_comma_join, begins_text};
+    ghost use Rattle.stapl_syntax.specs.WholeParts.{after_mark, after_join, after_comma_join, begins_text, begins_state, begins_count, begins_choice, begins_anything};
+    ghost use Rattle.stapl_syntax.specs.WholeStatements.{is_assign_sign, first_sign};
     ghost use Rattle.stapl_grammar.specs.Given.{Gives};
     ghost use Rattle.stapl_grammar.specs.Reading.{next_sign, next_operator, name_at, literal_at};
-    ghost use Rattle.stapl_grammar.specs.PartReading.{text_at, check_word_at};
-    ghost use Rattle.stapl_grammar.specs.Seen.{seen, first_seen, second_seen};
+    ghost use Rattle.stapl_grammar.specs.PartReading.{text_at, check_word_at, after_minus, after_character, behind_hz};
+    ghost use Rattle.stapl_grammar.specs.Seen.{seen, first_seen};
 
     // All of these tokens of a text.
     pub(crate) fn new(text: &'a [u8], rest: &'a [Token]) -> Cursor<'a>
@@ -124,6 +127,115 @@ impl<'a> Cursor<'a> {
             Some(op)
         } else {
             None
+        }
+    }
+
+    // Steps past the first token, where it is a minus.
+    #[tactic(auto, unfolding(crate::specs::Seen::seen, crate::specs::PartReading::after_minus))]
+    pub(crate) fn take_minus(&mut self) -> bool
+        ensures read { MatchBool result (after_minus self.old ≡ Some self.new) ((after_minus self.old ≡ None) × (self.new ≡ self.old)) }
+        ensures shorter { OnTrue result (length self.new < length self.old) }
+    {
+        match self.peek() {
+            Some(first) if is_minus(first) => {
+                self.rest = &self.rest[1..];
+                true
+            }
+            _ => false,
+        }
+    }
+
+    // Steps past the first token, where it is CHR$.
+    #[tactic(auto, unfolding(crate::specs::Seen::seen, crate::specs::PartReading::after_character))]
+    pub(crate) fn take_character(&mut self) -> bool
+        ensures read { MatchBool result (after_character self.old ≡ Some self.new) ((after_character self.old ≡ None) × (self.new ≡ self.old)) }
+        ensures shorter { OnTrue result (length self.new < length self.old) }
+    {
+        match self.peek() {
+            Some(first) if is_character(first) => {
+                self.rest = &self.rest[1..];
+                true
+            }
+            _ => false,
+        }
+    }
+
+    // Steps past a comma and this word, where they stand first.
+    #[tactic(auto, unfolding(stapl_syntax::specs::WholeParts::after_comma_join))]
+    pub(crate) fn take_comma_join(&mut self, word: JoinWord) -> bool
+        ensures read { MatchBool result (after_comma_join word self.old ≡ Some self.new) ((after_comma_join word self.old ≡ None) × (self.new ≡ self.old)) }
+    {
+        let mut ahead = self.ahead();
+        if ahead.take_mark(Mark::Comma) && ahead.take_join(word) {
+            *self = ahead;
+            true
+        } else {
+            false
+        }
+    }
+
+    // Steps past the word HZ, where it stands first.
+    #[tactic(auto, unfolding(crate::specs::Seen::seen, crate::specs::PartReading::behind_hz))]
+    pub(crate) fn pass_hz(&mut self)
+        ensures { self.new ≡ behind_hz self.old }
+    {
+        if let Some(first) = self.peek()
+            && is_hz(first)
+        {
+            self.rest = &self.rest[1..];
+        }
+    }
+
+    // Whether a state stands first.
+    #[tactic(auto, unfolding(crate::specs::Seen::seen, stapl_syntax::specs::WholeParts::begins_state))]
+    pub(crate) fn begins_state(&self) -> bool
+        ensures { result ≡ begins_state self.now }
+    {
+        match self.peek() {
+            Some(first) => is_state(first),
+            None => false,
+        }
+    }
+
+    // Whether a comma stands first, and no state behind it.
+    #[tactic(auto, unfolding(stapl_syntax::specs::WholeParts::after_mark, stapl_syntax::specs::WholeParts::begins_count))]
+    pub(crate) fn begins_count(&self) -> bool
+        ensures { result ≡ begins_count self.now }
+    {
+        let mut ahead = self.ahead();
+        ahead.take_mark(Mark::Comma) && !ahead.begins_state()
+    }
+
+    // Whether OPTIONAL or RECOMMENDED stands first.
+    #[tactic(auto, unfolding(crate::specs::Seen::seen, stapl_syntax::specs::WholeParts::begins_choice))]
+    pub(crate) fn begins_choice(&self) -> bool
+        ensures { result ≡ begins_choice self.now }
+    {
+        match self.peek() {
+            Some(first) => choice_of(first).is_some(),
+            None => false,
+        }
+    }
+
+    // Whether a mark stands first that may stand behind the first name of an assignment.
+    #[tactic(auto, unfolding(crate::specs::Seen::seen, stapl_syntax::specs::WholeStatements::is_assign_sign))]
+    pub(crate) fn begins_assignment(&self) -> bool
+        ensures { result ≡ is_assign_sign (first_sign self.now) }
+    {
+        match self.peek() {
+            Some(first) => is_assign_sign(first),
+            None => false,
+        }
+    }
+
+    // Whether a token is left.
+    #[tactic(auto, unfolding(crate::specs::Seen::seen))]
+    pub(crate) fn begins_anything(&self) -> bool
+        ensures { result ≡ begins_anything self.now }
+    {
+        match self.rest.first() {
+            Some(_) => true,
+            None => false,
         }
     }
 

@@ -3,8 +3,20 @@
 
 mod contents;
 mod cursor;
+mod declarations;
+pub mod laws;
+mod leaves;
+mod lists;
 mod looks;
+mod outer;
+mod parsing;
+mod port;
+mod reasons;
 mod refused;
 mod sign;
+mod simple;
+mod statements;
 mod terms;
 mod words;
+
+pub use parsing::{ParseRefused, parse};

@@ -1,10 +1,12 @@
 //! Single signs.
 ghost use Rattle.std.specs.Prelude.{◌≡◌, ◌<◌};
 ghost use Rattle.stapl_syntax.specs.WholeGrammar.{level_of};
-ghost use Rattle.stapl_syntax.specs.WholeParts.{mark_number, join_number, is_mark, is_join};
+ghost use Rattle.stapl_syntax.specs.WholeParts.{mark_number, join_number, is_mark, is_join, is_state, choice_of};
+ghost use Rattle.stapl_syntax.specs.WholeStatements.{is_left_out, is_assign_sign};
 ghost use Rattle.stapl_grammar.specs.Reading.{operator_of, unary_of};
+ghost use Rattle.stapl_grammar.specs.PartReading.{is_minus, is_character, is_hz};
 
-use stapl_syntax::whole::{BinOp, JoinWord, Mark, Sign, UnOp};
+use stapl_syntax::whole::{BinOp, Function, ItemChoice, JoinWord, Mark, Sign, UnOp};
 
 // How tightly an operator binds: 1 is the tightest, 10 the loosest.
 #[tactic(auto, unfolding(stapl_syntax::specs::WholeGrammar::level_of))]
@@ -106,6 +108,77 @@ pub(crate) fn is_join(sign: Sign, word: JoinWord) -> bool
 {
     match sign {
         Sign::Join(own) => join_number(own) == join_number(word),
+        _ => false,
+    }
+}
+
+// Whether a sign is a minus.
+#[tactic(auto, unfolding(crate::specs::PartReading::is_minus))]
+pub(crate) fn is_minus(sign: Sign) -> bool
+    ensures { result ≡ is_minus sign }
+{
+    matches!(sign, Sign::Operator(BinOp::Subtract))
+}
+
+// Whether a sign is CHR$.
+#[tactic(auto, unfolding(crate::specs::PartReading::is_character))]
+pub(crate) fn is_character(sign: Sign) -> bool
+    ensures { result ≡ is_character sign }
+{
+    matches!(sign, Sign::Function(Function::Character))
+}
+
+// Whether a sign is a state.
+#[tactic(auto, unfolding(stapl_syntax::specs::WholeParts::is_state))]
+pub(crate) fn is_state(sign: Sign) -> bool
+    ensures { result ≡ is_state sign }
+{
+    matches!(sign, Sign::State(_))
+}
+
+// Whether a sign is the word HZ, which is no reserved word.
+#[tactic(auto, unfolding(crate::specs::PartReading::is_hz))]
+pub(crate) fn is_hz(sign: Sign) -> bool
+    ensures { result ≡ is_hz sign }
+{
+    match sign {
+        Sign::Name(v) => v.bytes() == b"HZ".as_slice(),
+        _ => false,
+    }
+}
+
+// The choice of an item that a sign is.
+#[tactic(auto, unfolding(stapl_syntax::specs::WholeParts::choice_of))]
+pub(crate) fn choice_of(sign: Sign) -> Option<ItemChoice>
+    ensures { result ≡ choice_of sign }
+{
+    match sign {
+        Sign::Join(JoinWord::Optional) => Some(ItemChoice::Optional),
+        Sign::Join(JoinWord::Recommended) => Some(ItemChoice::Recommended),
+        _ => None,
+    }
+}
+
+// Whether a sign is a word that this profile leaves out.
+#[tactic(auto, unfolding(stapl_syntax::specs::WholeStatements::is_left_out))]
+pub(crate) fn is_left_out(sign: Sign) -> bool
+    ensures { result ≡ is_left_out sign }
+{
+    match sign {
+        Sign::LeftOutStatement => true,
+        Sign::LeftOutWord => true,
+        _ => false,
+    }
+}
+
+// Whether a sign may stand behind the first name of an assignment.
+#[tactic(auto, unfolding(stapl_syntax::specs::WholeStatements::is_assign_sign))]
+pub(crate) fn is_assign_sign(sign: Sign) -> bool
+    ensures { result ≡ is_assign_sign sign }
+{
+    match sign {
+        Sign::Mark(Mark::Equals) => true,
+        Sign::Mark(Mark::LeftSquare) => true,
         _ => false,
     }
 }

@@ -119,6 +119,9 @@ fn word_sign(own: &[u8]) -> Sign
     if let Some(word) = port_word(own) {
         return Sign::Port(word);
     }
+    if own.eq_ignore_ascii_case(b"IF") {
+        return Sign::If;
+    }
     inside_word(own)
 }
 

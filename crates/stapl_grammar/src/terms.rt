@@ -220,10 +220,6 @@ impl<'a> Cursor<'a> {
         self.expect_mark(Mark::Dots)?;
         let low = self.level_expr(alloc, LOOSEST)?;
         self.expect_mark(Mark::RightSquare)?;
-        Ok(ArrayExpr::Range(
-            v,
-            Box::new(alloc, high)?,
-            Box::new(alloc, low)?,
-        ))
+        Ok(ArrayExpr::Range(v, Box::new(alloc, high)?, Box::new(alloc, low)?))
     }
 }

@@ -45,10 +45,9 @@ fn inner_spelling(word: InnerWord) -> &'static [u8]
     }
 }
 
-static SIMPLE_WORDS: [SimpleWord; 10] = [
+static SIMPLE_WORDS: [SimpleWord; 9] = [
     SimpleWord::Call,
     SimpleWord::Goto,
-    SimpleWord::If,
     SimpleWord::For,
     SimpleWord::Next,
     SimpleWord::Push,
@@ -64,7 +63,6 @@ fn simple_spelling(word: SimpleWord) -> &'static [u8]
     match word {
         SimpleWord::Call => b"CALL",
         SimpleWord::Goto => b"GOTO",
-        SimpleWord::If => b"IF",
         SimpleWord::For => b"FOR",
         SimpleWord::Next => b"NEXT",
         SimpleWord::Push => b"PUSH",

@@ -1,30 +1,25 @@
 -- What is built is in the grammar of the whole language.
-use Rattle.std.proofs.Common.{◌≡◌, ℕ, ◌+◌, zero, suc, pos, List, [], ◌∷◌, ◌++◌, refl, sym, ap, ◌∙◌, subst, Bool, true, false, not, ◌||◌, Option, None, Some, map, codes, take, drop, nat_le, is_some}
+use Rattle.std.proofs.Common.{◌≡◌, ℕ, ◌+◌, zero, suc, List, [], ◌∷◌, refl, sym, ap, ◌∙◌, subst, Bool, true, false, not, ◌||◌, Option, None, Some, codes, take, drop, nat_le, is_some}
 use Rattle.std.specs.Prelude.{slice_get}
 use Rattle.std.specs.List.{list_any}
 use Rattle.stapl_lexer.specs.declared.reason.Reason.{Reason}
-use Rattle.std.specs.Str.{str_to_ascii_uppercase}
 use Rattle.stapl_lexer.specs.declared.piece.Piece.{Piece}
-use Rattle.stapl_lexer.specs.SpelledTokens.{SpelledToken, Word, Number, Text, Mark, spelled}
-use Rattle.stapl_syntax.specs.declared.statement.BinOp.TheVariants as built_operators
+use Rattle.stapl_lexer.specs.SpelledTokens.{SpelledToken, Word, Mark}
 use Rattle.stapl_syntax.specs.declared.signs.BinOp.TheVariants as operators
-use Rattle.stapl_syntax.specs.declared.signs.Sign.TheVariants as signs
-use Rattle.stapl_syntax.specs.declared.signs.OuterWord.TheVariants as outer_words
-use Rattle.stapl_syntax.specs.declared.signs.InnerWord.TheVariants as inner_words
-use Rattle.stapl_syntax.specs.declared.signs.SimpleWord.TheVariants as simple_words
 use Rattle.stapl_syntax.specs.declared.signs.Mark.TheVariants as marks
-use Rattle.stapl_syntax.specs.Trees.{ExprTree, BodyTree, StmtTree, binary}
-use Rattle.stapl_syntax.specs.Grammar.{IsName, IsAtom, is_number, is_scalar, IsSum, is_atom, is_sum, MeansSimple, is_assign, is_goto, is_print_string, is_print_value, is_exit, MeansInner, is_end_procedure, is_integer, is_if, is_simple, Means, is_action, is_procedure, is_inner, is_labelled, IsPieceStatement}
+use Rattle.stapl_syntax.specs.Trees.{ExprTree, BodyTree, StmtTree}
+use Rattle.stapl_syntax.specs.Grammar.{IsAtom, is_number, is_scalar, IsSum, is_atom, is_sum, MeansSimple, is_assign, is_goto, is_print_string, is_print_value, is_exit, MeansInner, is_end_procedure, is_integer, is_if, is_simple, Means, is_action, is_procedure, is_inner, is_labelled, IsPieceStatement}
 use Rattle.stapl_syntax.specs.Faults.{IsReadAs, AreReadAs, IsNoStatement, is_refused, is_refused_inside, is_procedure as is_its_procedure, run_of, procedure_pieces, ends, piece_limit}
 use Rattle.stapl_syntax.specs.Built.{whole_expr, whole_body, whole_statement}
 use Rattle.stapl_syntax.specs.WholeSymbols.{Symbol, Plain, symbol_of, symbols_of}
 use Rattle.stapl_syntax.specs.WholeSymbols as seen
 use Rattle.stapl_syntax.specs.WholeTrees as whole
 use Rattle.stapl_syntax.specs.WholeGrammar.{level_of, operator, mark, name, IsExpr, of_unary, tighter, of_binary, IsPrimary, of_number, of_cell, of_primary, of_scalar}
-use Rattle.stapl_syntax.specs.WholeParts.{IsPart, of_string, of_value}
-use Rattle.stapl_syntax.specs.WholeProductions.{equals, join}
+use Rattle.stapl_syntax.specs.WholeParts.{of_string, of_value}
+use Rattle.stapl_syntax.specs.WholeProductions.{equals}
 use Rattle.stapl_syntax.specs.WholeStatements.{outer, inner, simple, is_outer, is_declaration, IsBody, IsLabelled}
 use Rattle.stapl_syntax.specs.WholeStatements as statements
+use Rattle.stapl_syntax.proofs.RefusalLemmas.{no_reason}
 use Rattle.stapl_syntax.proofs.BuiltLemmas.{AreRaised, raised_tokens, raised_first, raised_rest, name_seen}
 
 at_level : {s : List Symbol} {e : whole.ExprTree} (n : ℕ) → IsExpr 0 s e → IsExpr n s e
@@ -129,7 +124,7 @@ built_is_whole text piece st is = record {
 -- a piece that is no statement is read as none
 read_as_none : (text : List ℕ) (piece : Piece) (r : Option StmtTree) (reason : Reason) → IsReadAs text piece r → IsNoStatement text piece reason → r ≡ None
 read_as_none text piece None reason is fails = refl
-read_as_none text piece (Some st) reason is fails = absurd (fails.none (whole_statement st) (built_is_whole text piece st is))
+read_as_none text piece (Some st) reason is fails = absurd (no_reason (whole_statement st) (built_is_whole text piece st is) fails.smallest)
 
 read_at : (text : List ℕ) (pieces : List Piece) (read : List (Option StmtTree)) (i : ℕ) (piece : Piece) (reason : Reason) → AreReadAs text pieces read → slice_get pieces i ≡ Some piece →
     IsNoStatement text piece reason → slice_get read i ≡ Some None
@@ -150,7 +145,7 @@ no_run : (own : Option (List ℕ)) → is_its_procedure own (Some None) ≡ fals
 no_run None = refl
 no_run (Some run) = refl
 
-refused_at : (read : List (Option StmtTree)) (i : ℕ) → slice_get read i ≡ Some None → is_refused read i ≡ true
+pub refused_at : (read : List (Option StmtTree)) (i : ℕ) → slice_get read i ≡ Some None → is_refused read i ≡ true
 refused_at read zero at = ap (λ (r : Option (Option StmtTree)). not (is_some (run_of r))) at
 refused_at read (suc zero) at =
     ap (λ (r : Option (Option StmtTree)). not (is_its_procedure (run_of (slice_get read 0)) r)) at ∙ ap not (no_run (run_of (slice_get read 0)))

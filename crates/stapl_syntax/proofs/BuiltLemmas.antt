@@ -1,22 +1,21 @@
 -- What is built is in the whole language.
-use Rattle.std.proofs.Common.{◌≡◌, ◌==◌, ℕ, ℤ, pos, suc, List, [], ◌∷◌, ◌++◌, length, refl, sym, ap, ◌∙◌, subst, Bool, true, false, ◌&&◌, ◌||◌, not, map, arith, Option, None, Some, inl, inr, codes, find, position, ◌⊎◌, nat_lt, cond}
+use Rattle.std.proofs.Common.{◌≡◌, ◌==◌, ℕ, ℤ, List, [], ◌∷◌, ◌++◌, length, refl, sym, ap, ◌∙◌, subst, Bool, true, false, ◌&&◌, ◌||◌, not, map, arith, None, inl, inr, codes, find, position, ◌⊎◌, nat_lt, cond}
 use Rattle.std.proofs.lemmas.Bool.{and_parts}
 use Rattle.std.proofs.lemmas.Bool.Decides.{nat_tests}
 use Rattle.std.proofs.lemmas.Slice.Eq.{bytes_eq-Decides}
 use Rattle.std.specs.Char.{to_ascii_uppercase, is_ascii_lowercase, eq_ignore_ascii_case}
 use Rattle.std.specs.List.{list_all, list_any, prefix_len}
 use Rattle.std.specs.Str.{str_to_ascii_uppercase, str_eq_ignore_ascii_case, bytes_eq}
-use Rattle.stapl_lexer.specs.Names.{is_name}
-use Rattle.stapl_lexer.specs.ReservedWords.{statement_words, inner_words, function_words, state_words, is_one_of, is_reserved_word}
+use Rattle.stapl_lexer.specs.ReservedWords.{statement_words, inner_words, function_words, state_words, is_one_of}
 use Rattle.stapl_lexer.specs.declared.token.Token.{Token}
 use Rattle.stapl_lexer.specs.declared.token.TokenKind.{TokenKind}
 use Rattle.stapl_lexer.specs.declared.token.TokenKind.TheVariants as kinds
 use Rattle.stapl_lexer.specs.Depth.{token_bytes}
-use Rattle.stapl_lexer.specs.SpelledTokens.{SpelledToken, Word, Number, Text, Mark, spelled, spelled_as, IsSpelled}
+use Rattle.stapl_lexer.specs.SpelledTokens.{SpelledToken, Word, spelled, spelled_as}
 use Rattle.stapl_syntax.specs.Grammar.{IsName}
 use Rattle.stapl_syntax.specs.declared.signs.Sign.{Sign}
 use Rattle.stapl_syntax.specs.declared.signs.Sign.TheVariants as signs
-use Rattle.stapl_syntax.specs.WholeSymbols.{Symbol, Plain, symbol_of, symbols_of, word_sign, reserved_or, name_sign, sign_or, all_outer_words, outer_spelling, all_inner_words, inner_spelling, all_simple_words, simple_spelling, all_port_words, port_spelling, all_join_words, join_spelling, all_functions, function_spelling, left_out_statements, left_out_words}
+use Rattle.stapl_syntax.specs.WholeSymbols.{Plain, symbol_of, reserved_or, name_sign, all_outer_words, outer_spelling, all_inner_words, inner_spelling, all_simple_words, simple_spelling, all_port_words, port_spelling, all_join_words, join_spelling, all_functions, function_spelling, left_out_statements, left_out_words}
 
 same_letter : (b k : ℕ) → is_ascii_lowercase k ≡ false → eq_ignore_ascii_case (to_ascii_uppercase b) k ≡ (k == to_ascii_uppercase b)
 same_letter b k h = grind (arith, nat_tests)
@@ -111,6 +110,7 @@ not_reserved spells other none =
       find_none spells inner_spelling all_inner_words (among (map inner_spelling all_inner_words) refl),
       find_none spells simple_spelling all_simple_words (among (map simple_spelling all_simple_words) refl),
       find_none spells port_spelling all_port_words (among (map port_spelling all_port_words) refl),
+      none_here spells reserved_words (codes "IF") refl none,
       find_none spells join_spelling all_join_words (among (map join_spelling all_join_words) refl),
       find_none spells function_spelling all_functions (among (map function_spelling all_functions) refl),
       among left_out_statements refl,

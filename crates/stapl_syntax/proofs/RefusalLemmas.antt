@@ -5,15 +5,17 @@ use Rattle.stapl_lexer.specs.declared.piece.Piece.{Piece}
 use Rattle.stapl_lexer.specs.declared.reason.Reason.{Reason}
 use Rattle.stapl_lexer.specs.declared.token.Token.{Token}
 use Rattle.stapl_lexer.specs.PieceFaults.{IsLexed}
-use Rattle.std.specs.Prelude.{slice_get, Bool}
+use Rattle.std.specs.Prelude.{slice_get}
 use Rattle.stapl_lexer.specs.SpelledTokens.{SpelledToken, spelled, IsSpelled}
 use Rattle.stapl_lexer.proofs.PieceLemmas.{cut_one_way}
 use Rattle.stapl_lexer.proofs.PieceTokenLemmas.{lexed_one_way}
 use Rattle.stapl_syntax.specs.Trees.{StmtTree}
 use Rattle.stapl_syntax.specs.Grammar.{Means, IsPieceStatement}
 use Rattle.stapl_syntax.specs.Faults.{IsReadAs, AreReadAs, is_refused, line_of_index, NoneBefore, IsProgram, IsReasonAt, is_end_of_text, is_not_built, is_one_too_many, is_no_statement, FirstFault, is_too_long, is_first}
-use Rattle.stapl_syntax.specs.WholeSymbols.{Symbol, symbols_of}
-use Rattle.stapl_syntax.specs.WholeStatements.{behind_label, is_unknown, holds_left_out, SmallestReason, in_tokens, unknown, left_out, not_in_grammar}
+use Rattle.stapl_syntax.specs.WholeSymbols.{symbols_of}
+use Rattle.stapl_syntax.specs.WholeTrees as whole
+use Rattle.stapl_syntax.specs.WholeStatements as statements
+use Rattle.stapl_syntax.specs.WholeStatements.{reason_of, SmallestReason, in_tokens, not_in_grammar}
 use Rattle.stapl_syntax.proofs.FormLemmas.{statement_is}
 
 -- a piece is spelled in one way
@@ -86,51 +88,34 @@ spelled_or_not text piece tokens reason spelled_tokens lexed is =
     some_none : Some reason ≡ None → ⊥
     some_none e = cc
 
-true_or_false : {A : Type 0} (test : List Symbol → Bool) (xs ys : List Symbol) → xs ≡ ys → test xs ≡ true → test ys ≡ false → A
-true_or_false test xs ys e p q = absurd (both (test ys) (sym (ap test e) ∙ p) q)
-  where
-    both : (b : Bool) → b ≡ true → b ≡ false → ⊥
-    both b t f = cc
-
 -- a piece has one smallest reason
-smallest_reason : {text : List ℕ} {piece : Piece} {r s : Reason} → piece.end ≤ length text → SmallestReason text piece r → SmallestReason text piece s → r ≡ s
+pub smallest_reason : {text : List ℕ} {piece : Piece} {r s : Reason} → piece.end ≤ length text → SmallestReason text piece r → SmallestReason text piece s → r ≡ s
 smallest_reason {text = text} {piece = piece} within (in_tokens {reason = r} a x) (in_tokens {reason = s} b y) =
     some_is (lexed_one_way text piece a b (Some r) (Some s) within x y).1
   where
     some_is : Some r ≡ Some s → r ≡ s
     some_is e = cc
-smallest_reason {text = text} {piece = piece} within (in_tokens {reason = r} a x) (unknown b y p) = spelled_or_not text piece a r b x y
-smallest_reason {text = text} {piece = piece} within (in_tokens {reason = r} a x) (left_out b y p q) = spelled_or_not text piece a r b x y
-smallest_reason {text = text} {piece = piece} within (in_tokens {reason = r} a x) (not_in_grammar b y p q none) = spelled_or_not text piece a r b x y
-smallest_reason {text = text} {piece = piece} within (unknown a x p) (in_tokens {reason = s} b y) = spelled_or_not text piece b s a y x
-smallest_reason {text = text} {piece = piece} within (left_out a x p q) (in_tokens {reason = s} b y) = spelled_or_not text piece b s a y x
-smallest_reason {text = text} {piece = piece} within (not_in_grammar a x p q none) (in_tokens {reason = s} b y) = spelled_or_not text piece b s a y x
-smallest_reason within (unknown a x p) (unknown b y q) = refl
-smallest_reason {text = text} {piece = piece} within (unknown a x p) (left_out b y q t) =
-    true_or_false (λ s. is_unknown (behind_label s)) (symbols_of a) (symbols_of b) (ap symbols_of (spelled_one_way text piece a b x y)) p q
-smallest_reason {text = text} {piece = piece} within (unknown a x p) (not_in_grammar b y q t none) =
-    true_or_false (λ s. is_unknown (behind_label s)) (symbols_of a) (symbols_of b) (ap symbols_of (spelled_one_way text piece a b x y)) p q
-smallest_reason {text = text} {piece = piece} within (left_out b y q t) (unknown a x p) =
-    true_or_false (λ s. is_unknown (behind_label s)) (symbols_of a) (symbols_of b) (ap symbols_of (spelled_one_way text piece a b x y)) p q
-smallest_reason within (left_out a x p q) (left_out b y t u) = refl
-smallest_reason {text = text} {piece = piece} within (left_out a x p q) (not_in_grammar b y t u none) =
-    true_or_false holds_left_out (symbols_of a) (symbols_of b) (ap symbols_of (spelled_one_way text piece a b x y)) q u
-smallest_reason {text = text} {piece = piece} within (not_in_grammar b y q t none) (unknown a x p) =
-    true_or_false (λ s. is_unknown (behind_label s)) (symbols_of a) (symbols_of b) (ap symbols_of (spelled_one_way text piece a b x y)) p q
-smallest_reason {text = text} {piece = piece} within (not_in_grammar b y t u none) (left_out a x p q) =
-    true_or_false holds_left_out (symbols_of a) (symbols_of b) (ap symbols_of (spelled_one_way text piece a b x y)) q u
-smallest_reason within (not_in_grammar a x p q none) (not_in_grammar b y t u other) = refl
+smallest_reason {text = text} {piece = piece} within (in_tokens {reason = r} a x) (not_in_grammar b y none) = spelled_or_not text piece a r b x y
+smallest_reason {text = text} {piece = piece} within (not_in_grammar a x none) (in_tokens {reason = s} b y) = spelled_or_not text piece b s a y x
+smallest_reason {text = text} {piece = piece} within (not_in_grammar a x none) (not_in_grammar b y other) =
+    ap (λ (tokens : List SpelledToken). reason_of (symbols_of tokens)) (spelled_one_way text piece a b x y)
+
+-- a statement has no reason
+pub no_reason : {text : List ℕ} {piece : Piece} {r : Reason} (st : whole.StmtTree) → statements.IsPieceStatement text piece st → SmallestReason text piece r → ⊥
+no_reason {text = text} {piece = piece} st is (in_tokens {reason = r} a x) = spelled_or_not text piece a r is.tokens x is.spelled
+no_reason {text = text} {piece = piece} st is (not_in_grammar a x none) =
+    none st (subst (λ (tokens : List SpelledToken). statements.Means tokens st) (spelled_one_way text piece is.tokens a is.spelled x) is.means)
 
 -- what stands at an index is refused for one reason
 one_reason_at : {text : List ℕ} {i : ℕ} {at : Option Piece} {r s : Reason} → IsReasonAt text i at r → IsReasonAt text i at s → r ≡ s
 one_reason_at is_end_of_text is_end_of_text = refl
 one_reason_at (is_not_built p st is) (is_not_built q other also) = refl
-one_reason_at (is_not_built p st is) (is_one_too_many q reason late fails) = absurd (fails.none st is)
-one_reason_at (is_not_built p st is) (is_no_statement q reason early fails) = absurd (fails.none st is)
-one_reason_at (is_one_too_many q reason late fails) (is_not_built p st is) = absurd (fails.none st is)
+one_reason_at (is_not_built p st is) (is_one_too_many q reason late fails) = absurd (no_reason st is fails.smallest)
+one_reason_at (is_not_built p st is) (is_no_statement q reason early fails) = absurd (no_reason st is fails.smallest)
+one_reason_at (is_one_too_many q reason late fails) (is_not_built p st is) = absurd (no_reason st is fails.smallest)
 one_reason_at (is_one_too_many p reason late fails) (is_one_too_many q other also also_fails) = refl
 one_reason_at (is_one_too_many p reason late fails) (is_no_statement q other early also_fails) = absurd (omega arith)
-one_reason_at (is_no_statement q reason early fails) (is_not_built p st is) = absurd (fails.none st is)
+one_reason_at (is_no_statement q reason early fails) (is_not_built p st is) = absurd (no_reason st is fails.smallest)
 one_reason_at (is_no_statement p reason early fails) (is_one_too_many q other late also_fails) = absurd (omega arith)
 one_reason_at (is_no_statement p reason early fails) (is_no_statement q other also also_fails) = smallest_reason fails.within fails.smallest also_fails.smallest
 

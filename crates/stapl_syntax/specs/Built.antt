@@ -1,5 +1,5 @@
 -- The statements that are built, as statements of the whole language.
-use Rattle.std.specs.Prelude.{ℕ, List, [], ◌∷◌, Option, None, map}
+use Rattle.std.specs.Prelude.{ℕ, List, None, map}
 use Rattle.stapl_syntax.specs.declared.statement.BinOp.{BinOp}
 use Rattle.stapl_syntax.specs.declared.statement.BinOp.TheVariants as built_operators
 use Rattle.stapl_syntax.specs.declared.signs.BinOp as signs

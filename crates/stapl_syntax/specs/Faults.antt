@@ -123,10 +123,9 @@ pub record IsProgram (text : List ℕ) (statements : List StmtTree) : Type 0 whe
   pub read : AreReadAs text pieces (map Some statements)
   pub sound : NoneBefore (map Some statements) (length pieces + 1)
 
--- The piece of the text is no statement, and this is the smallest reason for that.
+-- The piece lies in the text, is no statement, and this is the smallest reason for that.
 pub record IsNoStatement (text : List ℕ) (piece : Piece) (reason : Reason) : Type 0 where
   pub within : piece.end ≤ length text
-  pub none : (statement : whole.StmtTree) → statements.IsPieceStatement text piece statement → ⊥
   pub smallest : SmallestReason text piece reason
 
 -- Why what stands at an index is refused: the text ends there; it is a statement that is not built, or not there; it is no statement and one

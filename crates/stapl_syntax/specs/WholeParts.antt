@@ -2,7 +2,6 @@
 use Rattle.std.specs.Prelude.{◌≡◌, ℕ, ℤ, pos, List, [], ◌∷◌, ◌++◌, Option, Some, None, Bool, true, false, ◌&&◌, ◌==◌, not, is_some, ◌⊎◌, if◌then◌else◌, codes, option_and_then}
 use Rattle.std.proofs.Common.{inl, inr}
 use Rattle.std.specs.Int.{w32, int_wrapping_neg}
-use Rattle.std.specs.Str.{bytes_eq}
 use Rattle.stapl_syntax.specs.declared.signs.BinOp.TheVariants.{Subtract}
 use Rattle.stapl_syntax.specs.declared.signs.Mark.{Mark as MarkKind}
 use Rattle.stapl_syntax.specs.declared.signs.Mark.TheVariants as marks

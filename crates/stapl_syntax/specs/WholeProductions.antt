@@ -112,11 +112,13 @@ export_part = both a_text (after comma an_export)
 abbrev pub capture_part : Part (Option ArrayTree)
 capture_part = maybe (begins_comma_join joins.Capture) (after comma (after (join joins.Capture) a_target))
 
+-- array "," array "," cell
+abbrev pub compared_part : Part CompareTree
+compared_part = both an_array (after comma (both an_array (after comma a_cell)))
+
 -- ["," COMPARE array "," array "," cell]
 abbrev pub compare_part : Part (Option CompareTree)
-compare_part =
-    maybe (begins_comma_join joins.Compare)
-    (after comma (after (join joins.Compare) (both an_array (after comma (both an_array (after comma a_cell))))))
+compare_part = maybe (begins_comma_join joins.Compare) (after comma (after (join joins.Compare) compared_part))
 
 -- (DRSCAN | IRSCAN) expr "," array ["," CAPTURE target] ["," COMPARE array "," array "," cell]
 abbrev pub scan_part : Part (ExprTree × (ArrayTree × (Option ArrayTree × Option CompareTree)))

@@ -1,5 +1,5 @@
 -- Which tokens mean which statement, and why a piece is no statement (JESD71, statements). The reasons are this profile's.
-use Rattle.std.specs.Prelude.{◌≡◌, ℕ, List, [], ◌∷◌, ◌++◌, Option, Some, None, Bool, true, false, not}
+use Rattle.std.specs.Prelude.{◌≡◌, ℕ, List, [], ◌∷◌, ◌++◌, Option, Some, None, Bool, true, false, not, if◌then◌else◌}
 use Rattle.std.specs.List.{list_any}
 use Rattle.stapl_lexer.specs.declared.piece.Piece.{Piece}
 use Rattle.stapl_lexer.specs.declared.reason.Reason.{Reason}
@@ -20,9 +20,9 @@ use Rattle.stapl_syntax.specs.declared.signs.Mark.TheVariants as marks
 use Rattle.stapl_syntax.specs.declared.signs.Sign.{Sign}
 use Rattle.stapl_syntax.specs.declared.signs.Sign.TheVariants as signs
 use Rattle.stapl_syntax.specs.WholeSymbols.{Symbol, Plain, sign_of, symbols_of}
-use Rattle.stapl_syntax.specs.WholeTrees.{BodyTree, StmtTree, exported_value, exported_array, note, action, procedure, data_block, end_data, crc, end_procedure, boolean, boolean_array, integer, integer_array, assign, assign_element, assign_array, assign_range, call, goto, if_then, for_loop, next, push, pop, print, export, exit, scan, stop, pad, state_list, wait_cycles, wait_usec, frequency}
+use Rattle.stapl_syntax.specs.WholeTrees.{BodyTree, StmtTree, note, action, procedure, data_block, end_data, crc, end_procedure, boolean, boolean_array, integer, integer_array, assign, assign_element, assign_array, assign_range, call, goto, if_then, for_loop, next, push, pop, print, export, exit, scan, stop, pad, state_list, wait_cycles, wait_usec, frequency}
 use Rattle.stapl_syntax.specs.WholeGrammar.{IsExpr, name, mark, left_square, right_square, dots}
-use Rattle.stapl_syntax.specs.WholeParts.{Part, IsPart, a_name, a_state, a_check_word, an_expr, an_array, a_cell, some_states, after, both}
+use Rattle.stapl_syntax.specs.WholeParts.{IsPart, a_name, a_state, a_check_word, an_expr, an_array, a_cell, some_states, after, both}
 use Rattle.stapl_syntax.specs.WholeProductions.{equals, join, note_part, action_part, procedure_part, size_part, bit_part, bits_part, signed_part, signed_list_part, for_part, print_part, export_part, scan_part, pad_part, last_part, usec_part, first_part, frequency_part}
 
 abbrev pub outer : OuterWord → Symbol
@@ -33,6 +33,9 @@ inner w = Plain (signs.Inner w)
 
 abbrev pub simple : SimpleWord → Symbol
 simple w = Plain (signs.Simple w)
+
+abbrev pub if_word : Symbol
+if_word = Plain signs.If
 
 abbrev pub port : PortWord → Symbol
 port w = Plain (signs.Port w)
@@ -83,7 +86,7 @@ IsBody s (call v) = IsPart (after (simple simple_words.Call) a_name) v s
 IsBody s (goto v) = IsPart (after (simple simple_words.Goto) a_name) v s
 -- IF expr THEN and a statement that is neither outer nor a declaration
 IsBody s (if_then e b) =
-    (c : List Symbol) × (r : List Symbol) × (s ≡ simple simple_words.If ∷ (c ++ (join joins.Then ∷ r)))
+    (c : List Symbol) × (r : List Symbol) × (s ≡ if_word ∷ (c ++ (join joins.Then ∷ r)))
     × IsExpr 10 c e × (is_outer b ≡ false) × (is_declaration b ≡ false) × IsBody r b
 IsBody s (for_loop v a b c) = IsPart (after (simple simple_words.For) for_part) (v, (a, (b, c))) s
 IsBody s (next v) = IsPart (after (simple simple_words.Next) a_name) v s
@@ -140,6 +143,7 @@ unfoldable pub begins_statement : Sign → List Symbol → Bool
 begins_statement (signs.Outer w) s = true
 begins_statement (signs.Inner w) s = true
 begins_statement (signs.Simple w) s = true
+begins_statement signs.If s = true
 begins_statement (signs.Port w) s = true
 begins_statement signs.LeftOutStatement s = true
 begins_statement (signs.Name v) s = is_assign_sign (first_sign s)
@@ -159,10 +163,16 @@ is_left_out _ = false
 abbrev pub holds_left_out : List Symbol → Bool
 holds_left_out s = list_any (λ t. is_left_out (sign_of t)) s
 
+-- the smallest reason of symbols that are no statement
+unfoldable pub reason_of : List Symbol → Reason
+reason_of s =
+    if is_unknown (behind_label s) then reasons.UnknownStatement
+    else if holds_left_out s then reasons.Unsupported
+    else reasons.Syntax
+
 -- The smallest of the reasons from `Unterminated` to `Syntax` that hold of the piece.
 pub data SmallestReason (text : List ℕ) (piece : Piece) : Reason → Type 0 where
   -- a reason that lies in the bytes or in single tokens, or else a bad token
   in_tokens : {reason : Reason} (tokens : List Token) → IsLexed text piece tokens (Some reason) → SmallestReason text piece reason
-  unknown : (tokens : List SpelledToken) → IsSpelled text piece tokens → is_unknown (behind_label (symbols_of tokens)) ≡ true → SmallestReason text piece reasons.UnknownStatement
-  left_out : (tokens : List SpelledToken) → IsSpelled text piece tokens → is_unknown (behind_label (symbols_of tokens)) ≡ false → holds_left_out (symbols_of tokens) ≡ true → SmallestReason text piece reasons.Unsupported
-  not_in_grammar : (tokens : List SpelledToken) → IsSpelled text piece tokens → is_unknown (behind_label (symbols_of tokens)) ≡ false → holds_left_out (symbols_of tokens) ≡ false → ((st : StmtTree) → Means tokens st → ⊥) → SmallestReason text piece reasons.Syntax
+  -- all tokens are good, and they are no statement
+  not_in_grammar : (tokens : List SpelledToken) → IsSpelled text piece tokens → ((st : StmtTree) → Means tokens st → ⊥) → SmallestReason text piece (reason_of (symbols_of tokens))

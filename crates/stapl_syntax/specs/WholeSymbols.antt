@@ -1,6 +1,6 @@
 -- What the grammar sees of tokens (JESD71, statements). Which words are reserved, and which of JESD71's words are left out, is this
 -- profile's rule.
-use Rattle.std.specs.Prelude.{ℕ, ℤ, List, [], ◌∷◌, Bool, true, false, not, ◌==◌, ◌%◌, if◌then◌else◌, codes, drop, map, Option, None, Some, find, position}
+use Rattle.std.specs.Prelude.{ℕ, List, [], ◌∷◌, Bool, true, false, not, ◌==◌, ◌%◌, if◌then◌else◌, codes, drop, map, Option, find, position}
 use Rattle.std.specs.List.{list_any}
 use Rattle.std.specs.Option.{option_map_or}
 use Rattle.std.specs.Str.{bytes_eq}
@@ -120,7 +120,6 @@ all_inner_words = inner_words.EndProcedure ∷ inner_words.Boolean ∷ inner_wor
 abbrev pub simple_spelling : SimpleWord → List ℕ
 simple_spelling simple_words.Call = codes "CALL"
 simple_spelling simple_words.Goto = codes "GOTO"
-simple_spelling simple_words.If = codes "IF"
 simple_spelling simple_words.For = codes "FOR"
 simple_spelling simple_words.Next = codes "NEXT"
 simple_spelling simple_words.Push = codes "PUSH"
@@ -131,7 +130,7 @@ simple_spelling simple_words.Exit = codes "EXIT"
 
 abbrev pub all_simple_words : List SimpleWord
 all_simple_words =
-    simple_words.Call ∷ simple_words.Goto ∷ simple_words.If ∷ simple_words.For ∷ simple_words.Next ∷ simple_words.Push ∷
+    simple_words.Call ∷ simple_words.Goto ∷ simple_words.For ∷ simple_words.Next ∷ simple_words.Push ∷
     simple_words.Pop ∷ simple_words.Print ∷ simple_words.Export ∷ simple_words.Exit ∷ []
 
 abbrev pub port_spelling : PortWord → List ℕ
@@ -209,7 +208,8 @@ reserved_or spells other =
     sign_or signs.Outer (find (λ word. spells (outer_spelling word)) all_outer_words)
     (sign_or signs.Inner (find (λ word. spells (inner_spelling word)) all_inner_words)
     (sign_or signs.Simple (find (λ word. spells (simple_spelling word)) all_simple_words)
-    (sign_or signs.Port (find (λ word. spells (port_spelling word)) all_port_words) (inside_word spells other))))
+    (sign_or signs.Port (find (λ word. spells (port_spelling word)) all_port_words)
+    (if spells (codes "IF") then signs.If else inside_word spells other))))
 
 -- a word that is not reserved, by its bytes in upper case
 abbrev pub name_sign : List ℕ → Sign

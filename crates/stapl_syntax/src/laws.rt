@@ -1,5 +1,5 @@
 //! Laws of the definitions.
-ghost use Rattle.std.specs.Prelude.{◌≡◌, ◌↔◌, ℕ, List, Option, Some, slice_get, true};
+ghost use Rattle.std.specs.Prelude.{◌≡◌, ◌≤◌, ◌↔◌, ℕ, List, Option, Some, length, slice_get, true};
 ghost use Rattle.stapl_lexer.specs.declared.piece.Piece.{Piece};
 ghost use Rattle.stapl_lexer.specs.declared.reason.Reason.{Reason};
 ghost use Rattle.stapl_lexer.specs.SpelledTokens.{SpelledToken};
@@ -8,6 +8,7 @@ ghost use Rattle.stapl_syntax.specs.Faults as faults;
 ghost use Rattle.stapl_syntax.specs.Grammar.{Means, IsPieceStatement};
 ghost use Rattle.stapl_syntax.specs.Built.{whole_statement};
 ghost use Rattle.stapl_syntax.specs.WholeStatements as statements;
+ghost use Rattle.stapl_syntax.specs.WholeTrees as whole;
 ghost use Rattle.stapl_syntax.specs.Forms.{statement_of};
 ghost use Rattle.stapl_syntax.specs.Shapes.{IsOneProcedure};
 
@@ -51,4 +52,14 @@ pub fn built_statements_are_statements()
 /// there.
 pub fn no_piece_without_a_statement_is_passed()
     ensures { (text : List ℕ) (pieces : List Piece) (read : List (Option StmtTree)) (i : ℕ) (piece : Piece) (reason : Reason) → faults.AreReadAs text pieces read → slice_get pieces i ≡ Some piece → faults.IsNoStatement text piece reason → faults.is_refused read i ≡ true }
+{}
+
+/// A piece that is a statement has no reason why it is none.
+pub fn a_statement_has_no_reason()
+    ensures { (text : List ℕ) (piece : Piece) (st : whole.StmtTree) (reason : Reason) → statements.IsPieceStatement text piece st → statements.SmallestReason text piece reason → ⊥ }
+{}
+
+/// A piece has at most one smallest reason.
+pub fn a_piece_has_one_smallest_reason()
+    ensures { (text : List ℕ) (piece : Piece) (r s : Reason) → piece.end ≤ length text → statements.SmallestReason text piece r → statements.SmallestReason text piece s → r ≡ s }
 {}

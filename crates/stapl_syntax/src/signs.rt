@@ -82,12 +82,11 @@ pub enum InnerWord {
     Integer,
 }
 
-/// The first word of a statement that may stand behind THEN and speaks of no register.
+/// The first word of a statement that may stand behind THEN, other than IF and those that drive the test access port.
 #[derive(Clone, Copy, Debug, PartialEq, Eq)]
 pub enum SimpleWord {
     Call,
     Goto,
-    If,
     For,
     Next,
     Push,
@@ -149,6 +148,8 @@ pub enum Sign {
     Outer(OuterWord),
     Inner(InnerWord),
     Simple(SimpleWord),
+    /// IF.
+    If,
     Port(PortWord),
     Join(JoinWord),
     Function(Function),

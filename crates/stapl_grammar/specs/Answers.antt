@@ -1,0 +1,20 @@
+-- What the parser answers for symbols.
+use Rattle.std.specs.Prelude.{◌≡◌, ℕ, List, Option, Result, Ok, Err}
+use Rattle.stapl_lexer.specs.declared.reason.Reason.{Reason}
+use Rattle.stapl_syntax.specs.declared.whole.Stmt.{Stmt}
+use Rattle.stapl_syntax.specs.WholeSymbols.{Symbol}
+use Rattle.stapl_syntax.specs.WholeTrees.{BodyTree, body_tree}
+use Rattle.stapl_syntax.specs.WholeStatements.{IsLabelled, reason_of}
+use Rattle.stapl_grammar.specs.declared.parsing.ParseRefused.{ParseRefused}
+use Rattle.stapl_grammar.specs.declared.parsing.ParseRefused.TheVariants.{Because, Memory}
+
+-- the symbols are no statement, and this is their smallest reason
+pub record IsRefused (s : List Symbol) (reason : Reason) : Type 0 where
+  pub reason_is : reason ≡ reason_of s
+  pub none : (label : Option (List ℕ)) (body : BodyTree) → IsLabelled s label body → ⊥
+
+-- the symbols are the statement, or they are none for this reason, or memory ran out
+abbrev pub AnswersFor : List Symbol → Result Stmt ParseRefused → Type 0
+AnswersFor s (Ok st) = IsLabelled s st.label (body_tree st.body)
+AnswersFor s (Err (Because reason)) = IsRefused s reason
+AnswersFor s (Err Memory) = Unit {0}

@@ -1,0 +1,24 @@
+//! Laws of the grammar.
+ghost use Rattle.std.specs.Prelude.{◌≡◌, ℕ, List, false};
+ghost use Rattle.stapl_lexer.specs.declared.piece.Piece.{Piece};
+ghost use Rattle.stapl_lexer.specs.SpelledTokens.{SpelledToken};
+ghost use Rattle.stapl_syntax.specs.WholeSymbols.{symbols_of};
+ghost use Rattle.stapl_syntax.specs.WholeTrees.{StmtTree};
+ghost use Rattle.stapl_syntax.specs.WholeStatements.{Means, IsPieceStatement, behind_label, is_unknown, holds_left_out};
+
+/// Tokens mean at most one statement.
+pub fn one_statement()
+    ensures { (tokens : List SpelledToken) (a b : StmtTree) → Means tokens a → Means tokens b → a ≡ b }
+{}
+
+/// A piece is at most one statement.
+pub fn a_piece_is_one_statement()
+    ensures { (text : List ℕ) (piece : Piece) (a b : StmtTree) → IsPieceStatement text piece a → IsPieceStatement text piece b → a ≡ b }
+{}
+
+/// Tokens that mean a statement begin as a statement, and hold no word that the profile leaves out. So where one of these two reasons
+/// holds, the piece is not in the grammar.
+pub fn a_statement_is_known_and_supported()
+    ensures known { (tokens : List SpelledToken) (statement : StmtTree) → Means tokens statement → is_unknown (behind_label (symbols_of tokens)) ≡ false }
+    ensures supported { (tokens : List SpelledToken) (statement : StmtTree) → Means tokens statement → holds_left_out (symbols_of tokens) ≡ false }
+{}
