@@ -4,3 +4,4 @@ pub mod TableLemmas
 pub mod ReadingLemmas
 pub mod RefusingLemmas
 pub mod VerdictLemmas
+pub mod ReasonLemmas

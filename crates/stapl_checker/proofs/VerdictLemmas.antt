@@ -1,14 +1,14 @@
 -- From what the loops find to what the text is.
-use Rattle.std.proofs.Common.{◌≡◌, ◌≤◌, ◌<◌, ◌+◌, ℕ, zero, suc, Bool, true, false, not, ◌||◌, nat_le, List, [], ◌∷◌, length, refl, sym, ap, ◌∙◌, Option, None, Some, is_some, map, take, drop, get_or, slice_get, All, arith, subst}
-use Rattle.std.specs.List.{list_any}
+use Rattle.std.proofs.Common.{◌≡◌, ◌≤◌, ◌<◌, ◌+◌, ℕ, true, List, [], ◌∷◌, length, refl, sym, ap, ◌∙◌, Option, None, Some, is_some, map, get_or, slice_get, All, arith, subst}
 use Rattle.std.specs.Option.{option_map}
 use Rattle.std.proofs.lemmas.List.{length-map}
 use Rattle.stapl_lexer.specs.declared.piece.Piece.{Piece}
-use Rattle.stapl_lexer.specs.declared.reason.Reason.TheVariants as reasons
+use Rattle.stapl_lexer.specs.declared.reason.Reason.{Reason}
 use Rattle.stapl_lexer.specs.Pieces.{IsCut}
 use Rattle.stapl_syntax.specs.declared.statement.Stmt.{Stmt}
 use Rattle.stapl_syntax.specs.Trees.{StmtTree, stmt_tree}
-use Rattle.stapl_syntax.specs.Faults.{text_limit, piece_limit, ends, up_to_end, run_of, is_procedure, is_refused_inside, is_refused, line_of_index, AreReadAs, IsProgram, FirstFault, is_first}
+use Rattle.stapl_syntax.specs.Faults.{text_limit, is_refused, line_of_index, AreReadAs, IsProgram, IsReasonAt, FirstFault, is_first}
+use Rattle.stapl_syntax.proofs.BuiltGrammar.{refused_at}
 use Rattle.stapl_checker.specs.Verdicts.{IsFirstAt, NoneUpTo}
 use Rattle.stapl_checker.proofs.TableLemmas.{trees}
 use Rattle.stapl_checker.proofs.RefusingLemmas.{tree_at}
@@ -37,35 +37,14 @@ program_is text pieces read statements short cut are all e =
       sound = λ k lt. ap (λ (z : List (Option StmtTree)). is_refused z k) (sym same) ∙ all.none k (omega arith);
     }
 
-pub fault_is : (text : List ℕ) (pieces : List Piece) (read : List (Option Stmt)) (i : ℕ) → length text ≤ text_limit → IsCut text pieces →
-    AreReadAs text pieces (trees read) → IsFirstAt (is_refused (trees read)) (length read) i → FirstFault text (i + 1) (line_of_index text pieces i) reasons.NotYetBuilt
-fault_is text pieces read i short cut are first =
+pub fault_is : (text : List ℕ) (pieces : List Piece) (read : List (Option Stmt)) (i : ℕ) (reason : Reason) → length text ≤ text_limit → IsCut text pieces →
+    AreReadAs text pieces (trees read) → IsFirstAt (is_refused (trees read)) (length read) i → IsReasonAt text i (slice_get pieces i) reason →
+    FirstFault text (i + 1) (line_of_index text pieces i) reason
+fault_is text pieces read i reason short cut are first why =
     let long : length (trees read) ≡ length pieces = read_length text pieces (trees read) are in
     let mapped : length (trees read) ≡ length read = length-map read (option_map stmt_tree) in
     let within = first.within in
-    is_first pieces (trees read) i short cut are (omega arith) first.here first.before
-
-or_right : (a b : Bool) → b ≡ true → (a || b) ≡ true
-or_right true b h = refl
-or_right false b h = h
-
-not_procedure : (run : Option (List ℕ)) → is_procedure run (Some None) ≡ false
-not_procedure None = refl
-not_procedure (Some run) = refl
-
-behind_two : (read : List (Option StmtTree)) (i : ℕ) → slice_get (drop 2 read) i ≡ slice_get read (suc (suc i))
-behind_two [] i = refl
-behind_two (a ∷ []) i = refl
-behind_two (a ∷ b ∷ read) i = refl
-
--- a piece that is no statement is refused
-refused_none : (read : List (Option StmtTree)) (i : ℕ) → slice_get read i ≡ Some None → is_refused read i ≡ true
-refused_none read zero h = ap (λ (z : Option (Option StmtTree)). not (is_some (run_of z))) h
-refused_none read (suc zero) h =
-    ap (λ (z : Option (Option StmtTree)). not (is_procedure (run_of (slice_get read 0)) z)) h ∙ ap not (not_procedure (run_of (slice_get read 0)))
-refused_none read (suc (suc i)) h =
-    ap (is_refused_inside (up_to_end (drop 2 read)) i) (behind_two read i ∙ h)
-    ∙ or_right (list_any ends (take i (up_to_end (drop 2 read))) || nat_le piece_limit (2 + i)) true refl
+    is_first pieces (trees read) i reason short cut are (omega arith) first.here first.before why
 
 pub all_some : (read : List (Option Stmt)) → NoneUpTo (is_refused (trees read)) (length read) → All (λ (statement : Option Stmt). is_some statement ≡ true) read
 all_some read all = λ k d lt. by k lt (get_or read k d) (tree_at read k (get_or read k d) d lt refl)
@@ -73,7 +52,7 @@ all_some read all = λ k d lt. by k lt (get_or read k d) (tree_at read k (get_or
     by : (k : ℕ) → k < length read → (o : Option Stmt) → slice_get (trees read) k ≡ Some (option_map stmt_tree o) → is_some o ≡ true
     by k lt (Some st) e = refl
     by k lt None e =
-        let yes = refused_none (trees read) k e in
+        let yes = refused_at (trees read) k e in
         let no = all.none k (omega arith) in cc
 
 pub few_read : (text : List ℕ) (pieces : List Piece) (read : List (Option Stmt)) → AreReadAs text pieces (trees read) → length pieces ≤ length text + 1 → length text ≤ 4194304 →

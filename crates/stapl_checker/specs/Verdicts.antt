@@ -1,7 +1,6 @@
 -- What the checker's loops find.
 use Rattle.std.specs.Prelude.{◌≡◌, ℕ, ◌<◌, ◌≤◌, List, Bool, true, false, Option, None, Some, length, map, take, slice_get}
 use Rattle.std.specs.List.{list_any}
-use Rattle.stapl_lexer.specs.declared.reason.Reason.TheVariants as reasons
 use Rattle.stapl_syntax.specs.Trees.{StmtTree, stmt_tree}
 use Rattle.stapl_syntax.specs.Faults.{ends, up_to_end, is_refused_inside, IsProgram, FirstFault}
 use Rattle.stapl_checker.specs.declared.checking.CheckRefused.{CheckRefused}
@@ -31,7 +30,7 @@ is_refused_at behind i = is_refused_inside (up_to_end behind) i (slice_get behin
 -- what the checker finds of a text that is not too long
 abbrev pub IsVerdict : List ℕ → Verdict → Type 0
 IsVerdict text (verdicts.Program statements) = IsProgram text (map stmt_tree statements.items)
-IsVerdict text (verdicts.Fault piece line) = FirstFault text piece line reasons.NotYetBuilt
+IsVerdict text (verdicts.Fault piece line reason) = FirstFault text piece line reason
 
 -- The first pieces behind the PROCEDURE are read: none of them is refused, and it is known whether ENDPROC is among them.
 pub record NoneRefusedUpTo (behind : List (Option StmtTree)) (i : ℕ) (ended : Bool) : Type 0 where

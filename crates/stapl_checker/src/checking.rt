@@ -1,7 +1,7 @@
 //! The check of a whole text.
 ghost use Rattle.std.specs.Prelude.{◌≡◌, ◌≤◌, ◌<◌, ℕ, List, true, length, map, All, IfOk, IfErr, Some, is_some};
 ghost use Rattle.std.specs.Option.{option_map};
-ghost use Rattle.stapl_lexer.specs.Pieces.{IsCut};
+ghost use Rattle.stapl_lexer.specs.Pieces.{IsCut, LiesIn};
 ghost use Rattle.stapl_syntax.specs.Trees.{stmt_tree};
 ghost use Rattle.stapl_syntax.specs.Faults.{line_of_index, end_line, procedure_pieces, AreReadAs, IsProgram};
 ghost use Rattle.stapl_checker.specs.Tables.{AreNames};
@@ -9,6 +9,7 @@ ghost use Rattle.stapl_checker.specs.Verdicts.{IsVerdict, IsCause};
 
 use crate::names::Names;
 use crate::reading::read_pieces;
+use crate::reasons::reason_at;
 use crate::refusing::{first_refused, own_pieces};
 use stapl_lexer::{Piece, Reason, cut};
 use stapl_syntax::Stmt;
@@ -22,8 +23,8 @@ const TEXT_LIMIT: usize = 4_194_304;
 enum Verdict {
     // A program, by its statements.
     Program(Vec<Stmt>),
-    // The first fault: the piece, counted from 1, and its line.
-    Fault(u32, u32),
+    // The first fault: the piece, counted from 1, its line, and its reason.
+    Fault(u32, u32, Reason),
 }
 
 // The line where a text ends.
@@ -79,6 +80,7 @@ fn judge_read(
 ) -> Result<Verdict, AllocError>
     requires small { length text.now ≤ 4194304 }
     requires cut { IsCut text.now pieces.now }
+    requires lie { All (LiesIn text.now) pieces.now }
     requires read { AreReadAs text.now pieces.now (map (option_map stmt_tree) read.items) }
     requires few { length read.items ≤ 4194305 }
     ensures { IfOk result (IsVerdict text.now) }
@@ -87,7 +89,8 @@ fn judge_read(
     match first_refused(&names, &read) {
         Some(index) => {
             let line = line_of_index(text, pieces, index);
-            Ok(Verdict::Fault(index as u32 + 1, line))
+            let reason = reason_at(alloc, text, pieces, index)?;
+            Ok(Verdict::Fault(index as u32 + 1, line, reason))
         }
         None => {
             let statements = statements_of(alloc, read)?;
@@ -143,10 +146,10 @@ pub fn check(alloc: Global, text: &[u8]) -> Result<Vec<Stmt>, CheckRefused>
     };
     match verdict {
         Verdict::Program(statements) => Ok(statements),
-        Verdict::Fault(piece, line) => Err(CheckRefused::Refused {
+        Verdict::Fault(piece, line, reason) => Err(CheckRefused::Refused {
             piece,
             line,
-            reason: Reason::NotYetBuilt,
+            reason,
         }),
     }
 }

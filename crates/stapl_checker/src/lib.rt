@@ -6,6 +6,7 @@ mod forms;
 mod judging;
 mod names;
 mod reading;
+mod reasons;
 mod refusing;
 mod tokens;
 

@@ -12,7 +12,7 @@ use stapl_lexer::Name;
 use stapl_syntax::{Body, Stmt};
 
 // The most pieces of a text.
-const PIECE_LIMIT: usize = 100_000;
+pub(crate) const PIECE_LIMIT: usize = 100_000;
 
 // Whether a piece is ENDPROC.
 fn is_end(piece: &Option<Stmt>) -> bool
