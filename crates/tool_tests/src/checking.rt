@@ -79,63 +79,170 @@ fn reads_the_counting_loop(rt: HostRuntime) -> Result<(), Fail> {
     Ok(())
 }
 
-// Texts that are refused, each with the piece and the line of its first fault.
+// Texts that are refused, each with the piece, the line and the reason of its first fault.
 #[test]
 fn refuses_texts_at_their_first_fault(rt: HostRuntime) -> Result<(), Fail> {
-    let table: [(&str, u32, u32); 42] = [
-        ("", 1, 1),
-        ("\n\n", 1, 3),
-        (";;", 1, 1),
-        ("ACTION A=P", 1, 1),
-        ("ACTION A=P;", 2, 1),
-        ("ACTION A=P;PROCEDURE P;", 3, 1),
-        ("ACTION A=P;PROCEDURE P;\nEXIT 0;\n", 4, 3),
-        ("ACTION A=P;PROCEDURE P;ENDPROC;EXIT 0;", 4, 1),
-        ("ACTION A=P;PROCEDURE P;ENDPROC;ENDPROC;", 4, 1),
-        ("ACTION A=P;PROCEDURE P;ENDPROC;\nX", 4, 2),
-        ("ACTION A=P;PROCEDURE P;ENDPROC", 3, 1),
-        ("L: ACTION A=P;PROCEDURE P;ENDPROC;", 1, 1),
-        ("ACTION A=P;L: PROCEDURE P;ENDPROC;", 2, 1),
-        ("ACTION A=P;PROCEDURE Q;ENDPROC;", 2, 1),
-        ("ACTION A=P,Q;PROCEDURE P;ENDPROC;", 1, 1),
-        ("PROCEDURE P;ENDPROC;", 1, 1),
-        ("ACTION A=P;PROCEDURE P;PROCEDURE P;ENDPROC;", 3, 1),
-        ("ACTION A=P;PROCEDURE P;\nPRINT X;ENDPROC;", 3, 2),
-        ("ACTION A=P;PROCEDURE P;PRINT X;PRINT Y;ENDPROC;", 3, 1),
-        ("ACTION A=P;PROCEDURE P;INTEGER X;X=1+Y;ENDPROC;", 4, 1),
-        ("ACTION A=P;PROCEDURE P;X=1;ENDPROC;", 3, 1),
-        ("ACTION A=P;PROCEDURE P;EXIT 0;GOTO L;ENDPROC;", 4, 1),
-        ("ACTION A=P;PROCEDURE P;INTEGER L;GOTO L;ENDPROC;", 4, 1),
-        ("ACTION A=P;PROCEDURE P;L: PRINT L;ENDPROC;", 3, 1),
-        ("ACTION A=P;PROCEDURE P;INTEGER I;INTEGER i;ENDPROC;", 4, 1),
-        ("ACTION A=P;PROCEDURE P;L: EXIT 0;L: EXIT 1;ENDPROC;", 4, 1),
-        ("ACTION A=P;PROCEDURE P;GOTO L;ENDPROC;L: EXIT 0;", 3, 1),
-        ("ACTION A=P;PROCEDURE P;PRINT I;INTEGER I=1;ENDPROC;", 3, 1),
-        ("ACTION A=P;PROCEDURE P;IF X<1 THEN EXIT 0;ENDPROC;", 3, 1),
-        ("ACTION A=P;PROCEDURE P;IF 1<2 THEN GOTO M;ENDPROC;", 3, 1),
-        ("ACTION A=P;PROCEDURE P;IF 1<2 EXIT 0;ENDPROC;", 3, 1),
+    use Reason::{Compressed, NotYetBuilt, Syntax, UnknownStatement, Unterminated};
+    let table: [(&str, u32, u32, Reason); 42] = [
+        ("", 1, 1, NotYetBuilt),
+        ("\n\n", 1, 3, NotYetBuilt),
+        (";;", 1, 1, Syntax),
+        ("ACTION A=P", 1, 1, Unterminated),
+        ("ACTION A=P;", 2, 1, NotYetBuilt),
+        ("ACTION A=P;PROCEDURE P;", 3, 1, NotYetBuilt),
+        ("ACTION A=P;PROCEDURE P;\nEXIT 0;\n", 4, 3, NotYetBuilt),
+        ("ACTION A=P;PROCEDURE P;ENDPROC;EXIT 0;", 4, 1, NotYetBuilt),
+        ("ACTION A=P;PROCEDURE P;ENDPROC;ENDPROC;", 4, 1, NotYetBuilt),
+        ("ACTION A=P;PROCEDURE P;ENDPROC;\nX", 4, 2, Unterminated),
+        ("ACTION A=P;PROCEDURE P;ENDPROC", 3, 1, Unterminated),
+        ("L: ACTION A=P;PROCEDURE P;ENDPROC;", 1, 1, Syntax),
+        ("ACTION A=P;L: PROCEDURE P;ENDPROC;", 2, 1, Syntax),
+        ("ACTION A=P;PROCEDURE Q;ENDPROC;", 2, 1, NotYetBuilt),
+        ("ACTION A=P,Q;PROCEDURE P;ENDPROC;", 1, 1, NotYetBuilt),
+        ("PROCEDURE P;ENDPROC;", 1, 1, NotYetBuilt),
+        (
+            "ACTION A=P;PROCEDURE P;PROCEDURE P;ENDPROC;",
+            3,
+            1,
+            NotYetBuilt,
+        ),
+        (
+            "ACTION A=P;PROCEDURE P;\nPRINT X;ENDPROC;",
+            3,
+            2,
+            NotYetBuilt,
+        ),
+        (
+            "ACTION A=P;PROCEDURE P;PRINT X;PRINT Y;ENDPROC;",
+            3,
+            1,
+            NotYetBuilt,
+        ),
+        (
+            "ACTION A=P;PROCEDURE P;INTEGER X;X=1+Y;ENDPROC;",
+            4,
+            1,
+            NotYetBuilt,
+        ),
+        ("ACTION A=P;PROCEDURE P;X=1;ENDPROC;", 3, 1, NotYetBuilt),
+        (
+            "ACTION A=P;PROCEDURE P;EXIT 0;GOTO L;ENDPROC;",
+            4,
+            1,
+            NotYetBuilt,
+        ),
+        (
+            "ACTION A=P;PROCEDURE P;INTEGER L;GOTO L;ENDPROC;",
+            4,
+            1,
+            NotYetBuilt,
+        ),
+        (
+            "ACTION A=P;PROCEDURE P;L: PRINT L;ENDPROC;",
+            3,
+            1,
+            NotYetBuilt,
+        ),
+        (
+            "ACTION A=P;PROCEDURE P;INTEGER I;INTEGER i;ENDPROC;",
+            4,
+            1,
+            NotYetBuilt,
+        ),
+        (
+            "ACTION A=P;PROCEDURE P;L: EXIT 0;L: EXIT 1;ENDPROC;",
+            4,
+            1,
+            NotYetBuilt,
+        ),
+        (
+            "ACTION A=P;PROCEDURE P;GOTO L;ENDPROC;L: EXIT 0;",
+            3,
+            1,
+            NotYetBuilt,
+        ),
+        (
+            "ACTION A=P;PROCEDURE P;PRINT I;INTEGER I=1;ENDPROC;",
+            3,
+            1,
+            NotYetBuilt,
+        ),
+        (
+            "ACTION A=P;PROCEDURE P;IF X<1 THEN EXIT 0;ENDPROC;",
+            3,
+            1,
+            NotYetBuilt,
+        ),
+        (
+            "ACTION A=P;PROCEDURE P;IF 1<2 THEN GOTO M;ENDPROC;",
+            3,
+            1,
+            NotYetBuilt,
+        ),
+        (
+            "ACTION A=P;PROCEDURE P;IF 1<2 EXIT 0;ENDPROC;",
+            3,
+            1,
+            Syntax,
+        ),
         (
             "ACTION A=P;PROCEDURE P;IF 1<2 THEN IF 1<2 THEN EXIT 0;ENDPROC;",
             3,
             1,
+            NotYetBuilt,
         ),
         (
             "ACTION A=P;PROCEDURE P;IF 1<2 THEN L: EXIT 0;ENDPROC;",
             3,
             1,
+            Syntax,
         ),
-        ("ACTION A=P;PROCEDURE P;IF 1+2 THEN EXIT 0;ENDPROC;", 3, 1),
-        ("ACTION A=P;PROCEDURE P;PRINT 2147483648;ENDPROC;", 3, 1),
-        ("ACTION A=P;PROCEDURE P;EXIT 1E1;ENDPROC;", 3, 1),
-        ("ACTION A=P;PROCEDURE P;EXIT (1);ENDPROC;", 3, 1),
-        ("ACTION A=P;PROCEDURE P;L: M: EXIT 0;ENDPROC;", 3, 1),
-        ("ACTION A=P;PROCEDURE P;TO: EXIT 0;ENDPROC;", 3, 1),
-        ("ACTION A=P;PROCEDURE P;INTEGER IF;ENDPROC;", 3, 1),
-        ("ACTION A=P;PROCEDURE P;INTEGER X;X=1<2;ENDPROC;", 4, 1),
-        ("ACTION A=P;PROCEDURE P;EXIT 0;@;ENDPROC;", 4, 1),
+        (
+            "ACTION A=P;PROCEDURE P;IF 1+2 THEN EXIT 0;ENDPROC;",
+            3,
+            1,
+            NotYetBuilt,
+        ),
+        (
+            "ACTION A=P;PROCEDURE P;PRINT 2147483648;ENDPROC;",
+            3,
+            1,
+            NotYetBuilt,
+        ),
+        (
+            "ACTION A=P;PROCEDURE P;EXIT 1E1;ENDPROC;",
+            3,
+            1,
+            NotYetBuilt,
+        ),
+        (
+            "ACTION A=P;PROCEDURE P;EXIT (1);ENDPROC;",
+            3,
+            1,
+            NotYetBuilt,
+        ),
+        (
+            "ACTION A=P;PROCEDURE P;L: M: EXIT 0;ENDPROC;",
+            3,
+            1,
+            UnknownStatement,
+        ),
+        (
+            "ACTION A=P;PROCEDURE P;TO: EXIT 0;ENDPROC;",
+            3,
+            1,
+            UnknownStatement,
+        ),
+        ("ACTION A=P;PROCEDURE P;INTEGER IF;ENDPROC;", 3, 1, Syntax),
+        (
+            "ACTION A=P;PROCEDURE P;INTEGER X;X=1<2;ENDPROC;",
+            4,
+            1,
+            NotYetBuilt,
+        ),
+        ("ACTION A=P;PROCEDURE P;EXIT 0;@;ENDPROC;", 4, 1, Compressed),
     ];
-    for (text, piece, line) in table {
-        let reason = Reason::NotYetBuilt;
+    for (text, piece, line, reason) in table {
         let want = CheckRefused::Refused {
             piece,
             line,
@@ -162,13 +269,19 @@ fn refuses_the_piece_above_the_limit(rt: HostRuntime) -> Result<(), Fail> {
     let alloc = rt.alloc();
     let text = with_exits(alloc, 99_997)?;
     assert_eq!(rt; outcome(alloc, &text), (100_000, None));
+    // the piece above the limit is ENDPROC, and then no statement
     let text = with_exits(alloc, 99_998)?;
-    let want = CheckRefused::Refused {
-        piece: 100_001,
-        line: 1,
-        reason: Reason::NotYetBuilt,
-    };
-    assert_eq!(rt; outcome(alloc, &text), (0, Some(want)));
+    let mut other = text.as_slice().to_vec(alloc)?;
+    other.truncate(text.len() - 8);
+    other.extend_from_slice(b"FOO;")?;
+    for (text, reason) in [(text, Reason::NotYetBuilt), (other, Reason::TooManyPieces)] {
+        let want = CheckRefused::Refused {
+            piece: 100_001,
+            line: 1,
+            reason,
+        };
+        assert_eq!(rt; outcome(alloc, &text), (0, Some(want)));
+    }
     Ok(())
 }
 

@@ -16,6 +16,8 @@ mod codes;
 #[cfg(test)]
 mod devices;
 #[cfg(test)]
+mod grammar;
+#[cfg(test)]
 mod lists;
 #[cfg(test)]
 mod machines;

@@ -1,6 +1,7 @@
 //! What the tool answers to its words, over a store and a sink in memory.
 use play_tool::{Status, run_tool};
 use stapl_lexer::Reason;
+use std::alloc::{AllocError, Global};
 use std::test::Fail;
 use tool_io::{MemShelf, MemSink};
 
@@ -151,129 +152,233 @@ fn spends_its_turns(rt: HostRuntime) -> Result<(), Fail> {
     Ok(())
 }
 
-// Texts that are refused, each with the line that is written and the piece of its first fault.
+// Texts that are refused, each with the line that is written, and the piece and the reason of its first fault.
 #[test]
 fn refuses_at_the_first_fault(rt: HostRuntime) -> Result<(), Fail> {
-    let table: [(&str, &str, u32); 24] = [
-        ("", "R program 1 line 1 NotYetBuilt\n", 1),
-        (" \n' c", "R program 1 line 2 NotYetBuilt\n", 1),
+    use Reason::{
+        Compressed, NameTooLong, NotYetBuilt, NumberTooLarge, OpenString, Syntax, UnknownStatement,
+        Unterminated,
+    };
+    let table: [(&str, &str, u32, Reason); 25] = [
+        ("", "R program 1 line 1 NotYetBuilt\n", 1, NotYetBuilt),
+        (" \n' c", "R program 1 line 2 NotYetBuilt\n", 1, NotYetBuilt),
         (
             "ACTION A=P;PROCEDURE P;PRINT \"A\";PRINT (1);ENDPROC;",
             "R program 4 line 1 NotYetBuilt\n",
             4,
+            NotYetBuilt,
         ),
         (
             "ACTION A=P;PROCEDURE P;\nPRINT X;ENDPROC;",
             "R program 3 line 2 NotYetBuilt\n",
             3,
+            NotYetBuilt,
         ),
         (
             "ACTION A=P;PROCEDURE P;EXIT 0;GOTO L;ENDPROC;",
             "R program 4 line 1 NotYetBuilt\n",
             4,
+            NotYetBuilt,
         ),
         (
             "ACTION A=P;PROCEDURE P;INTEGER I;INTEGER i;ENDPROC;",
             "R program 4 line 1 NotYetBuilt\n",
             4,
+            NotYetBuilt,
         ),
         (
             "ACTION A=P;PROCEDURE P;L: EXIT 0;\nL: EXIT 1;ENDPROC;",
             "R program 4 line 2 NotYetBuilt\n",
             4,
+            NotYetBuilt,
         ),
         (
             "ACTION A=P;PROCEDURE P;\nENDPROC;\nX;",
-            "R program 4 line 3 NotYetBuilt\n",
+            "R program 4 line 3 UnknownStatement\n",
             4,
+            UnknownStatement,
         ),
         (
             "ACTION A=P;PROCEDURE P;ENDPROC",
-            "R program 3 line 1 NotYetBuilt\n",
+            "R program 3 line 1 Unterminated\n",
             3,
+            Unterminated,
         ),
         (
             "ACTION A=P;PROCEDURE P;PRINT \"A\"",
-            "R program 3 line 1 NotYetBuilt\n",
+            "R program 3 line 1 Unterminated\n",
             3,
+            Unterminated,
         ),
         (
             "ACTION A=P;PROCEDURE P;\n",
             "R program 3 line 2 NotYetBuilt\n",
             3,
+            NotYetBuilt,
         ),
         (
             "ACTION A=P;PROCEDURE Q;ENDPROC;",
             "R program 2 line 1 NotYetBuilt\n",
             2,
+            NotYetBuilt,
         ),
         (
             "PROCEDURE P;ENDPROC;",
             "R program 1 line 1 NotYetBuilt\n",
             1,
+            NotYetBuilt,
         ),
         (
             "ACTION A=EXIT;PROCEDURE EXIT;ENDPROC;",
-            "R program 1 line 1 NotYetBuilt\n",
+            "R program 1 line 1 Syntax\n",
             1,
+            Syntax,
         ),
         (
             "ACTION A==P;PROCEDURE P;ENDPROC;",
-            "R program 1 line 1 NotYetBuilt\n",
+            "R program 1 line 1 Syntax\n",
             1,
+            Syntax,
         ),
         (
             "ACTION A=P;PROCEDURE P;EXIT 2147483648;ENDPROC;",
             "R program 3 line 1 NotYetBuilt\n",
             3,
+            NotYetBuilt,
         ),
         (
             "ACTION A=P;PROCEDURE P;EXIT 99999999999999999999;ENDPROC;",
-            "R program 3 line 1 NotYetBuilt\n",
+            "R program 3 line 1 NumberTooLarge\n",
             3,
+            NumberTooLarge,
         ),
         (
             "ACTION A=P;PROCEDURE P;EXIT 1E2;ENDPROC;",
             "R program 3 line 1 NotYetBuilt\n",
             3,
+            NotYetBuilt,
         ),
         (
             "ACTION A=P;PROCEDURE P;EXIT 5 5;ENDPROC;",
-            "R program 3 line 1 NotYetBuilt\n",
+            "R program 3 line 1 Syntax\n",
             3,
+            Syntax,
         ),
         (
             "ACTION A=P;PROCEDURE P;PRINT \"A\nB\";ENDPROC;",
-            "R program 3 line 1 NotYetBuilt\n",
+            "R program 3 line 1 Unterminated\n",
             3,
+            Unterminated,
+        ),
+        (
+            "ACTION A=P;PROCEDURE P;PRINT \"A\nB;ENDPROC;",
+            "R program 3 line 1 OpenString\n",
+            3,
+            OpenString,
         ),
         (
             "ACTION A=P;PROCEDURE P;EXIT5;ENDPROC;",
-            "R program 3 line 1 NotYetBuilt\n",
+            "R program 3 line 1 UnknownStatement\n",
             3,
+            UnknownStatement,
         ),
         (
             "ACTION A=P;PROCEDURE P;EXIT @;ENDPROC;",
-            "R program 3 line 1 NotYetBuilt\n",
+            "R program 3 line 1 Compressed\n",
             3,
+            Compressed,
         ),
         (
             "ACTION A234567890123456789012345678901_B=P;",
-            "R program 1 line 1 NotYetBuilt\n",
+            "R program 1 line 1 NameTooLong\n",
             1,
+            NameTooLong,
         ),
         (
             "ACTION A=P;ACTION B=P;",
             "R program 2 line 1 NotYetBuilt\n",
             2,
+            NotYetBuilt,
         ),
     ];
-    for (program, want, piece) in table {
+    for (program, want, piece, reason) in table {
         let (status, written) = answer(&rt, &PLAY, program.as_bytes().to_vec(rt.alloc())?, 100, 0)?;
-        let refused = Status::Refused(piece, Reason::NotYetBuilt);
+        let refused = Status::Refused(piece, reason);
         assert_eq!(rt; status, refused, "at {program:?}");
         assert_eq!(rt; written.as_slice(), want.as_bytes(), "at {program:?}");
         assert_eq!(rt; status.exit_code(), 4);
+    }
+    Ok(())
+}
+
+// A program whose procedure has these statements.
+fn in_procedure(alloc: Global, statements: &[u8]) -> Result<Vec<u8>, AllocError> {
+    let mut text = b"ACTION A=P;PROCEDURE P;".to_vec(alloc)?;
+    text.extend_from_slice(statements)?;
+    text.extend_from_slice(b"ENDPROC;")?;
+    Ok(text)
+}
+
+// Statements of a procedure, each with the line that names the reason of the first piece that is refused.
+#[test]
+fn names_the_reason_of_the_first_fault(rt: HostRuntime) -> Result<(), Fail> {
+    let table: [(&str, &str); 9] = [
+        ("BOOLEAN B[8]=@A00;", "R program 3 line 1 Compressed\n"),
+        ("GOTO L;X = = 1;L: EXIT 0;", "R program 4 line 1 Syntax\n"),
+        ("DRSCAN 3,#101;", "R program 3 line 1 NotYetBuilt\n"),
+        ("FOO;", "R program 3 line 1 UnknownStatement\n"),
+        ("TRST 3;", "R program 3 line 1 Unsupported\n"),
+        ("EXIT 2147483649;", "R program 3 line 1 NumberTooLarge\n"),
+        ("EXIT {;", "R program 3 line 1 BadByte\n"),
+        ("PRINT \"A\n;@;", "R program 3 line 1 OpenString\n"),
+        (
+            "EXIT 0;\n\nFOO @ 2147483649;",
+            "R program 4 line 3 Compressed\n",
+        ),
+    ];
+    for (statements, want) in table {
+        let program = in_procedure(rt.alloc(), statements.as_bytes())?;
+        let (status, written) = answer(&rt, &PLAY, program, 100, 0)?;
+        assert_eq!(rt; written.as_slice(), want.as_bytes(), "at {statements:?}");
+        assert_eq!(rt; status.exit_code(), 4);
+    }
+    Ok(())
+}
+
+// EXIT 1, in so many brackets.
+fn bracketed(alloc: Global, brackets: u32) -> Result<Vec<u8>, AllocError> {
+    let mut text = b"EXIT ".to_vec(alloc)?;
+    for _turn in 0..brackets {
+        text.push(b'(')?;
+    }
+    text.push(b'1')?;
+    for _turn in 0..brackets {
+        text.push(b')')?;
+    }
+    text.push(b';')?;
+    Ok(text)
+}
+
+#[test]
+fn refuses_brackets_that_nest_too_deep(rt: HostRuntime) -> Result<(), Fail> {
+    let alloc = rt.alloc();
+    let table: [(u32, &str); 2] = [
+        (32, "R program 3 line 1 NotYetBuilt\n"),
+        (33, "R program 3 line 1 TooDeep\n"),
+    ];
+    for (brackets, want) in table {
+        let statement = bracketed(alloc, brackets)?;
+        let program = in_procedure(alloc, &statement)?;
+        let (status, written) = answer(&rt, &PLAY, program, 100, 0)?;
+        assert_eq!(rt; written.as_slice(), want.as_bytes(), "at {brackets}");
+        assert_eq!(rt; status.exit_code(), 4);
+    }
+    let open = vec![in alloc; b'('; 40_000]?;
+    let mut whole = open.as_slice().to_vec(alloc)?;
+    whole.push(b';')?;
+    for (program, reason) in [(whole, Reason::TooDeep), (open, Reason::Unterminated)] {
+        let (status, _written) = answer(&rt, &PLAY, program, 100, 0)?;
+        assert_eq!(rt; status, Status::Refused(1, reason));
     }
     Ok(())
 }
