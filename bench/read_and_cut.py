@@ -34,6 +34,12 @@ def summed(tail, size):
     return (front + b"+1" * ((size - len(front) - len(tail)) // 2)).ljust(size - len(tail)) + tail
 
 
+def listed(tail, size):
+    """A text of this size with one piece, an array with as many initial values as fit."""
+    front = HEAD + b"INTEGER N[9] = 1"
+    return (front + b",1" * ((size - len(front) - len(tail)) // 2)).ljust(size - len(tail)) + tail
+
+
 # 42 bytes, so that 4 MiB hold 99,863 of these pieces; a text may have 100,000.
 PRINT = b'PRINT "' + b"x" * 32 + b'";\n'
 COMMENT = b"' A comment; it ends nothing, \"nor does this.\n"
@@ -49,7 +55,8 @@ KINDS = (
     ("white space between two pieces", 0, lambda n: inside(HEAD, b" ", TAIL, n)),
     ("one number, leading zeros", 1, lambda n: inside(HEAD + b"EXIT ", b"0", b"7;" + TAIL, n)),
     ("one word, refused", 4, lambda n: inside(HEAD, b"x", b";" + TAIL, n)),
-    ("one literal, refused at its end", 4, lambda n: inside(HEAD + b"BOOLEAN B[8] = $", b"A", b" B;" + TAIL, n)),
+    ("one literal, refused at its end", 4, lambda n: inside(HEAD + b"BOOLEAN B[8] = $", b"A", b" X;" + TAIL, n)),
+    ("one list of values, refused at its end", 4, lambda n: listed(b" 1;" + TAIL, n)),
     ("one sum, refused for its marks", 4, lambda n: summed(b";" + TAIL, n)),
     ("semicolons alone, refused", 4, lambda n: b";" * n),
     ("strings that no quote ends, refused", 4, lambda n: repeated(b'"x\n', n)),

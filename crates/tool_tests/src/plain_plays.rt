@@ -1,48 +1,15 @@
-//! Programs that the plain player plays, built as trees.
-use lists_and_numbers::ItemList;
+//! Programs that the plain player plays.
 use plain_play::{PlayRefused, chosen_procedures, play};
+use stapl_checker::check;
 use stapl_lexer::Name;
 use stapl_meaning::{Ending, Event};
-use stapl_syntax::{BinOp, Body, Expr, Part, Stmt};
-use std::alloc::Global;
+use stapl_syntax::Stmt;
 use std::test::Fail;
 
-fn named(text: &str) -> Result<Name, Fail> {
-    Ok(Name::read(text.as_bytes()).ok_or("no name")?)
-}
-
-fn variable(text: &str) -> Result<Expr, Fail> {
-    Ok(Expr::Scalar(named(text)?))
-}
-
-fn binary(alloc: Global, op: BinOp, a: Expr, b: Expr) -> Result<Expr, Fail> {
-    let left = Box::new(alloc, a)?;
-    let right = Box::new(alloc, b)?;
-    Ok(Expr::Binary(op, left, right))
-}
-
-fn string(alloc: Global, text: &str) -> Result<Part, Fail> {
-    Ok(Part::Text(ItemList::of(text.as_bytes().to_vec(alloc)?)))
-}
-
-fn plain(body: Body) -> Stmt {
-    Stmt { label: None, body }
-}
-
-fn labelled(label: &str, body: Body) -> Result<Stmt, Fail> {
-    Ok(Stmt {
-        label: Some(named(label)?),
-        body,
-    })
-}
-
-// ACTION A = P, and PROCEDURE P, whose ENDPROC is to come.
-fn heads(alloc: Global) -> Result<Vec<Stmt>, Fail> {
-    let procedures = ItemList::of(vec![in alloc; named("P")?]?);
-    let mut program = Vec::new(alloc);
-    program.push(plain(Body::Action(named("A")?, procedures)))?;
-    program.push(plain(Body::Procedure(named("P")?)))?;
-    Ok(program)
+// The statements of a program.
+fn statements(rt: &HostRuntime, text: &str) -> Result<Vec<Stmt>, Fail> {
+    let found = check(rt.alloc(), text.as_bytes()).ok();
+    Ok(found.ok_or("no program")?)
 }
 
 // What the action A of a program prints, a line each, and its ending.
@@ -55,7 +22,8 @@ fn played(
     if program.len() > 100 {
         return Err(Fail::new("a long program"));
     }
-    let chosen = chosen_procedures(alloc, program, named("A")?)?.ok_or("no action")?;
+    let action = Name::read(b"A").ok_or("no name")?;
+    let chosen = chosen_procedures(alloc, program, action)?.ok_or("no action")?;
     let mut lines = Vec::new(alloc);
     match play(alloc, program, chosen.as_slice(), turns) {
         Ok(given) => {
@@ -70,95 +38,60 @@ fn played(
     }
 }
 
-// INTEGER I;L: PRINT I;I=I+1;IF I<3 THEN GOTO L;
-fn counting(alloc: Global) -> Result<Vec<Stmt>, Fail> {
-    let mut program = heads(alloc)?;
-    program.push(plain(Body::Integer(named("I")?)))?;
-    let parts = ItemList::of(vec![in alloc; Part::Value(variable("I")?)]?);
-    program.push(labelled("L", Body::Print(parts))?)?;
-    let sum = binary(alloc, BinOp::Add, variable("I")?, Expr::Number(1))?;
-    program.push(plain(Body::Assign(named("I")?, sum)))?;
-    let test = binary(alloc, BinOp::Less, variable("I")?, Expr::Number(3))?;
-    let jump = Box::new(alloc, Body::Goto(named("L")?))?;
-    program.push(plain(Body::If(test, jump)))?;
-    program.push(plain(Body::EndProcedure))?;
-    Ok(program)
+const COUNTING: &str =
+    "ACTION A=P;PROCEDURE P;INTEGER I;L: PRINT I;I=I+1;IF I<3 THEN GOTO L;ENDPROC;";
+
+const HELLO: &str = "ACTION A=P;PROCEDURE P;PRINT \"HELLO\";EXIT 0;ENDPROC;";
+
+const WRAPPED: &str = "ACTION A=P;PROCEDURE P;INTEGER X;X=2147483647+1;PRINT X;ENDPROC;";
+
+// Programs, each with its turns, what it prints, and its ending.
+#[test]
+fn plays_programs(rt: HostRuntime) -> Result<(), Fail> {
+    let table: [(&str, u32, &str, Ending); 8] = [
+        (COUNTING, 11, "0\n1\n2\n", Ending::Exit(0)),
+        (COUNTING, 10, "0\n1\n2\n", Ending::Spent),
+        (
+            "ACTION A=P;PROCEDURE P;L: GOTO L;ENDPROC;",
+            1000,
+            "",
+            Ending::Spent,
+        ),
+        (HELLO, 2, "HELLO\n", Ending::Exit(0)),
+        (HELLO, 1, "HELLO\n", Ending::Spent),
+        (HELLO, 0, "", Ending::Spent),
+        (WRAPPED, 4, "-2147483648\n", Ending::Exit(0)),
+        ("ACTION A=P;PROCEDURE P;ENDPROC;", 1, "", Ending::Exit(0)),
+    ];
+    for (text, turns, want, ending) in table {
+        let program = statements(&rt, text)?;
+        let (lines, found) = played(&rt, &program, turns)?;
+        assert_eq!(rt; lines.as_slice(), want.as_bytes(), "at {text:?}");
+        assert_eq!(rt; found, Ok(ending), "at {text:?}");
+    }
+    Ok(())
 }
 
+// A turn finds no variable of the name, since its declaration is taken away.
 #[test]
-fn the_counting_loop(rt: HostRuntime) -> Result<(), Fail> {
-    let program = counting(rt.alloc())?;
-    let (lines, ending) = played(&rt, &program, 11)?;
-    assert_eq!(rt; lines.as_slice(), b"0\n1\n2\n".as_slice());
+fn gets_stuck_without_the_variable(rt: HostRuntime) -> Result<(), Fail> {
+    let text = "ACTION A=P;PROCEDURE P;INTEGER X;EXIT X;ENDPROC;";
+    let mut program = statements(&rt, text)?;
+    let (_, ending) = played(&rt, &program, 5)?;
     assert_eq!(rt; ending, Ok(Ending::Exit(0)));
-    let (lines, ending) = played(&rt, &program, 10)?;
-    assert_eq!(rt; lines.as_slice(), b"0\n1\n2\n".as_slice());
-    assert_eq!(rt; ending, Ok(Ending::Spent));
-    Ok(())
-}
-
-// L: GOTO L;
-#[test]
-fn the_endless_loop(rt: HostRuntime) -> Result<(), Fail> {
-    let mut program = heads(rt.alloc())?;
-    program.push(labelled("L", Body::Goto(named("L")?))?)?;
-    program.push(plain(Body::EndProcedure))?;
-    let (lines, ending) = played(&rt, &program, 1000)?;
-    assert_eq!(rt; lines.len(), 0);
-    assert_eq!(rt; ending, Ok(Ending::Spent));
-    Ok(())
-}
-
-// PRINT "HELLO";EXIT 0;
-#[test]
-fn hello(rt: HostRuntime) -> Result<(), Fail> {
-    let alloc = rt.alloc();
-    let mut program = heads(alloc)?;
-    let parts = ItemList::of(vec![in alloc; string(alloc, "HELLO")?]?);
-    program.push(plain(Body::Print(parts)))?;
-    program.push(plain(Body::Exit(Expr::Number(0))))?;
-    program.push(plain(Body::EndProcedure))?;
-    let (lines, ending) = played(&rt, &program, 2)?;
-    assert_eq!(rt; lines.as_slice(), b"HELLO\n".as_slice());
-    assert_eq!(rt; ending, Ok(Ending::Exit(0)));
-    let (lines, ending) = played(&rt, &program, 1)?;
-    assert_eq!(rt; lines.as_slice(), b"HELLO\n".as_slice());
-    assert_eq!(rt; ending, Ok(Ending::Spent));
-    let (lines, ending) = played(&rt, &program, 0)?;
-    assert_eq!(rt; lines.len(), 0);
-    assert_eq!(rt; ending, Ok(Ending::Spent));
-    Ok(())
-}
-
-// PRINT "SUM ", 2147483647 + 1;
-#[test]
-fn a_sum_wraps(rt: HostRuntime) -> Result<(), Fail> {
-    let alloc = rt.alloc();
-    let mut program = heads(alloc)?;
-    let sum = binary(alloc, BinOp::Add, Expr::Number(2147483647), Expr::Number(1))?;
-    let parts = vec![in alloc; string(alloc, "SUM ")?, Part::Value(sum)]?;
-    program.push(plain(Body::Print(ItemList::of(parts))))?;
-    program.push(plain(Body::EndProcedure))?;
-    let (lines, ending) = played(&rt, &program, 2)?;
-    assert_eq!(rt; lines.as_slice(), b"SUM -2147483648\n".as_slice());
-    assert_eq!(rt; ending, Ok(Ending::Exit(0)));
-    Ok(())
-}
-
-// A turn finds no variable of the name; a procedure with ENDPROC alone ends with 0.
-#[test]
-fn stuck_and_ended(rt: HostRuntime) -> Result<(), Fail> {
-    let mut program = heads(rt.alloc())?;
-    program.push(plain(Body::Exit(variable("X")?)))?;
-    program.push(plain(Body::EndProcedure))?;
+    assert!(rt; program.len() > 2);
+    program.remove(2);
     let (lines, ending) = played(&rt, &program, 5)?;
     assert_eq!(rt; lines.len(), 0);
     assert_eq!(rt; ending, Err(PlayRefused::Stuck));
-    let mut ended = heads(rt.alloc())?;
-    ended.push(plain(Body::EndProcedure))?;
-    let (lines, ending) = played(&rt, &ended, 1)?;
-    assert_eq!(rt; lines.len(), 0);
-    assert_eq!(rt; ending, Ok(Ending::Exit(0)));
-    assert!(rt; chosen_procedures(rt.alloc(), &ended, named("B")?)?.is_none());
+    Ok(())
+}
+
+#[test]
+fn chooses_no_procedures_of_another_action(rt: HostRuntime) -> Result<(), Fail> {
+    let program = statements(&rt, HELLO)?;
+    let other = Name::read(b"B").ok_or("no name")?;
+    assert!(rt; program.len() < 100);
+    assert!(rt; chosen_procedures(rt.alloc(), &program, other)?.is_none());
     Ok(())
 }
