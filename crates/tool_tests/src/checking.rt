@@ -254,33 +254,34 @@ fn refuses_texts_at_their_first_fault(rt: HostRuntime) -> Result<(), Fail> {
     Ok(())
 }
 
-// A program with so many EXIT pieces.
-fn with_exits(alloc: Global, exits: u32) -> Result<Vec<u8>, AllocError> {
+// A text of a program with so many EXIT pieces, and with this last piece.
+fn with_exits(alloc: Global, exits: u32, last: &[u8]) -> Result<Vec<u8>, AllocError> {
     let mut text = b"ACTION A=P;PROCEDURE P;".to_vec(alloc)?;
     for _turn in 0..exits {
         text.extend_from_slice(b"EXIT 0;")?;
     }
-    text.extend_from_slice(b"ENDPROC;")?;
+    text.extend_from_slice(last)?;
     Ok(text)
 }
 
+// The piece above the limit is a statement, and none.
 #[test]
 fn refuses_the_piece_above_the_limit(rt: HostRuntime) -> Result<(), Fail> {
     let alloc = rt.alloc();
-    let text = with_exits(alloc, 99_997)?;
+    let text = with_exits(alloc, 99_997, b"ENDPROC;")?;
     assert_eq!(rt; outcome(alloc, &text), (100_000, None));
-    // the piece above the limit is ENDPROC, and then no statement
-    let text = with_exits(alloc, 99_998)?;
-    let mut other = text.as_slice().to_vec(alloc)?;
-    other.truncate(text.len() - 8);
-    other.extend_from_slice(b"FOO;")?;
-    for (text, reason) in [(text, Reason::NotYetBuilt), (other, Reason::TooManyPieces)] {
+    let table: [(&str, Reason); 2] = [
+        ("ENDPROC;", Reason::NotYetBuilt),
+        ("FOO;", Reason::TooManyPieces),
+    ];
+    for (last, reason) in table {
+        let text = with_exits(alloc, 99_998, last.as_bytes())?;
         let want = CheckRefused::Refused {
             piece: 100_001,
             line: 1,
             reason,
         };
-        assert_eq!(rt; outcome(alloc, &text), (0, Some(want)));
+        assert_eq!(rt; outcome(alloc, &text), (0, Some(want)), "at {last:?}");
     }
     Ok(())
 }
