@@ -216,8 +216,9 @@ fn groups_operators_by_level(rt: HostRuntime) -> Result<(), Fail> {
     ];
     for (text, want) in table {
         let found = first_statement(&rt, rt.alloc(), text.as_bytes()).ok();
-        let found = match found.expect(&rt, "a statement").body {
-            Body::Exit(code) => shape(rt.alloc(), &code)?,
+        let found = found.expect(&rt, "a statement");
+        let found = match &found.body {
+            Body::Exit(code) => shape(rt.alloc(), code)?,
             _ => String::new(rt.alloc()),
         };
         assert_eq!(rt; found.as_str(), want, "at {text:?}");
@@ -225,39 +226,43 @@ fn groups_operators_by_level(rt: HostRuntime) -> Result<(), Fail> {
     Ok(())
 }
 
-// What literals, lists and check words hold.
-#[test]
-fn keeps_what_is_written(rt: HostRuntime) -> Result<(), Fail> {
-    let mut held = String::new(rt.alloc());
-    let texts = [
-        "DRSCAN 3, #1 '0\n 10;",
-        "INTEGER N[3] = 4,-5;",
-        "STATE RESET IDLE, DRPAUSE;",
-        "CRC 1f 0A;",
-    ];
-    for text in texts {
-        let found = first_statement(&rt, rt.alloc(), text.as_bytes()).ok();
-        match found.expect(&rt, "a statement").body {
-            Body::Scan(_, _, ArrayExpr::Literal(bits), None, None) => {
-                for i in 0..bits.len() {
-                    write!(held, "{} ", bits.get(i))?;
-                }
-            }
-            Body::IntegerArray(_, size, Some(values)) => {
-                write!(held, "{size}: ")?;
-                for value in values.as_slice() {
-                    write!(held, "{value} ")?;
-                }
-            }
-            Body::State(states) => {
-                for state in states.as_slice() {
-                    write!(held, "{state} ")?;
-                }
-            }
-            Body::Crc(number) => write!(held, "{number:x}")?,
-            _ => {}
+// The bits of a literal, the lowest index first.
+fn bits_of(alloc: Global, array: &ArrayExpr) -> Result<String, AllocError> {
+    let mut held = String::new(alloc);
+    if let ArrayExpr::Literal(bits) = array {
+        for i in 0..bits.len() {
+            write!(held, "{} ", bits.get(i))?;
         }
     }
-    assert_eq!(rt; held.as_str(), "false true true 3: 4 -5 0 1 6 1f0a");
+    Ok(held)
+}
+
+// What a literal, a list or a check word holds.
+fn held(alloc: Global, body: &Body) -> Result<String, AllocError> {
+    match body {
+        Body::Scan(_, _, source, _, _) => bits_of(alloc, source),
+        Body::IntegerArray(_, size, Some(values)) => {
+            format!(in alloc; "{size}: {:?}", values.as_slice())
+        }
+        Body::State(states) => format!(in alloc; "{:?}", states.as_slice()),
+        Body::Crc(number) => format!(in alloc; "{number:x}"),
+        _ => Ok(String::new(alloc)),
+    }
+}
+
+#[test]
+fn keeps_what_is_written(rt: HostRuntime) -> Result<(), Fail> {
+    let table: [(&str, &str); 4] = [
+        ("DRSCAN 3, #1 '0\n 10;", "false true true "),
+        ("INTEGER N[3] = 4,-5;", "3: [4, -5]"),
+        ("STATE RESET IDLE, DRPAUSE;", "[0, 1, 6]"),
+        ("CRC 1f 0A;", "1f0a"),
+    ];
+    for (text, want) in table {
+        let found = first_statement(&rt, rt.alloc(), text.as_bytes()).ok();
+        let found = found.expect(&rt, "a statement");
+        let found = held(rt.alloc(), &found.body)?;
+        assert_eq!(rt; found.as_str(), want, "at {text:?}");
+    }
     Ok(())
 }
