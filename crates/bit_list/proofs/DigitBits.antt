@@ -5,8 +5,8 @@ use Rattle.std.specs.List.{flat_map}
 use Rattle.std.proofs.lemmas.List.{append-nil, length-append, reverse-append}
 use Rattle.std.proofs.lemmas.List.Concat.{flat_map-append}
 use Rattle.std.proofs.Math.Nat.{suc-mul}
-use Rattle.lists_and_numbers.specs.Bits.{low_bits}
-use Rattle.lists_and_numbers.proofs.NumberBits.{length-low_bits}
+use Rattle.base.specs.Bits.{low_bits}
+use Rattle.base.proofs.NumberBits.{length-low_bits}
 use Rattle.bit_list.specs.Digits.{bits_of_digits}
 
 -- one more digit in front: its bits stand behind those of the rest

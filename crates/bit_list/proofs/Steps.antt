@@ -8,8 +8,8 @@ use Rattle.std.proofs.Math.Nat.{suc-mul, mul-le-mul_right}
 use Rattle.std.proofs.Math.Pow.{pow_mono}
 use Rattle.std.specs.Int.{from_bool}
 use borrow.Rule.Slice.PartMut.{put_mid}
-use Rattle.lists_and_numbers.specs.Bits.{low_bits, number_of}
-use Rattle.lists_and_numbers.proofs.NumberBits.{length-low_bits, number_of-below}
+use Rattle.base.specs.Bits.{low_bits, number_of}
+use Rattle.base.proofs.NumberBits.{length-low_bits, number_of-below}
 use Rattle.bit_list.specs.Digits.{bits_of_digits}
 use Rattle.bit_list.proofs.DigitBits.{bits_of_digits-cons}
 

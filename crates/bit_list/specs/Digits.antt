@@ -3,7 +3,7 @@
 use Rattle.std.specs.Prelude.{◌<◌, ℕ, Bool, List, length, reverse, slice_index}
 use Rattle.std.specs.Char.{digit_value}
 use Rattle.std.specs.List.{flat_map}
-use Rattle.lists_and_numbers.specs.Bits.{low_bits}
+use Rattle.base.specs.Bits.{low_bits}
 
 -- the byte is a digit of this base
 abbrev pub IsDigit : ℕ → ℕ → Type 0

@@ -1,6 +1,6 @@
 //! Ranges of bits in memory, one byte a bit.
 ghost use Rattle.std.specs.Prelude.{◌≡◌, ◌≤◌, ◌↔◌, ◌++◌, IsTrue, length, drop};
-ghost use Rattle.lists_and_numbers.specs.Bits.{low_bits, number_of};
+ghost use Rattle.base.specs.Bits.{low_bits, number_of};
 ghost use Rattle.bit_list.specs.Ranges.{AgreeUnderMask};
 
 /// Sets the first n bits to the lowest ones of a number; the other bits stay.

@@ -16,8 +16,8 @@ use crate::digits::{
     decimal_value, hexadecimal_value, is_decimal, is_identity_word, is_opcode_word,
 };
 use crate::lines::{first_word, is_word};
+use base::ItemList;
 use dev_card::{Desc, IdCode, Kind};
-use lists_and_numbers::ItemList;
 use stapl_lexer::Name;
 use std::alloc::Global;
 

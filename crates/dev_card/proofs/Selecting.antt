@@ -6,7 +6,7 @@ use Rattle.std.proofs.lemmas.List.{length-replicate, drop-map}
 use Rattle.std.proofs.lemmas.List.Elements.{All-head, All-tail}
 use Rattle.std.proofs.Math.ListN.{get_or-map}
 use Rattle.std.proofs.Math.Seq.{map-set_same}
-use Rattle.lists_and_numbers.proofs.NumberBits.{length-low_bits}
+use Rattle.base.proofs.NumberBits.{length-low_bits}
 use Rattle.dev_card.specs.declared.desc.Kind.{Kind}
 use Rattle.dev_card.specs.declared.desc.Kind.TheVariants.{Plain, Regs, Flash}
 use Rattle.dev_card.specs.declared.desc.IdCode.{IdCode}

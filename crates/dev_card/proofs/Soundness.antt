@@ -5,8 +5,8 @@ use Rattle.std.proofs.lemmas.List.{length-append, length-drop, length-replicate}
 use Rattle.std.proofs.lemmas.List.Elements.{All-head}
 use Rattle.std.proofs.lemmas.Bool.{false≢true}
 use Rattle.std.proofs.lemmas.Nat.{pow_pos}
-use Rattle.lists_and_numbers.specs.Bits.{number_of}
-use Rattle.lists_and_numbers.proofs.NumberBits.{number_of-below}
+use Rattle.base.specs.Bits.{number_of}
+use Rattle.base.proofs.NumberBits.{number_of-below}
 use Rattle.tap_states.specs.declared.Tap.{Tap}
 use Rattle.tap_states.specs.declared.Tap.TheVariants.{Reset, Idle, DrCapture, DrShift, DrExit1, DrPause, DrExit2, DrUpdate, IrCapture, IrShift, IrUpdate}
 use Rattle.tap_states.specs.Tap.{next_of}

@@ -2,7 +2,7 @@
 -- instructions, test data registers, bypass register, device identification register). Lists of bits have the bit nearest TDO first, which is the
 -- bit of lowest value and the first to be shifted out.
 use Rattle.std.specs.Prelude.{◌+◌, ◌-◌, ◌^◌, ◌++◌, ℕ, Bool, true, false, not, ◌&&◌, List, [], ◌∷◌, replicate, map, drop, Option, Some, None, if◌then◌else◌, ◌==◌, slice_index_or, slice_set}
-use Rattle.lists_and_numbers.specs.Bits.{low_bits, number_of}
+use Rattle.base.specs.Bits.{low_bits, number_of}
 use Rattle.tap_states.specs.declared.Tap.{Tap}
 use Rattle.tap_states.specs.declared.Tap.TheVariants.{Reset, Idle, DrCapture, DrShift, DrUpdate, IrCapture, IrShift, IrUpdate}
 use Rattle.tap_states.specs.Tap.{next_of}

@@ -1,8 +1,8 @@
 //! What a device is: its description, as a board text gives it.
 ghost use Rattle.std.specs.Prelude.{◌≡◌, IfOk};
 
+use base::ItemList;
 use bit_list::Bits;
-use lists_and_numbers::ItemList;
 use stapl_lexer::Name;
 use std::alloc::{AllocError, Global};
 

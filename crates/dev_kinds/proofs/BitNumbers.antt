@@ -1,8 +1,8 @@
 -- Numbers as shift registers: zero, one, and a shift.
 use Rattle.std.proofs.Common.{◌≡◌, ◌<◌, ◌≤◌, ◌+◌, ◌-◌, ◌*◌, ◌/◌, ◌%◌, ◌^◌, ℕ, suc, zero, nat_eq, Bool, true, false, [], ◌∷◌, ◌++◌, drop, replicate, refl, sym, ap, ◌∙◌, mod-eq_of_lt, arith}
 use Rattle.std.proofs.Math.Nat.{pow-succ'}
-use Rattle.lists_and_numbers.proofs.NumberBits.{number_of-low_bits}
-use Rattle.lists_and_numbers.specs.Bits.{low_bits, number_of, bit_value}
+use Rattle.base.proofs.NumberBits.{number_of-low_bits}
+use Rattle.base.specs.Bits.{low_bits, number_of, bit_value}
 
 suc_less : (n : ℕ) → n ≡ suc n - 1
 suc_less n = omega arith

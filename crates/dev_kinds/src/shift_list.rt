@@ -1,6 +1,6 @@
 //! Shift registers in place.
 ghost use Rattle.std.specs.Prelude.{◌≡◌, ◌<◌, ◌≤◌, false, [], ◌∷◌, length, IfOk, slice_get, take};
-ghost use Rattle.lists_and_numbers.specs.Bits.{low_bits};
+ghost use Rattle.base.specs.Bits.{low_bits};
 ghost use Rattle.dev_card.specs.Card.{shifted};
 ghost use Rattle.dev_kinds.specs.ShiftRegister.{next_in_ring};
 

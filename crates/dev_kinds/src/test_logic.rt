@@ -1,6 +1,6 @@
 //! What all kinds share.
 ghost use Rattle.std.specs.Prelude.{◌≡◌, ◌<◌, ◌≤◌, ◌+◌, ◌-◌, ◌*◌, ◌/◌, ◌^◌, ℕ, Bool, List, [], ◌∷◌, IfOk};
-ghost use Rattle.lists_and_numbers.specs.Bits.{low_bits, bit_value};
+ghost use Rattle.base.specs.Bits.{low_bits, bit_value};
 ghost use Rattle.dev_card.specs.Descriptions.{IsGood};
 ghost use Rattle.dev_card.specs.Card.{reset_instruction, tdo_of};
 ghost use Rattle.dev_kinds.specs.Logic.{card_of, lists_moved, state_entered, fresh_logic, selected_identity};
@@ -24,7 +24,7 @@ pub struct TestLogic {
 }
 
 impl Model for TestLogic {
-    ghost use Rattle.lists_and_numbers.specs.Bits.{low_bits};
+    ghost use Rattle.base.specs.Bits.{low_bits};
     ghost use Rattle.dev_kinds.specs.Logic.{Logic, IsLogic};
 
     ghost Value = { Logic };

@@ -15,7 +15,7 @@ ghost use Rattle.play_tool.specs.CodePlays.{procedures_in, procedures_named, Has
 use crate::Status;
 use crate::status::Trouble;
 use crate::writing::{put_ending, write_text};
-use lists_and_numbers::Steps;
+use base::Steps;
 use stapl_code::laws::never_stuck;
 use stapl_code::{ActionDef, Code, ItemDef};
 use stapl_codegen::generate;

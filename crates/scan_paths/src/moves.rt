@@ -1,7 +1,7 @@
 //! Moves and stays of the controllers.
 ghost use Rattle.std.specs.Prelude.{◌≡◌, ◌≢◌, IsTrue, IfOk, OnOk, OnErr};
 ghost use Rattle.tool_io.specs.Causes.{HasCause};
-ghost use Rattle.lists_and_numbers.specs.Bits.{low_bits};
+ghost use Rattle.base.specs.Bits.{low_bits};
 ghost use Rattle.tap_states.specs.Tap.{is_stable_state};
 ghost use Rattle.dev_card.specs.Board.{AllIn};
 ghost use Rattle.dev_card.specs.Clocks.{with_zero, move_inputs, stay_inputs, rest_tms};

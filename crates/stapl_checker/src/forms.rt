@@ -9,7 +9,7 @@ ghost use Rattle.stapl_syntax.specs.Grammar.{unlabelled};
 ghost use Rattle.stapl_syntax.specs.Forms.{atom_of, binary_of, sum_of_three, sum_of, assign_of, goto_of, print_of_one, print_of, exit_of, simple_by_first, simple_of, end_of, integer_of, if_holds, if_of, inner_by_first, inner_of, action_of_three, action_of, procedure_of, labelled_by_first, statement_by_first, statement_of};
 
 use crate::tokens::{atom_in, is_keyword, is_mark, name_in, string_in};
-use lists_and_numbers::ItemList;
+use base::ItemList;
 use stapl_lexer::{Token, TokenKind};
 use stapl_syntax::{BinOp, Body, Expr, Part, Stmt};
 use std::alloc::{AllocError, Global};

@@ -7,7 +7,7 @@ use crate::instr::Instr;
 use crate::kinds::follow;
 use crate::parts::{between, next_entry};
 use crate::raw::{CodeLists, ProcDef, VarDef};
-use lists_and_numbers::Stack;
+use base::Stack;
 use std::alloc::{AllocError, Global};
 
 /// The most operands before and behind these instructions, where none are there at first.

@@ -1,5 +1,5 @@
 //! The instructions of the stack machine.
-use lists_and_numbers::ItemList;
+use base::ItemList;
 
 /// A part of what a Print prints.
 #[derive(Clone, Copy, Debug, PartialEq, Eq)]

@@ -5,7 +5,7 @@ ghost use Rattle.stapl_code.specs.Kinds.{off, integers_off, variable_kind, resul
 
 use crate::instr::{Instr, PrintPart};
 use crate::raw::VarDef;
-use lists_and_numbers::Stack;
+use base::Stack;
 use std::alloc::AllocError;
 
 /// The kind of an operand.

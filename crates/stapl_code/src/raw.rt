@@ -3,7 +3,7 @@ ghost use Rattle.std.specs.Prelude.{◌≡◌};
 ghost use Rattle.stapl_code.specs.Ranges.{IsInRange};
 
 use crate::instr::Instr;
-use lists_and_numbers::ItemList;
+use base::ItemList;
 use stapl_lexer::Name;
 use stapl_meaning::Text;
 use std::marker::Model;

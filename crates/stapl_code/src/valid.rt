@@ -11,7 +11,7 @@ use crate::instr::Instr;
 use crate::kinds::{Kind, follow};
 use crate::parts::{between, next_entry};
 use crate::raw::{CodeLists, ProcDef, RawCode, VarDef};
-use lists_and_numbers::Stack;
+use base::Stack;
 use std::alloc::{AllocError, Global};
 use std::marker::Model;
 use thiserror::Error;

@@ -14,7 +14,7 @@ ghost use Rattle.stapl_codegen.specs.Tables.{trees};
 
 use crate::draft::{Written, write_program};
 use crate::tables::Tables;
-use lists_and_numbers::ItemList;
+use base::ItemList;
 use stapl_code::{
     ActionDef, Code, CodeLists, ItemDef, ProcDef, RawCode, ValidateRefused, VarDef, validate,
 };

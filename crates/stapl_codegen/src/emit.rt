@@ -7,7 +7,7 @@ ghost use Rattle.stapl_codegen.specs.Emit.{operator_number, variable_in, expr_co
 ghost use Rattle.stapl_codegen.specs.Tables.{trees, AreTables};
 
 use crate::tables::Tables;
-use lists_and_numbers::ItemList;
+use base::ItemList;
 use stapl_code::{Instr, PrintPart};
 use stapl_lexer::Name;
 use stapl_meaning::Text;

@@ -6,8 +6,8 @@ use crate::looks::{
 };
 use crate::refused::Refused;
 use crate::sign::{bytes_in, sign_of};
+use base::ItemList;
 use bit_list::Bits;
-use lists_and_numbers::ItemList;
 use stapl_lexer::{Name, Token, TokenKind};
 use stapl_syntax::whole::{BinOp, JoinWord, Mark, Sign};
 use std::alloc::Global;

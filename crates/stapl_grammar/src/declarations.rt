@@ -1,8 +1,8 @@
 //! ENDPROC and declarations.
 use crate::cursor::Cursor;
 use crate::refused::Refused;
+use base::ItemList;
 use bit_list::Bits;
-use lists_and_numbers::ItemList;
 use stapl_syntax::whole::{Body, InnerWord, Mark};
 use std::alloc::Global;
 

@@ -1,7 +1,7 @@
 //! Parts that repeat.
 use crate::cursor::Cursor;
 use crate::refused::Refused;
-use lists_and_numbers::ItemList;
+use base::ItemList;
 use stapl_lexer::Name;
 use stapl_syntax::whole::{Item, Mark, PrintPart};
 use std::alloc::Global;

@@ -1,7 +1,7 @@
 //! Statements outside procedures.
 use crate::cursor::Cursor;
 use crate::refused::Refused;
-use lists_and_numbers::ItemList;
+use base::ItemList;
 use stapl_lexer::Name;
 use stapl_syntax::whole::{Body, JoinWord, Mark, OuterWord};
 use std::alloc::Global;

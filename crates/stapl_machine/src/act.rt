@@ -9,7 +9,7 @@ ghost use Rattle.stapl_machine.specs.Acts.{step_of, stepped};
 
 use crate::operate::{load, operate, store};
 use crate::printing::{join, take_operands};
-use lists_and_numbers::Stack;
+use base::Stack;
 use stapl_code::{CodeLists, Instr, PrintPart, ProcDef};
 use stapl_meaning::{Held, Value};
 

@@ -7,8 +7,8 @@ ghost use Rattle.stapl_machine.specs.Found.{IfWrong};
 ghost use Rattle.stapl_machine.specs.Prints.{with_front};
 
 use crate::act::{Stop, pop, push};
+use base::Stack;
 use itoa::Buffer;
-use lists_and_numbers::Stack;
 use stapl_code::PrintPart;
 use stapl_meaning::{Text, Value};
 

@@ -13,7 +13,7 @@ use crate::act::Regs;
 use crate::runs::play;
 use crate::turns::Trouble;
 use crate::zeros::zeros;
-use lists_and_numbers::{Stack, Steps};
+use base::{Stack, Steps};
 use stapl_code::Code;
 use stapl_code::laws::{never_stuck, plays_are_bounded};
 use stapl_meaning::Ending;

@@ -8,7 +8,7 @@ ghost use Rattle.stapl_machine.specs.Runs.{run_of, run_ticks_of, chosen_run, cho
 
 use crate::act::Regs;
 use crate::turns::{Trouble, TurnEnd, Went, begin_next, next_place, rest_of_turn, turn_on};
-use lists_and_numbers::Steps;
+use base::Steps;
 use stapl_code::CodeLists;
 use stapl_meaning::Ending;
 use std::sync::ledger::Ledger;

@@ -17,7 +17,7 @@ ghost use Rattle.stapl_machine.specs.Turns.{rest_of, ticks_from, ended_so, IsCle
 
 use crate::act::{Moved, Regs, Stop, act, entry};
 use crate::writing::put_print;
-use lists_and_numbers::Steps;
+use base::Steps;
 use stapl_code::{CodeLists, Instr};
 use std::sync::ledger::Ledger;
 use thiserror::Error;

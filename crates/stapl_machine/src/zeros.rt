@@ -3,8 +3,8 @@ ghost use Rattle.std.specs.Prelude.{◌≡◌, All, IfOk, map, replicate, pos};
 ghost use Rattle.stapl_code.specs.Ranges.{IsVariable};
 ghost use Rattle.stapl_machine.specs.Zeros.{zero_of};
 
+use base::ItemList;
 use bit_list::Bits;
-use lists_and_numbers::ItemList;
 use stapl_code::VarDef;
 use stapl_meaning::Held;
 use std::alloc::{AllocError, Global};

@@ -1,5 +1,5 @@
 //! What a play gives.
-use lists_and_numbers::ItemList;
+use base::ItemList;
 
 /// A text, by its bytes.
 pub type Text = ItemList<u8>;

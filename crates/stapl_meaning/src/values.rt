@@ -1,6 +1,6 @@
 //! What variables hold, and the values of expressions.
+use base::ItemList;
 use bit_list::Bits;
-use lists_and_numbers::ItemList;
 
 /// A value of an expression.
 #[derive(Clone, Copy, Debug, PartialEq, Eq)]

@@ -1,5 +1,5 @@
 //! Statements as trees, as they are kept. Contracts speak of them by `stmt_tree` and the other functions of `specs/Trees`.
-use lists_and_numbers::ItemList;
+use base::ItemList;
 use stapl_lexer::Name;
 
 /// An operator between two expressions.

@@ -4,8 +4,8 @@ pub use crate::signs::{
     BinOp, Function, InnerWord, JoinWord, Mark, OuterWord, Padding, PortWord, Register, Sign,
     SimpleWord, UnOp,
 };
+use base::ItemList;
 use bit_list::Bits;
-use lists_and_numbers::ItemList;
 use stapl_lexer::Name;
 
 /// An expression (JESD71, expressions).

@@ -6,7 +6,7 @@ use Rattle.std.proofs.lemmas.Bool.Decides.{nat_tests}
 use Rattle.tap_states.specs.declared.Tap.{Tap}
 use Rattle.tap_states.specs.declared.Tap.TheVariants.{Reset}
 use Rattle.tap_states.specs.Tap.{next_of}
-use Rattle.lists_and_numbers.specs.Bits.{low_bits}
+use Rattle.base.specs.Bits.{low_bits}
 use Rattle.tap_states.specs.Path.{walk, Leads, IsShortestPath, IsPath, five_ones}
 use Rattle.tap_states.specs.PathTable.{path_of, path_row}
 use Rattle.tap_states.proofs.States.{taps, each, tap_eq, tap_eq-same}

@@ -1,7 +1,7 @@
 -- Lists of TMS values and the path between two states. That there is one path for two states is this profile's rule,
 -- over the state diagram of IEEE 1149.1.
 use Rattle.std.specs.Prelude.{◌≡◌, ◌≤◌, Bool, true, false, List, [], ◌∷◌, ◌++◌, length}
-use Rattle.lists_and_numbers.specs.Bits.{low_bits}
+use Rattle.base.specs.Bits.{low_bits}
 use Rattle.tap_states.specs.declared.Tap.{Tap}
 use Rattle.tap_states.specs.declared.Tap.TheVariants.{Reset}
 use Rattle.tap_states.specs.declared.Path.{Path}

@@ -1,7 +1,7 @@
 //! Tests of descriptions of devices.
+use base::ItemList;
 use bit_list::Bits;
 use dev_card::{Desc, FlashDesc, IdCode, Kind, RegDesc};
-use lists_and_numbers::ItemList;
 use stapl_lexer::Name;
 use std::test::Fail;
 

@@ -11,10 +11,10 @@ ghost use Rattle.scan_paths.specs.Cables.{whole, whole_if, WhereTold};
 ghost use Rattle.chain_sim.specs.Places.{cards_at, IsAbsent, is_chain};
 ghost use Rattle.chain_sim.specs.Rack.{IsRack, IsPlain};
 
+use base::ItemList;
 use chain_sim::{Chain, fit_board};
 use dev_card::{Desc, Device, IdCode, Kind};
 use dev_kinds::Plain;
-use lists_and_numbers::ItemList;
 use scan_paths::{Cable, move_to, stay};
 use stapl_lexer::Name;
 use std::alloc::{AllocError, Global};

@@ -1,5 +1,5 @@
 //! Codes: which are in range, and the first instruction that breaks a rule.
-use lists_and_numbers::ItemList;
+use base::ItemList;
 use stapl_code::{
     ActionDef, CodeLists, Instr, ItemDef, PrintPart, ProcDef, RawCode, ValidateRefused, VarDef,
     validate,

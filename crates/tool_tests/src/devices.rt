@@ -5,9 +5,9 @@ ghost use Rattle.dev_card.specs.declared.desc.Kind.TheVariants as kinds;
 ghost use Rattle.dev_card.specs.Descriptions.{IsGood};
 ghost use Rattle.dev_card.specs.Sound.{card_in};
 
+use base::ItemList;
 use dev_card::{Desc, Device, FitRefused, IdCode, Kind, RegDesc};
 use dev_kinds::Plain;
-use lists_and_numbers::ItemList;
 use stapl_lexer::Name;
 use std::alloc::Global;
 use std::test::Fail;

@@ -26,8 +26,6 @@ mod outside;
 #[cfg(test)]
 mod pieces;
 #[cfg(test)]
-mod plain_plays;
-#[cfg(test)]
 mod plays;
 #[cfg(test)]
 mod taps;

@@ -1,5 +1,5 @@
 //! Tests of lists and stacks.
-use lists_and_numbers::{ItemList, Stack};
+use base::{ItemList, Stack};
 use std::test::Fail;
 
 #[test]

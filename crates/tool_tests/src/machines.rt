@@ -4,7 +4,7 @@ ghost use Rattle.std.specs.Prelude.{◌≡◌, ◌<◌};
 use crate::codes::{
     Binary, EndProc, Exit, INTEGER, Load, Op, Print, Push, Store, Turn, VARIABLES, lists,
 };
-use lists_and_numbers::Steps;
+use base::Steps;
 use stapl_code::{Code, RawCode, validate};
 use stapl_machine::Machine;
 use stapl_meaning::Ending;

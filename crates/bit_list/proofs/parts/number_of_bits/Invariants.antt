@@ -1,5 +1,5 @@
 use Rattle.std.proofs.Common.{◌≡◌, drop}
-use Rattle.lists_and_numbers.specs.Bits.{number_of}
+use Rattle.base.specs.Bits.{number_of}
 use Rattle.bit_list.proofs.parts.number_of_bits.Given as goal
 
 abbrev pub invariant-loop-i : goal.invariant-loop-i

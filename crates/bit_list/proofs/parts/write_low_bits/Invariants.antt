@@ -1,5 +1,5 @@
 use Rattle.std.proofs.Common.{◌≡◌, ◌-◌, take, drop, ◌++◌}
-use Rattle.lists_and_numbers.specs.Bits.{low_bits}
+use Rattle.base.specs.Bits.{low_bits}
 use Rattle.bit_list.proofs.parts.write_low_bits.Given as goal
 
 abbrev pub invariant-loop-i : goal.invariant-loop-i

@@ -1,5 +1,5 @@
 use Rattle.std.proofs.Common.{◌≡◌, ◌-◌, take, ◌++◌}
-use Rattle.lists_and_numbers.specs.Bits.{low_bits}
+use Rattle.base.specs.Bits.{low_bits}
 use Rattle.dev_kinds.proofs.shift_list.write_number.Given as goal
 
 abbrev pub invariant-loop-i : goal.invariant-loop-i

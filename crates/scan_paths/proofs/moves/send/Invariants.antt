@@ -1,5 +1,5 @@
 use Rattle.std.proofs.Common.{◌≡◌, ◌-◌}
-use Rattle.lists_and_numbers.specs.Bits.{low_bits}
+use Rattle.base.specs.Bits.{low_bits}
 use Rattle.dev_card.specs.Clocks.{with_zero}
 use Rattle.scan_paths.specs.Cables.{whole, line, pins, HasPartCause}
 use Rattle.scan_paths.proofs.Way.{IsUnderWay}

@@ -1,5 +1,5 @@
 use Rattle.std.proofs.Common.{arith, ap, ◌∙◌, ◌≡◌}
-use Rattle.lists_and_numbers.specs.Bits.{low_bits}
+use Rattle.base.specs.Bits.{low_bits}
 use Rattle.dev_card.specs.Card.{shifted}
 use Rattle.dev_kinds.proofs.BitNumbers.{low_bits_one, low_bits_shifted}
 use Rattle.dev_kinds.proofs.test_logic.TestLogic.move_lists.Goals as goal

@@ -3,7 +3,7 @@ use Rattle.std.proofs.Common.{◌≡◌, ◌<◌, ℕ, zero, suc, ◌+◌, ◌*�
 use Rattle.std.proofs.Math.Nat.{pow-suc}
 use Rattle.std.proofs.Math.Arith.{mod-mul}
 use Rattle.std.proofs.lemmas.Nat.{pow_pos}
-use Rattle.lists_and_numbers.specs.Bits.{low_bits, bit_value, number_of}
+use Rattle.base.specs.Bits.{low_bits, bit_value, number_of}
 
 pub length-low_bits : (n x : ℕ) → length (low_bits n x) ≡ n
 length-low_bits zero x = refl

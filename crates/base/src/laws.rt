@@ -1,6 +1,6 @@
 //! Laws of the definitions.
 ghost use Rattle.std.specs.Prelude.{◌≡◌, ◌%◌, ◌^◌, ℕ, Bool, List, length};
-ghost use Rattle.lists_and_numbers.specs.Bits.{low_bits, number_of};
+ghost use Rattle.base.specs.Bits.{low_bits, number_of};
 
 /// The lowest n bits of the number with n bits are these bits.
 pub fn bits_of_their_number()
