@@ -5,9 +5,9 @@ use Rattle.std.proofs.lemmas.Bool.{cases_lt}
 use Rattle.stapl_lexer.specs.declared.piece.Piece.{Piece}
 use Rattle.stapl_lexer.specs.declared.reason.Reason.{Reason}
 use Rattle.stapl_lexer.specs.declared.reason.Reason.TheVariants as reasons
-use Rattle.stapl_syntax.specs.declared.whole.Stmt.{Stmt}
-use Rattle.stapl_syntax.specs.WholeTrees.{stmt_tree}
-use Rattle.stapl_syntax.specs.WholeStatements.{IsPieceStatement, SmallestReason}
+use Rattle.stapl_syntax.specs.declared.statement.Stmt.{Stmt}
+use Rattle.stapl_syntax.specs.Trees.{stmt_tree}
+use Rattle.stapl_syntax.specs.Statements.{IsPieceStatement, SmallestReason}
 use Rattle.stapl_syntax.specs.Faults.{piece_limit, IsNoStatement, IsReasonAt, is_end_of_text, is_not_built, is_one_too_many, is_no_statement}
 use Rattle.stapl_grammar.specs.declared.parsing.ParseRefused.{ParseRefused}
 use Rattle.stapl_grammar.specs.declared.parsing.ParseRefused.TheVariants as refusals

@@ -5,12 +5,12 @@ use Rattle.stapl_syntax.specs.declared.signs.Mark.{Mark}
 use Rattle.stapl_syntax.specs.declared.signs.Mark.TheVariants as marks
 use Rattle.stapl_syntax.specs.declared.signs.JoinWord.{JoinWord}
 use Rattle.stapl_syntax.specs.declared.signs.JoinWord.TheVariants as joins
-use Rattle.stapl_syntax.specs.declared.whole.ItemChoice.{ItemChoice}
-use Rattle.stapl_syntax.specs.WholeSymbols.{Symbol}
-use Rattle.stapl_syntax.specs.WholeTrees.{ExprTree, PartTree}
-use Rattle.stapl_syntax.specs.WholeGrammar.{mark, right_square, dots}
-use Rattle.stapl_syntax.specs.WholeParts.{Part, IsPart, hz, a_name, a_signed, an_expr, a_print_part, some_states, after, maybe_hz, maybe, either, listed, after_mark, after_join, after_comma_join, is_mark, mark_number, is_join, join_number, begins_mark, begins_join, begins_state, is_state, begins_count, begins_text, begins_choice, choice_of, begins_anything, IsChoice, optional_item, recommended_item, IsSigned, unsigned, minus, IsPrintPart, of_string, of_value, of_character}
-use Rattle.stapl_syntax.specs.WholeProductions.{comma, join, note_part, item_part, action_part, procedure_part, size_part, for_part, print_part, export_part, capture_part, compare_part, scan_part, pad_part, last_part, usec_part, first_part, frequency_part}
+use Rattle.stapl_syntax.specs.declared.statement.ItemChoice.{ItemChoice}
+use Rattle.stapl_syntax.specs.Symbols.{Symbol}
+use Rattle.stapl_syntax.specs.Trees.{ExprTree, PartTree}
+use Rattle.stapl_syntax.specs.Expressions.{mark, right_square, dots}
+use Rattle.stapl_syntax.specs.Parts.{Part, IsPart, hz, a_name, a_signed, an_expr, a_print_part, some_states, after, maybe_hz, maybe, either, listed, after_mark, after_join, after_comma_join, is_mark, mark_number, is_join, join_number, begins_mark, begins_join, begins_state, is_state, begins_count, begins_text, begins_choice, choice_of, begins_anything, IsChoice, optional_item, recommended_item, IsSigned, unsigned, minus, IsPrintPart, of_string, of_value, of_character}
+use Rattle.stapl_syntax.specs.Productions.{comma, join, note_part, item_part, action_part, procedure_part, size_part, for_part, print_part, export_part, capture_part, compare_part, scan_part, pad_part, last_part, usec_part, first_part, frequency_part}
 use Rattle.stapl_grammar.specs.Reading.{next_operator, operator_of}
 use Rattle.stapl_grammar.specs.PartReading.{behind_hz, more_states_at}
 use Rattle.stapl_grammar.specs.BodyReading.{boolean_part, integer_part, range_or_element_part, indexed_part, assign_part, units_part, wait_part}

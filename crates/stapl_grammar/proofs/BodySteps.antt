@@ -2,9 +2,9 @@
 use Rattle.std.proofs.Common.{◌≡◌, ℕ, List, Option, Some, None, Result, inr, refl, sym, ap, subst, ◌∙◌}
 use Rattle.std.specs.Prelude.{◌⊎◌}
 use Rattle.stapl_syntax.specs.declared.signs.Mark.TheVariants as marks
-use Rattle.stapl_syntax.specs.WholeSymbols.{Symbol}
-use Rattle.stapl_syntax.specs.WholeTrees.{ExprTree, ArrayTree, BodyTree}
-use Rattle.stapl_syntax.specs.WholeParts.{after_mark}
+use Rattle.stapl_syntax.specs.Symbols.{Symbol}
+use Rattle.stapl_syntax.specs.Trees.{ExprTree, ArrayTree, BodyTree}
+use Rattle.stapl_syntax.specs.Parts.{after_mark}
 use Rattle.stapl_grammar.specs.declared.refused.Refused.{Refused}
 use Rattle.stapl_grammar.specs.Given.{Gives}
 use Rattle.stapl_grammar.specs.Reading.{expr}

@@ -10,7 +10,7 @@ use Rattle.bit_list.specs.Digits.{IsDigit, IsFirstBadDigit}
 use Rattle.stapl_lexer.specs.declared.token.TokenKind.{TokenKind}
 use Rattle.stapl_lexer.specs.declared.token.TokenKind.TheVariants as kinds
 use Rattle.stapl_lexer.specs.PieceTokens.{is_literal_digit}
-use Rattle.stapl_syntax.specs.WholeSymbols.{digits_in}
+use Rattle.stapl_syntax.specs.Symbols.{digits_in}
 
 -- what `to_digit` reads is the value of the digit
 value_of_digit : (read : Option ℕ) (P : Type 0) (value x : ℕ) → SomeIff read P value → read ≡ Some x → x ≡ value

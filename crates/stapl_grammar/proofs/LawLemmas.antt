@@ -2,9 +2,9 @@
 use Rattle.std.proofs.Common.{◌≡◌, ℕ, List, Option, ap, subst}
 use Rattle.stapl_lexer.specs.declared.piece.Piece.{Piece}
 use Rattle.stapl_lexer.specs.SpelledTokens.{SpelledToken}
-use Rattle.stapl_syntax.specs.WholeSymbols.{symbols_of}
-use Rattle.stapl_syntax.specs.WholeTrees.{BodyTree, StmtTree}
-use Rattle.stapl_syntax.specs.WholeStatements.{Means, IsPieceStatement}
+use Rattle.stapl_syntax.specs.Symbols.{symbols_of}
+use Rattle.stapl_syntax.specs.Trees.{BodyTree, StmtTree}
+use Rattle.stapl_syntax.specs.Statements.{Means, IsPieceStatement}
 use Rattle.stapl_syntax.proofs.RefusalLemmas.{spelled_one_way}
 use Rattle.stapl_grammar.proofs.BodyComplete as complete
 

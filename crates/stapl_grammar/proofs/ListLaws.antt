@@ -3,8 +3,8 @@ use Rattle.std.proofs.Common.{◌≡◌, ℕ, zero, suc, ◌<◌, List, [], ◌�
 use Rattle.std.proofs.lemmas.List.{append-nil, map-append}
 use Rattle.std.specs.Option.{option_map_or}
 use Rattle.stapl_syntax.specs.declared.signs.Sign.TheVariants as signs
-use Rattle.stapl_syntax.specs.WholeSymbols.{Symbol, Plain}
-use Rattle.stapl_syntax.specs.WholeParts.{Separated}
+use Rattle.stapl_syntax.specs.Symbols.{Symbol, Plain}
+use Rattle.stapl_syntax.specs.Parts.{Separated}
 use Rattle.stapl_grammar.specs.declared.refused.Refused.{Refused}
 use Rattle.stapl_grammar.specs.declared.refused.Refused.TheVariants.{Memory, Syntax}
 use Rattle.stapl_grammar.specs.Given.{Fails}

@@ -3,10 +3,10 @@ use Rattle.std.proofs.Common.{◌≡◌, ℕ, ℤ, List, [], ◌∷◌, ◌++◌
 use Rattle.std.proofs.lemmas.List.{append-nil}
 use Rattle.stapl_syntax.specs.declared.signs.Mark.TheVariants as marks
 use Rattle.stapl_syntax.specs.declared.signs.Sign.TheVariants as signs
-use Rattle.stapl_syntax.specs.WholeSymbols.{Symbol, Plain}
-use Rattle.stapl_syntax.specs.WholeTrees.{ItemTree, PartTree}
-use Rattle.stapl_syntax.specs.WholeParts.{a_name, a_signed, a_print_part, after_mark, is_mark, mark_number, begins_state, is_state}
-use Rattle.stapl_syntax.specs.WholeProductions.{comma, item_part}
+use Rattle.stapl_syntax.specs.Symbols.{Symbol, Plain}
+use Rattle.stapl_syntax.specs.Trees.{ItemTree, PartTree}
+use Rattle.stapl_syntax.specs.Parts.{a_name, a_signed, a_print_part, after_mark, is_mark, mark_number, begins_state, is_state}
+use Rattle.stapl_syntax.specs.Productions.{comma, item_part}
 use Rattle.stapl_grammar.specs.declared.refused.Refused.{Refused}
 use Rattle.stapl_grammar.specs.declared.refused.Refused.TheVariants.{Memory, Syntax}
 use Rattle.stapl_grammar.specs.Given.{Fails}

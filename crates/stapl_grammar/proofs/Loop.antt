@@ -3,9 +3,9 @@ use Rattle.std.proofs.Common.{◌≡◌, ℕ, ◌-◌, List, Some, None}
 use Rattle.stapl_syntax.specs.declared.signs.BinOp.{BinOp}
 use Rattle.stapl_syntax.specs.declared.signs.UnOp.{UnOp}
 use Rattle.stapl_syntax.specs.declared.signs.Sign.{Sign}
-use Rattle.stapl_syntax.specs.WholeSymbols.{Symbol}
-use Rattle.stapl_syntax.specs.WholeTrees.{ExprTree, unary, binary}
-use Rattle.stapl_syntax.specs.WholeGrammar.{level_of}
+use Rattle.stapl_syntax.specs.Symbols.{Symbol}
+use Rattle.stapl_syntax.specs.Trees.{ExprTree, unary, binary}
+use Rattle.stapl_syntax.specs.Expressions.{level_of}
 use Rattle.stapl_grammar.specs.declared.refused.Refused.{Refused}
 use Rattle.stapl_grammar.specs.declared.refused.Refused.TheVariants.{Memory, Syntax}
 use Rattle.stapl_grammar.specs.Given.{Fails}

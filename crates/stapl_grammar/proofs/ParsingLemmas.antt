@@ -6,10 +6,10 @@ use Rattle.stapl_lexer.specs.declared.reason.Reason.{Reason}
 use Rattle.stapl_lexer.specs.declared.token.Token.{Token}
 use Rattle.stapl_lexer.specs.PieceFaults.{IsLexed}
 use Rattle.stapl_lexer.specs.SpelledTokens.{spelled, IsSpelled}
-use Rattle.stapl_syntax.specs.declared.whole.Stmt.{Stmt}
-use Rattle.stapl_syntax.specs.WholeSymbols.{Symbol, symbols_of}
-use Rattle.stapl_syntax.specs.WholeTrees.{BodyTree, stmt_tree}
-use Rattle.stapl_syntax.specs.WholeStatements.{IsLabelled, IsPieceStatement, reason_of, SmallestReason, in_tokens, not_in_grammar}
+use Rattle.stapl_syntax.specs.declared.statement.Stmt.{Stmt}
+use Rattle.stapl_syntax.specs.Symbols.{Symbol, symbols_of}
+use Rattle.stapl_syntax.specs.Trees.{BodyTree, stmt_tree}
+use Rattle.stapl_syntax.specs.Statements.{IsLabelled, IsPieceStatement, reason_of, SmallestReason, in_tokens, not_in_grammar}
 use Rattle.stapl_grammar.specs.declared.parsing.ParseRefused.{ParseRefused}
 use Rattle.stapl_grammar.specs.declared.parsing.ParseRefused.TheVariants.{Because}
 use Rattle.stapl_grammar.specs.Seen.{seen, seen_as}

@@ -7,10 +7,10 @@ use Rattle.stapl_syntax.specs.declared.signs.Mark.{Mark}
 use Rattle.stapl_syntax.specs.declared.signs.Mark.TheVariants as marks
 use Rattle.stapl_syntax.specs.declared.signs.JoinWord.{JoinWord}
 use Rattle.stapl_syntax.specs.declared.signs.Sign.TheVariants as signs
-use Rattle.stapl_syntax.specs.WholeSymbols.{Symbol, Plain, Text, Literal, CheckWord, sign_of}
-use Rattle.stapl_syntax.specs.WholeGrammar.{mark, name}
-use Rattle.stapl_syntax.specs.WholeProductions.{join}
-use Rattle.stapl_syntax.specs.WholeParts.{Part, IsPart, hz, a_name, a_state, a_number, a_signed, a_bit, a_text, a_literal, a_check_word, a_choice, an_expr, an_array, a_cell, a_target, a_print_part, an_export, some_states, after, before, maybe_hz, both, maybe, either, listed, after_mark}
+use Rattle.stapl_syntax.specs.Symbols.{Symbol, Plain, Text, Literal, CheckWord, sign_of}
+use Rattle.stapl_syntax.specs.Expressions.{mark, name}
+use Rattle.stapl_syntax.specs.Productions.{join}
+use Rattle.stapl_syntax.specs.Parts.{Part, IsPart, hz, a_name, a_state, a_number, a_signed, a_bit, a_text, a_literal, a_check_word, a_choice, an_expr, an_array, a_cell, a_target, a_print_part, an_export, some_states, after, before, maybe_hz, both, maybe, either, listed, after_mark}
 use Rattle.stapl_grammar.specs.Reading.{next_sign, name_at, name_of, literal_at, next_operator}
 use Rattle.stapl_grammar.specs.PartReading.{after_symbol, state_at, state_of, number_at, number_of, text_at, check_word_at, more_states_at, is_hz, behind_hz, part_at}
 use Rattle.stapl_grammar.proofs.Tools.{by_step, some_is, by_test, after_mark_here, after_join_here}

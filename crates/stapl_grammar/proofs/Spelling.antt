@@ -6,7 +6,7 @@ use Rattle.std.specs.Char.{to_ascii_uppercase, is_ascii_alphabetic, eq_ignore_as
 use Rattle.std.specs.List.{list_all}
 use Rattle.std.specs.Str.{str_to_ascii_uppercase, str_eq_ignore_ascii_case}
 use Rattle.stapl_lexer.specs.Names.{is_name_byte, is_name}
-use Rattle.stapl_syntax.specs.WholeSymbols.{reserved_or, name_sign, word_sign}
+use Rattle.stapl_syntax.specs.Symbols.{reserved_or, name_sign, word_sign}
 use Rattle.stapl_grammar.specs.Seen.{own_word_sign}
 
 letter_upper : (b : ℕ) → is_ascii_alphabetic (to_ascii_uppercase b) ≡ is_ascii_alphabetic b

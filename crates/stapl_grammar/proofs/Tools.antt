@@ -10,10 +10,10 @@ use Rattle.stapl_syntax.specs.declared.signs.Mark.TheVariants.{Tilde, Exclamatio
 use Rattle.stapl_syntax.specs.declared.signs.JoinWord.{JoinWord}
 use Rattle.stapl_syntax.specs.declared.signs.JoinWord.TheVariants.{Capture, Compare, Cycles, Optional, Recommended, Step, Then, To, Usec, Uses}
 use Rattle.stapl_syntax.specs.declared.signs.Sign.TheVariants as signs
-use Rattle.stapl_syntax.specs.WholeSymbols.{Symbol, Plain, sign_of}
-use Rattle.stapl_syntax.specs.WholeGrammar.{level_of, operator, mark}
-use Rattle.stapl_syntax.specs.WholeProductions.{join}
-use Rattle.stapl_syntax.specs.WholeParts.{is_mark, mark_number, after_mark, is_join, join_number, after_join}
+use Rattle.stapl_syntax.specs.Symbols.{Symbol, Plain, sign_of}
+use Rattle.stapl_syntax.specs.Expressions.{level_of, operator, mark}
+use Rattle.stapl_syntax.specs.Productions.{join}
+use Rattle.stapl_syntax.specs.Parts.{is_mark, mark_number, after_mark, is_join, join_number, after_join}
 use Rattle.stapl_grammar.specs.Reading.{◌>>=◌, operator_of, next_operator}
 
 -- what a step gave, where the whole gave something

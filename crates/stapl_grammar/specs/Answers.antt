@@ -1,10 +1,10 @@
 -- What the parser answers for symbols.
 use Rattle.std.specs.Prelude.{◌≡◌, ℕ, List, Option, Result, Ok, Err}
 use Rattle.stapl_lexer.specs.declared.reason.Reason.{Reason}
-use Rattle.stapl_syntax.specs.declared.whole.Stmt.{Stmt}
-use Rattle.stapl_syntax.specs.WholeSymbols.{Symbol}
-use Rattle.stapl_syntax.specs.WholeTrees.{BodyTree, body_tree}
-use Rattle.stapl_syntax.specs.WholeStatements.{IsLabelled, reason_of}
+use Rattle.stapl_syntax.specs.declared.statement.Stmt.{Stmt}
+use Rattle.stapl_syntax.specs.Symbols.{Symbol}
+use Rattle.stapl_syntax.specs.Trees.{BodyTree, body_tree}
+use Rattle.stapl_syntax.specs.Statements.{IsLabelled, reason_of}
 use Rattle.stapl_grammar.specs.declared.parsing.ParseRefused.{ParseRefused}
 use Rattle.stapl_grammar.specs.declared.parsing.ParseRefused.TheVariants.{Because, Memory}
 

@@ -11,10 +11,10 @@ use Rattle.stapl_syntax.specs.declared.signs.Function.{Function}
 use Rattle.stapl_syntax.specs.declared.signs.Function.TheVariants as functions
 use Rattle.stapl_syntax.specs.declared.signs.Sign.{Sign}
 use Rattle.stapl_syntax.specs.declared.signs.Sign.TheVariants as signs
-use Rattle.stapl_syntax.specs.WholeSymbols.{Symbol, Literal, sign_of}
-use Rattle.stapl_syntax.specs.WholeTrees.{ExprTree, ArrayTree, number, scalar, element, unary, binary, abs, int, literal, whole, range, of_int}
-use Rattle.stapl_syntax.specs.WholeGrammar.{level_of}
-use Rattle.stapl_syntax.specs.WholeParts.{after_mark}
+use Rattle.stapl_syntax.specs.Symbols.{Symbol, Literal, sign_of}
+use Rattle.stapl_syntax.specs.Trees.{ExprTree, ArrayTree, number, scalar, element, unary, binary, abs, int, literal, whole, range, of_int}
+use Rattle.stapl_syntax.specs.Expressions.{level_of}
+use Rattle.stapl_syntax.specs.Parts.{after_mark}
 
 infixl 10 ◌>>=◌
 abbrev pub ◌>>=◌ : {A B : Type 0} → Option A → (A → Option B) → Option B

@@ -5,7 +5,7 @@ use Rattle.stapl_lexer.specs.declared.token.Token.{Token}
 use Rattle.stapl_lexer.specs.PieceTokens.{spells_word}
 use Rattle.stapl_lexer.specs.SpelledTokens.{spelled}
 use Rattle.stapl_syntax.specs.declared.signs.Sign.{Sign}
-use Rattle.stapl_syntax.specs.WholeSymbols.{Symbol, sign_of, symbol_of, reserved_or, name_sign}
+use Rattle.stapl_syntax.specs.Symbols.{Symbol, sign_of, symbol_of, reserved_or, name_sign}
 
 -- the symbol of a token
 unfoldable pub seen_as : List ℕ → Token → Symbol

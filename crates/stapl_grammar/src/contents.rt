@@ -5,7 +5,7 @@ ghost use Rattle.bit_list.specs.Digits.{IsDigit, bits_of_binary, bits_of_hex};
 ghost use Rattle.stapl_lexer.specs.PieceTokens.{is_literal_digit};
 ghost use Rattle.stapl_lexer.specs.SpelledTokens.{inside};
 ghost use Rattle.stapl_lexer.specs.declared.token.TokenKind.TheVariants as kinds;
-ghost use Rattle.stapl_syntax.specs.WholeSymbols.{digits_in, check_number};
+ghost use Rattle.stapl_syntax.specs.Symbols.{digits_in, check_number};
 
 use crate::refused::Refused;
 use bit_list::{Bits, BitsRefused};

@@ -9,7 +9,7 @@ use crate::sign::{bytes_in, sign_of};
 use base::ItemList;
 use bit_list::Bits;
 use stapl_lexer::{Name, Token, TokenKind};
-use stapl_syntax::whole::{BinOp, JoinWord, Mark, Sign};
+use stapl_syntax::{BinOp, JoinWord, Mark, Sign};
 use std::alloc::Global;
 use std::marker::Model;
 
@@ -23,7 +23,7 @@ pub(crate) struct Cursor<'a> {
 impl<'a> Model for Cursor<'a> {
     ghost use Rattle.std.specs.Prelude.{List, All, length, ◌≤◌};
     ghost use Rattle.stapl_lexer.specs.PieceTokens.{LiesBetween};
-    ghost use Rattle.stapl_syntax.specs.WholeSymbols.{Symbol};
+    ghost use Rattle.stapl_syntax.specs.Symbols.{Symbol};
     ghost use Rattle.stapl_grammar.specs.Seen.{seen};
 
     ghost Value = { List Symbol };
@@ -37,8 +37,8 @@ impl<'a> Cursor<'a> {
     ghost use Rattle.std.specs.Prelude.{◌≡◌, ◌<◌, ◌≤◌, All, length, [], ◌∷◌, IfSome, IfNone, OnOk, OnSome, MatchBool, Some, None, is_some};
     ghost use Rattle.std.specs.Bool.{OnTrue};
     ghost use Rattle.stapl_lexer.specs.PieceTokens.{LiesBetween};
-    ghost use Rattle.stapl_syntax.specs.WholeParts.{after_mark, after_join, after_comma_join, begins_text, begins_state, begins_count, begins_choice, begins_anything};
-    ghost use Rattle.stapl_syntax.specs.WholeStatements.{is_assign_sign, first_sign};
+    ghost use Rattle.stapl_syntax.specs.Parts.{after_mark, after_join, after_comma_join, begins_text, begins_state, begins_count, begins_choice, begins_anything};
+    ghost use Rattle.stapl_syntax.specs.Statements.{is_assign_sign, first_sign};
     ghost use Rattle.stapl_grammar.specs.Given.{Gives};
     ghost use Rattle.stapl_grammar.specs.Reading.{next_sign, next_operator, name_at, literal_at};
     ghost use Rattle.stapl_grammar.specs.PartReading.{text_at, check_word_at, after_minus, after_character, behind_hz};
@@ -85,7 +85,7 @@ impl<'a> Cursor<'a> {
     }
 
     // Steps past the first token, where it is this mark.
-    #[tactic(auto, unfolding(crate::specs::Seen::seen, stapl_syntax::specs::WholeParts::after_mark))]
+    #[tactic(auto, unfolding(crate::specs::Seen::seen, stapl_syntax::specs::Parts::after_mark))]
     pub(crate) fn take_mark(&mut self, mark: Mark) -> bool
         ensures read { MatchBool result (after_mark mark self.old ≡ Some self.new) ((after_mark mark self.old ≡ None) × (self.new ≡ self.old)) }
         ensures shorter { OnTrue result (length self.new < length self.old) }
@@ -100,7 +100,7 @@ impl<'a> Cursor<'a> {
     }
 
     // Steps past the first token, where it is this word.
-    #[tactic(auto, unfolding(crate::specs::Seen::seen, stapl_syntax::specs::WholeParts::after_join))]
+    #[tactic(auto, unfolding(crate::specs::Seen::seen, stapl_syntax::specs::Parts::after_join))]
     pub(crate) fn take_join(&mut self, word: JoinWord) -> bool
         ensures read { MatchBool result (after_join word self.old ≡ Some self.new) ((after_join word self.old ≡ None) × (self.new ≡ self.old)) }
         ensures shorter { OnTrue result (length self.new < length self.old) }
@@ -161,7 +161,7 @@ impl<'a> Cursor<'a> {
     }
 
     // Steps past a comma and this word, where they stand first.
-    #[tactic(auto, unfolding(stapl_syntax::specs::WholeParts::after_comma_join))]
+    #[tactic(auto, unfolding(stapl_syntax::specs::Parts::after_comma_join))]
     pub(crate) fn take_comma_join(&mut self, word: JoinWord) -> bool
         ensures read { MatchBool result (after_comma_join word self.old ≡ Some self.new) ((after_comma_join word self.old ≡ None) × (self.new ≡ self.old)) }
     {
@@ -187,7 +187,7 @@ impl<'a> Cursor<'a> {
     }
 
     // Whether a state stands first.
-    #[tactic(auto, unfolding(crate::specs::Seen::seen, stapl_syntax::specs::WholeParts::begins_state))]
+    #[tactic(auto, unfolding(crate::specs::Seen::seen, stapl_syntax::specs::Parts::begins_state))]
     pub(crate) fn begins_state(&self) -> bool
         ensures { result ≡ begins_state self.now }
     {
@@ -198,7 +198,7 @@ impl<'a> Cursor<'a> {
     }
 
     // Whether a comma stands first, and no state behind it.
-    #[tactic(auto, unfolding(stapl_syntax::specs::WholeParts::after_mark, stapl_syntax::specs::WholeParts::begins_count))]
+    #[tactic(auto, unfolding(stapl_syntax::specs::Parts::after_mark, stapl_syntax::specs::Parts::begins_count))]
     pub(crate) fn begins_count(&self) -> bool
         ensures { result ≡ begins_count self.now }
     {
@@ -207,7 +207,7 @@ impl<'a> Cursor<'a> {
     }
 
     // Whether OPTIONAL or RECOMMENDED stands first.
-    #[tactic(auto, unfolding(crate::specs::Seen::seen, stapl_syntax::specs::WholeParts::begins_choice))]
+    #[tactic(auto, unfolding(crate::specs::Seen::seen, stapl_syntax::specs::Parts::begins_choice))]
     pub(crate) fn begins_choice(&self) -> bool
         ensures { result ≡ begins_choice self.now }
     {
@@ -218,7 +218,7 @@ impl<'a> Cursor<'a> {
     }
 
     // Whether a mark stands first that may stand behind the first name of an assignment.
-    #[tactic(auto, unfolding(crate::specs::Seen::seen, stapl_syntax::specs::WholeStatements::is_assign_sign))]
+    #[tactic(auto, unfolding(crate::specs::Seen::seen, stapl_syntax::specs::Statements::is_assign_sign))]
     pub(crate) fn begins_assignment(&self) -> bool
         ensures { result ≡ is_assign_sign (first_sign self.now) }
     {
@@ -279,7 +279,7 @@ impl<'a> Cursor<'a> {
     }
 
     // Whether a string stands first.
-    #[tactic(auto, unfolding(crate::specs::Seen::seen, crate::specs::Seen::seen_as, stapl_syntax::specs::WholeParts::begins_text))]
+    #[tactic(auto, unfolding(crate::specs::Seen::seen, crate::specs::Seen::seen_as, stapl_syntax::specs::Parts::begins_text))]
     pub(crate) fn begins_text(&self) -> bool
         ensures { result ≡ begins_text self.now }
     {

@@ -3,13 +3,13 @@ use crate::cursor::Cursor;
 use crate::refused::Refused;
 use base::ItemList;
 use bit_list::Bits;
-use stapl_syntax::whole::{Body, InnerWord, Mark};
+use stapl_syntax::{Body, InnerWord, Mark};
 use std::alloc::Global;
 
 impl<'a> Cursor<'a> {
     ghost use Rattle.std.specs.Prelude.{◌≡◌};
-    ghost use Rattle.stapl_syntax.specs.WholeTrees.{body_tree};
-    ghost use Rattle.stapl_syntax.specs.WholeProductions.{bit_part, bits_part, signed_part, signed_list_part};
+    ghost use Rattle.stapl_syntax.specs.Trees.{body_tree};
+    ghost use Rattle.stapl_syntax.specs.Productions.{bit_part, bits_part, signed_part, signed_list_part};
     ghost use Rattle.stapl_grammar.specs.Given.{Gives};
     ghost use Rattle.stapl_grammar.specs.PartReading.{part_at};
     ghost use Rattle.stapl_grammar.specs.BodyReading.{mapped, boolean_of, boolean_part, integer_of, integer_part, inner_from};

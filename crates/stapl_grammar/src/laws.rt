@@ -2,9 +2,9 @@
 ghost use Rattle.std.specs.Prelude.{◌≡◌, ℕ, List, false};
 ghost use Rattle.stapl_lexer.specs.declared.piece.Piece.{Piece};
 ghost use Rattle.stapl_lexer.specs.SpelledTokens.{SpelledToken};
-ghost use Rattle.stapl_syntax.specs.WholeSymbols.{symbols_of};
-ghost use Rattle.stapl_syntax.specs.WholeTrees.{StmtTree};
-ghost use Rattle.stapl_syntax.specs.WholeStatements.{Means, IsPieceStatement, behind_label, is_unknown, holds_left_out};
+ghost use Rattle.stapl_syntax.specs.Symbols.{symbols_of};
+ghost use Rattle.stapl_syntax.specs.Trees.{StmtTree};
+ghost use Rattle.stapl_syntax.specs.Statements.{Means, IsPieceStatement, behind_label, is_unknown, holds_left_out};
 
 /// Tokens mean at most one statement.
 pub fn one_statement()

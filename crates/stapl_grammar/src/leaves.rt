@@ -2,12 +2,12 @@
 use crate::cursor::Cursor;
 use crate::looks::choice_of;
 use crate::refused::Refused;
-use stapl_syntax::whole::{Exported, ItemChoice, Mark, PrintPart, Sign};
+use stapl_syntax::{Exported, ItemChoice, Mark, PrintPart, Sign};
 use std::alloc::Global;
 
 impl<'a> Cursor<'a> {
     ghost use Rattle.std.specs.Prelude.{◌≡◌, ◌<◌, length, OnOk};
-    ghost use Rattle.stapl_syntax.specs.WholeTrees.{part_tree, export_tree};
+    ghost use Rattle.stapl_syntax.specs.Trees.{part_tree, export_tree};
     ghost use Rattle.stapl_grammar.specs.Given.{Gives};
     ghost use Rattle.stapl_grammar.specs.PartReading.{state_at, number_at, signed_at, bit_at, choice_at, print_part_at, export_at};
 

@@ -1,15 +1,15 @@
 //! Single signs.
 ghost use Rattle.std.specs.Prelude.{◌≡◌, ◌<◌};
-ghost use Rattle.stapl_syntax.specs.WholeGrammar.{level_of};
-ghost use Rattle.stapl_syntax.specs.WholeParts.{mark_number, join_number, is_mark, is_join, is_state, choice_of};
-ghost use Rattle.stapl_syntax.specs.WholeStatements.{is_left_out, is_assign_sign};
+ghost use Rattle.stapl_syntax.specs.Expressions.{level_of};
+ghost use Rattle.stapl_syntax.specs.Parts.{mark_number, join_number, is_mark, is_join, is_state, choice_of};
+ghost use Rattle.stapl_syntax.specs.Statements.{is_left_out, is_assign_sign};
 ghost use Rattle.stapl_grammar.specs.Reading.{operator_of, unary_of};
 ghost use Rattle.stapl_grammar.specs.PartReading.{is_minus, is_character, is_hz};
 
-use stapl_syntax::whole::{BinOp, Function, ItemChoice, JoinWord, Mark, Sign, UnOp};
+use stapl_syntax::{BinOp, Function, ItemChoice, JoinWord, Mark, Sign, UnOp};
 
 // How tightly an operator binds: 1 is the tightest, 10 the loosest.
-#[tactic(auto, unfolding(stapl_syntax::specs::WholeGrammar::level_of))]
+#[tactic(auto, unfolding(stapl_syntax::specs::Expressions::level_of))]
 pub(crate) fn level(op: BinOp) -> u32
     ensures level { result ≡ level_of op }
     ensures above { 0 < result }
@@ -53,7 +53,7 @@ pub(crate) fn unary_of(sign: Sign) -> Option<UnOp>
 }
 
 // The place of a mark among the marks.
-#[tactic(auto, unfolding(stapl_syntax::specs::WholeParts::mark_number))]
+#[tactic(auto, unfolding(stapl_syntax::specs::Parts::mark_number))]
 fn mark_number(mark: Mark) -> u8
     ensures { result ≡ mark_number mark }
 {
@@ -72,7 +72,7 @@ fn mark_number(mark: Mark) -> u8
 }
 
 // The place of a word inside statements among those words.
-#[tactic(auto, unfolding(stapl_syntax::specs::WholeParts::join_number))]
+#[tactic(auto, unfolding(stapl_syntax::specs::Parts::join_number))]
 fn join_number(word: JoinWord) -> u8
     ensures { result ≡ join_number word }
 {
@@ -91,7 +91,7 @@ fn join_number(word: JoinWord) -> u8
 }
 
 // Whether a sign is this mark.
-#[tactic(auto, unfolding(stapl_syntax::specs::WholeParts::is_mark))]
+#[tactic(auto, unfolding(stapl_syntax::specs::Parts::is_mark))]
 pub(crate) fn is_mark(sign: Sign, mark: Mark) -> bool
     ensures { result ≡ is_mark sign mark }
 {
@@ -102,7 +102,7 @@ pub(crate) fn is_mark(sign: Sign, mark: Mark) -> bool
 }
 
 // Whether a sign is this word.
-#[tactic(auto, unfolding(stapl_syntax::specs::WholeParts::is_join))]
+#[tactic(auto, unfolding(stapl_syntax::specs::Parts::is_join))]
 pub(crate) fn is_join(sign: Sign, word: JoinWord) -> bool
     ensures { result ≡ is_join sign word }
 {
@@ -129,7 +129,7 @@ pub(crate) fn is_character(sign: Sign) -> bool
 }
 
 // Whether a sign is a state.
-#[tactic(auto, unfolding(stapl_syntax::specs::WholeParts::is_state))]
+#[tactic(auto, unfolding(stapl_syntax::specs::Parts::is_state))]
 pub(crate) fn is_state(sign: Sign) -> bool
     ensures { result ≡ is_state sign }
 {
@@ -148,7 +148,7 @@ pub(crate) fn is_hz(sign: Sign) -> bool
 }
 
 // The choice of an item that a sign is.
-#[tactic(auto, unfolding(stapl_syntax::specs::WholeParts::choice_of))]
+#[tactic(auto, unfolding(stapl_syntax::specs::Parts::choice_of))]
 pub(crate) fn choice_of(sign: Sign) -> Option<ItemChoice>
     ensures { result ≡ choice_of sign }
 {
@@ -160,7 +160,7 @@ pub(crate) fn choice_of(sign: Sign) -> Option<ItemChoice>
 }
 
 // Whether a sign is a word that this profile leaves out.
-#[tactic(auto, unfolding(stapl_syntax::specs::WholeStatements::is_left_out))]
+#[tactic(auto, unfolding(stapl_syntax::specs::Statements::is_left_out))]
 pub(crate) fn is_left_out(sign: Sign) -> bool
     ensures { result ≡ is_left_out sign }
 {
@@ -172,7 +172,7 @@ pub(crate) fn is_left_out(sign: Sign) -> bool
 }
 
 // Whether a sign may stand behind the first name of an assignment.
-#[tactic(auto, unfolding(stapl_syntax::specs::WholeStatements::is_assign_sign))]
+#[tactic(auto, unfolding(stapl_syntax::specs::Statements::is_assign_sign))]
 pub(crate) fn is_assign_sign(sign: Sign) -> bool
     ensures { result ≡ is_assign_sign sign }
 {

@@ -3,14 +3,14 @@ use crate::cursor::Cursor;
 use crate::refused::Refused;
 use base::ItemList;
 use stapl_lexer::Name;
-use stapl_syntax::whole::{Body, JoinWord, Mark, OuterWord};
+use stapl_syntax::{Body, JoinWord, Mark, OuterWord};
 use std::alloc::Global;
 
 impl<'a> Cursor<'a> {
     ghost use Rattle.std.specs.Prelude.{◌≡◌};
-    ghost use Rattle.stapl_syntax.specs.WholeTrees.{body_tree};
-    ghost use Rattle.stapl_syntax.specs.WholeProductions.{note_part, action_part, procedure_part, uses_part};
-    ghost use Rattle.stapl_syntax.specs.WholeParts.{maybe, a_text, begins_text};
+    ghost use Rattle.stapl_syntax.specs.Trees.{body_tree};
+    ghost use Rattle.stapl_syntax.specs.Productions.{note_part, action_part, procedure_part, uses_part};
+    ghost use Rattle.stapl_syntax.specs.Parts.{maybe, a_text, begins_text};
     ghost use Rattle.stapl_grammar.specs.Given.{Gives};
     ghost use Rattle.stapl_grammar.specs.PartReading.{part_at};
     ghost use Rattle.stapl_grammar.specs.BodyReading.{mapped, note_of, action_of, procedure_of, outer_from};

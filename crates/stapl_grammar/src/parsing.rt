@@ -3,8 +3,8 @@ ghost use Rattle.std.specs.Prelude.{◌≡◌, ◌≤◌, length, All, IfOk, Err
 ghost use Rattle.stapl_lexer.specs.declared.reason.Reason.{Reason};
 ghost use Rattle.stapl_lexer.specs.Pieces.{LiesIn};
 ghost use Rattle.stapl_lexer.specs.PieceTokens.{LiesBetween};
-ghost use Rattle.stapl_syntax.specs.WholeTrees.{stmt_tree};
-ghost use Rattle.stapl_syntax.specs.WholeStatements.{IsPieceStatement, SmallestReason};
+ghost use Rattle.stapl_syntax.specs.Trees.{stmt_tree};
+ghost use Rattle.stapl_syntax.specs.Statements.{IsPieceStatement, SmallestReason};
 ghost use Rattle.stapl_grammar.specs.declared.parsing.ParseRefused.TheVariants as refusals;
 ghost use Rattle.stapl_grammar.specs.Seen.{seen};
 ghost use Rattle.stapl_grammar.specs.Answers.{AnswersFor};
@@ -12,7 +12,7 @@ ghost use Rattle.stapl_grammar.specs.Answers.{AnswersFor};
 use crate::cursor::Cursor;
 use crate::refused::Refused;
 use stapl_lexer::{LexRefused, Piece, Reason, Token, tokens};
-use stapl_syntax::whole::Stmt;
+use stapl_syntax::Stmt;
 use std::alloc::Global;
 use thiserror::Error;
 

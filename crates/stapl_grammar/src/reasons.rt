@@ -2,14 +2,14 @@
 use crate::cursor::Cursor;
 use crate::looks::is_left_out;
 use stapl_lexer::Reason;
-use stapl_syntax::whole::Sign;
+use stapl_syntax::Sign;
 
 impl<'a> Cursor<'a> {
     ghost use Rattle.std.specs.Prelude.{◌≡◌};
-    ghost use Rattle.stapl_syntax.specs.WholeStatements.{begins_statement, behind_label, is_unknown, holds_left_out, reason_of};
+    ghost use Rattle.stapl_syntax.specs.Statements.{begins_statement, behind_label, is_unknown, holds_left_out, reason_of};
 
     // Whether a statement begins with this sign, with the rest behind it.
-    #[tactic(auto, unfolding(stapl_syntax::specs::WholeStatements::begins_statement))]
+    #[tactic(auto, unfolding(stapl_syntax::specs::Statements::begins_statement))]
     fn begins_statement(&self, first: Sign) -> bool
         ensures { result ≡ begins_statement first self.now }
     {
@@ -53,7 +53,7 @@ impl<'a> Cursor<'a> {
     }
 
     // The smallest reason why the symbols are no statement, where they are none.
-    #[tactic(auto, unfolding(stapl_syntax::specs::WholeStatements::reason_of))]
+    #[tactic(auto, unfolding(stapl_syntax::specs::Statements::reason_of))]
     pub(crate) fn reason(&self) -> Reason
         ensures { result ≡ reason_of self.now }
     {

@@ -5,14 +5,14 @@ ghost use Rattle.std.specs.Str.{str_eq_ignore_ascii_case, str_to_ascii_uppercase
 ghost use Rattle.stapl_lexer.specs.Depth.{token_bytes};
 ghost use Rattle.stapl_lexer.specs.PieceTokens.{LiesBetween};
 ghost use Rattle.stapl_lexer.specs.ReservedWords.{state_words};
-ghost use Rattle.stapl_syntax.specs.WholeSymbols as symbols;
+ghost use Rattle.stapl_syntax.specs.Symbols as symbols;
 ghost use Rattle.stapl_grammar.specs.Seen.{seen_as, own_word_sign};
 
 use crate::words::{
     function, inner_word, join_word, mark, operator, outer_word, port_word, simple_word,
 };
 use stapl_lexer::{Name, Token, TokenKind};
-use stapl_syntax::whole::Sign;
+use stapl_syntax::Sign;
 
 static LEFT_OUT_STATEMENTS: [&str; 3] = ["TRST", "VECTOR", "VMAP"];
 

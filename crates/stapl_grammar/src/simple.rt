@@ -2,14 +2,14 @@
 use crate::cursor::Cursor;
 use crate::refused::Refused;
 use stapl_lexer::Name;
-use stapl_syntax::whole::{Body, Expr, JoinWord, Mark, Sign, SimpleWord};
+use stapl_syntax::{Body, Expr, JoinWord, Mark, Sign, SimpleWord};
 use std::alloc::Global;
 
 impl<'a> Cursor<'a> {
     ghost use Rattle.std.specs.Prelude.{◌≡◌, ◌<◌, length};
     ghost use Rattle.std.specs.Option.{option_map};
-    ghost use Rattle.stapl_syntax.specs.WholeTrees.{expr_tree, body_tree, print};
-    ghost use Rattle.stapl_syntax.specs.WholeProductions.{step_part, for_part, print_part, export_part};
+    ghost use Rattle.stapl_syntax.specs.Trees.{expr_tree, body_tree, print};
+    ghost use Rattle.stapl_syntax.specs.Productions.{step_part, for_part, print_part, export_part};
     ghost use Rattle.stapl_grammar.specs.Given.{Gives};
     ghost use Rattle.stapl_grammar.specs.PartReading.{part_at};
     ghost use Rattle.stapl_grammar.specs.BodyReading.{mapped, range_or_element_of, range_or_element_part, indexed_of, indexed_part, assign_of, assign_part, for_of, export_of, simple_word_from, if_from, simple_from, simple_at};

@@ -2,12 +2,12 @@
 use crate::cursor::Cursor;
 use crate::refused::Refused;
 use stapl_lexer::Name;
-use stapl_syntax::whole::{Body, Mark, Sign, Stmt};
+use stapl_syntax::{Body, Mark, Sign, Stmt};
 use std::alloc::Global;
 
 impl<'a> Cursor<'a> {
     ghost use Rattle.std.specs.Prelude.{◌≡◌};
-    ghost use Rattle.stapl_syntax.specs.WholeTrees.{body_tree};
+    ghost use Rattle.stapl_syntax.specs.Trees.{body_tree};
     ghost use Rattle.stapl_grammar.specs.Given.{Gives};
     ghost use Rattle.stapl_grammar.specs.BodyReading.{labelled_from, labelled_at, any_from, any_at, label_at, with_label_at, statement_of};
 

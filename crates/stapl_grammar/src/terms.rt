@@ -3,7 +3,7 @@ use crate::cursor::Cursor;
 use crate::looks::{level, unary_of};
 use crate::refused::Refused;
 use stapl_lexer::Name;
-use stapl_syntax::whole::{ArrayExpr, Expr, Function, Mark, Sign};
+use stapl_syntax::{ArrayExpr, Expr, Function, Mark, Sign};
 use std::alloc::Global;
 
 // The level of the loosest operators.
@@ -11,7 +11,7 @@ const LOOSEST: u32 = 10;
 
 impl<'a> Cursor<'a> {
     ghost use Rattle.std.specs.Prelude.{◌≡◌, ◌<◌, ◌≤◌, ◌∷◌, length, OnOk};
-    ghost use Rattle.stapl_syntax.specs.WholeTrees.{expr_tree, array_tree};
+    ghost use Rattle.stapl_syntax.specs.Trees.{expr_tree, array_tree};
     ghost use Rattle.stapl_grammar.specs.Given.{Gives};
     ghost use Rattle.stapl_grammar.specs.Reading.{expr, unary_by, primary_from, brackets_from, function_from, array_by, array_from, bool_from, named_by, target_by};
     ghost use Rattle.stapl_grammar.specs.PartReading.{array_at, cell_at, target_at};

@@ -1,9 +1,9 @@
 //! Reserved words and marks by their spelling.
 ghost use Rattle.std.specs.Prelude.{◌≡◌, find};
 ghost use Rattle.std.specs.Str.{str_eq_ignore_ascii_case, bytes_eq};
-ghost use Rattle.stapl_syntax.specs.WholeSymbols as symbols;
+ghost use Rattle.stapl_syntax.specs.Symbols as symbols;
 
-use stapl_syntax::whole::{
+use stapl_syntax::{
     BinOp, Function, InnerWord, JoinWord, Mark, OuterWord, Padding, PortWord, Register, SimpleWord,
 };
 

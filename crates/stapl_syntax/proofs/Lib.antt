@@ -1,5 +1,3 @@
-pub mod FormLemmas
-pub mod RefusalLemmas
-pub mod ShapeLemmas
+pub mod ReasonLemmas
 pub mod BuiltLemmas
-pub mod BuiltGrammar
+pub mod ShapeLemmas

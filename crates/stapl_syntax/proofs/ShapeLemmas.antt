@@ -1,18 +1,23 @@
 -- A program is an action and one procedure, whose names are declared.
 use Rattle.std.proofs.Common.{◌≡◌, ◌≤◌, ◌<◌, ◌+◌, ℕ, zero, suc, Bool, true, false, not, ◌&&◌, ◌||◌, if◌then◌else◌, nat_le, List, [], ◌∷◌, ◌++◌, length, refl, sym, ap, ◌∙◌, Option, None, Some, is_some, map, take, slice_get, arith, subst, count_by}
 use Rattle.std.specs.List.{list_all, list_any}
+use Rattle.std.specs.Prelude.{All}
 use Rattle.std.proofs.lemmas.Bool.{and_parts, and_from}
+use Rattle.std.proofs.lemmas.List.Elements.{All-cons, All-nil}
 use Rattle.std.proofs.lemmas.Bool.Decides.{nat_tests}
 use Rattle.std.proofs.lemmas.List.{length-map, take-map}
 use Rattle.std.proofs.lemmas.List.Sums.{sum_by-cons}
 use Rattle.std.proofs.lemmas.Option.{slice_get_past}
 use Rattle.std.proofs.lemmas.Slice.Eq.{bytes_eq-Decides}
 use Rattle.stapl_lexer.specs.declared.piece.Piece.{Piece}
-use Rattle.stapl_lexer.specs.SpelledTokens.{SpelledToken}
-use Rattle.stapl_syntax.specs.Trees.{BodyTree, action, procedure, end_procedure, integer, assign, goto, if_then, print, exit, StmtTree}
-use Rattle.stapl_syntax.specs.Grammar.{MeansSimple, is_assign, is_goto, is_print_string, is_print_value, is_exit, MeansInner, is_end_procedure, is_integer, is_if, is_simple, Means, is_action, is_procedure, is_inner, is_labelled, unlabelled}
+use Rattle.stapl_lexer.specs.declared.reason.Reason.TheVariants as reasons
+use Rattle.stapl_syntax.specs.Trees.{ItemTree, BodyTree, action, procedure, end_procedure, integer, StmtTree}
+use Rattle.stapl_syntax.specs.Symbols.{Symbol}
+use Rattle.stapl_syntax.specs.Statements.{IsLabelled, IsPieceStatement, is_outer}
+use Rattle.stapl_syntax.specs.Built.{is_built, unlabelled, action_of, procedure_of, IsBuilt, is_action, is_procedure}
 use Rattle.stapl_syntax.specs.Declarations.{body_declares, is_label, declares_variable, declares_label, names_variables, names_labels, known_at, variable_passes, label_passes}
-use Rattle.stapl_syntax.specs.Faults.{piece_limit, is_end, ends, is_inside, up_to_end, run_of_body, is_procedure_body, is_procedure as is_the_procedure, declares_again, names_known, fits_inside, is_refused_inside, AreReadAs, IsProgram}
+use Rattle.stapl_syntax.specs.Faults.{piece_limit, is_end, ends, is_inside, up_to_end, run_of_items, run_of_body, is_procedure_body, is_procedure as is_the_procedure, declares_again, names_known, fits_inside, is_refused_inside, is_refused, AreReadAs, HasReasonAt, ends_early, not_built, IsProgram}
+use Rattle.stapl_syntax.proofs.BuiltLemmas.{built_inside}
 use Rattle.stapl_syntax.specs.Shapes.{declares_variable_in, bears_label, names_declared, is_between, NamesAreDeclared, IsOneProcedure}
 
 -- on tests of lists
@@ -142,27 +147,13 @@ ends_once (x ∷ rest) h k = by (is_end x.body) refl rest h k (ends_once rest)
 
 end_is : (body : BodyTree) → is_end body ≡ true → body ≡ end_procedure
 end_is end_procedure h = refl
-end_is (action name procedures) h = absurd cc
-end_is (procedure name) h = absurd cc
-end_is (integer name) h = absurd cc
-end_is (assign name x) h = absurd cc
-end_is (goto name) h = absurd cc
-end_is (if_then x body) h = absurd cc
-end_is (print parts) h = absurd cc
-end_is (exit x) h = absurd cc
+end_is _ h = absurd cc
 
 -- what is declared
 
 declares_passes : (test : List ℕ → Bool) (name : List ℕ) (body : BodyTree) → body_declares name body ≡ true → variable_passes test body ≡ test name
-declares_passes test name (integer own) h = ap test (sym ((bytes_eq-Decides name own).0 h))
-declares_passes test name end_procedure h = absurd cc
-declares_passes test name (action n procedures) h = absurd cc
-declares_passes test name (procedure n) h = absurd cc
-declares_passes test name (assign n x) h = absurd cc
-declares_passes test name (goto n) h = absurd cc
-declares_passes test name (if_then x body) h = absurd cc
-declares_passes test name (print parts) h = absurd cc
-declares_passes test name (exit x) h = absurd cc
+declares_passes test name (integer own start) h = ap test (sym ((bytes_eq-Decides name own).0 h))
+declares_passes test name _ h = absurd cc
 
 label_is_passes : (test : List ℕ → Bool) (name : List ℕ) (label : Option (List ℕ)) → is_label name label ≡ true → label_passes test label ≡ test name
 label_is_passes test name (Some own) h = ap test (sym ((bytes_eq-Decides name own).0 h))
@@ -183,6 +174,7 @@ names_same own i st = λ j.
 
 -- what a piece inside the procedure fulfils
 record Fits (own : List StmtTree) (i : ℕ) (st : StmtTree) : Type 0 where
+  built : is_built st ≡ true
   inside : is_inside st.body ≡ true
   few : nat_le piece_limit (2 + i) ≡ false
   front : list_any ends (take i (up_to_end (map Some own))) ≡ false
@@ -196,10 +188,12 @@ fits own i st e h =
     let no : is_refused_inside pieces i (Some (Some st)) ≡ false = sym (ap (is_refused_inside pieces i) (slice_mapped Some own i st e)) ∙ h in
     let front = or_left (list_any ends (take i pieces) || nat_le piece_limit (2 + i)) (not (fits_inside known (Some st))) no in
     let stands = not_false (fits_inside known (Some st)) (or_right (list_any ends (take i pieces) || nat_le piece_limit (2 + i)) (not (fits_inside known (Some st))) no) in
-    let both = and_parts (is_inside st.body && not (declares_again known st)) (names_known known st) stands in
-    let two = and_parts (is_inside st.body) (not (declares_again known st)) both.0 in
+    let both = and_parts (is_built st && is_inside st.body && not (declares_again known st)) (names_known known st) stands in
+    let two = and_parts (is_built st && is_inside st.body) (not (declares_again known st)) both.0 in
+    let three = and_parts (is_built st) (is_inside st.body) two.0 in
     record {
-      inside = two.0;
+      built = three.0;
+      inside = three.1;
       few = or_right (list_any ends (take i pieces)) (nat_le piece_limit (2 + i)) front;
       front = or_left (list_any ends (take i pieces)) (nat_le piece_limit (2 + i)) front;
       again = not_true (declares_again known st) two.1;
@@ -224,48 +218,24 @@ declared_once own whole each = record {
 
 -- the first two statements
 
-no_action_simple : {tokens : List SpelledToken} {body : BodyTree} → MeansSimple tokens body → is_inside body ≡ true
-no_action_simple (is_assign name sum x h p) = refl
-no_action_simple (is_goto label h) = refl
-no_action_simple (is_print_string bytes) = refl
-no_action_simple (is_print_value a x p) = refl
-no_action_simple (is_exit a x p) = refl
+no_label : (s : List Symbol) (label : Option (List ℕ)) (body : BodyTree) → IsLabelled s label body → is_inside body ≡ false → label ≡ None
+no_label s None body means e = refl
+no_label s (Some v) body means e = absurd (clash (is_inside body) (ap not means.2) e)
 
-no_action : {tokens : List SpelledToken} {body : BodyTree} → MeansInner tokens body → is_inside body ≡ true
-no_action is_end_procedure = refl
-no_action (is_integer name h) = refl
-no_action (is_if a b x y tokens body p q m) = refl
-no_action (is_simple tokens body m) = no_action_simple m
+items_back : (items : List ItemTree) → is_some (run_of_items items) ≡ true → (run : List ℕ) × (items ≡ (run, None) ∷ [])
+items_back ((run, None) ∷ []) h = (run, refl)
+items_back ((run, Some choice) ∷ []) h = absurd cc
+items_back [] h = absurd cc
+items_back ((run, None) ∷ b ∷ more) h = absurd cc
+items_back ((run, Some choice) ∷ b ∷ more) h = absurd cc
 
-no_label : {tokens : List SpelledToken} {st : StmtTree} → Means tokens st → is_inside st.body ≡ false → st.label ≡ None
-no_label (is_action name run h k) e = refl
-no_label (is_procedure name h) e = refl
-no_label (is_inner tokens body m) e = refl
-no_label (is_labelled label tokens body h m) e = absurd (clash (is_inside body) (no_action m) e)
+run_back : (body : BodyTree) → is_some (run_of_body body) ≡ true → (name : List ℕ) × (run : List ℕ) × (body ≡ action_of name run)
+run_back (action name None items) h = let back = items_back items h in (name, back.0, ap (action name None) back.1)
+run_back _ h = absurd cc
 
-run_back : (body : BodyTree) → is_some (run_of_body body) ≡ true → (name : List ℕ) × (run : List ℕ) × (body ≡ action name (run ∷ []))
-run_back (action name (run ∷ [])) h = (name, run, refl)
-run_back (action name []) h = absurd cc
-run_back (action name (a ∷ b ∷ more)) h = absurd cc
-run_back end_procedure h = absurd cc
-run_back (procedure n) h = absurd cc
-run_back (integer n) h = absurd cc
-run_back (assign n x) h = absurd cc
-run_back (goto n) h = absurd cc
-run_back (if_then x body) h = absurd cc
-run_back (print parts) h = absurd cc
-run_back (exit x) h = absurd cc
-
-procedure_back : (run : List ℕ) (body : BodyTree) → is_procedure_body run body ≡ true → body ≡ procedure run
-procedure_back run (procedure n) h = ap procedure ((bytes_eq-Decides n run).0 h)
-procedure_back run end_procedure h = absurd cc
-procedure_back run (action n procedures) h = absurd cc
-procedure_back run (integer n) h = absurd cc
-procedure_back run (assign n x) h = absurd cc
-procedure_back run (goto n) h = absurd cc
-procedure_back run (if_then x body) h = absurd cc
-procedure_back run (print parts) h = absurd cc
-procedure_back run (exit x) h = absurd cc
+procedure_back : (run : List ℕ) (body : BodyTree) → is_procedure_body run body ≡ true → body ≡ procedure_of run
+procedure_back run (procedure n None) h = ap procedure_of ((bytes_eq-Decides n run).0 h)
+procedure_back run _ h = absurd cc
 
 bare : (st : StmtTree) (body : BodyTree) → st.label ≡ None → st.body ≡ body → st ≡ unlabelled body
 bare st body e f = λ j. record { label = e j; body = f j }
@@ -280,9 +250,18 @@ read_length text [] (r ∷ read) a = absurd a
 read_length text (p ∷ pieces) [] a = absurd a
 read_length text (p ∷ pieces) (r ∷ read) a = let h = read_length text pieces read a.1 in cc
 
+-- a place at which a statement stands
+there : (xs : List StmtTree) (i : ℕ) (st : StmtTree) → slice_get xs i ≡ Some st → i ≤ length xs
+there [] i st at = absurd (none_some i st at)
+  where
+    none_some : (i : ℕ) (st : StmtTree) → slice_get [] i ≡ Some st → ⊥
+    none_some i st k = cc
+there (x ∷ xs) zero st at = omega arith
+there (x ∷ xs) (suc i) st at = let h = there xs i st at in omega arith
+
 -- the statements behind the first two
 behind : (rest : List StmtTree) → ((i : ℕ) → i ≤ length rest → is_refused_inside (up_to_end (map Some rest)) i (slice_get (map Some rest) i) ≡ false) →
-    (first second : StmtTree) (name run : List ℕ) → first ≡ unlabelled (action name (run ∷ [])) → second ≡ unlabelled (procedure run) → IsOneProcedure (first ∷ second ∷ rest)
+    (first second : StmtTree) (name run : List ℕ) → first ≡ unlabelled (action_of name run) → second ≡ unlabelled (procedure_of run) → IsOneProcedure (first ∷ second ∷ rest)
 behind rest sound first second name run e f =
     let long : length (map Some rest) ≡ length rest = length-map rest Some in
     let each : (i : ℕ) (st : StmtTree) → slice_get rest i ≡ Some st → i ≤ length rest → Fits rest i st = λ i st at le. fits rest i st at (sound i le) in
@@ -298,7 +277,7 @@ behind rest sound first second name run e f =
       inner = once.inner;
       last = once.last;
       few = let h = few_of (length rest) (λ i lt. let st = slice_there rest i lt in (each i st.0 st.1 (omega arith)).few) in omega arith;
-      order = (λ j. e j ∷ f j ∷ rest) ∙ ap (λ (z : List StmtTree). unlabelled (action name (run ∷ [])) ∷ unlabelled (procedure run) ∷ z) once.split;
+      order = (λ j. e j ∷ f j ∷ rest) ∙ ap (λ (z : List StmtTree). unlabelled (action_of name run) ∷ unlabelled (procedure_of run) ∷ z) once.split;
       between = both_all once.inner once.last (subst (λ (z : List StmtTree). list_all (λ (st : StmtTree). is_inside st.body) z ≡ true) once.split inside) once.no_other;
       last_is = end_is (once.last).body once.last_is;
       names = subst NamesAreDeclared once.split names;
@@ -308,14 +287,6 @@ behind rest sound first second name run e f =
     slice_there [] i lt = absurd (omega arith)
     slice_there (x ∷ xs) zero lt = (x, refl)
     slice_there (x ∷ xs) (suc i) lt = slice_there xs i (omega arith)
-
-    there : (xs : List StmtTree) (i : ℕ) (st : StmtTree) → slice_get xs i ≡ Some st → i ≤ length xs
-    there [] i st at = absurd (none_some i st at)
-      where
-        none_some : (i : ℕ) (st : StmtTree) → slice_get [] i ≡ Some st → ⊥
-        none_some i st k = cc
-    there (x ∷ xs) zero st at = omega arith
-    there (x ∷ xs) (suc i) st at = let h = there xs i st at in omega arith
 
     front : (i : ℕ) → i < length rest → (st : StmtTree) × (slice_get rest i ≡ Some st) → list_any ends (take i (up_to_end (map Some rest))) ≡ false
     front i lt at = (fits rest i at.0 at.1 (sound i (omega arith))).front
@@ -332,27 +303,83 @@ no_labels : (text : List ℕ) (pieces : List Piece) (first second : StmtTree) (r
     (is_inside first.body ≡ false → first.label ≡ None) × (is_inside second.body ≡ false → second.label ≡ None)
 no_labels text [] first second rest are = absurd are
 no_labels text (p ∷ []) first second rest are = absurd are.1
-no_labels text (p ∷ q ∷ pieces) first second rest are = (no_label (are.0).means, no_label (are.1.0).means)
+no_labels text (p ∷ q ∷ pieces) first second rest are = (
+  no_label _ first.label first.body (are.0).means,
+  no_label _ second.label second.body (are.1.0).means,
+)
 
 no_piece : (run : Option (List ℕ)) → is_the_procedure run None ≡ false
 no_piece None = refl
 no_piece (Some run) = refl
 
-second_back : (first : BodyTree) (second : StmtTree) (run : List ℕ) → run_of_body first ≡ Some run → not (is_the_procedure (run_of_body first) (Some (Some second))) ≡ false → second.body ≡ procedure run
+second_back : (first : BodyTree) (second : StmtTree) (run : List ℕ) → run_of_body first ≡ Some run → not (is_the_procedure (run_of_body first) (Some (Some second))) ≡ false → second.body ≡ procedure_of run
 second_back first second run e h =
     procedure_back run second.body (not_false (is_procedure_body run second.body) (sym (ap (λ (z : Option (List ℕ)). not (is_the_procedure z (Some (Some second)))) e) ∙ h))
 
+-- the statement of a piece of a program
+statement_at : (text : List ℕ) (pieces : List Piece) (statements : List StmtTree) (i : ℕ) (piece : Piece) → AreReadAs text pieces (map Some statements) →
+    slice_get pieces i ≡ Some piece → (st : StmtTree) × IsPieceStatement text piece st
+statement_at text [] statements i piece are e = absurd (none_some e)
+  where
+    none_some : slice_get [] i ≡ Some piece → ⊥
+    none_some k = cc
+statement_at text (p ∷ pieces) [] i piece are e = absurd are
+statement_at text (p ∷ pieces) (st ∷ statements) zero piece are e =
+    let same : p ≡ piece = cc in (st, subst (λ (q : Piece). IsPieceStatement text q st) same are.0)
+statement_at text (p ∷ pieces) (st ∷ statements) (suc i) piece are e = statement_at text pieces statements i piece are.1 e
+
+-- no piece of a program is refused, nor is its end
+refusal : (text : List ℕ) (statements : List StmtTree) (i : ℕ) (at : Option Piece) → ((piece : Piece) → at ≡ Some piece → (st : StmtTree) × IsPieceStatement text piece st) →
+    is_refused (map Some statements) i ≡ true → HasReasonAt text (map Some statements) i at reasons.NotYetBuilt
+refusal text statements i None stands e = ends_early e
+refusal text statements i (Some piece) stands e = let st = stands piece refl in not_built piece st.0 st.1 e
+
+pub not_refused : (text : List ℕ) (statements : List StmtTree) (program : IsProgram text statements) (i : ℕ) → i < length program.pieces + 1 →
+    is_refused (map Some statements) i ≡ false
+not_refused text statements program i lt = by (is_refused (map Some statements) i) refl
+  where
+    by : (b : Bool) → is_refused (map Some statements) i ≡ b → is_refused (map Some statements) i ≡ false
+    by false e = e
+    by true e =
+        absurd (program.sound i lt reasons.NotYetBuilt
+        (refusal text statements i (slice_get program.pieces i) (λ piece at. statement_at text program.pieces statements i piece program.read at) e))
+
 pub one_procedure : (text : List ℕ) (statements : List StmtTree) → IsProgram text statements → IsOneProcedure statements
-one_procedure text [] program = let no = program.sound 0 (omega arith) in absurd cc
+one_procedure text [] program = let no = not_refused text _ program 0 (omega arith) in absurd cc
 one_procedure text (first ∷ []) program =
     let long = read_length text program.pieces (map Some (first ∷ [])) program.read in
-    let no = program.sound 1 (omega arith) in
+    let no = not_refused text _ program 1 (omega arith) in
     absurd (clash (is_the_procedure (run_of_body first.body) None) (not_false (is_the_procedure (run_of_body first.body) None) no) (no_piece (run_of_body first.body)))
 one_procedure text (first ∷ second ∷ rest) program =
     let long = read_length text program.pieces (map Some (first ∷ second ∷ rest)) program.read in
     let mapped = length-map rest Some in
     let labels = no_labels text program.pieces first second (map Some rest) program.read in
-    let run = run_back first.body (not_false (is_some (run_of_body first.body)) (program.sound 0 (omega arith))) in
-    let named : second.body ≡ procedure run.1 = second_back first.body second run.1 (ap run_of_body run.2) (program.sound 1 (omega arith)) in
-    behind rest (λ i le. program.sound (suc (suc i)) (omega arith)) first second run.0 run.1
-    (bare first (action run.0 (run.1 ∷ [])) (labels.0 (ap is_inside run.2)) run.2) (bare second (procedure run.1) (labels.1 (ap is_inside named)) named)
+    let run = run_back first.body (not_false (is_some (run_of_body first.body)) (not_refused text _ program 0 (omega arith))) in
+    let named : second.body ≡ procedure_of run.1 = second_back first.body second run.1 (ap run_of_body run.2) (not_refused text _ program 1 (omega arith)) in
+    behind rest (λ i le. not_refused text _ program (suc (suc i)) (omega arith)) first second run.0 run.1
+    (bare first (action_of run.0 run.1) (labels.0 (ap is_inside run.2)) run.2) (bare second (procedure_of run.1) (labels.1 (ap is_inside named)) named)
+
+-- each statement of a program is built
+each_built : (own : List StmtTree) → ((i : ℕ) (st : StmtTree) → slice_get own i ≡ Some st → IsBuilt st) → All IsBuilt own
+each_built [] each = All-nil IsBuilt
+each_built (st ∷ own) each = All-cons IsBuilt st own (each 0 st refl) (each_built own (λ i s e. each (suc i) s e))
+
+pub all_built : (text : List ℕ) (statements : List StmtTree) → IsProgram text statements → All IsBuilt statements
+all_built text [] program = All-nil IsBuilt
+all_built text (first ∷ []) program = absurd (too_short (one_procedure text (first ∷ []) program))
+  where
+    too_short : IsOneProcedure (first ∷ []) → ⊥
+    too_short shape = let order = shape.order in cc
+all_built text (first ∷ second ∷ rest) program =
+    let shape = one_procedure text (first ∷ second ∷ rest) program in
+    let order = shape.order in
+    let one : unlabelled (action_of shape.name shape.run) ≡ first = cc in
+    let two : unlabelled (procedure_of shape.run) ≡ second = cc in
+    let long = read_length text program.pieces (map Some (first ∷ second ∷ rest)) program.read in
+    let mapped = length-map rest Some in
+    All-cons IsBuilt first (second ∷ rest) (subst IsBuilt one (is_action shape.name shape.run))
+    (All-cons IsBuilt second rest (subst IsBuilt two (is_procedure shape.run))
+    (each_built rest (λ i st e.
+    let below = there rest i st e in
+    let fit = fits rest i st e (not_refused text (first ∷ second ∷ rest) program (suc (suc i)) (omega arith)) in
+    built_inside st fit.built fit.inside)))

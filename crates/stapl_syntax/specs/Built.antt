@@ -1,39 +1,101 @@
--- The statements that are built, as statements of the whole language.
-use Rattle.std.specs.Prelude.{ℕ, List, None, map}
-use Rattle.stapl_syntax.specs.declared.statement.BinOp.{BinOp}
-use Rattle.stapl_syntax.specs.declared.statement.BinOp.TheVariants as built_operators
-use Rattle.stapl_syntax.specs.declared.signs.BinOp as signs
+-- Which statements are built: those that the compiler takes. Which these are is this profile's, and grows.
+use Rattle.std.specs.Prelude.{ℕ, ℤ, List, [], ◌∷◌, Bool, true, false, ◌&&◌, ◌||◌, Option, None, Some}
 use Rattle.stapl_syntax.specs.declared.signs.BinOp.TheVariants as operators
-use Rattle.stapl_syntax.specs.Trees.{ExprTree, number, scalar, binary, PartTree, string, value, BodyTree, action, procedure, end_procedure, integer, assign, goto, if_then, print, exit, StmtTree}
-use Rattle.stapl_syntax.specs.WholeTrees as whole
+use Rattle.stapl_syntax.specs.Trees.{ExprTree, number, scalar, binary, ItemTree, PartTree, string, value, BodyTree, action, procedure, end_procedure, integer, assign, goto, if_then, print, exit, StmtTree}
 
-abbrev pub whole_operator : BinOp → signs.BinOp
-whole_operator built_operators.Add = operators.Add
-whole_operator built_operators.Less = operators.Less
+-- a number or a scalar variable
+abbrev pub is_built_atom : ExprTree → Bool
+is_built_atom (number z) = true
+is_built_atom (scalar name) = true
+is_built_atom _ = false
 
-abbrev pub whole_expr : ExprTree → whole.ExprTree
-whole_expr (number z) = whole.number z
-whole_expr (scalar name) = whole.scalar name
-whole_expr (binary op a b) = whole.binary (whole_operator op) (whole_expr a) (whole_expr b)
+-- an atom, or the sum of two
+abbrev pub is_built_sum : ExprTree → Bool
+is_built_sum (binary operators.Add x y) = is_built_atom x && is_built_atom y
+is_built_sum x = is_built_atom x
 
-abbrev pub whole_print_part : PartTree → whole.PartTree
-whole_print_part (string bytes) = whole.string bytes
-whole_print_part (value e) = whole.value (whole_expr e)
+-- one atom is less than another
+abbrev pub is_built_condition : ExprTree → Bool
+is_built_condition (binary operators.Less x y) = is_built_atom x && is_built_atom y
+is_built_condition _ = false
 
--- an item of an action that always runs
-abbrev pub whole_item : List ℕ → whole.ItemTree
-whole_item name = (name, None)
+-- one string or one atom
+abbrev pub is_built_print : List PartTree → Bool
+is_built_print (string bytes ∷ []) = true
+is_built_print (value x ∷ []) = is_built_atom x
+is_built_print _ = false
 
-abbrev pub whole_body : BodyTree → whole.BodyTree
-whole_body (action name procedures) = whole.action name None (map whole_item procedures)
-whole_body (procedure name) = whole.procedure name None
-whole_body end_procedure = whole.end_procedure
-whole_body (integer name) = whole.integer name None
-whole_body (assign name e) = whole.assign name (whole_expr e)
-whole_body (goto name) = whole.goto name
-whole_body (if_then e body) = whole.if_then (whole_expr e) (whole_body body)
-whole_body (print parts) = whole.print (map whole_print_part parts)
-whole_body (exit e) = whole.exit (whole_expr e)
+-- a statement that may stand after THEN
+abbrev pub is_built_simple : BodyTree → Bool
+is_built_simple (assign name x) = is_built_sum x
+is_built_simple (goto name) = true
+is_built_simple (print parts) = is_built_print parts
+is_built_simple (exit x) = is_built_atom x
+is_built_simple _ = false
 
-abbrev pub whole_statement : StmtTree → whole.StmtTree
-whole_statement st = record { label = st.label; body = whole_body st.body }
+-- a statement of a procedure: an INTEGER scalar has no initial value
+abbrev pub is_built_inner : BodyTree → Bool
+is_built_inner end_procedure = true
+is_built_inner (integer name None) = true
+is_built_inner (if_then x body) = is_built_condition x && is_built_simple body
+is_built_inner body = is_built_simple body
+
+-- one procedure, which always runs
+abbrev pub is_built_list : List ItemTree → Bool
+is_built_list ((run, None) ∷ []) = true
+is_built_list _ = false
+
+-- a statement outside procedures: an action without a text, or a procedure that uses no block
+abbrev pub is_built_outer : BodyTree → Bool
+is_built_outer (action name None items) = is_built_list items
+is_built_outer (procedure name None) = true
+is_built_outer _ = false
+
+-- the statement is built
+abbrev pub is_built : StmtTree → Bool
+is_built st = is_built_outer st.body || is_built_inner st.body
+
+-- The same by shapes, for those who reason about statements that are built.
+
+pub data IsAtom : ExprTree → Type 0 where
+  is_number : (z : ℤ) → IsAtom (number z)
+  is_scalar : (name : List ℕ) → IsAtom (scalar name)
+
+pub data IsSum : ExprTree → Type 0 where
+  is_atom : (x : ExprTree) → IsAtom x → IsSum x
+  is_sum : (x y : ExprTree) → IsAtom x → IsAtom y → IsSum (binary operators.Add x y)
+
+pub data IsSimple : BodyTree → Type 0 where
+  is_assign : (name : List ℕ) (x : ExprTree) → IsSum x → IsSimple (assign name x)
+  is_goto : (label : List ℕ) → IsSimple (goto label)
+  is_print_string : (bytes : List ℕ) → IsSimple (print (string bytes ∷ []))
+  is_print_value : (x : ExprTree) → IsAtom x → IsSimple (print (value x ∷ []))
+  is_exit : (x : ExprTree) → IsAtom x → IsSimple (exit x)
+
+pub data IsInner : BodyTree → Type 0 where
+  is_end_procedure : IsInner end_procedure
+  is_integer : (name : List ℕ) → IsInner (integer name None)
+  is_if : (x y : ExprTree) (body : BodyTree) → IsAtom x → IsAtom y → IsSimple body → IsInner (if_then (binary operators.Less x y) body)
+  is_simple : (body : BodyTree) → IsSimple body → IsInner body
+
+-- a statement that bears no label
+abbrev pub unlabelled : BodyTree → StmtTree
+unlabelled body = record { label = None; body = body }
+
+-- a statement after a label
+abbrev pub labelled : List ℕ → BodyTree → StmtTree
+labelled label body = record { label = Some label; body = body }
+
+-- an action of one procedure, which always runs
+abbrev pub action_of : List ℕ → List ℕ → BodyTree
+action_of name run = action name None ((run, None) ∷ [])
+
+-- a procedure that uses no block
+abbrev pub procedure_of : List ℕ → BodyTree
+procedure_of name = procedure name None
+
+pub data IsBuilt : StmtTree → Type 0 where
+  is_action : (name run : List ℕ) → IsBuilt (unlabelled (action_of name run))
+  is_procedure : (name : List ℕ) → IsBuilt (unlabelled (procedure_of name))
+  is_inner : (body : BodyTree) → IsInner body → IsBuilt (unlabelled body)
+  is_labelled : (label : List ℕ) (body : BodyTree) → IsInner body → IsBuilt (labelled label body)

@@ -1,12 +1,13 @@
 -- The variables and labels of a procedure: which statements declare them, and which name them (JESD71, INTEGER, labels, expressions).
+-- That INTEGER scalars alone are variables, and that the names in forms that are not built are not looked up, is this version's.
 use Rattle.std.specs.Prelude.{ℕ, List, Bool, true, false, ◌&&◌, Option, None, Some, take}
 use Rattle.std.specs.List.{list_all, list_any}
 use Rattle.std.specs.Str.{bytes_eq}
-use Rattle.stapl_syntax.specs.Trees.{ExprTree, number, scalar, binary, PartTree, string, value, BodyTree, integer, assign, goto, if_then, print, exit, StmtTree}
+use Rattle.stapl_syntax.specs.Trees.{ExprTree, scalar, binary, PartTree, value, BodyTree, integer, assign, goto, if_then, print, exit, StmtTree}
 
--- a body declares the variable of this name
+-- a body declares the variable of this name, with an initial value or without
 abbrev pub body_declares : List ℕ → BodyTree → Bool
-body_declares name (integer own) = bytes_eq name own
+body_declares name (integer own start) = bytes_eq name own
 body_declares name _ = false
 
 -- a label bears this name
@@ -26,13 +27,13 @@ declares_label name (Some st) = is_label name st.label
 
 -- each variable that an expression names passes the test
 abbrev pub expr_names : (List ℕ → Bool) → ExprTree → Bool
-expr_names test (number n) = true
 expr_names test (scalar name) = test name
 expr_names test (binary op a b) = expr_names test a && expr_names test b
+expr_names test _ = true
 
 abbrev pub part_names : (List ℕ → Bool) → PartTree → Bool
-part_names test (string bytes) = true
 part_names test (value x) = expr_names test x
+part_names test _ = true
 
 -- each variable that a statement reads or sets passes the test
 abbrev pub names_variables : (List ℕ → Bool) → BodyTree → Bool
@@ -67,7 +68,7 @@ known_at own i = record {
 
 -- the statement declares a variable that passes the test
 abbrev pub variable_passes : (List ℕ → Bool) → BodyTree → Bool
-variable_passes test (integer name) = test name
+variable_passes test (integer name start) = test name
 variable_passes test _ = false
 
 -- there is a label that passes the test

@@ -1,8 +1,8 @@
 -- What a program looks like (JESD71, program structure). That texts have this shape where none of their pieces is refused is a law.
 use Rattle.std.specs.Prelude.{◌≡◌, ℕ, ◌≤◌, List, [], ◌∷◌, ◌++◌, Bool, true, ◌&&◌, not, length, count_by}
 use Rattle.std.specs.List.{list_all, list_any}
-use Rattle.stapl_syntax.specs.Trees.{action, procedure, end_procedure, StmtTree}
-use Rattle.stapl_syntax.specs.Grammar.{unlabelled}
+use Rattle.stapl_syntax.specs.Trees.{end_procedure, StmtTree}
+use Rattle.stapl_syntax.specs.Built.{unlabelled, action_of, procedure_of}
 use Rattle.stapl_syntax.specs.Declarations.{body_declares, is_label, names_variables, names_labels}
 use Rattle.stapl_syntax.specs.Faults.{piece_limit, is_end, is_inside}
 
@@ -35,7 +35,7 @@ pub record IsOneProcedure (statements : List StmtTree) : Type 0 where
   pub inner : List StmtTree
   pub last : StmtTree
   pub few : length statements ≤ piece_limit
-  pub order : statements ≡ unlabelled (action name (run ∷ [])) ∷ unlabelled (procedure run) ∷ inner ++ last ∷ []
+  pub order : statements ≡ unlabelled (action_of name run) ∷ unlabelled (procedure_of run) ∷ inner ++ last ∷ []
   pub between : list_all is_between inner ≡ true
   pub last_is : last.body ≡ end_procedure
   pub names : NamesAreDeclared (inner ++ last ∷ [])

@@ -4,6 +4,9 @@
 pub mod laws;
 mod signs;
 mod statement;
-pub mod whole;
 
-pub use statement::{BinOp, Body, Expr, Part, Stmt};
+pub use signs::{
+    BinOp, Function, InnerWord, JoinWord, Mark, OuterWord, Padding, PortWord, Register, Sign,
+    SimpleWord, UnOp,
+};
+pub use statement::{ArrayExpr, Body, Compare, Exported, Expr, Item, ItemChoice, PrintPart, Stmt};

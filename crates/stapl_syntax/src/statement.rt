@@ -1,55 +1,152 @@
-//! Statements as trees, as they are kept. Contracts speak of them by `stmt_tree` and the other functions of `specs/Trees`.
+//! Statements as trees, as they are kept (JESD71, statements). Contracts speak of them by `stmt_tree` and the other functions of
+//! `specs/Trees`.
+use crate::signs::{BinOp, Padding, Register, UnOp};
 use base::ItemList;
+use bit_list::Bits;
 use stapl_lexer::Name;
-
-/// An operator between two expressions.
-#[derive(Clone, Copy, Debug, PartialEq, Eq)]
-pub enum BinOp {
-    Add,
-    Less,
-}
 
 /// An expression (JESD71, expressions).
 #[derive(Drop)]
+#[cycle(ast)]
 pub enum Expr {
     /// A number.
     Number(i32),
-    /// A scalar variable, by its name.
+    /// A scalar variable.
     Scalar(Name),
-    /// Two expressions with an operator between them.
+    /// An element of an array variable, and its index.
+    Element(Name, Box<Expr>),
+    Unary(UnOp, Box<Expr>),
     Binary(BinOp, Box<Expr>, Box<Expr>),
+    /// ABS.
+    Abs(Box<Expr>),
+    /// INT, the integer with the bits of an array.
+    Int(Box<ArrayExpr>),
+}
+
+/// An expression that stands for a list of bits (JESD71, Boolean arrays). A target is one that is `Whole` or `Range`.
+#[derive(Drop)]
+#[cycle(ast)]
+pub enum ArrayExpr {
+    Literal(Bits),
+    /// A whole array variable.
+    Whole(Name),
+    /// A range of an array variable, and its two indexes in the written order.
+    Range(Name, Box<Expr>, Box<Expr>),
+    /// BOOL, the bits of an integer.
+    OfInt(Box<Expr>),
+}
+
+/// Whether an item of an action may be left out, or is done where nothing is said.
+#[derive(Clone, Copy, Debug, PartialEq, Eq)]
+pub enum ItemChoice {
+    Optional,
+    Recommended,
+}
+
+/// An item of an action.
+#[derive(Clone, Copy)]
+pub struct Item {
+    /// The name of its procedure.
+    pub procedure: Name,
+    /// Whether it may be chosen; without it the procedure always runs.
+    pub choice: Option<ItemChoice>,
 }
 
 /// A part of what PRINT prints.
 #[derive(Drop)]
-pub enum Part {
+pub enum PrintPart {
     /// A string, by its bytes.
     Text(ItemList<u8>),
     /// The value of an expression.
     Value(Expr),
+    /// `CHR$`, the character with this number.
+    Character(Expr),
 }
 
-/// A statement without its label (JESD71, statements).
+/// What EXPORT exports.
+#[derive(Drop)]
+pub enum Exported {
+    Value(Expr),
+    Array(ArrayExpr),
+}
+
+/// What a scan compares with.
+#[derive(Drop)]
+pub struct Compare {
+    pub expected: ArrayExpr,
+    pub mask: ArrayExpr,
+    /// The scalar or element that gets the result.
+    pub cell: Expr,
+}
+
+/// A statement without its label (JESD71, statements). The fields stand in the written order. A string is kept by the bytes between its
+/// quotes, a state by its number.
 #[derive(Drop)]
 pub enum Body {
-    /// ACTION: its name, and the names of its procedures in order.
-    Action(Name, ItemList<Name>),
-    /// PROCEDURE, by its name.
-    Procedure(Name),
+    /// NOTE: key and text.
+    Note(ItemList<u8>, ItemList<u8>),
+    /// ACTION: its name, its text, and its items.
+    Action(Name, Option<ItemList<u8>>, ItemList<Item>),
+    /// PROCEDURE: its name, and the names behind USES.
+    Procedure(Name, Option<ItemList<Name>>),
+    /// DATA.
+    Data(Name),
+    /// ENDDATA.
+    EndData,
+    /// CRC.
+    Crc(u16),
     /// ENDPROC.
     EndProcedure,
-    /// INTEGER: a scalar variable, by its name.
-    Integer(Name),
-    /// An assignment to a scalar variable.
+    /// BOOLEAN: a scalar, and its initial value.
+    Boolean(Name, Option<bool>),
+    /// BOOLEAN: an array, its size, and its initial value.
+    BooleanArray(Name, i32, Option<Bits>),
+    /// INTEGER: a scalar, and its initial value.
+    Integer(Name, Option<i32>),
+    /// INTEGER: an array, its size, and its initial values.
+    IntegerArray(Name, i32, Option<ItemList<i32>>),
+    /// An assignment to a scalar.
     Assign(Name, Expr),
-    /// GOTO a label.
+    /// An assignment to an element.
+    AssignElement(Name, Expr, Expr),
+    /// An assignment to a whole array.
+    AssignArray(Name, ArrayExpr),
+    /// An assignment to a range of an array.
+    AssignRange(Name, Expr, Expr, ArrayExpr),
+    /// CALL.
+    Call(Name),
+    /// GOTO.
     Goto(Name),
-    /// IF an expression holds THEN a statement.
+    /// IF .. THEN.
     If(Expr, Box<Body>),
+    /// FOR: its variable, the first and the last value, and the step.
+    For(Name, Expr, Expr, Option<Expr>),
+    /// NEXT.
+    Next(Name),
+    /// PUSH.
+    Push(Expr),
+    /// POP into a scalar or an element.
+    Pop(Expr),
     /// PRINT.
-    Print(ItemList<Part>),
-    /// EXIT with a code.
+    Print(ItemList<PrintPart>),
+    /// EXPORT: the key, and what is exported.
+    Export(ItemList<u8>, Exported),
+    /// EXIT.
     Exit(Expr),
+    /// DRSCAN, IRSCAN: the length, what is shifted in, where what comes out goes, and what it is compared with.
+    Scan(Register, Expr, ArrayExpr, Option<ArrayExpr>, Option<Compare>),
+    /// DRSTOP, IRSTOP.
+    Stop(Register, u8),
+    /// PREDR, POSTDR, PREIR, POSTIR: the length, and the bits.
+    Pad(Padding, Expr, Option<ArrayExpr>),
+    /// STATE: the states to go through.
+    State(ItemList<u8>),
+    /// WAIT for cycles, and for a time: where to wait, how many cycles, how many microseconds, and where to go then.
+    WaitCycles(Option<u8>, Expr, Option<Expr>, Option<u8>),
+    /// WAIT for a time alone: where to wait, how many microseconds, and where to go then.
+    WaitUsec(Option<u8>, Expr, Option<u8>),
+    /// FREQUENCY.
+    Frequency(Option<Expr>),
 }
 
 /// A statement.

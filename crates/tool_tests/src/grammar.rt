@@ -2,7 +2,7 @@
 
 use stapl_grammar::{ParseRefused, parse};
 use stapl_lexer::{Reason, cut};
-use stapl_syntax::whole::{ArrayExpr, Body, Expr, Stmt};
+use stapl_syntax::{ArrayExpr, Body, Expr, Stmt};
 use std::alloc::{AllocError, Global};
 use std::process::Abort;
 use std::test::Fail;

@@ -1,5 +1,5 @@
 use Rattle.std.proofs.Common.{◌≡◌, ◌++◌, false, drop}
-use Rattle.stapl_syntax.specs.WholeSymbols.{digits_in}
+use Rattle.stapl_syntax.specs.Symbols.{digits_in}
 use Rattle.stapl_grammar.proofs.contents.digits.Given as goal
 
 abbrev pub invariant-loop-byte : goal.invariant-loop-byte

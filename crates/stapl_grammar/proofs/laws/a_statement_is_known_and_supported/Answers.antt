@@ -1,4 +1,4 @@
-use Rattle.stapl_syntax.specs.WholeSymbols.{symbols_of}
+use Rattle.stapl_syntax.specs.Symbols.{symbols_of}
 use Rattle.stapl_grammar.proofs.BodyClean.{labelled_clean}
 use Rattle.stapl_grammar.proofs.laws.a_statement_is_known_and_supported.Goals as goal
 

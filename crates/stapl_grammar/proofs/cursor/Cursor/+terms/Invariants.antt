@@ -1,5 +1,5 @@
 use Rattle.std.proofs.Common.{◌≡◌, ◌<◌, length, ◌+◌, ◌*◌}
-use Rattle.stapl_syntax.specs.WholeTrees.{expr_tree}
+use Rattle.stapl_syntax.specs.Trees.{expr_tree}
 use Rattle.stapl_grammar.specs.Reading.{expr, climb}
 use Rattle.stapl_grammar.proofs.cursor.Cursor.+terms.Given as goal
 

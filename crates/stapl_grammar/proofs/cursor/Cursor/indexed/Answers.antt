@@ -1,4 +1,4 @@
-use Rattle.stapl_syntax.specs.WholeTrees.{expr_tree}
+use Rattle.stapl_syntax.specs.Trees.{expr_tree}
 use Rattle.stapl_grammar.proofs.BodySteps.{indexed_gives}
 use Rattle.stapl_grammar.proofs.cursor.Cursor.indexed.Goals as goal
 

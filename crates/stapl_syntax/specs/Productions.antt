@@ -4,10 +4,10 @@ use Rattle.stapl_syntax.specs.declared.signs.Mark.TheVariants as marks
 use Rattle.stapl_syntax.specs.declared.signs.JoinWord.{JoinWord}
 use Rattle.stapl_syntax.specs.declared.signs.JoinWord.TheVariants as joins
 use Rattle.stapl_syntax.specs.declared.signs.Sign.TheVariants as signs
-use Rattle.stapl_syntax.specs.WholeSymbols.{Symbol, Plain}
-use Rattle.stapl_syntax.specs.WholeTrees.{ExprTree, ArrayTree, ItemTree, PartTree, ExportTree, CompareTree}
-use Rattle.stapl_syntax.specs.WholeGrammar.{mark, left_square, right_square, dots}
-use Rattle.stapl_syntax.specs.WholeParts.{Part, a_name, a_state, a_number, a_signed, a_bit, a_text, a_literal, a_choice, an_expr, an_array, a_cell, a_target, a_print_part, an_export, after, before, maybe_hz, both, maybe, either, listed, begins_mark, begins_join, begins_comma_join, begins_state, begins_count, begins_text, begins_choice, begins_anything}
+use Rattle.stapl_syntax.specs.Symbols.{Symbol, Plain}
+use Rattle.stapl_syntax.specs.Trees.{ExprTree, ArrayTree, ItemTree, PartTree, ExportTree, CompareTree}
+use Rattle.stapl_syntax.specs.Expressions.{mark, left_square, right_square, dots}
+use Rattle.stapl_syntax.specs.Parts.{Part, a_name, a_state, a_number, a_signed, a_bit, a_text, a_literal, a_choice, an_expr, an_array, a_cell, a_target, a_print_part, an_export, after, before, maybe_hz, both, maybe, either, listed, begins_mark, begins_join, begins_comma_join, begins_state, begins_count, begins_text, begins_choice, begins_anything}
 
 abbrev pub comma : Symbol
 comma = mark marks.Comma

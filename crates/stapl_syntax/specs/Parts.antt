@@ -10,11 +10,11 @@ use Rattle.stapl_syntax.specs.declared.signs.JoinWord.TheVariants as joins
 use Rattle.stapl_syntax.specs.declared.signs.Function.TheVariants as functions
 use Rattle.stapl_syntax.specs.declared.signs.Sign.{Sign}
 use Rattle.stapl_syntax.specs.declared.signs.Sign.TheVariants as signs
-use Rattle.stapl_syntax.specs.declared.whole.ItemChoice.{ItemChoice}
-use Rattle.stapl_syntax.specs.declared.whole.ItemChoice.TheVariants as choices
-use Rattle.stapl_syntax.specs.WholeSymbols.{Symbol, Plain, Text, Literal, CheckWord, sign_of}
-use Rattle.stapl_syntax.specs.WholeTrees.{ExprTree, ArrayTree, PartTree, string, value, character, ExportTree, exported_value, exported_array}
-use Rattle.stapl_syntax.specs.WholeGrammar.{IsExpr, IsArray, IsTarget, IsCell, operator, mark, function, name, left_round, right_round}
+use Rattle.stapl_syntax.specs.declared.statement.ItemChoice.{ItemChoice}
+use Rattle.stapl_syntax.specs.declared.statement.ItemChoice.TheVariants as choices
+use Rattle.stapl_syntax.specs.Symbols.{Symbol, Plain, Text, Literal, CheckWord, sign_of}
+use Rattle.stapl_syntax.specs.Trees.{ExprTree, ArrayTree, PartTree, string, value, character, ExportTree, exported_value, exported_array}
+use Rattle.stapl_syntax.specs.Expressions.{IsExpr, IsArray, IsTarget, IsCell, operator, mark, function, name, left_round, right_round}
 
 -- ---- what a reader looks at
 

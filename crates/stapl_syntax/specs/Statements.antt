@@ -19,11 +19,11 @@ use Rattle.stapl_syntax.specs.declared.signs.JoinWord.TheVariants as joins
 use Rattle.stapl_syntax.specs.declared.signs.Mark.TheVariants as marks
 use Rattle.stapl_syntax.specs.declared.signs.Sign.{Sign}
 use Rattle.stapl_syntax.specs.declared.signs.Sign.TheVariants as signs
-use Rattle.stapl_syntax.specs.WholeSymbols.{Symbol, Plain, sign_of, symbols_of}
-use Rattle.stapl_syntax.specs.WholeTrees.{BodyTree, StmtTree, note, action, procedure, data_block, end_data, crc, end_procedure, boolean, boolean_array, integer, integer_array, assign, assign_element, assign_array, assign_range, call, goto, if_then, for_loop, next, push, pop, print, export, exit, scan, stop, pad, state_list, wait_cycles, wait_usec, frequency}
-use Rattle.stapl_syntax.specs.WholeGrammar.{IsExpr, name, mark, left_square, right_square, dots}
-use Rattle.stapl_syntax.specs.WholeParts.{IsPart, a_name, a_state, a_check_word, an_expr, an_array, a_cell, some_states, after, both}
-use Rattle.stapl_syntax.specs.WholeProductions.{equals, join, note_part, action_part, procedure_part, size_part, bit_part, bits_part, signed_part, signed_list_part, for_part, print_part, export_part, scan_part, pad_part, last_part, usec_part, first_part, frequency_part}
+use Rattle.stapl_syntax.specs.Symbols.{Symbol, Plain, sign_of, symbols_of}
+use Rattle.stapl_syntax.specs.Trees.{BodyTree, StmtTree, note, action, procedure, data_block, end_data, crc, end_procedure, boolean, boolean_array, integer, integer_array, assign, assign_element, assign_array, assign_range, call, goto, if_then, for_loop, next, push, pop, print, export, exit, scan, stop, pad, state_list, wait_cycles, wait_usec, frequency}
+use Rattle.stapl_syntax.specs.Expressions.{IsExpr, name, mark, left_square, right_square, dots}
+use Rattle.stapl_syntax.specs.Parts.{IsPart, a_name, a_state, a_check_word, an_expr, an_array, a_cell, some_states, after, both}
+use Rattle.stapl_syntax.specs.Productions.{equals, join, note_part, action_part, procedure_part, size_part, bit_part, bits_part, signed_part, signed_list_part, for_part, print_part, export_part, scan_part, pad_part, last_part, usec_part, first_part, frequency_part}
 
 abbrev pub outer : OuterWord → Symbol
 outer w = Plain (signs.Outer w)
@@ -119,60 +119,3 @@ pub record IsPieceStatement (text : List ℕ) (piece : Piece) (st : StmtTree) : 
   pub tokens : List SpelledToken
   pub spelled : IsSpelled text piece tokens
   pub means : Means tokens st
-
--- ---- reasons
-
--- the symbols behind the label, if there is one
-unfoldable pub behind_label : List Symbol → List Symbol
-behind_label (Plain (signs.Name v) ∷ Plain (signs.Mark marks.Colon) ∷ s) = s
-behind_label s = s
-
--- a sign that may stand behind the first name of an assignment
-unfoldable pub is_assign_sign : Sign → Bool
-is_assign_sign (signs.Mark marks.Equals) = true
-is_assign_sign (signs.Mark marks.LeftSquare) = true
-is_assign_sign _ = false
-
--- the first sign of the symbols
-abbrev pub first_sign : List Symbol → Sign
-first_sign [] = signs.Other
-first_sign (t ∷ s) = sign_of t
-
--- a statement begins with this sign, with those symbols behind it
-unfoldable pub begins_statement : Sign → List Symbol → Bool
-begins_statement (signs.Outer w) s = true
-begins_statement (signs.Inner w) s = true
-begins_statement (signs.Simple w) s = true
-begins_statement signs.If s = true
-begins_statement (signs.Port w) s = true
-begins_statement signs.LeftOutStatement s = true
-begins_statement (signs.Name v) s = is_assign_sign (first_sign s)
-begins_statement _ s = false
-
--- Something stands there, and the first of it is no statement word, and no name that `=` or `[` follows.
-unfoldable pub is_unknown : List Symbol → Bool
-is_unknown [] = false
-is_unknown (t ∷ s) = not (begins_statement (sign_of t) s)
-
--- a word that this profile leaves out
-unfoldable pub is_left_out : Sign → Bool
-is_left_out signs.LeftOutStatement = true
-is_left_out signs.LeftOutWord = true
-is_left_out _ = false
-
-abbrev pub holds_left_out : List Symbol → Bool
-holds_left_out s = list_any (λ t. is_left_out (sign_of t)) s
-
--- the smallest reason of symbols that are no statement
-unfoldable pub reason_of : List Symbol → Reason
-reason_of s =
-    if is_unknown (behind_label s) then reasons.UnknownStatement
-    else if holds_left_out s then reasons.Unsupported
-    else reasons.Syntax
-
--- The smallest of the reasons from `Unterminated` to `Syntax` that hold of the piece.
-pub data SmallestReason (text : List ℕ) (piece : Piece) : Reason → Type 0 where
-  -- a reason that lies in the bytes or in single tokens, or else a bad token
-  in_tokens : {reason : Reason} (tokens : List Token) → IsLexed text piece tokens (Some reason) → SmallestReason text piece reason
-  -- all tokens are good, and they are no statement
-  not_in_grammar : (tokens : List SpelledToken) → IsSpelled text piece tokens → ((st : StmtTree) → Means tokens st → ⊥) → SmallestReason text piece (reason_of (symbols_of tokens))

@@ -9,8 +9,8 @@ use Rattle.stapl_syntax.specs.declared.signs.Mark.TheVariants as marks
 use Rattle.stapl_syntax.specs.declared.signs.Function.{Function as FunctionKind}
 use Rattle.stapl_syntax.specs.declared.signs.Function.TheVariants as functions
 use Rattle.stapl_syntax.specs.declared.signs.Sign.TheVariants as signs
-use Rattle.stapl_syntax.specs.WholeSymbols.{Symbol, Plain, Literal}
-use Rattle.stapl_syntax.specs.WholeTrees.{ExprTree, ArrayTree, number, scalar, element, unary, binary, abs, int, literal, whole, range, of_int}
+use Rattle.stapl_syntax.specs.Symbols.{Symbol, Plain, Literal}
+use Rattle.stapl_syntax.specs.Trees.{ExprTree, ArrayTree, number, scalar, element, unary, binary, abs, int, literal, whole, range, of_int}
 
 -- the level of an operator: 1 binds tightest, 10 loosest
 unfoldable pub level_of : BinOp → ℕ

@@ -1,5 +1,0 @@
-use Rattle.stapl_syntax.proofs.RefusalLemmas.{one_piece_statement}
-use Rattle.stapl_syntax.proofs.laws.a_piece_is_one_statement.Goals as goal
-
-pub returns : goal.returns
-returns c = one_piece_statement
