@@ -1,14 +1,23 @@
 -- What the parser answers for symbols.
-use Rattle.std.specs.Prelude.{◌≡◌, ℕ, List, Option, Result, Ok, Err}
+use Rattle.std.specs.Prelude.{◌≡◌, ℕ, List, Option, Result, Ok, Err, if◌then◌else◌}
 use Rattle.stapl_lexer.specs.declared.reason.Reason.{Reason}
+use Rattle.stapl_lexer.specs.declared.reason.Reason.TheVariants as reasons
 use Rattle.stapl_syntax.specs.declared.statement.Stmt.{Stmt}
 use Rattle.stapl_syntax.specs.Symbols.{Symbol}
 use Rattle.stapl_syntax.specs.Trees.{BodyTree, body_tree}
-use Rattle.stapl_syntax.specs.Statements.{IsLabelled, reason_of}
+use Rattle.stapl_syntax.specs.Statements.{IsLabelled}
+use Rattle.stapl_syntax.specs.Reasons.{behind_label, is_unknown, holds_left_out}
 use Rattle.stapl_grammar.specs.declared.parsing.ParseRefused.{ParseRefused}
 use Rattle.stapl_grammar.specs.declared.parsing.ParseRefused.TheVariants.{Because, Memory}
 
--- the symbols are no statement, and this is their smallest reason
+-- what the parser answers for symbols that are no statement
+unfoldable pub reason_of : List Symbol → Reason
+reason_of s =
+    if is_unknown (behind_label s) then reasons.UnknownStatement
+    else if holds_left_out s then reasons.Unsupported
+    else reasons.Syntax
+
+-- the symbols are no statement, and this is what the parser answers
 pub record IsRefused (s : List Symbol) (reason : Reason) : Type 0 where
   pub reason_is : reason ≡ reason_of s
   pub none : (label : Option (List ℕ)) (body : BodyTree) → IsLabelled s label body → ⊥

@@ -38,7 +38,7 @@ impl<'a> Cursor<'a> {
     ghost use Rattle.std.specs.Bool.{OnTrue};
     ghost use Rattle.stapl_lexer.specs.PieceTokens.{LiesBetween};
     ghost use Rattle.stapl_syntax.specs.Parts.{after_mark, after_join, after_comma_join, begins_text, begins_state, begins_count, begins_choice, begins_anything};
-    ghost use Rattle.stapl_syntax.specs.Statements.{is_assign_sign, first_sign};
+    ghost use Rattle.stapl_syntax.specs.Reasons.{is_assign_sign, first_sign};
     ghost use Rattle.stapl_grammar.specs.Given.{Gives};
     ghost use Rattle.stapl_grammar.specs.Reading.{next_sign, next_operator, name_at, literal_at};
     ghost use Rattle.stapl_grammar.specs.PartReading.{text_at, check_word_at, after_minus, after_character, behind_hz};
@@ -218,7 +218,7 @@ impl<'a> Cursor<'a> {
     }
 
     // Whether a mark stands first that may stand behind the first name of an assignment.
-    #[tactic(auto, unfolding(crate::specs::Seen::seen, stapl_syntax::specs::Statements::is_assign_sign))]
+    #[tactic(auto, unfolding(crate::specs::Seen::seen, stapl_syntax::specs::Reasons::is_assign_sign))]
     pub(crate) fn begins_assignment(&self) -> bool
         ensures { result ≡ is_assign_sign (first_sign self.now) }
     {

@@ -1,10 +1,12 @@
 //! Laws of the grammar.
 ghost use Rattle.std.specs.Prelude.{◌≡◌, ℕ, List, false};
 ghost use Rattle.stapl_lexer.specs.declared.piece.Piece.{Piece};
+ghost use Rattle.stapl_lexer.specs.declared.reason.Reason.{Reason};
 ghost use Rattle.stapl_lexer.specs.SpelledTokens.{SpelledToken};
 ghost use Rattle.stapl_syntax.specs.Symbols.{symbols_of};
 ghost use Rattle.stapl_syntax.specs.Trees.{StmtTree};
-ghost use Rattle.stapl_syntax.specs.Statements.{Means, IsPieceStatement, behind_label, is_unknown, holds_left_out};
+ghost use Rattle.stapl_syntax.specs.Statements.{Means, IsPieceStatement};
+ghost use Rattle.stapl_syntax.specs.Reasons.{HasReason, behind_label, is_unknown, holds_left_out};
 
 /// Tokens mean at most one statement.
 pub fn one_statement()
@@ -21,4 +23,9 @@ pub fn a_piece_is_one_statement()
 pub fn a_statement_is_known_and_supported()
     ensures known { (tokens : List SpelledToken) (statement : StmtTree) → Means tokens statement → is_unknown (behind_label (symbols_of tokens)) ≡ false }
     ensures supported { (tokens : List SpelledToken) (statement : StmtTree) → Means tokens statement → holds_left_out (symbols_of tokens) ≡ false }
+{}
+
+/// A piece that is a statement has no reason why it is none.
+pub fn a_statement_has_no_reason()
+    ensures { (text : List ℕ) (piece : Piece) (st : StmtTree) (reason : Reason) → IsPieceStatement text piece st → HasReason text piece reason → ⊥ }
 {}

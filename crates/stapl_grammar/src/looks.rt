@@ -2,7 +2,7 @@
 ghost use Rattle.std.specs.Prelude.{◌≡◌, ◌<◌};
 ghost use Rattle.stapl_syntax.specs.Expressions.{level_of};
 ghost use Rattle.stapl_syntax.specs.Parts.{mark_number, join_number, is_mark, is_join, is_state, choice_of};
-ghost use Rattle.stapl_syntax.specs.Statements.{is_left_out, is_assign_sign};
+ghost use Rattle.stapl_syntax.specs.Reasons.{is_left_out, is_assign_sign};
 ghost use Rattle.stapl_grammar.specs.Reading.{operator_of, unary_of};
 ghost use Rattle.stapl_grammar.specs.PartReading.{is_minus, is_character, is_hz};
 
@@ -160,7 +160,7 @@ pub(crate) fn choice_of(sign: Sign) -> Option<ItemChoice>
 }
 
 // Whether a sign is a word that this profile leaves out.
-#[tactic(auto, unfolding(stapl_syntax::specs::Statements::is_left_out))]
+#[tactic(auto, unfolding(stapl_syntax::specs::Reasons::is_left_out))]
 pub(crate) fn is_left_out(sign: Sign) -> bool
     ensures { result ≡ is_left_out sign }
 {
@@ -172,7 +172,7 @@ pub(crate) fn is_left_out(sign: Sign) -> bool
 }
 
 // Whether a sign may stand behind the first name of an assignment.
-#[tactic(auto, unfolding(stapl_syntax::specs::Statements::is_assign_sign))]
+#[tactic(auto, unfolding(stapl_syntax::specs::Reasons::is_assign_sign))]
 pub(crate) fn is_assign_sign(sign: Sign) -> bool
     ensures { result ≡ is_assign_sign sign }
 {

@@ -1,9 +1,7 @@
 //! Statements that drive the test access port.
 use crate::cursor::Cursor;
 use crate::refused::Refused;
-use stapl_syntax::{
-    ArrayExpr, Body, Compare, Expr, JoinWord, Mark, Padding, PortWord, Register,
-};
+use stapl_syntax::{ArrayExpr, Body, Compare, Expr, JoinWord, Mark, Padding, PortWord, Register};
 use std::alloc::Global;
 
 impl<'a> Cursor<'a> {

@@ -6,10 +6,11 @@ use stapl_syntax::Sign;
 
 impl<'a> Cursor<'a> {
     ghost use Rattle.std.specs.Prelude.{◌≡◌};
-    ghost use Rattle.stapl_syntax.specs.Statements.{begins_statement, behind_label, is_unknown, holds_left_out, reason_of};
+    ghost use Rattle.stapl_syntax.specs.Reasons.{begins_statement, behind_label, is_unknown, holds_left_out};
+    ghost use Rattle.stapl_grammar.specs.Answers.{reason_of};
 
     // Whether a statement begins with this sign, with the rest behind it.
-    #[tactic(auto, unfolding(stapl_syntax::specs::Statements::begins_statement))]
+    #[tactic(auto, unfolding(stapl_syntax::specs::Reasons::begins_statement))]
     fn begins_statement(&self, first: Sign) -> bool
         ensures { result ≡ begins_statement first self.now }
     {
@@ -53,7 +54,7 @@ impl<'a> Cursor<'a> {
     }
 
     // The smallest reason why the symbols are no statement, where they are none.
-    #[tactic(auto, unfolding(stapl_syntax::specs::Statements::reason_of))]
+    #[tactic(auto, unfolding(crate::specs::Answers::reason_of))]
     pub(crate) fn reason(&self) -> Reason
         ensures { result ≡ reason_of self.now }
     {

@@ -1,5 +1,5 @@
 use Rattle.std.proofs.Common.{◌≡◌, length}
-use Rattle.stapl_syntax.specs.Statements.{holds_left_out}
+use Rattle.stapl_syntax.specs.Reasons.{holds_left_out}
 use Rattle.stapl_grammar.proofs.cursor.Cursor.holds_left_out.Given as goal
 
 abbrev pub invariant-symbols : goal.invariant-symbols
