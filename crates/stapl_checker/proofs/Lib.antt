@@ -1,7 +1,6 @@
-pub mod SpellingLemmas
-pub mod FormLemmas
 pub mod TableLemmas
 pub mod ReadingLemmas
+pub mod ReasonLemmas
 pub mod RefusingLemmas
 pub mod VerdictLemmas
-pub mod ReasonLemmas
+pub mod UniqueLemmas

@@ -1,24 +1,19 @@
 -- The first piece that is refused.
 use Rattle.std.proofs.Common.{◌≡◌, ◌≢◌, ◌≤◌, ◌<◌, ◌+◌, ℕ, zero, suc, Bool, true, false, not, ◌||◌, if◌then◌else◌, nat_le, List, [], ◌∷◌, length, refl, sym, ap, ◌∙◌, Option, None, Some, is_some, take, drop, get_or, slice_get, arith, ◌⊎◌, inl, inr}
 use Rattle.std.specs.List.{list_any}
-use Rattle.std.specs.Option.{option_map}
 use Rattle.std.proofs.lemmas.Bool.{cases_lt}
 use Rattle.std.proofs.lemmas.List.{take_all, length-map, get_or-map, take-map, drop-map, length-drop}
 use Rattle.std.proofs.lemmas.List.Folds.{list_any_more}
 use Rattle.std.proofs.lemmas.Option.{slice_get-get_or, slice_get_past}
-use Rattle.stapl_syntax.specs.declared.statement.Stmt.{Stmt}
-use Rattle.stapl_syntax.specs.Trees.{action, StmtTree, stmt_tree}
+use Rattle.stapl_checker.specs.declared.reading.Read.{Read}
+use Rattle.stapl_syntax.specs.Trees.{StmtTree}
 use Rattle.stapl_syntax.specs.Declarations.{Known}
-use Rattle.stapl_syntax.specs.Faults.{piece_limit, ends, up_to_end, run_of_body, run_of, is_procedure, fits_inside, is_refused_inside, is_refused}
+use Rattle.stapl_syntax.specs.Faults.{piece_limit, ends, up_to_end, run_of, is_procedure, fits_inside, is_refused_inside, is_refused}
 use Rattle.stapl_checker.specs.declared.names.Names.{Names}
+use Rattle.stapl_checker.specs.Reads.{read_tree, trees}
 use Rattle.stapl_checker.specs.Tables.{known_in, AreNames}
 use Rattle.stapl_checker.specs.Verdicts.{IsFirstAt, NoneUpTo, is_refused_at, NoneRefusedUpTo}
-use Rattle.stapl_checker.proofs.TableLemmas.{known_same, trees}
-
-pub no_run : (name : List ℕ) (procedures : List (List ℕ)) → length procedures ≢ 1 → None ≡ run_of_body (action name procedures)
-no_run name [] h = refl
-no_run name (p ∷ []) h = absurd (h refl)
-no_run name (p ∷ q ∷ procedures) h = refl
+use Rattle.stapl_checker.proofs.TableLemmas.{known_same}
 
 or_true : (a b c : Bool) → a ≡ true → (a || b) ≡ (a || c)
 or_true true b c e = refl
@@ -79,36 +74,36 @@ up_to_first_end (suc i) (x ∷ xs) d lt h e = by (up_to_first_end i xs d (omega 
     by k true q = absurd (left (ends x) (list_any ends (take i xs)) h q)
     by k false q = ap (λ (z : List (Option StmtTree)). x ∷ z) (k (right (ends x) (list_any ends (take i xs)) h) e)
 
-pub tree_at : (pieces : List (Option Stmt)) (i : ℕ) (piece d : Option Stmt) → i < length pieces → piece ≡ get_or pieces i d →
-    slice_get (trees pieces) i ≡ Some (option_map stmt_tree piece)
+pub tree_at : (pieces : List Read) (i : ℕ) (piece d : Read) → i < length pieces → piece ≡ get_or pieces i d →
+    slice_get (trees pieces) i ≡ Some (read_tree piece)
 tree_at pieces i piece d lt is =
-    let long = length-map pieces (option_map stmt_tree) in
+    let long = length-map pieces (read_tree) in
     slice_get-get_or (trees pieces) i None (omega arith)
-    ∙ ap Some (get_or-map (option_map stmt_tree) pieces i d None lt ∙ ap (option_map stmt_tree) (sym is))
+    ∙ ap Some (get_or-map read_tree pieces i d None lt ∙ ap (read_tree) (sym is))
 
-tree_or : (pieces : List (Option Stmt)) (i : ℕ) (piece d : Option Stmt) → i < length pieces → piece ≡ get_or pieces i d →
-    get_or (trees pieces) i None ≡ option_map stmt_tree piece
-tree_or pieces i piece d lt is = get_or-map (option_map stmt_tree) pieces i d None lt ∙ ap (option_map stmt_tree) (sym is)
+tree_or : (pieces : List Read) (i : ℕ) (piece d : Read) → i < length pieces → piece ≡ get_or pieces i d →
+    get_or (trees pieces) i None ≡ read_tree piece
+tree_or pieces i piece d lt is = get_or-map read_tree pieces i d None lt ∙ ap (read_tree) (sym is)
 
 -- one more piece that is no ENDPROC
-pub no_end_more : (pieces : List (Option Stmt)) (i : ℕ) (piece d : Option Stmt) (b : Bool) → i < length pieces → piece ≡ get_or pieces i d →
-    list_any ends (take i (trees pieces)) ≡ false → b ≡ ends (option_map stmt_tree piece) → b ≡ false → list_any ends (take (i + 1) (trees pieces)) ≡ false
+pub no_end_more : (pieces : List Read) (i : ℕ) (piece d : Read) (b : Bool) → i < length pieces → piece ≡ get_or pieces i d →
+    list_any ends (take i (trees pieces)) ≡ false → b ≡ ends (read_tree piece) → b ≡ false → list_any ends (take (i + 1) (trees pieces)) ≡ false
 no_end_more pieces i piece d b lt is h e f =
-    let long = length-map pieces (option_map stmt_tree) in
+    let long = length-map pieces (read_tree) in
     list_any_more ends (trees pieces) i None (omega arith) ∙ ap (λ (z : Bool). z || ends (get_or (trees pieces) i None)) h
     ∙ ap ends (tree_or pieces i piece d lt is) ∙ sym e ∙ f
 
-pub first_end : (pieces : List (Option Stmt)) (i : ℕ) (piece d : Option Stmt) (b : Bool) (front : List (Option Stmt)) → i < length pieces → piece ≡ get_or pieces i d →
-    list_any ends (take i (trees pieces)) ≡ false → b ≡ ends (option_map stmt_tree piece) → b ≡ true → front ≡ take (i + 1) pieces → trees front ≡ up_to_end (trees pieces)
+pub first_end : (pieces : List Read) (i : ℕ) (piece d : Read) (b : Bool) (front : List Read) → i < length pieces → piece ≡ get_or pieces i d →
+    list_any ends (take i (trees pieces)) ≡ false → b ≡ ends (read_tree piece) → b ≡ true → front ≡ take (i + 1) pieces → trees front ≡ up_to_end (trees pieces)
 first_end pieces i piece d b front lt is h e f at =
-    let long = length-map pieces (option_map stmt_tree) in
+    let long = length-map pieces (read_tree) in
     let next : i + 1 ≡ suc i = omega arith in
-    ap trees at ∙ sym (take-map (option_map stmt_tree) (i + 1) pieces) ∙ ap (λ (n : ℕ). take n (trees pieces)) next
+    ap trees at ∙ sym (take-map read_tree (i + 1) pieces) ∙ ap (λ (n : ℕ). take n (trees pieces)) next
     ∙ sym (up_to_first_end i (trees pieces) None (omega arith) h (ap ends (tree_or pieces i piece d lt is) ∙ sym e ∙ f))
 
-pub no_end : (pieces : List (Option Stmt)) (i : ℕ) → length pieces ≤ i → list_any ends (take i (trees pieces)) ≡ false → trees pieces ≡ up_to_end (trees pieces)
+pub no_end : (pieces : List Read) (i : ℕ) → length pieces ≤ i → list_any ends (take i (trees pieces)) ≡ false → trees pieces ≡ up_to_end (trees pieces)
 no_end pieces i past h =
-    let long = length-map pieces (option_map stmt_tree) in
+    let long = length-map pieces (read_tree) in
     sym (up_to_no_end (trees pieces) (sym (ap (list_any ends) (take_all i (trees pieces) (omega arith))) ∙ h))
 
 -- what the code tests is whether the piece is refused
@@ -121,13 +116,13 @@ refused_is xs names i y ended r are slice is e =
     ∙ sym e
 
 -- the piece at an index is refused
-pub refused_here : (behind : List (Option Stmt)) (names : Names) (i : ℕ) (piece d : Option Stmt) (ended r : Bool) → AreNames (up_to_end (trees behind)) names →
+pub refused_here : (behind : List Read) (names : Names) (i : ℕ) (piece d : Read) (ended r : Bool) → AreNames (up_to_end (trees behind)) names →
     i < length behind → piece ≡ get_or behind i d → NoneRefusedUpTo (trees behind) i ended →
-    r ≡ (ended || nat_le piece_limit (2 + i) || not (fits_inside (known_in names i) (option_map stmt_tree piece))) → r ≡ true →
+    r ≡ (ended || nat_le piece_limit (2 + i) || not (fits_inside (known_in names i) (read_tree piece))) → r ≡ true →
     IsFirstAt (is_refused_at (trees behind)) (length behind) i
 refused_here behind names i piece d ended r are lt is so_far e f = record {
   within = omega arith;
-  here = refused_is (trees behind) names i (option_map stmt_tree piece) ended r are (tree_at behind i piece d lt is) so_far.ended_is e ∙ f;
+  here = refused_is (trees behind) names i (read_tree piece) ended r are (tree_at behind i piece d lt is) so_far.ended_is e ∙ f;
   before = so_far.before;
 }
 
@@ -143,21 +138,21 @@ or_false true b h = absurd cc
 or_false false b h = refl
 
 -- it is not, and the next one is looked at
-pub not_refused : (behind : List (Option Stmt)) (names : Names) (i : ℕ) (piece d : Option Stmt) (ended r next : Bool) → AreNames (up_to_end (trees behind)) names →
+pub not_refused : (behind : List Read) (names : Names) (i : ℕ) (piece d : Read) (ended r next : Bool) → AreNames (up_to_end (trees behind)) names →
     i < length behind → piece ≡ get_or behind i d → NoneRefusedUpTo (trees behind) i ended →
-    r ≡ (ended || nat_le piece_limit (2 + i) || not (fits_inside (known_in names i) (option_map stmt_tree piece))) → r ≡ false →
-    next ≡ ends (option_map stmt_tree piece) → NoneRefusedUpTo (trees behind) (i + 1) next
+    r ≡ (ended || nat_le piece_limit (2 + i) || not (fits_inside (known_in names i) (read_tree piece))) → r ≡ false →
+    next ≡ ends (read_tree piece) → NoneRefusedUpTo (trees behind) (i + 1) next
 not_refused behind names i piece d ended r next are lt is so_far e f n =
-    let long = length-map behind (option_map stmt_tree) in
+    let long = length-map behind (read_tree) in
     let open_still : list_any ends (take i (trees behind)) ≡ false =
     sym so_far.ended_is
-    ∙ or_false ended (nat_le piece_limit (2 + i)) (or_false (ended || nat_le piece_limit (2 + i)) (not (fits_inside (known_in names i) (option_map stmt_tree piece))) (sym e ∙ f)) in
+    ∙ or_false ended (nat_le piece_limit (2 + i)) (or_false (ended || nat_le piece_limit (2 + i)) (not (fits_inside (known_in names i) (read_tree piece))) (sym e ∙ f)) in
     record {
       within = omega arith;
       ended_is = n ∙ sym (ap ends (tree_or behind i piece d lt is)) ∙ sym (ap (λ (z : Bool). z || ends (get_or (trees behind) i None)) open_still)
           ∙ sym (list_any_more ends (trees behind) i None (omega arith));
       before = all_more (is_refused_at (trees behind)) i so_far.before
-          (refused_is (trees behind) names i (option_map stmt_tree piece) ended r are (tree_at behind i piece d lt is) so_far.ended_is e ∙ f);
+          (refused_is (trees behind) names i (read_tree piece) ended r are (tree_at behind i piece d lt is) so_far.ended_is e ∙ f);
     }
 
 -- the end of the text
@@ -166,18 +161,18 @@ refused_end xs i ended past is =
     ap (is_refused_inside (up_to_end xs) (length xs)) (slice_get_past xs (length xs) (omega arith))
     ∙ ap not (any_end xs ∙ sym (ap (list_any ends) (take_all i xs past)) ∙ sym is)
 
-pub none_refused : (behind : List (Option Stmt)) (i : ℕ) (ended : Bool) → length behind ≤ i → NoneRefusedUpTo (trees behind) i ended → ended ≡ true →
+pub none_refused : (behind : List Read) (i : ℕ) (ended : Bool) → length behind ≤ i → NoneRefusedUpTo (trees behind) i ended → ended ≡ true →
     NoneUpTo (is_refused_at (trees behind)) (length behind)
 none_refused behind i ended past so_far e =
-    let long : length (trees behind) ≡ length behind = length-map behind (option_map stmt_tree) in
+    let long : length (trees behind) ≡ length behind = length-map behind (read_tree) in
     let within = so_far.within in
     let here : is_refused_at (trees behind) (length (trees behind)) ≡ false = refused_end (trees behind) i ended (omega arith) so_far.ended_is ∙ ap not e in
     record { none = λ k le. all_more (is_refused_at (trees behind)) (length (trees behind)) (λ j lt. so_far.before j (omega arith)) here k (omega arith) }
 
-pub end_refused : (behind : List (Option Stmt)) (i : ℕ) (ended : Bool) → length behind ≤ i → NoneRefusedUpTo (trees behind) i ended → ended ≡ false →
+pub end_refused : (behind : List Read) (i : ℕ) (ended : Bool) → length behind ≤ i → NoneRefusedUpTo (trees behind) i ended → ended ≡ false →
     IsFirstAt (is_refused_at (trees behind)) (length behind) (length behind)
 end_refused behind i ended past so_far e =
-    let long : length (trees behind) ≡ length behind = length-map behind (option_map stmt_tree) in
+    let long : length (trees behind) ≡ length behind = length-map behind (read_tree) in
     record {
       within = omega arith;
       here = ap (is_refused_at (trees behind)) (sym long) ∙ refused_end (trees behind) i ended (omega arith) so_far.ended_is ∙ ap not e;
@@ -185,8 +180,8 @@ end_refused behind i ended past so_far e =
     }
 
 -- from the pieces behind the PROCEDURE to all pieces
-behind_is : (read : List (Option Stmt)) (i : ℕ) → is_refused (trees read) (suc (suc i)) ≡ is_refused_at (trees (drop 2 read)) i
-behind_is read i = ap (λ (z : List (Option StmtTree)). is_refused_at z i) (drop-map (option_map stmt_tree) 2 read)
+behind_is : (read : List Read) (i : ℕ) → is_refused (trees read) (suc (suc i)) ≡ is_refused_at (trees (drop 2 read)) i
+behind_is read i = ap (λ (z : List (Option StmtTree)). is_refused_at z i) (drop-map read_tree 2 read)
 
 front_fits : (read : List (Option StmtTree)) (run : List ℕ) → Some run ≡ run_of (slice_get read 0) → is_refused read 0 ≡ false
 front_fits read run e = ap (λ (z : Option (List ℕ)). not (is_some z)) (sym e)
@@ -194,7 +189,7 @@ front_fits read run e = ap (λ (z : Option (List ℕ)). not (is_some z)) (sym e)
 second_fits : (read : List (Option StmtTree)) (run : List ℕ) (b : Bool) → Some run ≡ run_of (slice_get read 0) → b ≡ is_procedure (Some run) (slice_get read 1) → is_refused read 1 ≡ not b
 second_fits read run b e f = ap (λ (z : Option (List ℕ)). not (is_procedure z (slice_get read 1))) (sym e) ∙ ap not (sym f)
 
-pub first_refused_first : (read : List (Option Stmt)) → None ≡ run_of (slice_get (trees read) 0) → IsFirstAt (is_refused (trees read)) (length read) 0
+pub first_refused_first : (read : List Read) → None ≡ run_of (slice_get (trees read) 0) → IsFirstAt (is_refused (trees read)) (length read) 0
 first_refused_first read e = record { within = omega arith; here = ap (λ (z : Option (List ℕ)). not (is_some z)) (sym e); before = λ k lt. absurd (omega arith) }
 
 below_two : (test : ℕ → Bool) (i : ℕ) → test 0 ≡ false → test 1 ≡ false → ((k : ℕ) → k < i → test (suc (suc k)) ≡ false) → (k : ℕ) → k < i + 2 → test k ≡ false
@@ -202,7 +197,7 @@ below_two test i a b c zero lt = a
 below_two test i a b c (suc zero) lt = b
 below_two test i a b c (suc (suc k)) lt = c k (omega arith)
 
-pub first_refused_second : (read : List (Option Stmt)) (run : List ℕ) (b : Bool) → Some run ≡ run_of (slice_get (trees read) 0) → 1 ≤ length read →
+pub first_refused_second : (read : List Read) (run : List ℕ) (b : Bool) → Some run ≡ run_of (slice_get (trees read) 0) → 1 ≤ length read →
     b ≡ is_procedure (Some run) (slice_get (trees read) 1) → b ≡ false → IsFirstAt (is_refused (trees read)) (length read) 1
 first_refused_second read run b e some f g = record {
   within = some;
@@ -210,7 +205,7 @@ first_refused_second read run b e some f g = record {
   before = λ k lt. let z : k ≡ 0 = omega arith in ap (is_refused (trees read)) z ∙ front_fits (trees read) run e;
 }
 
-pub first_refused_behind : (read : List (Option Stmt)) (run : List ℕ) (b : Bool) (i : ℕ) → Some run ≡ run_of (slice_get (trees read) 0) → 2 ≤ length read →
+pub first_refused_behind : (read : List Read) (run : List ℕ) (b : Bool) (i : ℕ) → Some run ≡ run_of (slice_get (trees read) 0) → 2 ≤ length read →
     b ≡ is_procedure (Some run) (slice_get (trees read) 1) → b ≡ true → IsFirstAt (is_refused_at (trees (drop 2 read))) (length (drop 2 read)) i →
     IsFirstAt (is_refused (trees read)) (length read) (i + 2)
 first_refused_behind read run b i e some f g first =
@@ -223,7 +218,7 @@ first_refused_behind read run b i e some f g first =
           (λ k lt. behind_is read k ∙ first.before k lt);
     }
 
-pub none_refused_behind : (read : List (Option Stmt)) (run : List ℕ) (b : Bool) → Some run ≡ run_of (slice_get (trees read) 0) → 2 ≤ length read →
+pub none_refused_behind : (read : List Read) (run : List ℕ) (b : Bool) → Some run ≡ run_of (slice_get (trees read) 0) → 2 ≤ length read →
     b ≡ is_procedure (Some run) (slice_get (trees read) 1) → b ≡ true → NoneUpTo (is_refused_at (trees (drop 2 read))) (length (drop 2 read)) →
     NoneUpTo (is_refused (trees read)) (length read)
 none_refused_behind read run b e some f g all =

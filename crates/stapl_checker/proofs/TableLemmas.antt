@@ -1,17 +1,17 @@
 -- Steps of the tables, and what they tell.
 use Rattle.std.proofs.Common.{◌≡◌, ℕ, ◌+◌, ◌<◌, ◌≤◌, Bool, true, false, cond, List, [], ◌∷◌, ◌++◌, Option, Some, None, is_some, refl, sym, ap, ◌∙◌, true≢false, if◌then◌else◌, arith, map, take, length, get_or, ◌||◌, ◌&&◌, subst, zero, suc}
 use Rattle.std.specs.List.{position_from, list_any, list_all}
-use Rattle.std.specs.Option.{option_map}
 use Rattle.std.specs.Str.{bytes_eq}
 use Rattle.std.proofs.lemmas.Bool.Decides.{nat_tests}
 use Rattle.std.proofs.lemmas.Slice.Eq.{bytes_eq-Decides}
 use Rattle.std.proofs.lemmas.List.{take_more, map-append, length-map, length-take-le, take_all}
 use Rattle.indexmap.specs.IndexMap.{IndexMap, get, insert_entry}
 use Rattle.indexmap.proofs.CallerLemmas.{insert_entry-new}
-use Rattle.stapl_syntax.specs.declared.statement.Stmt.{Stmt}
-use Rattle.stapl_syntax.specs.Trees.{StmtTree, stmt_tree}
+use Rattle.stapl_checker.specs.declared.reading.Read.{Read}
+use Rattle.stapl_syntax.specs.Trees.{StmtTree}
 use Rattle.stapl_syntax.specs.Declarations.{declares_variable, declares_label, known_at}
 use Rattle.stapl_checker.specs.declared.names.Names.{Names}
+use Rattle.stapl_checker.specs.Reads.{read_tree, trees}
 use Rattle.stapl_checker.specs.Tables.{Entries, found, held_or, held_behind, is_below, Puts, PutsPiece, AreNames, known_in}
 
 is_none : {A : Type 0} (o : Option A) → is_some o ≡ false → o ≡ None
@@ -98,20 +98,17 @@ names_more xs all y i old new e len are puts = record {
   labels = λ name. place_is (declares_label name) xs all y i (found old.labels.entries name) (found new.labels.entries name) e len (are.labels name) (puts.labels name);
 }
 
-abbrev pub trees : List (Option Stmt) → List (Option StmtTree)
-trees own = map (option_map stmt_tree) own
-
 -- a piece more
-pub one_more : (own : List (Option Stmt)) (i : ℕ) (piece d : Option Stmt) (old new : Names) → i < length own → piece ≡ get_or own i d →
-    AreNames (trees (take i own)) old → PutsPiece i (option_map stmt_tree piece) old new → AreNames (trees (take (i + 1) own)) new
+pub one_more : (own : List Read) (i : ℕ) (piece d : Read) (old new : Names) → i < length own → piece ≡ get_or own i d →
+    AreNames (trees (take i own)) old → PutsPiece i (read_tree piece) old new → AreNames (trees (take (i + 1) own)) new
 one_more own i piece d old new below is are puts =
-    names_more (trees (take i own)) (trees (take (i + 1) own)) (option_map stmt_tree piece) i old new
-    (ap trees (take_more own i d below) ∙ map-append (option_map stmt_tree) (take i own) (get_or own i d ∷ [])
-    ∙ ap (λ (z : Option Stmt). trees (take i own) ++ option_map stmt_tree z ∷ []) (sym is))
-    (let a = length-map (take i own) (option_map stmt_tree) in let b = length-take-le i own (omega arith) in omega arith) are puts
+    names_more (trees (take i own)) (trees (take (i + 1) own)) (read_tree piece) i old new
+    (ap trees (take_more own i d below) ∙ map-append (read_tree) (take i own) (get_or own i d ∷ [])
+    ∙ ap (λ (z : Read). trees (take i own) ++ read_tree z ∷ []) (sym is))
+    (let a = length-map (take i own) (read_tree) in let b = length-take-le i own (omega arith) in omega arith) are puts
 
-pub no_more : (own : List (Option Stmt)) (i : ℕ) (names : Names) → length own ≤ i → AreNames (trees (take i own)) names → AreNames (trees own) names
-no_more own i names past are = subst (λ (z : List (Option Stmt)). AreNames (trees z) names) (take_all i own past) are
+pub no_more : (own : List Read) (i : ℕ) (names : Names) → length own ≤ i → AreNames (trees (take i own)) names → AreNames (trees own) names
+no_more own i names past are = subst (λ (z : List Read). AreNames (trees z) names) (take_all i own past) are
 
 -- what the tables tell is what the pieces declare
 any_place : {A : Type 0} (test : A → Bool) (n : ℕ) (xs : List A) → is_some (position_from test n xs) ≡ list_any test xs

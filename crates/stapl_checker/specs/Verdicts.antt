@@ -1,8 +1,12 @@
 -- What the checker's loops find.
-use Rattle.std.specs.Prelude.{◌≡◌, ℕ, ◌<◌, ◌≤◌, List, Bool, true, false, Option, None, Some, length, map, take, slice_get}
+use Rattle.std.specs.Prelude.{◌≡◌, ℕ, ◌<◌, ◌≤◌, List, Bool, true, false, Option, None, Some, length, map, take, slice_get, nat_le, if◌then◌else◌}
 use Rattle.std.specs.List.{list_any}
 use Rattle.stapl_syntax.specs.Trees.{StmtTree, stmt_tree}
-use Rattle.stapl_syntax.specs.Faults.{ends, up_to_end, is_refused_inside, IsProgram, FirstFault}
+use Rattle.stapl_lexer.specs.declared.reason.Reason.{Reason}
+use Rattle.stapl_lexer.specs.declared.reason.Reason.TheVariants as reasons
+use Rattle.stapl_syntax.specs.Faults.{piece_limit, ends, up_to_end, is_refused_inside, IsProgram, FirstFault}
+use Rattle.stapl_checker.specs.declared.reading.Read.{Read}
+use Rattle.stapl_checker.specs.declared.reading.Read.TheVariants.{Faulty}
 use Rattle.stapl_checker.specs.declared.checking.CheckRefused.{CheckRefused}
 use Rattle.stapl_checker.specs.declared.checking.CheckRefused.TheVariants as refusals
 use Rattle.stapl_checker.specs.declared.checking.Verdict.{Verdict}
@@ -26,6 +30,11 @@ IsFirstIndex test limit (Some i) = IsFirstAt test limit i
 -- the piece with this index is refused, where these are the pieces behind the PROCEDURE
 abbrev pub is_refused_at : List (Option StmtTree) → ℕ → Bool
 is_refused_at behind i = is_refused_inside (up_to_end behind) i (slice_get behind i)
+
+-- the reason that is named of what stands at an index, if it is refused
+abbrev pub refused_reason : ℕ → Option Read → Reason
+refused_reason i (Some (Faulty reason)) = if nat_le piece_limit i then reasons.TooManyPieces else reason
+refused_reason i _ = reasons.NotYetBuilt
 
 -- what the checker finds of a text that is not too long
 abbrev pub IsVerdict : List ℕ → Verdict → Type 0

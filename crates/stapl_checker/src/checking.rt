@@ -1,14 +1,15 @@
 //! The check of a whole text.
 ghost use Rattle.std.specs.Prelude.{◌≡◌, ◌≤◌, ◌<◌, ℕ, List, true, length, map, All, IfOk, IfErr, Some, is_some};
-ghost use Rattle.std.specs.Option.{option_map};
 ghost use Rattle.stapl_lexer.specs.Pieces.{IsCut, LiesIn};
 ghost use Rattle.stapl_syntax.specs.Trees.{stmt_tree};
-ghost use Rattle.stapl_syntax.specs.Faults.{line_of_index, end_line, procedure_pieces, AreReadAs, IsProgram};
+ghost use Rattle.stapl_syntax.specs.Faults.{line_of_index, end_line, procedure_pieces, IsProgram};
+ghost use Rattle.stapl_checker.specs.declared.reading.Read.TheVariants as reads;
+ghost use Rattle.stapl_checker.specs.Reads.{AreRead, IsStatement, trees};
 ghost use Rattle.stapl_checker.specs.Tables.{AreNames};
 ghost use Rattle.stapl_checker.specs.Verdicts.{IsVerdict, IsCause};
 
 use crate::names::Names;
-use crate::reading::read_pieces;
+use crate::reading::{Read, read_pieces};
 use crate::reasons::reason_at;
 use crate::refusing::{first_refused, own_pieces};
 use stapl_lexer::{Piece, Reason, cut};
@@ -48,24 +49,24 @@ fn line_of_index(text: &[u8], pieces: &[Piece], index: usize) -> u32
 }
 
 // The statements of pieces that all have one.
-fn statements_of(alloc: Global, read: Vec<Option<Stmt>>) -> Result<Vec<Stmt>, AllocError>
-    requires { All (λ statement. is_some statement ≡ true) read.items }
-    ensures { IfOk result (λ statements. read.items ≡ map Some statements.items) }
+fn statements_of(alloc: Global, read: Vec<Read>) -> Result<Vec<Stmt>, AllocError>
+    requires { All IsStatement read.items }
+    ensures { IfOk result (λ statements. read.items ≡ map reads.Statement statements.items) }
 {
     let mut statements = Vec::new(alloc);
-    for statement in read {
-        match statement {
-            Some(statement) => statements.push(statement)?,
-            None => unreachable!(),
+    for piece in read {
+        match piece {
+            Read::Statement(statement) => statements.push(statement)?,
+            Read::Faulty(_) => unreachable!(),
         }
     }
     Ok(statements)
 }
 
 // The names that the procedure among the pieces declares.
-fn names_of(alloc: Global, read: &[Option<Stmt>]) -> Result<Names, AllocError>
+fn names_of(alloc: Global, read: &[Read]) -> Result<Names, AllocError>
     requires { length read.now ≤ 4194305 }
-    ensures { IfOk result (AreNames (procedure_pieces (map (option_map stmt_tree) read.now))) }
+    ensures { IfOk result (AreNames (procedure_pieces (trees read.now))) }
 {
     let names = Names::collect(alloc, own_pieces(read))?;
     Ok(names)
@@ -76,12 +77,12 @@ fn judge_read(
     alloc: Global,
     text: &[u8],
     pieces: &[Piece],
-    read: Vec<Option<Stmt>>,
+    read: Vec<Read>,
 ) -> Result<Verdict, AllocError>
     requires small { length text.now ≤ 4194304 }
     requires cut { IsCut text.now pieces.now }
     requires lie { All (LiesIn text.now) pieces.now }
-    requires read { AreReadAs text.now pieces.now (map (option_map stmt_tree) read.items) }
+    requires read { AreRead text.now pieces.now read.items }
     requires few { length read.items ≤ 4194305 }
     ensures { IfOk result (IsVerdict text.now) }
 {
@@ -89,7 +90,7 @@ fn judge_read(
     match first_refused(&names, &read) {
         Some(index) => {
             let line = line_of_index(text, pieces, index);
-            let reason = reason_at(alloc, text, pieces, index)?;
+            let reason = reason_at(&read, index);
             Ok(Verdict::Fault(index as u32 + 1, line, reason))
         }
         None => {

@@ -1,37 +1,39 @@
 //! Which piece of a procedure is refused.
 ghost use Rattle.std.specs.Prelude.{◌≡◌, ◌≤◌, ◌<◌, ◌+◌, ℕ, List, true, false, Bool, length, map, take, is_some, IfSome, IfNone, slice_get};
 ghost use Rattle.std.specs.List.{list_all};
-ghost use Rattle.std.specs.Option.{option_map};
 ghost use Rattle.stapl_syntax.specs.Trees.{expr_tree, part_tree, body_tree, stmt_tree};
 ghost use Rattle.stapl_syntax.specs.Declarations.{expr_names, part_names, names_variables, names_labels, variable_passes, label_passes};
-ghost use Rattle.stapl_syntax.specs.Faults.{is_inside, declares_again, names_known, fits_inside};
+ghost use Rattle.stapl_syntax.specs.Faults.{declares_again, names_known, fits_inside};
+ghost use Rattle.stapl_checker.specs.Reads.{read_tree};
 ghost use Rattle.stapl_checker.specs.Tables.{found, is_below, known_in};
 
+use crate::building::{is_built, is_outer};
 use crate::names::Names;
+use crate::reading::Read;
 use stapl_lexer::Name;
-use stapl_syntax::{Body, Expr, Part, Stmt};
+use stapl_syntax::{Body, Expr, PrintPart, Stmt};
 
 // Whether each variable of an expression is declared.
 fn expr_is_known(names: &Names, expr: &Expr) -> bool
     ensures { result ≡ expr_names (λ name. is_some (found names.now.variables.entries name)) (expr_tree expr.now) }
 {
     match expr {
-        Expr::Number(_) => true,
         Expr::Scalar(name) => names.has_variable(name),
         Expr::Binary(_, left, right) => expr_is_known(names, left) && expr_is_known(names, right),
+        _ => true,
     }
 }
 
-fn part_is_known(names: &Names, part: &Part) -> bool
+fn part_is_known(names: &Names, part: &PrintPart) -> bool
     ensures { result ≡ part_names (λ name. is_some (found names.now.variables.entries name)) (part_tree part.now) }
 {
     match part {
-        Part::Text(_) => true,
-        Part::Value(expr) => expr_is_known(names, expr),
+        PrintPart::Value(expr) => expr_is_known(names, expr),
+        _ => true,
     }
 }
 
-fn parts_are_known(names: &Names, parts: &[Part]) -> bool
+fn parts_are_known(names: &Names, parts: &[PrintPart]) -> bool
     ensures { result ≡ list_all (λ part. part_names (λ name. is_some (found names.now.variables.entries name)) (part_tree part)) parts.now }
 {
     parts.iter().all(|part| part_is_known(names, part))
@@ -68,7 +70,7 @@ fn variable_is_again(names: &Names, index: u32, body: &Body) -> bool
     ensures { result ≡ variable_passes (λ name. is_below index (found names.now.variables.entries name)) (body_tree body.now) }
 {
     match body {
-        Body::Integer(name) => names.has_earlier_variable(name, index),
+        Body::Integer(name, _) => names.has_earlier_variable(name, index),
         _ => false,
     }
 }
@@ -96,23 +98,22 @@ fn names_are_known(names: &Names, statement: &Stmt) -> bool
     variables_are_known(names, &statement.body) && labels_are_known(names, &statement.body)
 }
 
-// Whether a statement may stand inside a procedure.
-fn is_inside(body: &Body) -> bool
-    ensures { result ≡ is_inside (body_tree body.now) }
+/// Whether a statement may stand at an index of a procedure that declares these names.
+fn fits(names: &Names, index: u32, statement: &Stmt) -> bool
+    ensures { result ≡ fits_inside (known_in names.now index) (Some (stmt_tree statement.now)) }
 {
-    !matches!(body, Body::Action(_, _) | Body::Procedure(_))
+    is_built(statement)
+        && !is_outer(&statement.body)
+        && !declares_again(names, index, statement)
+        && names_are_known(names, statement)
 }
 
 /// Whether a piece may stand at an index of a procedure that declares these names.
-pub fn fits_inside(names: &Names, index: u32, piece: &Option<Stmt>) -> bool
-    ensures { result ≡ fits_inside (known_in names.now index) (option_map stmt_tree piece.now) }
+pub fn fits_inside(names: &Names, index: u32, piece: &Read) -> bool
+    ensures { result ≡ fits_inside (known_in names.now index) (read_tree piece.now) }
 {
     match piece {
-        Some(statement) => {
-            is_inside(&statement.body)
-                && !declares_again(names, index, statement)
-                && names_are_known(names, statement)
-        }
-        None => false,
+        Read::Statement(statement) => fits(names, index, statement),
+        Read::Faulty(_) => false,
     }
 }

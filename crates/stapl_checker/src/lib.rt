@@ -1,13 +1,13 @@
 //! The checker: it reads a text and gives its program, or its first fault.
 #![tactic(auto)]
 
+mod building;
 mod checking;
-mod forms;
 mod judging;
+pub mod laws;
 mod names;
 mod reading;
 mod reasons;
 mod refusing;
-mod tokens;
 
 pub use checking::{CheckRefused, check};

@@ -1,15 +1,16 @@
 //! The tables of the names that a procedure declares.
 ghost use Rattle.std.specs.Prelude.{◌≡◌, ◌≤◌, ◌+◌, ◌<◌, ◌^◌, ◌∷◌, [], ◌++◌, ℕ, List, length, map, OnOk, IfOk, is_some, if◌then◌else◌};
 ghost use Rattle.std.specs.Map.{lookup};
-ghost use Rattle.std.specs.Option.{option_map};
 ghost use Rattle.std.specs.Str.{bytes_eq};
-ghost use Rattle.stapl_syntax.specs.Trees.{body_tree, stmt_tree};
+ghost use Rattle.stapl_syntax.specs.Trees.{body_tree};
 ghost use Rattle.stapl_syntax.specs.Declarations.{body_declares, is_label};
+ghost use Rattle.stapl_checker.specs.Reads.{read_tree};
 ghost use Rattle.stapl_checker.specs.Tables.{found, held_behind, is_below, Puts, PutsPiece, AreNames};
 
+use crate::reading::Read;
 use indexmap::IndexMap;
 use stapl_lexer::Name;
-use stapl_syntax::{Body, Stmt};
+use stapl_syntax::Body;
 use std::alloc::{AllocError, Global};
 
 /// The variables and labels of a procedure, each with the index of the first piece that declares it.
@@ -54,7 +55,7 @@ impl Names {
         ensures labels { self.new.labels ≡ self.old.labels }
     {
         match body {
-            Body::Integer(name) => {
+            Body::Integer(name, _) => {
                 put(&mut self.variables, *name, index)?;
                 Ok(())
             }
@@ -75,24 +76,24 @@ impl Names {
         }
     }
 
-    fn put_piece(&mut self, index: u32, piece: &Option<Stmt>) -> Result<(), AllocError>
-        ensures { OnOk result (PutsPiece index (option_map stmt_tree piece.now) self.old self.new) }
+    fn put_piece(&mut self, index: u32, piece: &Read) -> Result<(), AllocError>
+        ensures { OnOk result (PutsPiece index (read_tree piece.now) self.old self.new) }
     {
         match piece {
-            Some(statement) => {
+            Read::Statement(statement) => {
                 self.put_variable(index, &statement.body)?;
                 self.put_label(index, &statement.label)?;
                 Ok(())
             }
-            None => Ok(()),
+            Read::Faulty(_) => Ok(()),
         }
     }
 
     /// The names that these pieces of a procedure declare. The only error is want of memory. The time is linear in the number of pieces.
     #[tactic(auto, using(crate::proofs::TableLemmas::one_more, crate::proofs::TableLemmas::no_more))]
-    pub fn collect(alloc: Global, own: &[Option<Stmt>]) -> Result<Names, AllocError>
+    pub fn collect(alloc: Global, own: &[Read]) -> Result<Names, AllocError>
         requires { length own.now < 2 ^ 32 }
-        ensures { IfOk result (AreNames (map (option_map stmt_tree) own.now)) }
+        ensures { IfOk result (AreNames (map read_tree own.now)) }
     {
         let mut names = Names::empty(alloc);
         for (i, piece) in own.iter().enumerate() {

@@ -1,45 +1,43 @@
 //! What the pieces of a text are.
-ghost use Rattle.std.specs.Prelude.{◌≡◌, ◌≤◌, length, map, All, IfOk};
-ghost use Rattle.std.specs.Option.{option_map};
+ghost use Rattle.std.specs.Prelude.{◌≤◌, length, All, IfOk};
 ghost use Rattle.stapl_lexer.specs.Pieces.{LiesIn};
-ghost use Rattle.stapl_syntax.specs.Trees.{stmt_tree};
-ghost use Rattle.stapl_syntax.specs.Faults.{IsReadAs, AreReadAs};
+ghost use Rattle.stapl_checker.specs.Reads.{IsRead, AreRead};
 
-use crate::forms::form_of;
-use stapl_lexer::{LexRefused, Piece, tokens};
+use stapl_grammar::{ParseRefused, parse};
+use stapl_lexer::{Piece, Reason};
 use stapl_syntax::Stmt;
 use std::alloc::{AllocError, Global};
 
-// The statement that a piece is; none where it is none that is built.
-fn read_piece(alloc: Global, text: &[u8], piece: &Piece) -> Result<Option<Stmt>, AllocError>
+/// What a piece is: a statement, or none for the smallest of its reasons.
+#[derive(Drop)]
+pub enum Read {
+    Statement(Stmt),
+    Faulty(Reason),
+}
+
+// What a piece of a text is.
+fn read_piece(alloc: Global, text: &[u8], piece: &Piece) -> Result<Read, AllocError>
     requires small { length text.now ≤ 4194304 }
     requires lies { LiesIn text.now piece.now }
-    ensures { IfOk result (λ found. IsReadAs text.now piece.now (option_map stmt_tree found)) }
+    ensures { IfOk result (IsRead text.now piece.now) }
 {
-    match tokens(alloc, text, piece) {
-        Ok(tokens) => {
-            let statement = form_of(alloc, text, &tokens)?;
-            Ok(statement)
-        }
-        Err(LexRefused::Because(_)) => Ok(None),
-        Err(LexRefused::Memory) => Err(AllocError),
+    match parse(alloc, text, piece) {
+        Ok(statement) => Ok(Read::Statement(statement)),
+        Err(ParseRefused::Because(reason)) => Ok(Read::Faulty(reason)),
+        Err(ParseRefused::Memory) => Err(AllocError),
     }
 }
 
 /// What each piece of a text is. The only error is want of memory. The time is linear in the length of the text.
-pub fn read_pieces(
-    alloc: Global,
-    text: &[u8],
-    pieces: &[Piece],
-) -> Result<Vec<Option<Stmt>>, AllocError>
+pub fn read_pieces(alloc: Global, text: &[u8], pieces: &[Piece]) -> Result<Vec<Read>, AllocError>
     requires small { length text.now ≤ 4194304 }
     requires lie { All (LiesIn text.now) pieces.now }
-    ensures { IfOk result (λ read. AreReadAs text.now pieces.now (map (option_map stmt_tree) read.items)) }
+    ensures { IfOk result (λ read. AreRead text.now pieces.now read.items) }
 {
     let mut read = Vec::new(alloc);
     for piece in pieces {
-        let statement = read_piece(alloc, text, piece)?;
-        read.push(statement)?;
+        let one = read_piece(alloc, text, piece)?;
+        read.push(one)?;
     }
     Ok(read)
 }

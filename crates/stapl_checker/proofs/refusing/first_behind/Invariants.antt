@@ -1,8 +1,7 @@
 use Rattle.std.proofs.Common.{map}
-use Rattle.std.specs.Option.{option_map}
-use Rattle.stapl_syntax.specs.Trees.{stmt_tree}
+use Rattle.stapl_checker.specs.Reads.{read_tree}
 use Rattle.stapl_checker.specs.Verdicts.{NoneRefusedUpTo}
 use Rattle.stapl_checker.proofs.refusing.first_behind.Given as goal
 
 abbrev pub invariant-loop-i : goal.invariant-loop-i
-invariant-loop-i l = NoneRefusedUpTo (map (option_map stmt_tree) l.behind) l.i l.ended
+invariant-loop-i l = NoneRefusedUpTo (map read_tree l.behind) l.i l.ended

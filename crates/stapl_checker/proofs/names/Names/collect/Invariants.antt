@@ -1,8 +1,7 @@
 use Rattle.std.proofs.Common.{map, take}
-use Rattle.std.specs.Option.{option_map}
-use Rattle.stapl_syntax.specs.Trees.{stmt_tree}
+use Rattle.stapl_checker.specs.Reads.{read_tree}
 use Rattle.stapl_checker.specs.Tables.{AreNames}
 use Rattle.stapl_checker.proofs.names.Names.collect.Given as goal
 
 abbrev pub invariant-loop-i : goal.invariant-loop-i
-invariant-loop-i l = AreNames (map (option_map stmt_tree) (take l.i l.own)) l.names
+invariant-loop-i l = AreNames (map read_tree (take l.i l.own)) l.names
