@@ -1,6 +1,6 @@
 -- A statement does one thing: what it does as a relation is what it does as a function.
 use Rattle.std.proofs.Common.{◌≡◌, ℕ, true, false, List, [], ◌∷◌, Option, Some, None, refl, sym, ap, ◌∙◌, if◌then◌else◌, slice_get}
-use Rattle.stapl_syntax.specs.Trees.{PartTree, BodyTree, action, procedure, end_procedure, integer, assign, goto, if_then, print, exit, StmtTree}
+use Rattle.stapl_syntax.specs.Trees.{PartTree, BodyTree, end_procedure, integer, assign, goto, if_then, print, exit, StmtTree}
 use Rattle.stapl_meaning.specs.declared.events.Event.TheVariants.{Print}
 use Rattle.stapl_meaning.specs.declared.events.Ending.TheVariants.{Exit}
 use Rattle.stapl_meaning.specs.declared.values.Value.{Value}
@@ -38,14 +38,12 @@ does_done scope s _ _ (begins_next p ps chosen-is) = ap (next_chosen scope.entry
 does_done scope s _ _ (ends chosen-is) = ap (next_chosen scope.entry s) chosen-is
 
 pub done_does : (scope : Scope) (s : State) (body : BodyTree) → IsFound (done scope s body) → Does scope s body (done scope s body)
-done_does scope s (action name procedures) found = absurd found
-done_does scope s (procedure name) found = absurd found
 done_does scope s end_procedure found = at_end s.chosen refl found
   where
     at_end : (chosen : List ℕ) → s.chosen ≡ chosen → IsFound (next_chosen scope.entry s chosen) → Does scope s end_procedure (next_chosen scope.entry s chosen)
     at_end [] e found = ends e
     at_end (p ∷ ps) e found = begins_next p ps e
-done_does scope s (integer name) found = declares name
+done_does scope s (integer name None) found = declares name
 done_does scope s (assign name e) found = with_value (value_of scope.variable s.variables e) refl found
   where
     with_state : (v : Value) (g : Got State) → value_of scope.variable s.variables e ≡ Known v → assigned (scope.variable name) s v ≡ g → IsFound (with_got g (λ t. Leads [] scope.follow t)) → Does scope s (assign name e) (with_got g (λ t. Leads [] scope.follow t))
@@ -79,6 +77,7 @@ done_does scope s (exit e) found = with_value (value_of scope.variable s.variabl
     with_value (Known (Int z)) p found = exits e z p
     with_value (Known (Bit b)) p found = absurd found
     with_value Stuck p found = absurd found
+done_does scope s _ found = absurd found
 
 is_found : (scope : Scope) (s : State) (body : BodyTree) (turned : Turned) → Does scope s body turned → IsFound turned
 is_found scope s _ _ (declares name) = tt

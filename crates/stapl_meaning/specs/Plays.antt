@@ -54,8 +54,8 @@ abbrev pub play : List StmtTree → List ℕ → ℕ → Run
 play program chosen n =
     goes_on (next_chosen (entry_from program) (start chosen (zeros_of program)) chosen) (start chosen (zeros_of program)) (run program n)
 
--- how an outcome is told: a run that still goes on has spent its turns
-abbrev pub told : Outcome → Option Ending
-told (Ended ending) = Some ending
-told (Going place) = Some Spent
-told Stopped = None
+-- the ending of a run that stands so: one that still goes on has spent its turns
+abbrev pub ending_of : Outcome → Option Ending
+ending_of (Ended ending) = Some ending
+ending_of (Going place) = Some Spent
+ending_of Stopped = None

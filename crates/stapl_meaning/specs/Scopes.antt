@@ -1,7 +1,7 @@
 -- What the names of a program stand for. Source: JESD71, procedures and variables. Places are those of pieces, counted from 0.
 use Rattle.std.specs.Prelude.{ℕ, zero, suc, pos, ◌+◌, ◌&&◌, nat_eq, Bool, true, false, List, [], ◌∷◌, ◌++◌, take, Option, Some, None, if◌then◌else◌, map}
 use Rattle.std.specs.Str.{bytes_eq}
-use Rattle.stapl_syntax.specs.Trees.{BodyTree, procedure, integer, action, StmtTree}
+use Rattle.stapl_syntax.specs.Trees.{ItemTree, BodyTree, procedure, integer, action, StmtTree}
 use Rattle.stapl_meaning.specs.declared.values.Held.{Held}
 use Rattle.stapl_meaning.specs.declared.values.Held.TheVariants as held
 
@@ -15,7 +15,7 @@ pub record Scope : Type 0 where
 
 -- the statement begins a block
 abbrev pub begins_block : BodyTree → Bool
-begins_block (procedure name) = true
+begins_block (procedure name uses) = true
 begins_block _ = false
 
 -- how many blocks begin in these pieces
@@ -38,7 +38,7 @@ pub record Variable : Type 0 where
 
 -- the variable that a statement declares
 abbrev pub declared_by : ℕ → BodyTree → List Variable
-declared_by block (integer name) = record { block = block; name = name } ∷ []
+declared_by block (integer name start) = record { block = block; name = name } ∷ []
 declared_by block _ = []
 
 -- the variables of these pieces in the order of their declarations, where the first piece stands behind this block's beginning
@@ -74,7 +74,7 @@ label_from before (st ∷ rest) block name =
 
 -- the number of a procedure by its name; procedures are counted from 0
 abbrev pub procedure_before : BodyTree → List ℕ → ℕ → ℕ
-procedure_before (procedure p) name others = if bytes_eq name p then 0 else suc others
+procedure_before (procedure p uses) name others = if bytes_eq name p then 0 else suc others
 procedure_before _ name others = others
 
 abbrev pub procedure_number : List StmtTree → List ℕ → ℕ
@@ -103,10 +103,14 @@ zero_of v = held.Int (pos 0)
 abbrev pub zeros_of : List StmtTree → List Held
 zeros_of program = map zero_of (variables_of program)
 
+-- the procedure that an item of an action names, by number
+abbrev pub item_procedure : List StmtTree → ItemTree → ℕ
+item_procedure program item = procedure_number program item.0
+
 -- the procedures of the action of this name, by number: of this statement, or of others
 abbrev pub chosen_before : List StmtTree → BodyTree → List ℕ → Option (List ℕ) → Option (List ℕ)
-chosen_before program (action a procedures) name others =
-    if bytes_eq name a then Some (map (procedure_number program) procedures) else others
+chosen_before program (action a text items) name others =
+    if bytes_eq name a then Some (map (item_procedure program) items) else others
 chosen_before program _ name others = others
 
 abbrev pub chosen_from : List StmtTree → List StmtTree → List ℕ → Option (List ℕ)

@@ -1,6 +1,6 @@
 -- Turns: the execution of one piece. Source: JESD71, statements.
 use Rattle.std.specs.Prelude.{◌≡◌, ℕ, ℤ, pos, true, false, List, [], ◌∷◌, Option, Some, None, if◌then◌else◌, slice_get}
-use Rattle.stapl_syntax.specs.Trees.{ExprTree, PartTree, BodyTree, action, procedure, end_procedure, integer, assign, goto, if_then, print, exit, StmtTree}
+use Rattle.stapl_syntax.specs.Trees.{ExprTree, PartTree, BodyTree, end_procedure, integer, assign, goto, if_then, print, exit, StmtTree}
 use Rattle.stapl_meaning.specs.declared.events.Event.TheVariants.{Print}
 use Rattle.stapl_meaning.specs.declared.events.Ending.TheVariants.{Exit}
 use Rattle.stapl_meaning.specs.declared.values.Value.{Value}
@@ -11,7 +11,7 @@ use Rattle.stapl_meaning.specs.Scopes.{Scope, scope_at}
 
 -- What a statement does in a state, one case each: it leads to a place, with its events, or it ends the run.
 pub data Does (scope : Scope) (s : State) : BodyTree → Turned → Type 0 where
-  declares : (name : List ℕ) → Does scope s (integer name) (Leads [] scope.follow s)
+  declares : (name : List ℕ) → Does scope s (integer name None) (Leads [] scope.follow s)
   assigns : (name : List ℕ) (e : ExprTree) (v : Value) (t : State) → value_of scope.variable s.variables e ≡ Known v →
       assigned (scope.variable name) s v ≡ Known t → Does scope s (assign name e) (Leads [] scope.follow t)
   jumps : (name : List ℕ) → Does scope s (goto name) (Leads [] (scope.label name) s)
@@ -33,12 +33,10 @@ pub record IsTurn (program : List StmtTree) (i : ℕ) (s : State) (turned : Turn
   pub stands : slice_get program i ≡ Some statement
   pub does : Does (scope_at program i) s statement.body turned
 
--- The same as a function: what a statement does in a state.
+-- The same as a function: what a statement does in a state. A statement that is not built finds nothing to do.
 abbrev pub done : Scope → State → BodyTree → Turned
-done scope s (action name procedures) = NoTurn []
-done scope s (procedure name) = NoTurn []
 done scope s end_procedure = next_chosen scope.entry s s.chosen
-done scope s (integer name) = Leads [] scope.follow s
+done scope s (integer name None) = Leads [] scope.follow s
 done scope s (assign name e) =
     with_got (value_of scope.variable s.variables e) (λ v. with_got (assigned (scope.variable name) s v) (λ t. Leads [] scope.follow t))
 done scope s (goto name) = Leads [] (scope.label name) s
@@ -48,6 +46,7 @@ done scope s (print parts) =
     with_got (part_values scope.variable s.variables parts) (λ vs. with_got (joined parts vs) (λ text. Leads (Print text ∷ []) scope.follow s))
 done scope s (exit e) =
     with_got (value_of scope.variable s.variables e) (λ v. with_got (integer_of v) (λ code. Over [] (Exit code) s))
+done scope s _ = NoTurn []
 
 abbrev pub turn_of : Scope → State → Option StmtTree → Turned
 turn_of scope s None = NoTurn []

@@ -2,9 +2,9 @@
 use Rattle.std.specs.Prelude.{ℕ, ℤ, ◌+ℤ◌, int_lt, Bool, List, [], ◌∷◌, ◌++◌, Option, Some, slice_get}
 use Rattle.std.specs.Int.{int_wrap, w32}
 use Rattle.std.specs.Fmt.{signed_decimal}
-use Rattle.stapl_syntax.specs.declared.statement.BinOp.{BinOp}
-use Rattle.stapl_syntax.specs.declared.statement.BinOp.TheVariants.{Add, Less}
-use Rattle.stapl_syntax.specs.Trees.{ExprTree, number, scalar, binary, PartTree, string, value}
+use Rattle.stapl_syntax.specs.declared.signs.BinOp.{BinOp}
+use Rattle.stapl_syntax.specs.declared.signs.BinOp.TheVariants.{Add, Less}
+use Rattle.stapl_syntax.specs.Trees.{ExprTree, number, scalar, binary, PartTree, string, value, character}
 use Rattle.stapl_meaning.specs.declared.values.Value.{Value}
 use Rattle.stapl_meaning.specs.declared.values.Value.TheVariants.{Int, Bit}
 use Rattle.stapl_meaning.specs.declared.values.Held.{Held}
@@ -20,7 +20,7 @@ abbrev pub then_get : {A B : Type 0} → Got A → (A → Got B) → Got B
 then_get (Known x) go = go x
 then_get Stuck go = Stuck
 
--- the value of two values with an operator between them
+-- the value of two values with an operator between them, which may be one that is not built
 abbrev pub combined : BinOp → Value → Value → Got Value
 combined Add (Int a) (Int b) = Known (Int (int_wrap w32 (a +ℤ b)))
 combined Less (Int a) (Int b) = Known (Bit (int_lt a b))
@@ -33,17 +33,20 @@ scalar_of (Some (held.Bit b)) = Known (Bit b)
 scalar_of _ = Stuck
 
 module _ (variable : List ℕ → ℕ) (variables : List Held) where
-  -- The value of an expression, where a name stands for the variable of a number. Operands are taken from left to right.
+  -- The value of an expression, where a name stands for the variable of a number. Operands are taken from left to
+  -- right. An expression that is not built is stuck.
   abbrev pub value_of : ExprTree → Got Value
   value_of (number z) = Known (Int z)
   value_of (scalar name) = scalar_of (slice_get variables (variable name))
   value_of (binary op a b) = then_get (value_of a) (λ x. then_get (value_of b) (λ y. combined op x y))
+  value_of _ = Stuck
 
   -- the values of the parts of a PRINT that have one, from left to right
   abbrev pub part_values : List PartTree → Got (List Value)
   part_values [] = Known []
   part_values (string bytes ∷ parts) = part_values parts
   part_values (value e ∷ parts) = then_get (value_of e) (λ v. then_get (part_values parts) (λ vs. Known (v ∷ vs)))
+  part_values (character e ∷ parts) = Stuck
 
 -- the integer that a value is
 abbrev pub integer_of : Value → Got ℤ
@@ -66,3 +69,4 @@ joined [] (v ∷ vs) = Stuck
 joined (string bytes ∷ parts) vs = then_get (joined parts vs) (λ rest. Known (bytes ++ rest))
 joined (value e ∷ parts) [] = Stuck
 joined (value e ∷ parts) (v ∷ vs) = after_integer v (joined parts vs)
+joined (character e ∷ parts) vs = Stuck
