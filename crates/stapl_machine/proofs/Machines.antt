@@ -4,17 +4,17 @@ use Rattle.std.specs.List.{All}
 use Rattle.std.proofs.lemmas.List.{length-replicate}
 use Rattle.std.proofs.lemmas.List.Elements.{All-head, All-tail}
 use Rattle.std.proofs.lemmas.Bool.Decides.{nat_tests}
-use Rattle.stapl_meaning.specs.Plays.{Outcome, Ended, Going, Stopped, told}
+use Rattle.stapl_meaning.specs.Plays.{Outcome, Ended, Going, Stopped, ending_of}
 use Rattle.stapl_code.specs.declared.raw.VarDef.{VarDef}
 use Rattle.stapl_code.specs.Ranges.{IsVariable}
 use Rattle.stapl_code.specs.Safe.{Fits, AllFit}
 use Rattle.stapl_machine.specs.Zeros.{zero_of}
 
 -- only what no valid code meets has no ending
-pub told_none : (o : Outcome) → told o ≡ None → o ≡ Stopped
-told_none (Ended ending) e = absurd cc
-told_none (Going place) e = absurd cc
-told_none Stopped e = refl
+pub ending_none : (o : Outcome) → ending_of o ≡ None → o ≡ Stopped
+ending_none (Ended ending) e = absurd cc
+ending_none (Going place) e = absurd cc
+ending_none Stopped e = refl
 
 zero_fits_by : (v : VarDef) (b0 b1 b2 : Bool) → (v.kind == 0) ≡ b0 → (v.kind == 1) ≡ b1 → (v.kind == 2) ≡ b2 → IsVariable v → Fits v (zero_of v)
 zero_fits_by v true b1 b2 e0 e1 e2 is = rw e0 (grind (arith, nat_tests, e0))

@@ -11,14 +11,14 @@ use Rattle.stapl_meaning.specs.declared.events.Ending.TheVariants.{Exit}
 use Rattle.stapl_meaning.specs.declared.values.Held.{Held}
 use Rattle.stapl_meaning.specs.declared.values.Value.{Value}
 use Rattle.stapl_meaning.specs.States.{State, Turned, Leads, Over, NoTurn, next_chosen}
-use Rattle.stapl_meaning.specs.Plays.{Run, Ended, Stopped, after, goes_on, told}
+use Rattle.stapl_meaning.specs.Plays.{Run, Ended, Stopped, after, goes_on, ending_of}
 use Rattle.stapl_meaning.specs.Texts.{event_line}
 use Rattle.stapl_code.specs.Machine.{preceded, entry_of, stretch, begun}
 use Rattle.stapl_code.proofs.Preceded.{preceded_nothing, begun_preceded}
 use Rattle.stapl_code.specs.Safe.{entries_of}
 use Rattle.stapl_code.specs.Ticks.{ticks, ticks_then}
 use Rattle.stapl_code.specs.declared.raw.CodeLists.{CodeLists}
-use Rattle.stapl_machine.specs.declared.act.Regs.{Regs}
+use Rattle.stapl_machine.specs.declared.act.Workspace.{Workspace}
 use Rattle.stapl_machine.specs.declared.turns.Went.{Went}
 use Rattle.stapl_machine.specs.declared.turns.Went.TheVariants as went
 use Rattle.stapl_machine.specs.Acts.{state_of}
@@ -67,10 +67,10 @@ module _ {K : Type 0} {written : K → Option (List ℕ)} where
   }
 
   -- a run that is left with no event
-  pub runs_end : {whole rest : Run} {a b : Lines K} → Runs written whole a rest b → rest.events ≡ [] → RunsTo written whole a (told rest.outcome) b
+  pub runs_end : {whole rest : Run} {a b : Lines K} → Runs written whole a rest b → rest.events ≡ [] → RunsTo written whole a (ending_of rest.outcome) b
   runs_end {whole = whole} {rest = rest} r none =
       let all : whole.events ≡ r.events = ap (λ (q : Run). q.events) r.runs ∙ ap (λ (l : List Event). r.events ++ l) none ∙ append-nil r.events in
-      record { put = rw all r.put; ended = ap (λ (q : Run). told q.outcome) r.runs }
+      record { put = rw all r.put; ended = ap (λ (q : Run). ending_of q.outcome) r.runs }
 
   -- the variables behind the run
   pub runs_variables : {whole rest : Run} {a b : Lines K} → Runs written whole a rest b → whole.state.variables ≡ rest.state.variables
@@ -204,7 +204,7 @@ module _ {K : Type 0} {written : K → Option (List ℕ)} where
       let all : whole.events ≡ first.events ++ rest.events = ap (λ (q : Run). q.events) first.runs in
       record {
         put = rw (all, flat_map-append event_line first.events rest.events) (put_then first.put second.put);
-        ended = ap (λ (q : Run). told q.outcome) first.runs ∙ second.ended;
+        ended = ap (λ (q : Run). ending_of q.outcome) first.runs ∙ second.ended;
       }
 
   pub runs_then_front : {whole rest : Run} {a b c : Lines K} → Runs written whole a rest b → RunsFront written rest b c → RunsFront written whole a c
@@ -240,14 +240,14 @@ module _ {K : Type 0} {written : K → Option (List ℕ)} where
       record { front = rw (all, flat_map-append event_line d.events left.events) (front_with (flat_map event_line left.events) d.front) }
 
 -- a play from registers with no operand
-module _ (code : CodeLists) (chosen : List ℕ) (regs : Regs) (n : ℕ) (none : regs.operands ≡ []) where
-  pub play_is : begun_run code n (rest_of code 0 chosen regs) (state_of chosen regs) ≡ play_from code chosen regs.variables.items n
-  play_is = ap (λ (ops : List Value). begun_run code n (stretch (entries_of code.procedures) code.texts (length code.instrs) code.instrs ops (state_of chosen regs)) (state_of chosen regs)) none
+module _ (code : CodeLists) (chosen : List ℕ) (work : Workspace) (n : ℕ) (none : work.operands ≡ []) where
+  pub play_is : begun_run code n (rest_of code 0 chosen work) (state_of chosen work) ≡ play_from code chosen work.variables.items n
+  play_is = ap (λ (ops : List Value). begun_run code n (stretch (entries_of code.procedures) code.texts (length code.instrs) code.instrs ops (state_of chosen work)) (state_of chosen work)) none
 
-  pub play_ticks_is : ticks_from code 0 chosen regs + begun_ticks code n (rest_of code 0 chosen regs) ≡ play_ticks_from code chosen regs.variables.items n
+  pub play_ticks_is : ticks_from code 0 chosen work + begun_ticks code n (rest_of code 0 chosen work) ≡ play_ticks_from code chosen work.variables.items n
   play_ticks_is =
-      ap (λ (ops : List Value). ticks (entries_of code.procedures) code.texts (length code.instrs) code.instrs ops (state_of chosen regs)
-      + begun_ticks code n (stretch (entries_of code.procedures) code.texts (length code.instrs) code.instrs ops (state_of chosen regs))) none
+      ap (λ (ops : List Value). ticks (entries_of code.procedures) code.texts (length code.instrs) code.instrs ops (state_of chosen work)
+      + begun_ticks code n (stretch (entries_of code.procedures) code.texts (length code.instrs) code.instrs ops (state_of chosen work))) none
 
 pub play_ticks_does : (code : CodeLists) (n : ℕ) (whole rest : Turned) (events : List Event) → whole ≡ preceded events rest → begun_ticks code n whole ≡ begun_ticks code n rest
 play_ticks_does code n whole rest events e =

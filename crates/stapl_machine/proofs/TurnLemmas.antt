@@ -19,7 +19,7 @@ use Rattle.std.specs.Prelude.{slice_get, true, false}
 use Rattle.std.proofs.Common.{add-one, zero}
 use Rattle.stapl_code.specs.Ticks.{ticks, begin_ticks, tick_of, ticks_behind}
 use Rattle.stapl_code.specs.Safe.{entries_of}
-use Rattle.stapl_machine.specs.declared.act.Regs.{Regs}
+use Rattle.stapl_machine.specs.declared.act.Workspace.{Workspace}
 use Rattle.stapl_machine.specs.Acts.{state_of, step_of}
 use Rattle.stapl_machine.specs.Turns.{rest_of, ticks_from, turn_at, ticks_at, Does, DoesFront}
 
@@ -71,23 +71,23 @@ module _ (code : CodeLists) (i : ℕ) where
   abbrev pub ticks_after : List Value → State → ℕ
   ticks_after ops s = ticks (entries_of code.procedures) code.texts (length code.instrs) (drop (i + 1) code.instrs) ops s
 
-  pub one_more : (chosen : List ℕ) (regs : Regs) (x : Instr) → i < length code.instrs → x ≡ get_or code.instrs i x → (st : Step) → step_of code i x chosen regs ≡ st →
-      rest_of code i chosen regs ≡ continues st behind
-  one_more chosen regs x inside is st e =
+  pub one_more : (chosen : List ℕ) (work : Workspace) (x : Instr) → i < length code.instrs → x ≡ get_or code.instrs i x → (st : Step) → step_of code i x chosen work ≡ st →
+      rest_of code i chosen work ≡ continues st behind
+  one_more chosen work x inside is st e =
       let here : length code.instrs - suc (length (drop (i + 1) code.instrs)) ≡ i = omega (arith, length-drop (i + 1) code.instrs) in
-      let s = state_of chosen regs in
-      ap (λ l. stretch (entries_of code.procedures) code.texts (length code.instrs) l regs.operands s) (drop_more code.instrs i x inside)
-      ∙ ap (λ h. continues (step (entries_of code.procedures) code.texts h (get_or code.instrs i x) regs.operands s) behind) here
-      ∙ ap (λ y. continues (step_of code i y chosen regs) behind) (sym is) ∙ ap (λ t. continues t behind) e
+      let s = state_of chosen work in
+      ap (λ l. stretch (entries_of code.procedures) code.texts (length code.instrs) l work.operands s) (drop_more code.instrs i x inside)
+      ∙ ap (λ h. continues (step (entries_of code.procedures) code.texts h (get_or code.instrs i x) work.operands s) behind) here
+      ∙ ap (λ y. continues (step_of code i y chosen work) behind) (sym is) ∙ ap (λ t. continues t behind) e
 
-  pub one_tick : (chosen : List ℕ) (regs : Regs) (x : Instr) → i < length code.instrs → x ≡ get_or code.instrs i x → (st : Step) → step_of code i x chosen regs ≡ st →
-      ticks_from code i chosen regs ≡ tick_of x + ticks_behind st ticks_after
-  one_tick chosen regs x inside is st e =
+  pub one_tick : (chosen : List ℕ) (work : Workspace) (x : Instr) → i < length code.instrs → x ≡ get_or code.instrs i x → (st : Step) → step_of code i x chosen work ≡ st →
+      ticks_from code i chosen work ≡ tick_of x + ticks_behind st ticks_after
+  one_tick chosen work x inside is st e =
       let here : length code.instrs - suc (length (drop (i + 1) code.instrs)) ≡ i = omega (arith, length-drop (i + 1) code.instrs) in
-      let s = state_of chosen regs in
-      ap (λ l. ticks (entries_of code.procedures) code.texts (length code.instrs) l regs.operands s) (drop_more code.instrs i x inside)
-      ∙ ap (λ h. tick_of (get_or code.instrs i x) + ticks_behind (step (entries_of code.procedures) code.texts h (get_or code.instrs i x) regs.operands s) ticks_after) here
-      ∙ ap (λ y. tick_of y + ticks_behind (step_of code i y chosen regs) ticks_after) (sym is) ∙ ap (λ t. tick_of x + ticks_behind t ticks_after) e
+      let s = state_of chosen work in
+      ap (λ l. ticks (entries_of code.procedures) code.texts (length code.instrs) l work.operands s) (drop_more code.instrs i x inside)
+      ∙ ap (λ h. tick_of (get_or code.instrs i x) + ticks_behind (step (entries_of code.procedures) code.texts h (get_or code.instrs i x) work.operands s) ticks_after) here
+      ∙ ap (λ y. tick_of y + ticks_behind (step_of code i y chosen work) ticks_after) (sym is) ∙ ap (λ t. tick_of x + ticks_behind t ticks_after) e
 
 pub tick_on : (a s k t u : ℕ) → s ≡ a + k → t ≡ k + u → s + u ≡ a + t
 tick_on a s k t u e f = omega arith
@@ -135,19 +135,19 @@ lacks_ticks_at entries texts total (x ∷ rest) (suc n) s h = lacks_ticks_at ent
 lacks_ticks_at entries texts total (_ ∷ rest) zero s h = refl
 
 -- a turn that begins at a place
-pub turn_begins : (code : CodeLists) (place : ℕ) (chosen : List ℕ) (regs : Regs) → regs.operands ≡ [] → is_turn (slice_get code.instrs place) ≡ true →
-    turn_at code place (state_of chosen regs) ≡ rest_of code (place + 1) chosen regs
-turn_begins code place chosen regs none h =
-    begins_at (entries_of code.procedures) code.texts (length code.instrs) code.instrs place (state_of chosen regs) h
-    ∙ ap (λ (k : ℕ). stretch (entries_of code.procedures) code.texts (length code.instrs) (drop k code.instrs) [] (state_of chosen regs)) (sym (add-one place))
-    ∙ ap (λ (ops : List Value). stretch (entries_of code.procedures) code.texts (length code.instrs) (drop (place + 1) code.instrs) ops (state_of chosen regs)) (sym none)
+pub turn_begins : (code : CodeLists) (place : ℕ) (chosen : List ℕ) (work : Workspace) → work.operands ≡ [] → is_turn (slice_get code.instrs place) ≡ true →
+    turn_at code place (state_of chosen work) ≡ rest_of code (place + 1) chosen work
+turn_begins code place chosen work none h =
+    begins_at (entries_of code.procedures) code.texts (length code.instrs) code.instrs place (state_of chosen work) h
+    ∙ ap (λ (k : ℕ). stretch (entries_of code.procedures) code.texts (length code.instrs) (drop k code.instrs) [] (state_of chosen work)) (sym (add-one place))
+    ∙ ap (λ (ops : List Value). stretch (entries_of code.procedures) code.texts (length code.instrs) (drop (place + 1) code.instrs) ops (state_of chosen work)) (sym none)
 
-pub turn_ticks_begin : (code : CodeLists) (place : ℕ) (chosen : List ℕ) (regs : Regs) → regs.operands ≡ [] → is_turn (slice_get code.instrs place) ≡ true →
-    ticks_at code place (state_of chosen regs) ≡ 1 + ticks_from code (place + 1) chosen regs
-turn_ticks_begin code place chosen regs none h =
-    begins_ticks_at (entries_of code.procedures) code.texts (length code.instrs) code.instrs place (state_of chosen regs) h
-    ∙ ap (λ (k : ℕ). 1 + ticks (entries_of code.procedures) code.texts (length code.instrs) (drop k code.instrs) [] (state_of chosen regs)) (sym (add-one place))
-    ∙ ap (λ (ops : List Value). 1 + ticks (entries_of code.procedures) code.texts (length code.instrs) (drop (place + 1) code.instrs) ops (state_of chosen regs)) (sym none)
+pub turn_ticks_begin : (code : CodeLists) (place : ℕ) (chosen : List ℕ) (work : Workspace) → work.operands ≡ [] → is_turn (slice_get code.instrs place) ≡ true →
+    ticks_at code place (state_of chosen work) ≡ 1 + ticks_from code (place + 1) chosen work
+turn_ticks_begin code place chosen work none h =
+    begins_ticks_at (entries_of code.procedures) code.texts (length code.instrs) code.instrs place (state_of chosen work) h
+    ∙ ap (λ (k : ℕ). 1 + ticks (entries_of code.procedures) code.texts (length code.instrs) (drop k code.instrs) [] (state_of chosen work)) (sym (add-one place))
+    ∙ ap (λ (ops : List Value). 1 + ticks (entries_of code.procedures) code.texts (length code.instrs) (drop (place + 1) code.instrs) ops (state_of chosen work)) (sym none)
 
 -- and where none begins
 pub turn_lacks : (code : CodeLists) (place : ℕ) (s : State) → is_turn (slice_get code.instrs place) ≡ false → turn_at code place s ≡ NoTurn []

@@ -16,9 +16,9 @@ play_ticks_of code chosen n = play_ticks_from code chosen (zeros_of_code code) n
 
 -- what the variables of a machine hold
 abbrev pub variables_in : Machine → List Held
-variables_in machine = machine.regs.variables.items
+variables_in machine = machine.work.variables.items
 
 -- the machine is ready for a run of this code
 pub record IsPrepared (code : CodeLists) (machine : Machine) : Type 0 where
   pub variables_are : variables_in machine ≡ zeros_of_code code
-  pub none : machine.regs.operands ≡ []
+  pub none : machine.work.operands ≡ []

@@ -7,7 +7,7 @@ use Rattle.stapl_meaning.specs.declared.events.Event.{Event}
 use Rattle.stapl_meaning.specs.declared.events.Ending.{Ending}
 use Rattle.stapl_meaning.specs.declared.values.Held.{Held}
 use Rattle.stapl_meaning.specs.States.{State, Turned, next_chosen}
-use Rattle.stapl_meaning.specs.Plays.{Run, after, goes_on, told}
+use Rattle.stapl_meaning.specs.Plays.{Run, after, goes_on, ending_of}
 use Rattle.stapl_meaning.specs.Texts.{event_line}
 use Rattle.stapl_code.specs.declared.raw.CodeLists.{CodeLists}
 use Rattle.stapl_code.specs.Machine.{entry_of, code_run, begun, code_play}
@@ -51,7 +51,7 @@ pub record Runs {K : Type 0} (written : K → Option (List ℕ)) (whole : Run) (
 -- The text of the run was put, and it stands so; there is no ending where it met what no valid code meets.
 pub record RunsTo {K : Type 0} (written : K → Option (List ℕ)) (whole : Run) (old : Lines K) (ending : Option Ending) (new : Lines K) : Type 0 where
   pub put : Puts written old (flat_map event_line whole.events) new
-  pub ended : told whole.outcome ≡ ending
+  pub ended : ending_of whole.outcome ≡ ending
 
 -- A front of the text of the run was put.
 pub record RunsFront {K : Type 0} (written : K → Option (List ℕ)) (whole : Run) (old : Lines K) (new : Lines K) : Type 0 where

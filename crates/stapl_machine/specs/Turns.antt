@@ -11,7 +11,7 @@ use Rattle.stapl_code.specs.declared.raw.CodeLists.{CodeLists}
 use Rattle.stapl_code.specs.Machine.{entry_of, stretch, preceded, code_turn}
 use Rattle.stapl_code.specs.Ticks.{ticks, turn_ticks}
 use Rattle.stapl_code.specs.Safe.{entries_of}
-use Rattle.stapl_machine.specs.declared.act.Regs.{Regs}
+use Rattle.stapl_machine.specs.declared.act.Workspace.{Workspace}
 use Rattle.stapl_machine.specs.declared.turns.TurnEnd.{TurnEnd}
 use Rattle.stapl_machine.specs.declared.turns.TurnEnd.TheVariants as turn_end
 use Rattle.stapl_machine.specs.declared.turns.Went.{Went}
@@ -21,38 +21,38 @@ use Rattle.stapl_machine.specs.declared.turns.Trouble.TheVariants.{WriteFault, M
 use Rattle.stapl_machine.specs.Acts.{state_of}
 
 -- the rest of a turn from an instruction on, and how many instructions it takes
-abbrev pub rest_of : CodeLists → ℕ → List ℕ → Regs → Turned
-rest_of code i chosen regs =
-    stretch (entries_of code.procedures) code.texts (length code.instrs) (drop i code.instrs) regs.operands (state_of chosen regs)
+abbrev pub rest_of : CodeLists → ℕ → List ℕ → Workspace → Turned
+rest_of code i chosen work =
+    stretch (entries_of code.procedures) code.texts (length code.instrs) (drop i code.instrs) work.operands (state_of chosen work)
 
-abbrev pub ticks_from : CodeLists → ℕ → List ℕ → Regs → ℕ
-ticks_from code i chosen regs =
-    ticks (entries_of code.procedures) code.texts (length code.instrs) (drop i code.instrs) regs.operands (state_of chosen regs)
+abbrev pub ticks_from : CodeLists → ℕ → List ℕ → Workspace → ℕ
+ticks_from code i chosen work =
+    ticks (entries_of code.procedures) code.texts (length code.instrs) (drop i code.instrs) work.operands (state_of chosen work)
 
 -- what a turn comes to
-abbrev pub ended_so : CodeLists → List ℕ → TurnEnd → Regs → Turned
-ended_so code chosen (turn_end.To place) regs = Leads [] place (state_of chosen regs)
-ended_so code chosen turn_end.Returned regs = next_chosen (entry_of (entries_of code.procedures)) (state_of chosen regs) chosen
-ended_so code chosen (turn_end.Over k) regs = Over [] (Exit k) (state_of chosen regs)
-ended_so code chosen turn_end.Wrong regs = NoTurn []
+abbrev pub ended_so : CodeLists → List ℕ → TurnEnd → Workspace → Turned
+ended_so code chosen (turn_end.To place) work = Leads [] place (state_of chosen work)
+ended_so code chosen turn_end.Returned work = next_chosen (entry_of (entries_of code.procedures)) (state_of chosen work) chosen
+ended_so code chosen (turn_end.Over k) work = Over [] (Exit k) (state_of chosen work)
+ended_so code chosen turn_end.Wrong work = NoTurn []
 
 -- no operand is left where a turn leads on
-abbrev pub IsClean : TurnEnd → Regs → Type 0
-IsClean turn_end.Wrong regs = Unit {0}
-IsClean _ regs = regs.operands ≡ []
+abbrev pub IsClean : TurnEnd → Workspace → Type 0
+IsClean turn_end.Wrong work = Unit {0}
+IsClean _ work = work.operands ≡ []
 
 -- what follows an instruction, which may have ended the turn
-abbrev pub behind_it : CodeLists → ℕ → List ℕ → Option TurnEnd → Regs → Turned
-behind_it code i chosen None regs = rest_of code (i + 1) chosen regs
-behind_it code i chosen (Some e) regs = ended_so code chosen e regs
+abbrev pub behind_it : CodeLists → ℕ → List ℕ → Option TurnEnd → Workspace → Turned
+behind_it code i chosen None work = rest_of code (i + 1) chosen work
+behind_it code i chosen (Some e) work = ended_so code chosen e work
 
-abbrev pub ticks_behind_it : CodeLists → ℕ → List ℕ → Option TurnEnd → Regs → ℕ
-ticks_behind_it code i chosen None regs = ticks_from code (i + 1) chosen regs
-ticks_behind_it code i chosen (Some e) regs = 0
+abbrev pub ticks_behind_it : CodeLists → ℕ → List ℕ → Option TurnEnd → Workspace → ℕ
+ticks_behind_it code i chosen None work = ticks_from code (i + 1) chosen work
+ticks_behind_it code i chosen (Some e) work = 0
 
-abbrev pub IsCleanBehind : Option TurnEnd → Regs → Type 0
-IsCleanBehind None regs = Unit {0}
-IsCleanBehind (Some e) regs = IsClean e regs
+abbrev pub IsCleanBehind : Option TurnEnd → Workspace → Type 0
+IsCleanBehind None work = Unit {0}
+IsCleanBehind (Some e) work = IsClean e work
 
 -- the turn at a place, and how many instructions it takes
 abbrev pub turn_at : CodeLists → ℕ → State → Turned
@@ -62,8 +62,8 @@ abbrev pub ticks_at : CodeLists → ℕ → State → ℕ
 ticks_at code place s = turn_ticks (entries_of code.procedures) code.texts code.instrs place s
 
 -- the state with these procedures still to run
-abbrev pub state_from : List ℕ → ℕ → Regs → State
-state_from chosen next regs = state_of (drop next chosen) regs
+abbrev pub state_from : List ℕ → ℕ → Workspace → State
+state_from chosen next work = state_of (drop next chosen) work
 
 -- where a turn led, with the next procedure begun
 abbrev pub led_to : Went → State → Turned
@@ -71,9 +71,9 @@ led_to (went.On place) s = Leads [] place s
 led_to (went.Over k) s = Over [] (Exit k) s
 led_to went.Wrong s = NoTurn []
 
-abbrev pub IsCleanOn : Went → Regs → Type 0
-IsCleanOn (went.On place) regs = regs.operands ≡ []
-IsCleanOn _ regs = Unit {0}
+abbrev pub IsCleanOn : Went → Workspace → Type 0
+IsCleanOn (went.On place) work = work.operands ≡ []
+IsCleanOn _ work = Unit {0}
 
 -- the next procedure began here, or none is left
 abbrev pub Began : Option ℕ → State → Turned

@@ -15,7 +15,7 @@ use stapl_meaning::{Held, Value};
 
 /// What a run keeps: the variables, the operands, and what the last Print took and printed.
 #[derive(Drop)]
-pub struct Regs {
+pub struct Workspace {
     pub variables: Vec<Held>,
     pub operands: Stack<Value>,
     pub values: Stack<Value>,
@@ -85,19 +85,19 @@ pub fn entry(procedures: &[ProcDef], procedure: u32) -> u32
 }
 
 // Joins the text of a Print.
-fn print(code: &CodeLists, list: &[PrintPart], regs: &mut Regs) -> Result<Moved, Stop>
-    ensures prints { IfOk result (λ moved. (here : ℕ) (chosen : List ℕ) → step_of code.now here (instrs.Print list.now) chosen regs.old ≡ stepped code.now chosen moved regs.new) }
-    ensures wrong { IfErr result (λ stop. IfWrong stop ((here : ℕ) (chosen : List ℕ) → step_of code.now here (instrs.Print list.now) chosen regs.old ≡ machine.Wrong)) }
+fn print(code: &CodeLists, list: &[PrintPart], work: &mut Workspace) -> Result<Moved, Stop>
+    ensures prints { IfOk result (λ moved. (here : ℕ) (chosen : List ℕ) → step_of code.now here (instrs.Print list.now) chosen work.old ≡ stepped code.now chosen moved work.new) }
+    ensures wrong { IfErr result (λ stop. IfWrong stop ((here : ℕ) (chosen : List ℕ) → step_of code.now here (instrs.Print list.now) chosen work.old ≡ machine.Wrong)) }
 {
-    match take_operands(list, &mut regs.operands, &mut regs.values) {
+    match take_operands(list, &mut work.operands, &mut work.values) {
         Ok(()) => {}
         Err(stop) => return Err(stop),
     }
     match join(
         code.texts.as_slice(),
         list,
-        &mut regs.values,
-        &mut regs.text,
+        &mut work.values,
+        &mut work.text,
     ) {
         Ok(()) => Ok(Moved::Printed),
         Err(stop) => Err(stop),
@@ -105,44 +105,44 @@ fn print(code: &CodeLists, list: &[PrintPart], regs: &mut Regs) -> Result<Moved,
 }
 
 /// Carries out an instruction that stands at a place.
-pub fn act(code: &CodeLists, here: u32, instr: &Instr, regs: &mut Regs) -> Result<Moved, Stop>
-    ensures steps { IfOk result (λ moved. (chosen : List ℕ) → step_of code.now here instr.now chosen regs.old ≡ stepped code.now chosen moved regs.new) }
-    ensures wrong { IfErr result (λ stop. IfWrong stop ((chosen : List ℕ) → step_of code.now here instr.now chosen regs.old ≡ machine.Wrong)) }
+pub fn act(code: &CodeLists, here: u32, instr: &Instr, work: &mut Workspace) -> Result<Moved, Stop>
+    ensures steps { IfOk result (λ moved. (chosen : List ℕ) → step_of code.now here instr.now chosen work.old ≡ stepped code.now chosen moved work.new) }
+    ensures wrong { IfErr result (λ stop. IfWrong stop ((chosen : List ℕ) → step_of code.now here instr.now chosen work.old ≡ machine.Wrong)) }
 {
     match instr {
         Instr::Turn(_) => Ok(Moved::To(here)),
         Instr::Push(value) => {
-            push(&mut regs.operands, Value::Int(*value))?;
+            push(&mut work.operands, Value::Int(*value))?;
             Ok(Moved::On)
         }
         Instr::Load(n) => {
-            let value = want(load(&regs.variables, *n))?;
-            push(&mut regs.operands, value)?;
+            let value = want(load(&work.variables, *n))?;
+            push(&mut work.operands, value)?;
             Ok(Moved::On)
         }
         Instr::Store(n) => {
-            let value = pop(&mut regs.operands)?;
-            if !store(&mut regs.variables, *n, value) {
+            let value = pop(&mut work.operands)?;
+            if !store(&mut work.variables, *n, value) {
                 return Err(Stop::Wrong);
             }
             Ok(Moved::On)
         }
         Instr::Binary(op) => {
-            let right = pop(&mut regs.operands)?;
-            let left = pop(&mut regs.operands)?;
+            let right = pop(&mut work.operands)?;
+            let left = pop(&mut work.operands)?;
             let value = want(operate(*op, left, right))?;
-            push(&mut regs.operands, value)?;
+            push(&mut work.operands, value)?;
             Ok(Moved::On)
         }
         Instr::Jump(to) => Ok(Moved::To(*to)),
-        Instr::JumpIfZero(to) => match pop(&mut regs.operands)? {
+        Instr::JumpIfZero(to) => match pop(&mut work.operands)? {
             Value::Bit(true) => Ok(Moved::On),
             Value::Bit(false) => Ok(Moved::To(*to)),
             Value::Int(_) => Err(Stop::Wrong),
         },
         Instr::EndProc => Ok(Moved::Returned),
-        Instr::Print(list) => print(code, list.as_slice(), regs),
-        Instr::Exit => match pop(&mut regs.operands)? {
+        Instr::Print(list) => print(code, list.as_slice(), work),
+        Instr::Exit => match pop(&mut work.operands)? {
             Value::Int(code) => Ok(Moved::Over(code)),
             Value::Bit(_) => Err(Stop::Wrong),
         },

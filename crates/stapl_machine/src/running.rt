@@ -3,13 +3,13 @@ ghost use Rattle.std.specs.Prelude.{◌≡◌, ◌≤◌, ◌+◌, ◌*◌, leng
 ghost use Rattle.std.specs.List.{flat_map};
 ghost use Rattle.tool_io.specs.Causes.{HasRisen};
 ghost use Rattle.tool_io.specs.Lines.{IsWhole, IsOverSame, SinkNeverFalls, sink_of, Puts, PutsFront};
-ghost use Rattle.stapl_meaning.specs.Plays.{told};
+ghost use Rattle.stapl_meaning.specs.Plays.{ending_of};
 ghost use Rattle.stapl_meaning.specs.Texts.{event_line};
 ghost use Rattle.stapl_code.specs.Safe.{AllBelow};
 ghost use Rattle.stapl_machine.specs.Turns.{IfFault};
 ghost use Rattle.stapl_machine.specs.Machines.{play_of, play_ticks_of, IsPrepared, variables_in};
 
-use crate::act::Regs;
+use crate::act::Workspace;
 use crate::runs::play;
 use crate::turns::Trouble;
 use crate::zeros::zeros;
@@ -24,7 +24,7 @@ use tool_io::{Lines, Sink};
 /// The stack machine, for one run of a code.
 #[derive(Drop)]
 pub struct Machine {
-    regs: Regs,
+    work: Workspace,
 }
 
 impl Machine {
@@ -37,7 +37,7 @@ impl Machine {
         let lists = code.raw().lists();
         let variables = zeros(alloc, lists.variables.as_slice())?;
         Ok(Machine {
-            regs: Regs {
+            work: Workspace {
                 variables,
                 operands: Stack::new(alloc),
                 values: Stack::new(alloc),
@@ -63,7 +63,7 @@ impl Machine {
         requires whole { IsWhole out.old }
         ensures same_sink { IsOverSame out.old out.new }
         ensures whole { OnOk result (IsWhole out.new) }
-        ensures ended { IfOk result (λ ending. told (play_of code.now chosen.now turns).outcome ≡ Some ending) }
+        ensures ended { IfOk result (λ ending. ending_of (play_of code.now chosen.now turns).outcome ≡ Some ending) }
         ensures put { OnOk result (Puts K.written out.old (flat_map event_line (play_of code.now chosen.now turns).events) out.new) }
         ensures variables { OnOk result ((play_of code.now chosen.now turns).state.variables ≡ variables_in self.new) }
         ensures front { OnErr result (PutsFront K.written out.old (flat_map event_line (play_of code.now chosen.now turns).events) out.new) }
@@ -76,7 +76,7 @@ impl Machine {
         never_stuck();
         plays_are_bounded();
         let lists = code.raw().lists();
-        match play(lists, chosen, &mut self.regs, out, turns, steps) {
+        match play(lists, chosen, &mut self.work, out, turns, steps) {
             Ok(Some(ending)) => Ok(ending),
             Ok(None) => unreachable!(),
             Err(trouble) => Err(trouble),

@@ -15,7 +15,7 @@ ghost use Rattle.stapl_code.specs.Valid.{is_turn};
 ghost use Rattle.stapl_machine.specs.Acts.{state_of, stepped};
 ghost use Rattle.stapl_machine.specs.Turns.{rest_of, ticks_from, ended_so, IsClean, behind_it, ticks_behind_it, IsCleanBehind, turn_at, ticks_at, state_from, led_to, IsCleanOn, Began, Does, DoesFront, IfFault};
 
-use crate::act::{Moved, Regs, Stop, act, entry};
+use crate::act::{Moved, Stop, Workspace, act, entry};
 use crate::writing::put_print;
 use base::Steps;
 use stapl_code::{CodeLists, Instr};
@@ -50,14 +50,14 @@ pub enum Went {
 }
 
 // What a turn comes to where an instruction leads elsewhere.
-fn end_of(moved: Moved, regs: &Regs) -> TurnEnd
+fn end_of(moved: Moved, work: &Workspace) -> TurnEnd
     requires on { moved ≢ Moved.On }
     requires printed { moved ≢ Moved.Printed }
-    ensures ends { (code : CodeLists) (chosen : List ℕ) (go : List Value → State → Turned) → continues (stepped code chosen moved regs.now) go ≡ ended_so code chosen result regs.now }
-    ensures ticks { (code : CodeLists) (chosen : List ℕ) (go : List Value → State → ℕ) → ticks_behind (stepped code chosen moved regs.now) go ≡ 0 }
-    ensures clean { IsClean result regs.now }
+    ensures ends { (code : CodeLists) (chosen : List ℕ) (go : List Value → State → Turned) → continues (stepped code chosen moved work.now) go ≡ ended_so code chosen result work.now }
+    ensures ticks { (code : CodeLists) (chosen : List ℕ) (go : List Value → State → ℕ) → ticks_behind (stepped code chosen moved work.now) go ≡ 0 }
+    ensures clean { IsClean result work.now }
 {
-    if regs.operands.len() != 0 {
+    if work.operands.len() != 0 {
         return TurnEnd::Wrong;
     }
     match moved {
@@ -98,7 +98,7 @@ fn tell<K: Sink>(out: &mut Lines<K>, text: &[u8]) -> Result<(), Trouble>
 fn carry_out<K: Sink, L: Ledger>(
     code: &CodeLists,
     i: usize,
-    regs: &mut Regs,
+    work: &mut Workspace,
     out: &mut Lines<K>,
     steps: &mut Steps<L>,
 ) -> Result<Option<TurnEnd>, Trouble>
@@ -107,25 +107,25 @@ fn carry_out<K: Sink, L: Ledger>(
     requires whole { IsWhole out.old }
     ensures same_sink { IsOverSame out.old out.new }
     ensures whole { OnOk result (IsWhole out.new) }
-    ensures does { IfOk result (λ end. (chosen : List ℕ) → Does K.written (rest_of code.now i chosen regs.old) out.old (behind_it code.now i chosen end regs.new) out.new) }
-    ensures front { OnErr result ((chosen : List ℕ) → DoesFront K.written (rest_of code.now i chosen regs.old) out.old out.new) }
-    ensures clean { IfOk result (λ end. IsCleanBehind end regs.new) }
-    ensures ticks { IfOk result (λ end. (chosen : List ℕ) → steps.new + ticks_behind_it code.now i chosen end regs.new ≡ steps.old + ticks_from code.now i chosen regs.old) }
-    ensures most { OnErr result ((chosen : List ℕ) → steps.new ≤ steps.old + ticks_from code.now i chosen regs.old) }
+    ensures does { IfOk result (λ end. (chosen : List ℕ) → Does K.written (rest_of code.now i chosen work.old) out.old (behind_it code.now i chosen end work.new) out.new) }
+    ensures front { OnErr result ((chosen : List ℕ) → DoesFront K.written (rest_of code.now i chosen work.old) out.old out.new) }
+    ensures clean { IfOk result (λ end. IsCleanBehind end work.new) }
+    ensures ticks { IfOk result (λ end. (chosen : List ℕ) → steps.new + ticks_behind_it code.now i chosen end work.new ≡ steps.old + ticks_from code.now i chosen work.old) }
+    ensures most { OnErr result ((chosen : List ℕ) → steps.new ≤ steps.old + ticks_from code.now i chosen work.old) }
     ensures kept { SinkNeverFalls K.faults K.is_last out.old out.new }
     ensures fault { IfErr result (λ e. IfFault e (HasRisen K.faults K.is_last (sink_of out.old) (sink_of out.new))) }
 {
     let instr = &code.instrs.as_slice()[i];
     count(instr, steps);
-    match act(code, i as u32, instr, regs) {
+    match act(code, i as u32, instr, work) {
         Ok(Moved::On) => Ok(None),
         Ok(Moved::Printed) => {
-            match tell(out, &regs.text) {
+            match tell(out, &work.text) {
                 Ok(()) => Ok(None),
                 Err(trouble) => Err(trouble),
             }
         }
-        Ok(moved) => Ok(Some(end_of(moved, regs))),
+        Ok(moved) => Ok(Some(end_of(moved, work))),
         Err(Stop::Wrong) => Ok(Some(TurnEnd::Wrong)),
         Err(Stop::Memory) => Err(Trouble::Memory),
     }
@@ -135,7 +135,7 @@ fn carry_out<K: Sink, L: Ledger>(
 pub fn rest_of_turn<K: Sink, L: Ledger>(
     code: &CodeLists,
     from: usize,
-    regs: &mut Regs,
+    work: &mut Workspace,
     out: &mut Lines<K>,
     steps: &mut Steps<L>,
 ) -> Result<TurnEnd, Trouble>
@@ -143,16 +143,16 @@ pub fn rest_of_turn<K: Sink, L: Ledger>(
     requires whole { IsWhole out.old }
     ensures same_sink { IsOverSame out.old out.new }
     ensures whole { OnOk result (IsWhole out.new) }
-    ensures does { IfOk result (λ end. (chosen : List ℕ) → Does K.written (rest_of code.now from chosen regs.old) out.old (ended_so code.now chosen end regs.new) out.new) }
-    ensures front { OnErr result ((chosen : List ℕ) → DoesFront K.written (rest_of code.now from chosen regs.old) out.old out.new) }
-    ensures clean { IfOk result (λ end. IsClean end regs.new) }
-    ensures ticks { OnOk result ((chosen : List ℕ) → steps.new ≡ steps.old + ticks_from code.now from chosen regs.old) }
-    ensures most { OnErr result ((chosen : List ℕ) → steps.new ≤ steps.old + ticks_from code.now from chosen regs.old) }
+    ensures does { IfOk result (λ end. (chosen : List ℕ) → Does K.written (rest_of code.now from chosen work.old) out.old (ended_so code.now chosen end work.new) out.new) }
+    ensures front { OnErr result ((chosen : List ℕ) → DoesFront K.written (rest_of code.now from chosen work.old) out.old out.new) }
+    ensures clean { IfOk result (λ end. IsClean end work.new) }
+    ensures ticks { OnOk result ((chosen : List ℕ) → steps.new ≡ steps.old + ticks_from code.now from chosen work.old) }
+    ensures most { OnErr result ((chosen : List ℕ) → steps.new ≤ steps.old + ticks_from code.now from chosen work.old) }
     ensures kept { SinkNeverFalls K.faults K.is_last out.old out.new }
     ensures fault { IfErr result (λ e. IfFault e (HasRisen K.faults K.is_last (sink_of out.old) (sink_of out.new))) }
 {
     for i in from..code.instrs.len() {
-        match carry_out(code, i, regs, out, steps) {
+        match carry_out(code, i, work, out, steps) {
             Ok(None) => {}
             Ok(Some(end)) => return Ok(end),
             Err(trouble) => return Err(trouble),
@@ -175,20 +175,20 @@ fn begins_turn(instrs: &[Instr], i: usize) -> bool
 fn turn<K: Sink, L: Ledger>(
     code: &CodeLists,
     place: u32,
-    regs: &mut Regs,
+    work: &mut Workspace,
     out: &mut Lines<K>,
     steps: &mut Steps<L>,
 ) -> Result<TurnEnd, Trouble>
     requires countable { length code.now.instrs < 2 ^ 32 }
-    requires none { regs.old.operands ≡ [] }
+    requires none { work.old.operands ≡ [] }
     requires whole { IsWhole out.old }
     ensures same_sink { IsOverSame out.old out.new }
     ensures whole { OnOk result (IsWhole out.new) }
-    ensures does { IfOk result (λ end. (chosen : List ℕ) → Does K.written (turn_at code.now place (state_of chosen regs.old)) out.old (ended_so code.now chosen end regs.new) out.new) }
-    ensures front { OnErr result ((chosen : List ℕ) → DoesFront K.written (turn_at code.now place (state_of chosen regs.old)) out.old out.new) }
-    ensures clean { IfOk result (λ end. IsClean end regs.new) }
-    ensures ticks { OnOk result ((chosen : List ℕ) → steps.new ≡ steps.old + ticks_at code.now place (state_of chosen regs.old)) }
-    ensures most { OnErr result ((chosen : List ℕ) → steps.new ≤ steps.old + ticks_at code.now place (state_of chosen regs.old)) }
+    ensures does { IfOk result (λ end. (chosen : List ℕ) → Does K.written (turn_at code.now place (state_of chosen work.old)) out.old (ended_so code.now chosen end work.new) out.new) }
+    ensures front { OnErr result ((chosen : List ℕ) → DoesFront K.written (turn_at code.now place (state_of chosen work.old)) out.old out.new) }
+    ensures clean { IfOk result (λ end. IsClean end work.new) }
+    ensures ticks { OnOk result ((chosen : List ℕ) → steps.new ≡ steps.old + ticks_at code.now place (state_of chosen work.old)) }
+    ensures most { OnErr result ((chosen : List ℕ) → steps.new ≤ steps.old + ticks_at code.now place (state_of chosen work.old)) }
     ensures kept { SinkNeverFalls K.faults K.is_last out.old out.new }
     ensures fault { IfErr result (λ e. IfFault e (HasRisen K.faults K.is_last (sink_of out.old) (sink_of out.new))) }
 {
@@ -196,7 +196,7 @@ fn turn<K: Sink, L: Ledger>(
         return Ok(TurnEnd::Wrong);
     }
     steps.tick();
-    match rest_of_turn(code, place as usize + 1, regs, out, steps) {
+    match rest_of_turn(code, place as usize + 1, work, out, steps) {
         Ok(end) => Ok(end),
         Err(trouble) => Err(trouble),
     }
@@ -205,7 +205,7 @@ fn turn<K: Sink, L: Ledger>(
 /// The place where the next chosen procedure begins.
 pub fn next_place(code: &CodeLists, chosen: &[u32], next: &mut usize) -> Option<u32>
     requires { next.old ≤ length chosen.now }
-    ensures begun { (regs : Regs) → next_chosen (entry_of (entries_of code.now.procedures)) (state_from chosen.now next.old regs) (drop next.old chosen.now) ≡ Began result (state_from chosen.now next.new regs) }
+    ensures begun { (work : Workspace) → next_chosen (entry_of (entries_of code.now.procedures)) (state_from chosen.now next.old work) (drop next.old chosen.now) ≡ Began result (state_from chosen.now next.new work) }
     ensures within { next.new ≤ length chosen.now }
 {
     if *next >= chosen.len() {
@@ -219,9 +219,9 @@ pub fn next_place(code: &CodeLists, chosen: &[u32], next: &mut usize) -> Option<
 /// Where a turn went that ended so, with the next chosen procedure begun where its own is over.
 pub fn begin_next(code: &CodeLists, chosen: &[u32], next: &mut usize, end: TurnEnd) -> Went
     requires { next.old ≤ length chosen.now }
-    ensures goes { (regs : Regs) → ended_so code.now (drop next.old chosen.now) end regs ≡ led_to result (state_from chosen.now next.new regs) }
+    ensures goes { (work : Workspace) → ended_so code.now (drop next.old chosen.now) end work ≡ led_to result (state_from chosen.now next.new work) }
     ensures within { next.new ≤ length chosen.now }
-    ensures clean { (regs : Regs) → IsClean end regs → IsCleanOn result regs }
+    ensures clean { (work : Workspace) → IsClean end work → IsCleanOn result work }
 {
     match end {
         TurnEnd::To(to) => Went::On(to),
@@ -240,26 +240,26 @@ pub fn turn_on<K: Sink, L: Ledger>(
     chosen: &[u32],
     next: &mut usize,
     place: u32,
-    regs: &mut Regs,
+    work: &mut Workspace,
     out: &mut Lines<K>,
     steps: &mut Steps<L>,
 ) -> Result<Went, Trouble>
     requires countable { length code.now.instrs < 2 ^ 32 }
-    requires none { regs.old.operands ≡ [] }
+    requires none { work.old.operands ≡ [] }
     requires within { next.old ≤ length chosen.now }
     requires whole { IsWhole out.old }
     ensures same_sink { IsOverSame out.old out.new }
     ensures whole { OnOk result (IsWhole out.new) }
-    ensures does { IfOk result (λ went. Does K.written (turn_at code.now place (state_from chosen.now next.old regs.old)) out.old (led_to went (state_from chosen.now next.new regs.new)) out.new) }
-    ensures front { OnErr result (DoesFront K.written (turn_at code.now place (state_from chosen.now next.old regs.old)) out.old out.new) }
-    ensures clean { IfOk result (λ went. IsCleanOn went regs.new) }
+    ensures does { IfOk result (λ went. Does K.written (turn_at code.now place (state_from chosen.now next.old work.old)) out.old (led_to went (state_from chosen.now next.new work.new)) out.new) }
+    ensures front { OnErr result (DoesFront K.written (turn_at code.now place (state_from chosen.now next.old work.old)) out.old out.new) }
+    ensures clean { IfOk result (λ went. IsCleanOn went work.new) }
     ensures inside { next.new ≤ length chosen.now }
-    ensures ticks { OnOk result (steps.new ≡ steps.old + ticks_at code.now place (state_from chosen.now next.old regs.old)) }
-    ensures most { OnErr result (steps.new ≤ steps.old + ticks_at code.now place (state_from chosen.now next.old regs.old)) }
+    ensures ticks { OnOk result (steps.new ≡ steps.old + ticks_at code.now place (state_from chosen.now next.old work.old)) }
+    ensures most { OnErr result (steps.new ≤ steps.old + ticks_at code.now place (state_from chosen.now next.old work.old)) }
     ensures kept { SinkNeverFalls K.faults K.is_last out.old out.new }
     ensures fault { IfErr result (λ e. IfFault e (HasRisen K.faults K.is_last (sink_of out.old) (sink_of out.new))) }
 {
-    match turn(code, place, regs, out, steps) {
+    match turn(code, place, work, out, steps) {
         Ok(end) => Ok(begin_next(code, chosen, next, end)),
         Err(trouble) => Err(trouble),
     }

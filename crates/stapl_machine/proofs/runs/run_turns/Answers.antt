@@ -10,7 +10,7 @@ use Rattle.stapl_machine.proofs.runs.run_turns.Goals as goal
 
 pub loop-turn-init : goal.loop-turn-init
 loop-turn-init g c =
-    let s = state_from c.args.chosen.now c.args.next.now c.args.regs.now in
+    let s = state_from c.args.chosen.now c.args.next.now c.args.work.now in
     record {
       same_sink = search rules;
       whole = search rules;
@@ -24,7 +24,7 @@ loop-turn-init g c =
 pub loop-turn-preserved : goal.loop-turn-preserved
 loop-turn-preserved g c =
     let code = c.args.code.now in let chosen = c.args.chosen.now in let place = c.loop-turn.place in
-    let s = state_from chosen c.loop-turn.next c.loop-turn.regs in let u = state_from chosen c.turn_on.new.next c.turn_on.new.regs in
+    let s = state_from chosen c.loop-turn.next c.loop-turn.work in let u = state_from chosen c.turn_on.new.next c.turn_on.new.work in
     let left = c.args.turns - c.loop-turn._turn in let more = c.args.turns - (c.loop-turn._turn + 1) in
     let e : left ≡ suc more = one_left c.args.turns c.loop-turn._turn c.loop-turn-test.true in
     let d = does_same (ap (λ w. led_to w u) c.in-Ok-On.field-0-is) (c.in-Ok-On.ensures.does) in
@@ -41,7 +41,7 @@ loop-turn-preserved g c =
 pub returns-in-Ok-Over-clause-runs : goal.returns-in-Ok-Over-clause-runs
 returns-in-Ok-Over-clause-runs g c =
     let code = c.args.code.now in let chosen = c.args.chosen.now in let place = c.loop-turn.place in
-    let s = state_from chosen c.loop-turn.next c.loop-turn.regs in let u = state_from chosen c.turn_on.new.next c.turn_on.new.regs in
+    let s = state_from chosen c.loop-turn.next c.loop-turn.work in let u = state_from chosen c.turn_on.new.next c.turn_on.new.work in
     let left = c.args.turns - c.loop-turn._turn in let more = c.args.turns - (c.loop-turn._turn + 1) in
     let e : left ≡ suc more = one_left c.args.turns c.loop-turn._turn c.loop-turn-test.true in
     let d = does_same (ap (λ w. led_to w u) c.in-Ok-Over.field-0-is) (c.in-Ok-Over.ensures.does) in
@@ -51,7 +51,7 @@ returns-in-Ok-Over-clause-runs g c =
 pub returns-in-Ok-Over-clause-variables : goal.returns-in-Ok-Over-clause-variables
 returns-in-Ok-Over-clause-variables g c =
     let code = c.args.code.now in let chosen = c.args.chosen.now in let place = c.loop-turn.place in
-    let s = state_from chosen c.loop-turn.next c.loop-turn.regs in let u = state_from chosen c.turn_on.new.next c.turn_on.new.regs in
+    let s = state_from chosen c.loop-turn.next c.loop-turn.work in let u = state_from chosen c.turn_on.new.next c.turn_on.new.work in
     let left = c.args.turns - c.loop-turn._turn in let more = c.args.turns - (c.loop-turn._turn + 1) in
     let e : left ≡ suc more = one_left c.args.turns c.loop-turn._turn c.loop-turn-test.true in
     let d = does_same (ap (λ w. led_to w u) c.in-Ok-Over.field-0-is) (c.in-Ok-Over.ensures.does) in
@@ -60,7 +60,7 @@ returns-in-Ok-Over-clause-variables g c =
 pub returns-in-Ok-Over-clause-ticks : goal.returns-in-Ok-Over-clause-ticks
 returns-in-Ok-Over-clause-ticks g c =
     let code = c.args.code.now in let chosen = c.args.chosen.now in let place = c.loop-turn.place in
-    let s = state_from chosen c.loop-turn.next c.loop-turn.regs in let u = state_from chosen c.turn_on.new.next c.turn_on.new.regs in
+    let s = state_from chosen c.loop-turn.next c.loop-turn.work in let u = state_from chosen c.turn_on.new.next c.turn_on.new.work in
     let left = c.args.turns - c.loop-turn._turn in let more = c.args.turns - (c.loop-turn._turn + 1) in
     let e : left ≡ suc more = one_left c.args.turns c.loop-turn._turn c.loop-turn-test.true in
     let d = does_same (ap (λ w. led_to w u) c.in-Ok-Over.field-0-is) (c.in-Ok-Over.ensures.does) in
@@ -69,7 +69,7 @@ returns-in-Ok-Over-clause-ticks g c =
 pub returns-in-Ok-Wrong-clause-runs : goal.returns-in-Ok-Wrong-clause-runs
 returns-in-Ok-Wrong-clause-runs g c =
     let code = c.args.code.now in let chosen = c.args.chosen.now in let place = c.loop-turn.place in
-    let s = state_from chosen c.loop-turn.next c.loop-turn.regs in let u = state_from chosen c.turn_on.new.next c.turn_on.new.regs in
+    let s = state_from chosen c.loop-turn.next c.loop-turn.work in let u = state_from chosen c.turn_on.new.next c.turn_on.new.work in
     let left = c.args.turns - c.loop-turn._turn in let more = c.args.turns - (c.loop-turn._turn + 1) in
     let e : left ≡ suc more = one_left c.args.turns c.loop-turn._turn c.loop-turn-test.true in
     let d = does_same (ap (λ w. led_to w u) c.in-Ok-Wrong.field-0-is) (c.in-Ok-Wrong.ensures.does) in
@@ -78,7 +78,7 @@ returns-in-Ok-Wrong-clause-runs g c =
 pub returns-in-Ok-Wrong-clause-ticks : goal.returns-in-Ok-Wrong-clause-ticks
 returns-in-Ok-Wrong-clause-ticks g c =
     let code = c.args.code.now in let chosen = c.args.chosen.now in let place = c.loop-turn.place in
-    let s = state_from chosen c.loop-turn.next c.loop-turn.regs in let u = state_from chosen c.turn_on.new.next c.turn_on.new.regs in
+    let s = state_from chosen c.loop-turn.next c.loop-turn.work in let u = state_from chosen c.turn_on.new.next c.turn_on.new.work in
     let left = c.args.turns - c.loop-turn._turn in let more = c.args.turns - (c.loop-turn._turn + 1) in
     let e : left ≡ suc more = one_left c.args.turns c.loop-turn._turn c.loop-turn-test.true in
     let d = does_same (ap (λ w. led_to w u) c.in-Ok-Wrong.field-0-is) (c.in-Ok-Wrong.ensures.does) in
@@ -87,7 +87,7 @@ returns-in-Ok-Wrong-clause-ticks g c =
 pub returns-in-Err-clause-front : goal.returns-in-Err-clause-front
 returns-in-Err-clause-front g c =
     let code = c.args.code.now in let chosen = c.args.chosen.now in let place = c.loop-turn.place in
-    let s = state_from chosen c.loop-turn.next c.loop-turn.regs in let u = state_from chosen c.turn_on.new.next c.turn_on.new.regs in
+    let s = state_from chosen c.loop-turn.next c.loop-turn.work in let u = state_from chosen c.turn_on.new.next c.turn_on.new.work in
     let left = c.args.turns - c.loop-turn._turn in let more = c.args.turns - (c.loop-turn._turn + 1) in
     let e : left ≡ suc more = one_left c.args.turns c.loop-turn._turn c.loop-turn-test.true in
     run_front code left more place s u e c.loop-turn.invariant.runs c.in-Err.ensures.front
@@ -95,7 +95,7 @@ returns-in-Err-clause-front g c =
 pub returns-in-Err-clause-most : goal.returns-in-Err-clause-most
 returns-in-Err-clause-most g c =
     let code = c.args.code.now in let chosen = c.args.chosen.now in let place = c.loop-turn.place in
-    let s = state_from chosen c.loop-turn.next c.loop-turn.regs in let u = state_from chosen c.turn_on.new.next c.turn_on.new.regs in
+    let s = state_from chosen c.loop-turn.next c.loop-turn.work in let u = state_from chosen c.turn_on.new.next c.turn_on.new.work in
     let left = c.args.turns - c.loop-turn._turn in let more = c.args.turns - (c.loop-turn._turn + 1) in
     let e : left ≡ suc more = one_left c.args.turns c.loop-turn._turn c.loop-turn-test.true in
     ticked_most c.args.steps.now c.loop-turn.steps _ _ _ _ _ c.in-Err.ensures.most c.loop-turn.invariant.ticked (run_ticks_is code left more place s e)

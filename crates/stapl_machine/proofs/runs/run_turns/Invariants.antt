@@ -8,9 +8,9 @@ abbrev pub invariant-loop-turn : goal.invariant-loop-turn
 invariant-loop-turn g l = record {
   same_sink : IsOverSame l.fn.out l.out;
   whole : IsWhole l.out;
-  none : l.regs.operands ≡ [];
+  none : l.work.operands ≡ [];
   within : l.next ≤ length l.chosen;
-  runs : Runs g.K.Sink.written (run_of l.code l.turns l.start (state_from l.chosen l.fn.next l.fn.regs)) l.fn.out (run_of l.code (l.turns - l._turn) l.place (state_from l.chosen l.next l.regs)) l.out;
-  ticked : l.steps + run_ticks_of l.code (l.turns - l._turn) l.place (state_from l.chosen l.next l.regs) ≡ l.fn.steps + run_ticks_of l.code l.turns l.start (state_from l.chosen l.fn.next l.fn.regs);
+  runs : Runs g.K.Sink.written (run_of l.code l.turns l.start (state_from l.chosen l.fn.next l.fn.work)) l.fn.out (run_of l.code (l.turns - l._turn) l.place (state_from l.chosen l.next l.work)) l.out;
+  ticked : l.steps + run_ticks_of l.code (l.turns - l._turn) l.place (state_from l.chosen l.next l.work) ≡ l.fn.steps + run_ticks_of l.code l.turns l.start (state_from l.chosen l.fn.next l.fn.work);
   kept : SinkNeverFalls g.K.Sink.faults g.K.Sink.is_last l.fn.out l.out;
 }

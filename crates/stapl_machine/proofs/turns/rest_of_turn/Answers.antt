@@ -17,13 +17,13 @@ pub loop-i-preserved : goal.loop-i-preserved
 loop-i-preserved g c = record {
   same_sink = search rules;
   whole = search rules;
-  does = λ chosen. does_then (c.loop-i.invariant.does chosen) (does_same (ap (λ e. behind_it c.args.code.now c.loop-i.i chosen e c.carry_out.new.regs) c.in-Ok-None.field-0-is) (c.in-Ok-None.ensures.does chosen));
-  ticked = λ chosen. ticks_then_equal _ _ _ _ _ _ (sym (ap (λ e. c.carry_out.new.steps + ticks_behind_it c.args.code.now c.loop-i.i chosen e c.carry_out.new.regs) c.in-Ok-None.field-0-is) ∙ c.in-Ok-None.ensures.ticks chosen) (c.loop-i.invariant.ticked chosen);
+  does = λ chosen. does_then (c.loop-i.invariant.does chosen) (does_same (ap (λ e. behind_it c.args.code.now c.loop-i.i chosen e c.carry_out.new.work) c.in-Ok-None.field-0-is) (c.in-Ok-None.ensures.does chosen));
+  ticked = λ chosen. ticks_then_equal _ _ _ _ _ _ (sym (ap (λ e. c.carry_out.new.steps + ticks_behind_it c.args.code.now c.loop-i.i chosen e c.carry_out.new.work) c.in-Ok-None.field-0-is) ∙ c.in-Ok-None.ensures.ticks chosen) (c.loop-i.invariant.ticked chosen);
   kept = kept_then c.loop-i.invariant.kept c.in-Ok-None.ensures.kept;
 }
 
 pub returns-in-Ok-Some-clause-does : goal.returns-in-Ok-Some-clause-does
-returns-in-Ok-Some-clause-does g c = λ chosen. does_then (c.loop-i.invariant.does chosen) (does_same (ap (λ e. behind_it c.args.code.now c.loop-i.i chosen e c.carry_out.new.regs) c.in-Ok-Some.field-0-is) (c.in-Ok-Some.ensures.does chosen))
+returns-in-Ok-Some-clause-does g c = λ chosen. does_then (c.loop-i.invariant.does chosen) (does_same (ap (λ e. behind_it c.args.code.now c.loop-i.i chosen e c.carry_out.new.work) c.in-Ok-Some.field-0-is) (c.in-Ok-Some.ensures.does chosen))
 
 pub returns-in-Err-clause-front : goal.returns-in-Err-clause-front
 returns-in-Err-clause-front g c = λ chosen. does_then_front (c.loop-i.invariant.does chosen) (c.in-Err.ensures.front chosen)

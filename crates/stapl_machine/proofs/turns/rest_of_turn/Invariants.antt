@@ -7,7 +7,7 @@ abbrev pub invariant-loop-i : goal.invariant-loop-i
 invariant-loop-i g l = record {
   same_sink : IsOverSame l.fn.out l.out;
   whole : IsWhole l.out;
-  does : (chosen : List ℕ) → Does g.K.Sink.written (rest_of l.code l.fn.from chosen l.fn.regs) l.fn.out (rest_of l.code l.i chosen l.regs) l.out;
-  ticked : (chosen : List ℕ) → l.steps + ticks_from l.code l.i chosen l.regs ≡ l.fn.steps + ticks_from l.code l.fn.from chosen l.fn.regs;
+  does : (chosen : List ℕ) → Does g.K.Sink.written (rest_of l.code l.fn.from chosen l.fn.work) l.fn.out (rest_of l.code l.i chosen l.work) l.out;
+  ticked : (chosen : List ℕ) → l.steps + ticks_from l.code l.i chosen l.work ≡ l.fn.steps + ticks_from l.code l.fn.from chosen l.fn.work;
   kept : SinkNeverFalls g.K.Sink.faults g.K.Sink.is_last l.fn.out l.out;
 }
