@@ -1,3 +1,4 @@
 pub mod ReasonLemmas
 pub mod BuiltLemmas
 pub mod ShapeLemmas
+pub mod SymbolLemmas

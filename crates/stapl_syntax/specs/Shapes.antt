@@ -1,7 +1,8 @@
 -- What a program looks like (JESD71, program structure). That texts have this shape where none of their pieces is refused is a law.
-use Rattle.std.specs.Prelude.{◌≡◌, ℕ, ◌≤◌, List, [], ◌∷◌, ◌++◌, Bool, true, ◌&&◌, not, length, count_by}
+use Rattle.std.specs.Prelude.{◌≡◌, ℕ, ◌≤◌, List, [], ◌∷◌, ◌++◌, Bool, true, false, ◌&&◌, not, length, count_by, All}
 use Rattle.std.specs.List.{list_all, list_any}
-use Rattle.stapl_syntax.specs.Trees.{end_procedure, StmtTree}
+use Rattle.stapl_lexer.specs.ReservedWords.{is_reserved_word}
+use Rattle.stapl_syntax.specs.Trees.{PartTree, string, BodyTree, action, procedure, end_procedure, if_then, print, StmtTree}
 use Rattle.stapl_syntax.specs.Built.{unlabelled, action_of, procedure_of}
 use Rattle.stapl_syntax.specs.Declarations.{body_declares, is_label, names_variables, names_labels}
 use Rattle.stapl_syntax.specs.Faults.{piece_limit, is_end, is_inside}
@@ -39,3 +40,20 @@ pub record IsOneProcedure (statements : List StmtTree) : Type 0 where
   pub between : list_all is_between inner ≡ true
   pub last_is : last.body ≡ end_procedure
   pub names : NamesAreDeclared (inner ++ last ∷ [])
+
+-- the name of an ACTION or a PROCEDURE is no reserved word
+abbrev pub HasFreeName : BodyTree → Type 0
+HasFreeName (action name text items) = is_reserved_word name ≡ false
+HasFreeName (procedure name uses) = is_reserved_word name ≡ false
+HasFreeName _ = Unit {0}
+
+-- a string among the parts of a PRINT has at most so many bytes
+abbrev pub IsShortPart : ℕ → PartTree → Type 0
+IsShortPart n (string bytes) = length bytes ≤ n
+IsShortPart n _ = Unit {0}
+
+-- each string that a statement prints has at most so many bytes
+abbrev pub PrintsShortStrings : ℕ → BodyTree → Type 0
+PrintsShortStrings n (print parts) = All (IsShortPart n) parts
+PrintsShortStrings n (if_then e body) = PrintsShortStrings n body
+PrintsShortStrings n _ = Unit {0}

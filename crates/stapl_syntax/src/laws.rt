@@ -1,12 +1,12 @@
 //! Laws of the definitions.
-ghost use Rattle.std.specs.Prelude.{◌≡◌, ℕ, List, All};
+ghost use Rattle.std.specs.Prelude.{◌≡◌, ℕ, List, All, length};
 ghost use Rattle.stapl_lexer.specs.declared.piece.Piece.{Piece};
 ghost use Rattle.stapl_lexer.specs.declared.reason.Reason.{Reason};
 ghost use Rattle.stapl_syntax.specs.Trees.{StmtTree};
 ghost use Rattle.stapl_syntax.specs.Reasons.{SmallestReason};
 ghost use Rattle.stapl_syntax.specs.Built.{IsBuilt};
 ghost use Rattle.stapl_syntax.specs.Faults.{IsProgram};
-ghost use Rattle.stapl_syntax.specs.Shapes.{IsOneProcedure};
+ghost use Rattle.stapl_syntax.specs.Shapes.{IsOneProcedure, HasFreeName, PrintsShortStrings};
 
 /// The statements of a program are an action, the one procedure that it names, and the statements of that up to its ENDPROC. Each variable
 /// and each label that one of them names is declared among them exactly once.
@@ -17,6 +17,16 @@ pub fn a_program_is_one_procedure()
 /// Each statement of a program is built.
 pub fn programs_are_built()
     ensures { (text : List ℕ) (statements : List StmtTree) → IsProgram text statements → All IsBuilt statements }
+{}
+
+/// The name of an ACTION or a PROCEDURE of a program is no reserved word.
+pub fn names_of_blocks_are_free()
+    ensures { (text : List ℕ) (statements : List StmtTree) → IsProgram text statements → All (λ st. HasFreeName st.body) statements }
+{}
+
+/// A string that a program prints is no longer than the text of the program.
+pub fn texts_of_prints_are_short()
+    ensures { (text : List ℕ) (statements : List StmtTree) → IsProgram text statements → All (λ st. PrintsShortStrings (length text) st.body) statements }
 {}
 
 /// A piece has at most one smallest reason.
