@@ -1,91 +1,52 @@
 -- A text that is a program gives the compiler what it asks for.
-use Rattle.std.proofs.Common.{ℕ, ℤ, ◌-◌, ◌≤◌, List, [], ◌∷◌, ◌++◌, length, length-drop, drop, map, Some, arith, sym, subst}
-use Rattle.std.proofs.lemmas.List.{length-take}
-use Rattle.stapl_lexer.specs.declared.piece.Piece.{Piece}
-use Rattle.stapl_lexer.specs.declared.token.Token.{Token}
-use Rattle.stapl_lexer.specs.declared.token.TokenKind.{TokenKind}
-use Rattle.stapl_lexer.specs.declared.token.TokenKind.TheVariants as kinds
-use Rattle.stapl_lexer.specs.Depth.{token_bytes}
-use Rattle.stapl_lexer.specs.SpelledTokens.{SpelledToken, Text, spelled, spelled_as}
-use Rattle.stapl_syntax.specs.Trees.{BodyTree, StmtTree}
-use Rattle.stapl_syntax.specs.Grammar.{Means, is_action, is_procedure, is_inner, is_labelled, MeansInner, MeansSimple, is_assign, is_goto, is_print_string, is_print_value, is_exit, is_end_procedure, is_integer, is_if, is_simple}
-use Rattle.stapl_syntax.specs.Faults.{AreReadAs, IsProgram}
-use Rattle.stapl_syntax.specs.Shapes.{IsOneProcedure}
-use Rattle.stapl_codegen.specs.Emit.{body_texts, texts_of}
-use Rattle.stapl_codegen.specs.Accepted.{IsFormed, IsAccepted}
-use Rattle.stapl_codegen.proofs.Ranges.{Each, each_all}
+use Rattle.std.proofs.Common.{ℕ, ◌≤◌, List, [], ◌∷◌, ◌++◌, length, arith, subst}
+use Rattle.std.specs.Prelude.{All}
+use Rattle.std.proofs.lemmas.List.Elements.{All-nil, All-cons, All-head, All-tail, All-append}
+use Rattle.stapl_syntax.specs.Trees.{PartTree, string, value, character, BodyTree, if_then, print, StmtTree}
+use Rattle.stapl_syntax.specs.Built.{IsBuilt, unlabelled, action_of, procedure_of}
+use Rattle.stapl_syntax.specs.Faults.{IsProgram}
+use Rattle.stapl_syntax.specs.Shapes.{IsOneProcedure, HasFreeName, IsShortPart, PrintsShortStrings}
+use Rattle.stapl_codegen.specs.Emit.{part_texts, body_texts, texts_of}
+use Rattle.stapl_codegen.specs.Accepted.{IsAccepted}
 
--- a string among the tokens has at most so many bytes
-abbrev IsShort : ℕ → SpelledToken → Type 0
-IsShort n (Text bytes) = length bytes ≤ n
-IsShort n _ = Unit {0}
+-- the texts of a program are the strings that it prints
+module _ (n : ℕ) where
+  abbrev IsShort : List ℕ → Type 0
+  IsShort text = length text ≤ n
 
-kind_short : (n : ℕ) (kind : TokenKind) (value : ℤ) (own : List ℕ) → length own ≤ n → IsShort n (spelled_as kind value own)
-kind_short n kinds.Word value own short = tt
-kind_short n kinds.Number value own short = tt
-kind_short n kinds.Text value own short =
-    omega (arith, length-take (length own - 2) (drop 1 own), length-drop 1 own, short)
-kind_short n kinds.Binary value own short = tt
-kind_short n kinds.Hexadecimal value own short = tt
-kind_short n kinds.Mark value own short = tt
-kind_short n kinds.Hex4 value own short = tt
+  short_parts : (list : List PartTree) → All (IsShortPart n) list → All IsShort (part_texts list)
+  short_parts [] short = All-nil IsShort
+  short_parts (string bytes ∷ list) short =
+      All-cons IsShort bytes (part_texts list) (All-head (IsShortPart n) (string bytes) list short) (short_parts list (All-tail (IsShortPart n) (string bytes) list short))
+  short_parts (value e ∷ list) short = short_parts list (All-tail (IsShortPart n) (value e) list short)
+  short_parts (character e ∷ list) short = short_parts list (All-tail (IsShortPart n) (character e) list short)
 
-tokens_short : (text : List ℕ) (tokens : List Token) → Each (IsShort (length text)) (map (spelled text) tokens)
-tokens_short text [] = tt
-tokens_short text (t ∷ ts) =
-    let own : length (token_bytes text t) ≤ length text = omega (arith, length-take (t.end - t.start) (drop t.start text), length-drop t.start text) in
-    (kind_short (length text) t.kind t.value (token_bytes text t) own, tokens_short text ts)
+  short_body : (body : BodyTree) → PrintsShortStrings n body → All IsShort (body_texts body)
+  short_body (print list) short = short_parts list short
+  short_body (if_then e body) short = short_body body short
+  short_body _ short = All-nil IsShort
 
-simple_texts : (n : ℕ) (tokens : List SpelledToken) (b : BodyTree) → MeansSimple tokens b → Each (IsShort n) tokens → Each (λ text. length text ≤ n) (body_texts b)
-simple_texts n _ _ (is_assign name sum x free means) short = tt
-simple_texts n _ _ (is_goto label free) short = tt
-simple_texts n _ _ (is_print_string bytes) short = (short.1.0, tt)
-simple_texts n _ _ (is_print_value a x atom) short = tt
-simple_texts n _ _ (is_exit a x atom) short = tt
+  short_texts : (sts : List StmtTree) → All (λ (st : StmtTree). PrintsShortStrings n st.body) sts → All IsShort (texts_of sts)
+  short_texts [] short = All-nil IsShort
+  short_texts (st ∷ rest) short =
+      let P : StmtTree → Type 0 = λ st. PrintsShortStrings n st.body in
+      All-append IsShort (body_texts st.body) (texts_of rest) (short_body st.body (All-head P st rest short)) (short_texts rest (All-tail P st rest short))
 
-inner_texts : (n : ℕ) (tokens : List SpelledToken) (b : BodyTree) → MeansInner tokens b → Each (IsShort n) tokens → Each (λ text. length text ≤ n) (body_texts b)
-inner_texts n _ _ is_end_procedure short = tt
-inner_texts n _ _ (is_integer name free) short = tt
-inner_texts n _ _ (is_if a b x y tokens body left right means) short = simple_texts n tokens body means short.1.1.1.1.1
-inner_texts n _ _ (is_simple tokens body means) short = simple_texts n tokens body means short
+weaker : (n : ℕ) (texts : List (List ℕ)) → n ≤ 4194304 → All (λ text. length text ≤ n) texts → All (λ text. length text ≤ 4194304) texts
+weaker n texts few all = λ k d below. let short = all k d below in omega arith
 
-means_texts : (n : ℕ) (tokens : List SpelledToken) (st : StmtTree) → Means tokens st → Each (IsShort n) tokens → Each (λ text. length text ≤ n) (body_texts st.body)
-means_texts n _ _ (is_action name run a b) short = tt
-means_texts n _ _ (is_procedure name a) short = tt
-means_texts n _ _ (is_inner tokens body means) short = inner_texts n tokens body means short
-means_texts n _ _ (is_labelled label tokens body free means) short = inner_texts n tokens body means short.1.1
-
-each_append : {A : Type 0} (P : A → Type 0) (xs ys : List A) → Each P xs → Each P ys → Each P (xs ++ ys)
-each_append P [] ys a b = b
-each_append P (x ∷ xs) ys a b = (a.0, each_append P xs ys a.1 b)
-
--- what is so of the statements that pieces are
-record AreFormed (n : ℕ) (sts : List StmtTree) : Type 0 where
-  formed : Each IsFormed sts
-  texts : Each (λ text. length text ≤ n) (texts_of sts)
-
-are_formed : (text : List ℕ) (pieces : List Piece) (sts : List StmtTree) → AreReadAs text pieces (map Some sts) → AreFormed (length text) sts
-are_formed text [] [] read = record { formed = tt; texts = tt }
-are_formed text [] (st ∷ sts) read = absurd read
-are_formed text (p ∷ ps) [] read = absurd read
-are_formed text (p ∷ ps) (st ∷ sts) read =
-    let own = read.0 in
-    let short = subst (Each (IsShort (length text))) (sym own.spelled.list_is) (tokens_short text own.spelled.tokens) in
-    let rest = are_formed text ps sts read.1 in
+pub accepted : (text : List ℕ) (program : List StmtTree) → IsProgram text program → IsOneProcedure program → All IsBuilt program →
+    All (λ (st : StmtTree). HasFreeName st.body) program → All (λ (st : StmtTree). PrintsShortStrings (length text) st.body) program → IsAccepted program
+accepted text program is shape built free short =
+    let P : StmtTree → Type 0 = λ st. HasFreeName st.body in
+    let first : StmtTree = unlabelled (action_of shape.name shape.run) in
+    let second : StmtTree = unlabelled (procedure_of shape.run) in
+    let own : List StmtTree = shape.inner ++ shape.last ∷ [] in
+    let all : All P (first ∷ second ∷ own) = subst (All P) shape.order free in
     record {
-      formed = (record { tokens = own.tokens; means = own.means }, rest.formed);
-      texts = each_append (λ t. length t ≤ length text) (body_texts st.body) (texts_of sts) (means_texts (length text) own.tokens st own.means short) rest.texts;
-    }
-
-weaker : (n : ℕ) (texts : List (List ℕ)) → n ≤ 4194304 → Each (λ text. length text ≤ n) texts → Each (λ text. length text ≤ 4194304) texts
-weaker n [] few each = tt
-weaker n (t ∷ ts) few each = (omega (arith, each.0, few), weaker n ts few each.1)
-
-pub accepted : (text : List ℕ) (program : List StmtTree) → IsProgram text program → IsOneProcedure program → IsAccepted program
-accepted text program is shape =
-    let formed = are_formed text is.pieces program is.read in
-    record {
-      formed = each_all IsFormed program formed.formed;
+      built = built;
       shape = shape;
-      texts = each_all (λ text. length text ≤ 4194304) (texts_of program) (weaker (length text) (texts_of program) is.short formed.texts);
+      free_action = All-head P first (second ∷ own) all;
+      free_procedure = All-head P second own (All-tail P first (second ∷ own) all);
+      texts = weaker (length text) (texts_of program) is.short (short_texts (length text) program short);
     }

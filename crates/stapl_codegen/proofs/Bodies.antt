@@ -1,7 +1,7 @@
 -- The code of a statement does what the statement does.
-use Rattle.std.proofs.Common.{◌≡◌, ℕ, Bool, true, false, List, [], ◌∷◌, refl, ap, ◌∙◌}
+use Rattle.std.proofs.Common.{◌≡◌, ℕ, Bool, true, false, List, [], ◌∷◌, None, refl, ap, ◌∙◌}
 use Rattle.std.specs.Prelude.{if◌then◌else◌}
-use Rattle.stapl_syntax.specs.Trees.{ExprTree, PartTree, BodyTree, action, procedure, end_procedure, integer, assign, goto, if_then, print, exit}
+use Rattle.stapl_syntax.specs.Trees.{ExprTree, PartTree, BodyTree, end_procedure, integer, assign, goto, if_then, print, exit}
 use Rattle.stapl_meaning.specs.declared.events.Event.TheVariants as events
 use Rattle.stapl_meaning.specs.declared.events.Ending.TheVariants as endings
 use Rattle.stapl_meaning.specs.declared.values.Value.{Value}
@@ -13,8 +13,8 @@ use Rattle.stapl_code.specs.declared.instr.Instr.{Instr}
 use Rattle.stapl_code.specs.declared.instr.Instr.TheVariants as instrs
 use Rattle.stapl_code.specs.Machine.{Step, Falls, Emits, Stops, on_got, on_taken, taken, parts_text, continues, stretch, entry_of, preceded}
 use Rattle.stapl_codegen.specs.Emit.{expr_code, values_code, print_parts, body_texts, part_texts, body_code}
-use Rattle.stapl_codegen.specs.Correct.{falls, is_inner}
-use Rattle.stapl_codegen.proofs.Exprs.{with_same, with_known, continues-got, expr_follows, values_follow, onto, taken-onto}
+use Rattle.stapl_codegen.specs.Correct.{falls}
+use Rattle.stapl_codegen.proofs.Exprs.{with_same, with_known, continues-got, not_carried_out, expr_follows, values_follow, onto, taken-onto}
 use Rattle.stapl_codegen.proofs.Prints.{HasTexts, parts_are_joined, values_count}
 
 -- a turn of the program, with places of the code in it
@@ -88,7 +88,7 @@ module _ (place : ℕ → ℕ) (entries : List ℕ) (texts : List (List ℕ)) (t
       ∙ ap (λ o. continues (on_taken o (λ ws below. on_got (parts_text entries texts (print_parts first list) ws) (λ text. Emits (events.Print text ∷ []) below s))) go)
       (taken-onto vs [])
       ∙ continues-got (parts_text entries texts (print_parts first list) vs) emits go
-      ∙ ap (λ g. with_got g (λ text. continues (emits text) go)) (parts_are_joined entries texts list first vs has)
+      ∙ ap (λ g. with_got g (λ text. continues (emits text) go)) (parts_are_joined entries texts scope.variable s.variables list first vs has values)
       ∙ with_same (joined list vs) _ (λ text. placed place (Leads (events.Print text ∷ []) scope.follow s))
       (λ text. ap (preceded (events.Print text ∷ [])) (behind.falls_on s))
       ∙ with_placed place (joined list vs) (λ text. Leads (events.Print text ∷ []) scope.follow s)
@@ -108,14 +108,13 @@ module _ (place : ℕ → ℕ) (entries : List ℕ) (texts : List (List ℕ)) (t
   end_law s (p ∷ ps) entry_is = ap (λ i. Leads [] i (record s { chosen = ps })) (entry_is p)
 
   pub body_follows : (s : State) (b : BodyTree) (rest : List Instr) → ((p : ℕ) → entry_of entries p ≡ place (scope.entry p)) →
-      (falls b ≡ true → Behind rest) → HasTexts texts first (body_texts b) → is_inner b ≡ true → Law s b rest
-  body_follows s (action name procedures) rest entry_is behind has inner = absurd cc
-  body_follows s (procedure name) rest entry_is behind has inner = absurd cc
-  body_follows s end_procedure rest entry_is behind has inner = end_law s s.chosen entry_is
-  body_follows s (integer name) rest entry_is behind has inner = (behind refl).falls_on s
-  body_follows s (assign name e) rest entry_is behind has inner = assign_law s (scope.variable name) e rest (behind refl)
-  body_follows s (goto name) rest entry_is behind has inner = refl
-  body_follows s (if_then e b) rest entry_is behind has inner =
-      if_law s e b (body_code scope place first b rest) (body_follows s b rest entry_is (λ h. behind refl) has inner)
-  body_follows s (print list) rest entry_is behind has inner = print_law s list rest (behind refl) has
-  body_follows s (exit e) rest entry_is behind has inner = exit_law s e rest
+      (falls b ≡ true → Behind rest) → HasTexts texts first (body_texts b) → Law s b rest
+  body_follows s end_procedure rest entry_is behind has = end_law s s.chosen entry_is
+  body_follows s (integer name None) rest entry_is behind has = (behind refl).falls_on s
+  body_follows s (assign name e) rest entry_is behind has = assign_law s (scope.variable name) e rest (behind refl)
+  body_follows s (goto name) rest entry_is behind has = refl
+  body_follows s (if_then e b) rest entry_is behind has =
+      if_law s e b (body_code scope place first b rest) (body_follows s b rest entry_is (λ h. behind refl) has)
+  body_follows s (print list) rest entry_is behind has = print_law s list rest (behind refl) has
+  body_follows s (exit e) rest entry_is behind has = exit_law s e rest
+  body_follows s _ rest entry_is behind has = not_carried_out entries texts total rest [] s

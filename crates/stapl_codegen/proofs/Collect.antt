@@ -19,7 +19,7 @@ module _ (st : StmtTree) (rest all : List StmtTree) (is : all ≡ st ∷ rest) w
       ∙ so_far
 
   count_by_body : (n c : ℕ) (body : BodyTree) → behind_variable n body + length (variables_from c rest) ≡ n + length (declared_by c body ++ variables_from c rest)
-  count_by_body n c (integer name) = omega arith
+  count_by_body n c (integer name start) = omega arith
   count_by_body n c _ = refl
 
   pub variables_counted : (n n' b b' done : ℕ) → b' ≡ block_after b st.body → n' ≡ behind_variable n st.body →
@@ -50,5 +50,5 @@ pub block_few : (body : BodyTree) (b b' i : ℕ) → b' ≡ block_after b body �
 block_few body b b' i e few = one_more (begins_block body) b b' i e few
 
 pub variable_few : (body : BodyTree) (n n' i : ℕ) → n' ≡ behind_variable n body → n ≤ i → n' ≤ i + 1
-variable_few (integer name) n n' i e few = one_more true n n' i e few
+variable_few (integer name start) n n' i e few = one_more true n n' i e few
 variable_few _ n n' i e few = one_more false n n' i e few

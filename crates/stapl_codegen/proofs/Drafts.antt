@@ -5,10 +5,11 @@ use Rattle.std.proofs.lemmas.List.{get_or_append_left, append-nil}
 use Rattle.std.proofs.lemmas.Bool.{cases_lt}
 use Rattle.std.proofs.Math.Seq.{get_or-append_seam}
 use Rattle.stapl_syntax.specs.Trees.{StmtTree}
+use Rattle.stapl_syntax.specs.Statements.{is_outer}
 use Rattle.stapl_meaning.specs.Scopes.{begins_block, blocks_in, block_after}
 use Rattle.stapl_code.specs.declared.instr.Instr.{Instr}
 use Rattle.stapl_code.specs.Machine.{nowhere}
-use Rattle.stapl_codegen.specs.Emit.{is_outer, body_texts, texts_of, piece_code, pieces_code, start_in, start_of, total_of, entries_from}
+use Rattle.stapl_codegen.specs.Emit.{body_texts, texts_of, piece_code, pieces_code, start_in, start_of, total_of, entries_from}
 use Rattle.stapl_codegen.specs.Drafts.{StartsTo}
 use Rattle.stapl_codegen.proofs.Heads.{head_of, get_head}
 use Rattle.stapl_codegen.proofs.Lists.{piece_append}

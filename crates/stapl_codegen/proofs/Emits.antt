@@ -1,6 +1,6 @@
 -- Steps of what is written for a PRINT.
 use Rattle.std.proofs.Common.{◌≡◌, ℕ, suc, ◌+◌, List, [], ◌∷◌, ◌++◌, length, length-append, arith, append_assoc, refl, sym, ap, ◌∙◌}
-use Rattle.stapl_syntax.specs.Trees.{PartTree, string, value}
+use Rattle.stapl_syntax.specs.Trees.{PartTree, string, value, character}
 use Rattle.stapl_code.specs.declared.instr.Instr.{Instr}
 use Rattle.stapl_code.specs.declared.instr.PrintPart.{PrintPart}
 use Rattle.stapl_codegen.specs.Emit.{values_code, print_parts, part_texts}
@@ -11,6 +11,7 @@ module _ (part : PartTree) (rest all : List PartTree) (is : all ≡ part ∷ res
   values_first : (variable : List ℕ → ℕ) (part : PartTree) → values_code variable (part ∷ rest) [] ≡ values_code variable (part ∷ []) [] ++ values_code variable rest []
   values_first variable (string bytes) = refl
   values_first variable (value e) = expr_append variable e [] (values_code variable rest [])
+  values_first variable (character e) = refl
 
   pub values_more : (variable : List ℕ → ℕ) (code code' done : List Instr) → code' ≡ code ++ values_code variable (part ∷ []) [] →
       code ++ values_code variable all [] ≡ done → code' ++ values_code variable rest [] ≡ done
@@ -24,6 +25,7 @@ module _ (part : PartTree) (rest all : List PartTree) (is : all ≡ part ∷ res
   texts_first : (part : PartTree) → part_texts (part ∷ rest) ≡ part_texts (part ∷ []) ++ part_texts rest
   texts_first (string bytes) = refl
   texts_first (value e) = refl
+  texts_first (character e) = refl
 
   pub texts_more : (texts texts' done : List (List ℕ)) → texts' ≡ texts ++ part_texts (part ∷ []) →
       texts ++ part_texts all ≡ done → texts' ++ part_texts rest ≡ done
@@ -41,6 +43,9 @@ module _ (part : PartTree) (rest all : List PartTree) (is : all ≡ part ∷ res
   parts_first n (value e) =
       let next : n ≡ n + 0 = omega arith in
       ap (λ m. print_parts n (value e ∷ []) ++ print_parts m rest) next
+  parts_first n (character e) =
+      let next : n ≡ n + 0 = omega arith in
+      ap (λ m. print_parts n (character e ∷ []) ++ print_parts m rest) next
 
   pub parts_more : (n n' : ℕ) (x : PrintPart) (list list' done : List PrintPart) (texts texts' : List (List ℕ)) → n ≡ length texts → n' ≡ length texts' →
       texts' ≡ texts ++ part_texts (part ∷ []) → x ∷ [] ≡ print_parts n (part ∷ []) → list' ≡ list ++ x ∷ [] →

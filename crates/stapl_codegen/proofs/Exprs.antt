@@ -2,16 +2,16 @@
 use Rattle.std.proofs.Common.{◌≡◌, ℕ, suc, ◌+◌, List, [], ◌∷◌, ◌++◌, length, Some, arith, refl, ap, ◌∙◌}
 use Rattle.std.specs.Prelude.{slice_get}
 use Rattle.std.proofs.lemmas.List.{append-nil}
-use Rattle.stapl_syntax.specs.declared.statement.BinOp.{BinOp}
-use Rattle.stapl_syntax.specs.declared.statement.BinOp.TheVariants.{Add, Less}
-use Rattle.stapl_syntax.specs.Trees.{ExprTree, number, scalar, binary, PartTree, string, value}
+use Rattle.stapl_syntax.specs.declared.signs.BinOp.{BinOp}
+use Rattle.stapl_syntax.specs.declared.signs.BinOp.TheVariants.{Add, Less}
+use Rattle.stapl_syntax.specs.Trees.{ExprTree, number, scalar, binary, PartTree, string, value, character}
 use Rattle.stapl_meaning.specs.declared.values.Value.{Value}
 use Rattle.stapl_meaning.specs.Values.{Got, Known, Stuck, then_get, combined, scalar_of, value_of, part_values}
-use Rattle.stapl_meaning.specs.States.{State, Turned, with_got}
+use Rattle.stapl_meaning.specs.States.{State, Turned, NoTurn, with_got}
 use Rattle.stapl_code.specs.declared.instr.Instr.{Instr}
 use Rattle.stapl_code.specs.declared.instr.Instr.TheVariants.{Binary}
 use Rattle.stapl_code.specs.Machine.{Step, on_got, operated, continues, stretch, taken, taken_onto}
-use Rattle.stapl_codegen.specs.Emit.{operator_number, expr_code, values_code}
+use Rattle.stapl_codegen.specs.Emit.{operator_number, no_operator, expr_code, values_code}
 
 pub with_same : {A : Type 0} (g : Got A) (k l : A → Turned) → ((x : A) → k x ≡ l x) → with_got g k ≡ with_got g l
 with_same (Known x) k l e = e x
@@ -32,11 +32,19 @@ continues-got Stuck h go = refl
 operated-is : (op : BinOp) (x y : Value) → operated (operator_number op) x y ≡ combined op x y
 operated-is Add x y = refl
 operated-is Less x y = refl
+operated-is _ x y = refl
 
 -- operands with these values put on, the last one on top
 abbrev pub onto : List Value → List Value → List Value
 onto [] ops = ops
 onto (v ∷ vs) ops = onto vs (v ∷ ops)
+
+-- what is not built is not carried out
+pub not_carried_out : (entries : List ℕ) (texts : List (List ℕ)) (total : ℕ) (rest : List Instr) (ops : List Value) (s : State) →
+    stretch entries texts total (Binary no_operator ∷ rest) ops s ≡ NoTurn []
+not_carried_out entries texts total rest [] s = refl
+not_carried_out entries texts total rest (v ∷ []) s = refl
+not_carried_out entries texts total rest (v ∷ w ∷ ops) s = refl
 
 module _ (entries : List ℕ) (texts : List (List ℕ)) (total : ℕ) (variable : List ℕ → ℕ) (s : State) where
   pub expr_follows : (e : ExprTree) (rest : List Instr) (ops : List Value) →
@@ -55,6 +63,7 @@ module _ (entries : List ℕ) (texts : List (List ℕ)) (total : ℕ) (variable 
       continues-got (operated (operator_number op) x y) _ _ ∙ ap (λ g. with_got g k) (operated-is op x y))
       ∙ with_then right (λ y. combined op x y) k)
       ∙ with_then left (λ x. then_get right (λ y. combined op x y)) k
+  expr_follows _ rest ops = not_carried_out entries texts total rest ops s
 
   pub values_follow : (list : List PartTree) (rest : List Instr) (ops : List Value) →
       stretch entries texts total (values_code variable list rest) ops s
@@ -69,6 +78,7 @@ module _ (entries : List ℕ) (texts : List (List ℕ)) (total : ℕ) (variable 
       ∙ with_same one _ (λ v. with_got (then_get more (λ vs. Known (v ∷ vs))) k) (λ v.
       values_follow list rest (v ∷ ops) ∙ with_then more (λ vs. Known (v ∷ vs)) k)
       ∙ with_then one (λ v. then_get more (λ vs. Known (v ∷ vs))) k
+  values_follow (character e ∷ list) rest ops = not_carried_out entries texts total (values_code variable list rest) ops s
 
 -- what was put on is taken off again
 taken_more : (vs : List Value) (n : ℕ) (done ops : List Value) → taken_onto (length vs + n) done (onto vs ops) ≡ taken_onto n (vs ++ done) ops

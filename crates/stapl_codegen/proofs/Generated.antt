@@ -1,13 +1,11 @@
 -- The lists that are made for an accepted program are its code, and in their ranges, and valid.
-use Rattle.std.proofs.Common.{◌≡◌, ◌≢◌, ℕ, zero, suc, ◌<◌, ◌≤◌, true, false, List, [], ◌∷◌, ◌++◌, length, replicate, Some, None, arith, refl, sym, ap, subst, ◌∙◌, codes}
+use Rattle.std.proofs.Common.{◌≡◌, ◌≢◌, ℕ, suc, ◌<◌, ◌≤◌, true, false, List, [], ◌∷◌, ◌++◌, length, replicate, Some, arith, refl, sym, ap, subst, ◌∙◌, codes}
 use Rattle.std.specs.Prelude.{slice_index_or, All}
 use Rattle.std.specs.List.{list_all}
 use Rattle.std.proofs.lemmas.List.{length-replicate}
 use Rattle.stapl_lexer.specs.Names.{IsUpperName}
-use Rattle.stapl_lexer.specs.ReservedWords.{is_reserved_word}
-use Rattle.stapl_lexer.specs.SpelledTokens.{SpelledToken}
-use Rattle.stapl_syntax.specs.Trees.{BodyTree, action, procedure, end_procedure, StmtTree}
-use Rattle.stapl_syntax.specs.Grammar.{Means, is_action, is_procedure, is_inner, is_labelled, MeansInner, MeansSimple, is_assign, is_goto, is_print_string, is_print_value, is_exit, is_end_procedure, is_integer, is_if, is_simple, unlabelled}
+use Rattle.stapl_syntax.specs.Trees.{end_procedure, StmtTree}
+use Rattle.stapl_syntax.specs.Built.{IsBuilt, unlabelled, action_of, procedure_of}
 use Rattle.stapl_syntax.specs.Shapes.{is_between, names_declared, IsOneProcedure}
 use Rattle.stapl_meaning.specs.Scopes.{variables_of, zeros_of}
 use Rattle.stapl_code.specs.declared.raw.VarDef.{VarDef}
@@ -17,65 +15,28 @@ use Rattle.stapl_code.specs.Ranges.{IsInstr, IsFreeName, AreVariables, AreProced
 use Rattle.stapl_code.specs.Safe.{entries_of}
 use Rattle.stapl_code.specs.Valid.{IsValid}
 use Rattle.stapl_codegen.specs.Emit.{texts_of, program_code, program_entries}
-use Rattle.stapl_codegen.specs.Correct as correct
 use Rattle.stapl_codegen.specs.Correct.{IsClosed, GoesOn, falls, Stands}
-use Rattle.stapl_codegen.specs.Accepted.{IsFormed, IsAccepted}
-use Rattle.stapl_codegen.specs.Generated.{action_name, procedure_name, first_action, second_procedure, IsCodeOf}
+use Rattle.stapl_codegen.specs.Accepted.{IsAccepted}
+use Rattle.stapl_codegen.specs.Generated.{first_action, second_procedure, IsCodeOf}
 use Rattle.stapl_codegen.proofs.Runs.{stands}
 use Rattle.stapl_codegen.proofs.Sizes.{code_size}
 use Rattle.stapl_codegen.proofs.Ranges.{each_all, integer_def, integers_are, all_integers, few_variables}
-use Rattle.stapl_codegen.proofs.Shapes.{AreInner, inner_not_outer, are_inner, means_body}
+use Rattle.stapl_codegen.proofs.Shapes.{AreInner, inner_not_outer, are_inner}
 use Rattle.stapl_codegen.proofs.Valid.{no_break, entries_are, code_some, code_range}
-
--- a statement of a procedure is no ACTION and no PROCEDURE
-simple_inner : (tokens : List SpelledToken) (b : BodyTree) → MeansSimple tokens b → (correct.is_inner b ≡ true) × (action_name b ≡ None) × (procedure_name b ≡ None)
-simple_inner _ _ (is_assign name sum x free means) = (refl, refl, refl)
-simple_inner _ _ (is_goto label free) = (refl, refl, refl)
-simple_inner _ _ (is_print_string bytes) = (refl, refl, refl)
-simple_inner _ _ (is_print_value a x atom) = (refl, refl, refl)
-simple_inner _ _ (is_exit a x atom) = (refl, refl, refl)
-
-inner_inner : (tokens : List SpelledToken) (b : BodyTree) → MeansInner tokens b → (correct.is_inner b ≡ true) × (action_name b ≡ None) × (procedure_name b ≡ None)
-inner_inner _ _ is_end_procedure = (refl, refl, refl)
-inner_inner _ _ (is_integer name free) = (refl, refl, refl)
-inner_inner _ _ (is_if a b x y tokens body left right means) = ((simple_inner tokens body means).0, refl, refl)
-inner_inner _ _ (is_simple tokens body means) = simple_inner tokens body means
-
-free_action : (tokens : List SpelledToken) (st : StmtTree) → Means tokens st → (name : List ℕ) → action_name st.body ≡ Some name → is_reserved_word name ≡ false
-free_action _ _ (is_action own run a b) name e = let same : own ≡ name = cc in ap is_reserved_word (sym same) ∙ a.free
-free_action _ _ (is_procedure own a) name e = absurd cc
-free_action _ _ (is_inner tokens body means) name e = let none = (inner_inner tokens body means).1 in absurd cc
-free_action _ _ (is_labelled label tokens body free means) name e = let none = (inner_inner tokens body means).1 in absurd cc
-
-free_procedure : (tokens : List SpelledToken) (st : StmtTree) → Means tokens st → (name : List ℕ) → procedure_name st.body ≡ Some name → is_reserved_word name ≡ false
-free_procedure _ _ (is_action own run a b) name e = absurd cc
-free_procedure _ _ (is_procedure own a) name e = let same : own ≡ name = cc in ap is_reserved_word (sym same) ∙ a.free
-free_procedure _ _ (is_inner tokens body means) name e = let none = (inner_inner tokens body means).2 in absurd cc
-free_procedure _ _ (is_labelled label tokens body free means) name e = let none = (inner_inner tokens body means).2 in absurd cc
 
 all_rest : {A : Type 0} (P : A → Type 0) (x : A) (xs : List A) → All P (x ∷ xs) → All P xs
 all_rest P x xs all k d below = all (suc k) d (omega (arith, below))
-
-all_first : {A : Type 0} (P : A → Type 0) (x : A) (xs : List A) → All P (x ∷ xs) → P x
-all_first P x xs all = all zero x (omega arith)
 
 goes_on : (inner : List StmtTree) (last : StmtTree) → AreInner (inner ++ last ∷ []) → GoesOn (inner ++ last ∷ [])
 goes_on [] last are = inner_not_outer last.body are.0
 goes_on (st ∷ rest) last are = inner_not_outer st.body are.0
 
-closed_own : (inner : List StmtTree) (last : StmtTree) → AreInner (inner ++ last ∷ []) → All IsFormed (inner ++ last ∷ []) → last.body ≡ end_procedure → IsClosed (inner ++ last ∷ [])
-closed_own [] last are formed is =
-    ((λ e. ap correct.is_inner is), (λ e f. absurd (not_both (ap falls is) f)), tt)
+closed_own : (inner : List StmtTree) (last : StmtTree) → AreInner (inner ++ last ∷ []) → last.body ≡ end_procedure → IsClosed (inner ++ last ∷ [])
+closed_own [] last are is = ((λ e f. absurd (not_both (ap falls is) f)), tt)
   where
     not_both : falls last.body ≡ false → falls last.body ≡ true → ⊥
     not_both e f = cc
-closed_own (st ∷ rest) last are formed is =
-    let form = all_first IsFormed st (rest ++ last ∷ []) formed in
-    let body = means_body form.tokens st form.means are.0 in (
-      (λ e. (inner_inner body.tokens st.body body.means).0),
-      (λ e f. goes_on rest last are.1),
-      closed_own rest last are.1 (all_rest IsFormed st (rest ++ last ∷ []) formed) is,
-    )
+closed_own (st ∷ rest) last are is = ((λ e f. goes_on rest last are.1), closed_own rest last are.1 is)
 
 -- the first statement of those of a procedure
 pub record Begins (own : List StmtTree) : Type 0 where
@@ -135,7 +96,7 @@ free_some_name : IsFreeName some_name
 free_some_name = record { spelled = record { spelled = refl; some = omega arith; short = omega arith; upper = refl }; free = refl }
 
 module _ (name run : List ℕ) (inner : List StmtTree) (last : StmtTree) (between : list_all is_between inner ≡ true) (is : last.body ≡ end_procedure)
-    (formed : All IsFormed (unlabelled (action name (run ∷ [])) ∷ unlabelled (procedure run) ∷ inner ++ last ∷ []))
+    (built : All IsBuilt (unlabelled (action_of name run) ∷ unlabelled (procedure_of run) ∷ inner ++ last ∷ []))
     (named : list_all (names_declared (inner ++ last ∷ [])) (inner ++ last ∷ []) ≡ true) where
   abbrev own : List StmtTree
   own = inner ++ last ∷ []
@@ -144,10 +105,10 @@ module _ (name run : List ℕ) (inner : List StmtTree) (last : StmtTree) (betwee
   are = are_inner inner last between is
 
   abbrev program : List StmtTree
-  program = unlabelled (action name (run ∷ [])) ∷ unlabelled (procedure run) ∷ own
+  program = unlabelled (action_of name run) ∷ unlabelled (procedure_of run) ∷ own
 
-  formed_own : All IsFormed own
-  formed_own = all_rest IsFormed (unlabelled (procedure run)) own (all_rest IsFormed (unlabelled (action name (run ∷ []))) (unlabelled (procedure run) ∷ own) formed)
+  built_own : All IsBuilt own
+  built_own = all_rest IsBuilt (unlabelled (procedure_of run)) own (all_rest IsBuilt (unlabelled (action_of name run)) (unlabelled (procedure_of run) ∷ own) built)
 
   abbrev count : ℕ
   count = length (variables_of program)
@@ -159,27 +120,17 @@ module _ (name run : List ℕ) (inner : List StmtTree) (last : StmtTree) (betwee
   many = omega (arith, length-replicate count integer_def)
 
   closed : IsClosed program
-  closed = ((λ e. absurd cc), (λ e f. absurd cc), ((λ e. absurd cc), (λ e f. absurd cc), closed_own inner last are formed_own is))
+  closed = ((λ e f. absurd cc), ((λ e f. absurd cc), closed_own inner last are is))
 
-  free_name : is_reserved_word name ≡ false
-  free_name =
-      let form = all_first IsFormed (unlabelled (action name (run ∷ []))) (unlabelled (procedure run) ∷ own) formed in
-      free_action form.tokens (unlabelled (action name (run ∷ []))) form.means name refl
-
-  free_run : is_reserved_word run ≡ false
-  free_run =
-      let form = all_first IsFormed (unlabelled (procedure run)) own (all_rest IsFormed (unlabelled (action name (run ∷ []))) (unlabelled (procedure run) ∷ own) formed) in
-      free_procedure form.tokens (unlabelled (procedure run)) form.means run refl
-
-  pub good : (lists : CodeLists) (entry : ℕ) → AreMade program lists name run entry → IsUpperName name → IsUpperName run → length program ≤ 100000 → All (λ text. length text ≤ 4194304) (texts_of program) → AreGood program lists
-  good lists entry made upper_name upper_run few short =
+  pub good : (lists : CodeLists) (entry : ℕ) → AreMade program lists name run entry → IsFreeName name → IsFreeName run → length program ≤ 100000 → All (λ text. length text ≤ 4194304) (texts_of program) → AreGood program lists
+  good lists entry made free_name free_run few short =
       let first = begins inner last in
-      let entries : program_entries program ≡ 0 ∷ [] = entries_are name run own are formed_own named defs many (all_integers count) first.st first.rest first.is in
+      let entries : program_entries program ≡ 0 ∷ [] = entries_are name run own are built_own named defs many (all_integers count) first.st first.rest first.is in
       let entry-is : entry ≡ 0 = made.begins_at ∙ ap (λ l. slice_index_or l 0 entry) entries in
-      let some = code_some name run own are formed_own named defs many (all_integers count) first.st first.rest first.is in
+      let some = code_some name run own are built_own named defs many (all_integers count) first.st first.rest first.is in
       let procedures : lists.procedures ≡ record { name = run; entry = 0 } ∷ [] = made.procedures ∙ ap (λ n. record { name = run; entry = n } ∷ []) entry-is in
       let few_defs = few_variables 0 program in
-      let size = code_size program formed few in
+      let size = code_size program built few in
       record {
         code = record {
           stands = subst (λ (c : List Instr). Stands program (entries_of lists.procedures) lists.texts c (zeros_of program)) (sym made.instrs)
@@ -197,15 +148,15 @@ module _ (name run : List ℕ) (inner : List StmtTree) (last : StmtTree) (betwee
         in_range = record {
           variables = subst AreVariables (sym made.variables) (integers_are count (omega (arith, few_defs, few)));
           texts = subst (All (λ text. length text ≤ 4194304)) (sym made.texts) short;
-          procedures = subst AreProcedures (sym procedures) (one_procedure run (record { spelled = upper_run; free = free_run }));
-          actions = subst (AreActions (length lists.procedures)) (sym made.actions) (one_action name (record { spelled = upper_name; free = free_name }) (length lists.procedures) (omega (arith, ap length procedures)));
+          procedures = subst AreProcedures (sym procedures) (one_procedure run free_run);
+          actions = subst (AreActions (length lists.procedures)) (sym made.actions) (one_action name free_name (length lists.procedures) (omega (arith, ap length procedures)));
           instrs = subst (λ (c : List Instr). All (IsInstr (length lists.variables) (length lists.texts)) c) (sym made.instrs)
               (subst (λ (t : List (List ℕ)). All (IsInstr (length lists.variables) (length t)) (program_code program)) (sym made.texts)
               (subst (λ (v : List VarDef). All (IsInstr (length v) (length (texts_of program))) (program_code program)) (sym made.variables)
-              (code_range name run own are formed_own named defs many (all_integers count) few)));
+              (code_range name run own are built_own named defs many (all_integers count) few)));
           countable = omega (arith, ap length made.instrs, size);
         };
-        valid = no_break name run own are formed_own named defs many (all_integers count) inner last first.st first.rest (record { name = run; entry = 0 })
+        valid = no_break name run own are built_own named defs many (all_integers count) inner last first.st first.rest (record { name = run; entry = 0 })
             lists.variables lists.texts lists.procedures lists.actions lists.instrs refl between is first.is refl made.variables procedures made.instrs;
       }
 
@@ -223,10 +174,10 @@ module _ (name run : List ℕ) (inner : List StmtTree) (last : StmtTree) (betwee
       Stands program (0 ∷ []) (texts_of program) (program_code program) (zeros_of program) × IsInRange some_lists × IsValid some_lists
   some_code few short =
       let first = begins inner last in
-      let entries : program_entries program ≡ 0 ∷ [] = entries_are name run own are formed_own named defs many (all_integers count) first.st first.rest first.is in
-      let some = code_some name run own are formed_own named defs many (all_integers count) first.st first.rest first.is in
+      let entries : program_entries program ≡ 0 ∷ [] = entries_are name run own are built_own named defs many (all_integers count) first.st first.rest first.is in
+      let some = code_some name run own are built_own named defs many (all_integers count) first.st first.rest first.is in
       let few_defs = few_variables 0 program in
-      let size = code_size program formed few in (
+      let size = code_size program built few in (
         subst (λ (e : List ℕ). Stands program e (texts_of program) (program_code program) (zeros_of program)) entries
             (stands program closed (omega (arith, size)) (not_empty (program_code program) some)),
         record {
@@ -234,31 +185,32 @@ module _ (name run : List ℕ) (inner : List StmtTree) (last : StmtTree) (betwee
           texts = short;
           procedures = one_procedure some_name free_some_name;
           actions = one_action some_name free_some_name 1 (omega arith);
-          instrs = code_range name run own are formed_own named defs many (all_integers count) few;
+          instrs = code_range name run own are built_own named defs many (all_integers count) few;
           countable = omega (arith, size);
         },
-        no_break name run own are formed_own named defs many (all_integers count) inner last first.st first.rest (record { name = some_name; entry = 0 })
+        no_break name run own are built_own named defs many (all_integers count) inner last first.st first.rest (record { name = some_name; entry = 0 })
             defs (texts_of program) some_lists.procedures some_lists.actions (program_code program) refl between is first.is refl refl refl refl,
       )
 
 -- a program, by the parts of its shape
 abbrev pub parts : {program : List StmtTree} → IsOneProcedure program → List StmtTree
-parts shape = unlabelled (action shape.name (shape.run ∷ [])) ∷ unlabelled (procedure shape.run) ∷ shape.inner ++ shape.last ∷ []
+parts shape = unlabelled (action_of shape.name shape.run) ∷ unlabelled (procedure_of shape.run) ∷ shape.inner ++ shape.last ∷ []
 
 pub all_good : (program : List StmtTree) → IsAccepted program → (lists : CodeLists) (name run : List ℕ) (entry : ℕ) → first_action program ≡ Some name → second_procedure program ≡ Some run →
     IsUpperName name → IsUpperName run → AreMade program lists name run entry → AreGood program lists
 all_good program accepted lists name run entry first second upper_name upper_run made =
-    subst (λ (p : List StmtTree). All IsFormed p → first_action p ≡ Some name → second_procedure p ≡ Some run → AreMade p lists name run entry → length p ≤ 100000 → All (λ text. length text ≤ 4194304) (texts_of p) → AreGood p lists)
-    (sym shape.order) at_parts accepted.formed first second made shape.few accepted.texts
+    subst (λ (p : List StmtTree). All IsBuilt p → first_action p ≡ Some name → second_procedure p ≡ Some run → AreMade p lists name run entry → length p ≤ 100000 → All (λ text. length text ≤ 4194304) (texts_of p) → AreGood p lists)
+    (sym shape.order) at_parts accepted.built first second made shape.few accepted.texts
   where
     shape : IsOneProcedure program
     shape = accepted.shape
 
-    at_parts : All IsFormed (parts shape) → first_action (parts shape) ≡ Some name → second_procedure (parts shape) ≡ Some run → AreMade (parts shape) lists name run entry →
+    at_parts : All IsBuilt (parts shape) → first_action (parts shape) ≡ Some name → second_procedure (parts shape) ≡ Some run → AreMade (parts shape) lists name run entry →
         length (parts shape) ≤ 100000 → All (λ text. length text ≤ 4194304) (texts_of (parts shape)) → AreGood (parts shape) lists
-    at_parts formed first second made few short =
+    at_parts built first second made few short =
         let same_name : shape.name ≡ name = cc in
         let same_run : shape.run ≡ run = cc in
-        good shape.name shape.run shape.inner shape.last shape.between shape.last_is formed shape.names.named lists entry
+        good shape.name shape.run shape.inner shape.last shape.between shape.last_is built shape.names.named lists entry
         (subst (λ (x : List ℕ). AreMade (parts shape) lists x shape.run entry) (sym same_name) (subst (λ (x : List ℕ). AreMade (parts shape) lists name x entry) (sym same_run) made))
-        (subst IsUpperName (sym same_name) upper_name) (subst IsUpperName (sym same_run) upper_run) few short
+        (record { spelled = subst IsUpperName (sym same_name) upper_name; free = accepted.free_action })
+        (record { spelled = subst IsUpperName (sym same_run) upper_run; free = accepted.free_procedure }) few short

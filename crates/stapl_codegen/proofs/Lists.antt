@@ -1,10 +1,11 @@
 -- Code before other code, and code with other targets in it.
-use Rattle.std.proofs.Common.{◌≡◌, ℕ, zero, suc, ◌+◌, Bool, true, false, cond, List, [], ◌∷◌, ◌++◌, map, drop, arith, refl, ap, ◌∙◌}
-use Rattle.stapl_syntax.specs.Trees.{ExprTree, number, scalar, binary, PartTree, string, value, BodyTree, action, procedure, end_procedure, integer, assign, goto, if_then, print, exit, StmtTree}
+use Rattle.std.proofs.Common.{◌≡◌, ℕ, zero, suc, ◌+◌, Bool, true, false, cond, List, [], ◌∷◌, ◌++◌, None, map, drop, arith, refl, ap, ◌∙◌}
+use Rattle.stapl_syntax.specs.Trees.{ExprTree, number, scalar, binary, PartTree, string, value, character, BodyTree, end_procedure, integer, assign, goto, if_then, print, exit, StmtTree}
+use Rattle.stapl_syntax.specs.Statements.{is_outer}
 use Rattle.stapl_meaning.specs.Scopes.{Scope, scope_at}
 use Rattle.stapl_code.specs.declared.instr.Instr.{Instr}
 use Rattle.stapl_code.specs.declared.instr.Instr.TheVariants.{Turn, Store, Binary, JumpIfZero, Print, Exit}
-use Rattle.stapl_codegen.specs.Emit.{operator_number, expr_code, values_code, print_parts, first_text, body_code, is_outer, piece_code, pieces_code, retarget}
+use Rattle.stapl_codegen.specs.Emit.{operator_number, no_operator, expr_code, values_code, print_parts, first_text, body_code, piece_code, pieces_code, retarget}
 
 module _ (variable : List ℕ → ℕ) where
   pub expr_append : (e : ExprTree) (c d : List Instr) → expr_code variable e (c ++ d) ≡ expr_code variable e c ++ d
@@ -13,6 +14,7 @@ module _ (variable : List ℕ → ℕ) where
   expr_append (binary op a b) c d =
       ap (expr_code variable a) (expr_append b (Binary (operator_number op) ∷ c) d)
       ∙ expr_append a (expr_code variable b (Binary (operator_number op) ∷ c)) d
+  expr_append _ c d = refl
 
   pub expr_before : (e : ExprTree) (c : List Instr) → expr_code variable e c ≡ expr_code variable e [] ++ c
   expr_before e c = expr_append e [] c
@@ -22,6 +24,7 @@ module _ (variable : List ℕ → ℕ) where
   values_append (string bytes ∷ list) c d = values_append list c d
   values_append (value e ∷ list) c d =
       ap (expr_code variable e) (values_append list c d) ∙ expr_append e (values_code variable list c) d
+  values_append (character e ∷ list) c d = ap (λ l. Binary no_operator ∷ l) (values_append list c d)
 
   pub values_before : (list : List PartTree) (c : List Instr) → values_code variable list c ≡ values_code variable list [] ++ c
   values_before list c = values_append list [] c
@@ -33,19 +36,19 @@ module _ (variable : List ℕ → ℕ) where
     expr_retarget (binary op a b) c =
         expr_retarget a (expr_code variable b (Binary (operator_number op) ∷ c))
         ∙ ap (expr_code variable a) (expr_retarget b (Binary (operator_number op) ∷ c))
+    expr_retarget _ c = refl
 
     pub values_retarget : (list : List PartTree) (c : List Instr) → map (retarget place) (values_code variable list c) ≡ values_code variable list (map (retarget place) c)
     values_retarget [] c = refl
     values_retarget (string bytes ∷ list) c = values_retarget list c
     values_retarget (value e ∷ list) c =
         expr_retarget e (values_code variable list c) ∙ ap (expr_code variable e) (values_retarget list c)
+    values_retarget (character e ∷ list) c = ap (λ l. Binary no_operator ∷ l) (values_retarget list c)
 
 module _ (scope : Scope) (place : ℕ → ℕ) (first : ℕ) where
   pub body_append : (b : BodyTree) (c d : List Instr) → body_code scope place first b (c ++ d) ≡ body_code scope place first b c ++ d
-  body_append (action name procedures) c d = refl
-  body_append (procedure name) c d = refl
   body_append end_procedure c d = refl
-  body_append (integer name) c d = refl
+  body_append (integer name None) c d = refl
   body_append (assign name e) c d = expr_append scope.variable e (Store (scope.variable name) ∷ c) d
   body_append (goto name) c d = refl
   body_append (if_then e b) c d =
@@ -53,15 +56,14 @@ module _ (scope : Scope) (place : ℕ → ℕ) (first : ℕ) where
       ∙ expr_append scope.variable e (JumpIfZero (place scope.follow) ∷ body_code scope place first b c) d
   body_append (print list) c d = values_append scope.variable list (Print (print_parts first list) ∷ c) d
   body_append (exit e) c d = expr_append scope.variable e (Exit ∷ c) d
+  body_append _ c d = refl
 
   pub body_before : (b : BodyTree) (c : List Instr) → body_code scope place first b c ≡ body_code scope place first b [] ++ c
   body_before b c = body_append b [] c
 
   pub body_retarget : (b : BodyTree) (c : List Instr) → map (retarget place) (body_code scope (λ i. i) first b c) ≡ body_code scope place first b (map (retarget place) c)
-  body_retarget (action name procedures) c = refl
-  body_retarget (procedure name) c = refl
   body_retarget end_procedure c = refl
-  body_retarget (integer name) c = refl
+  body_retarget (integer name None) c = refl
   body_retarget (assign name e) c = expr_retarget scope.variable place e (Store (scope.variable name) ∷ c)
   body_retarget (goto name) c = refl
   body_retarget (if_then e b) c =
@@ -69,6 +71,7 @@ module _ (scope : Scope) (place : ℕ → ℕ) (first : ℕ) where
       ∙ ap (λ l. expr_code scope.variable e (JumpIfZero (place scope.follow) ∷ l)) (body_retarget b c)
   body_retarget (print list) c = values_retarget scope.variable place list (Print (print_parts first list) ∷ c)
   body_retarget (exit e) c = expr_retarget scope.variable place e (Exit ∷ c)
+  body_retarget _ c = refl
 
 module _ (program : List StmtTree) (place : ℕ → ℕ) where
   piece_append_by : (t : Bool) (i : ℕ) (st : StmtTree) (c d : List Instr) → cond t (c ++ d) (Turn (i + 1) ∷ body_code (scope_at program i) place (first_text program i) st.body (c ++ d)) ≡ cond t c (Turn (i + 1) ∷ body_code (scope_at program i) place (first_text program i) st.body c) ++ d

@@ -47,7 +47,7 @@ variables_found block n b name (st ∷ rest) = by_body st.body (λ m. variables_
   where
     by_body : (body : BodyTree) → ((m : ℕ) → found_or (m + length (variables_from (block_after b body) rest)) (lookup (key_eq (key_at block name)) (variable_entries m (block_after b body) rest)) ≡ m + number_of block name (variables_from (block_after b body) rest)) →
         found_or (n + length (variables_from b (record { label = st.label; body = body } ∷ rest))) (lookup (key_eq (key_at block name)) (variable_entries n b (record { label = st.label; body = body } ∷ rest))) ≡ n + number_of block name (variables_from b (record { label = st.label; body = body } ∷ rest))
-    by_body (integer declared) more = variable_here block b n name declared (variables_from b rest) (variable_entries (n + 1) b rest) (more (n + 1))
+    by_body (integer declared start) more = variable_here block b n name declared (variables_from b rest) (variable_entries (n + 1) b rest) (more (n + 1))
     by_body _ more = more n
 
 pub variable_found : (program : List StmtTree) (tables : Tables) (block : ℕ) (name : List ℕ) (n : ℕ) → AreTables program tables →

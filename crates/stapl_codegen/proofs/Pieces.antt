@@ -4,10 +4,11 @@ use Rattle.std.specs.Prelude.{slice_get, if◌then◌else◌}
 use Rattle.std.proofs.lemmas.List.{length-map, drop_at}
 use Rattle.std.proofs.lemmas.Option.{slice_get_past}
 use Rattle.stapl_syntax.specs.Trees.{StmtTree}
+use Rattle.stapl_syntax.specs.Statements.{is_outer}
 use Rattle.stapl_meaning.specs.Scopes.{begins_block, entry_from}
 use Rattle.stapl_code.specs.declared.instr.Instr.{Instr}
 use Rattle.stapl_code.specs.Machine.{nowhere, entry_of}
-use Rattle.stapl_codegen.specs.Emit.{is_outer, pieces_code, program_code, total_of, start_in, start_of, entries_from, program_entries, retarget}
+use Rattle.stapl_codegen.specs.Emit.{pieces_code, program_code, total_of, start_in, start_of, entries_from, program_entries, retarget}
 use Rattle.stapl_codegen.proofs.Lists.{pieces_retarget, pieces_split}
 
 module _ (program : List StmtTree) where

@@ -1,7 +1,7 @@
 -- The parts of a PRINT give the text that its strings and values give.
 use Rattle.std.proofs.Common.{◌≡◌, ℕ, suc, List, [], ◌∷◌, ◌++◌, length, drop, Some, refl, ap, ◌∙◌}
 use Rattle.std.specs.Prelude.{slice_get}
-use Rattle.stapl_syntax.specs.Trees.{PartTree, string, value}
+use Rattle.stapl_syntax.specs.Trees.{PartTree, string, value, character}
 use Rattle.stapl_meaning.specs.declared.values.Value.{Value}
 use Rattle.stapl_meaning.specs.declared.values.Held.{Held}
 use Rattle.stapl_meaning.specs.Values.{Got, Known, Stuck, then_get, value_of, part_values, joined, after_integer}
@@ -14,17 +14,34 @@ pub record HasTexts (texts : List (List ℕ)) (n : ℕ) (some : List (List ℕ))
   pub more : List (List ℕ)
   pub from : drop n texts ≡ some ++ more
 
-pub parts_are_joined : (entries : List ℕ) (texts : List (List ℕ)) (list : List PartTree) (n : ℕ) (vs : List Value) → HasTexts texts n (part_texts list) →
-    parts_text entries texts (print_parts n list) vs ≡ joined list vs
-parts_are_joined entries texts [] n [] has = refl
-parts_are_joined entries texts [] n (v ∷ vs) has = refl
-parts_are_joined entries texts (string bytes ∷ list) n vs has =
-    let at : slice_get texts n ≡ Some bytes = get_head n texts ∙ ap head_of has.from in
-    let rest : HasTexts texts (suc n) (part_texts list) = record { more = has.more; from = drop_tail n texts ∙ ap (drop 1) has.from } in
-    ap (λ o. then_get (known_text o) (λ b. then_get (parts_text entries texts (print_parts (suc n) list) vs) (λ more. Known (b ++ more)))) at
-    ∙ ap (λ g. then_get g (λ more. Known (bytes ++ more))) (parts_are_joined entries texts list (suc n) vs rest)
-parts_are_joined entries texts (value e ∷ list) n [] has = refl
-parts_are_joined entries texts (value e ∷ list) n (v ∷ vs) has = ap (after_integer v) (parts_are_joined entries texts list n vs has)
+-- what is known of the values of a PRINT whose first part has one
+record IsFollowed (others : Got (List Value)) (values : List Value) : Type 0 where
+  first : Value
+  rest : List Value
+  known : others ≡ Known rest
+  is : first ∷ rest ≡ values
+
+followed : (one : Got Value) (others : Got (List Value)) (vs : List Value) → then_get one (λ v. then_get others (λ ws. Known (v ∷ ws))) ≡ Known vs → IsFollowed others vs
+followed (Known v) (Known ws) vs e = record { first = v; rest = ws; known = refl; is = cc }
+followed (Known v) Stuck vs e = absurd cc
+followed Stuck others vs e = absurd cc
+
+module _ (entries : List ℕ) (texts : List (List ℕ)) (variable : List ℕ → ℕ) (variables : List Held) where
+  pub parts_are_joined : (list : List PartTree) (n : ℕ) (vs : List Value) → HasTexts texts n (part_texts list) → part_values variable variables list ≡ Known vs →
+      parts_text entries texts (print_parts n list) vs ≡ joined list vs
+  parts_are_joined [] n [] has values = refl
+  parts_are_joined [] n (v ∷ vs) has values = refl
+  parts_are_joined (string bytes ∷ list) n vs has values =
+      let at : slice_get texts n ≡ Some bytes = get_head n texts ∙ ap head_of has.from in
+      let rest : HasTexts texts (suc n) (part_texts list) = record { more = has.more; from = drop_tail n texts ∙ ap (drop 1) has.from } in
+      ap (λ o. then_get (known_text o) (λ b. then_get (parts_text entries texts (print_parts (suc n) list) vs) (λ more. Known (b ++ more)))) at
+      ∙ ap (λ g. then_get g (λ more. Known (bytes ++ more))) (parts_are_joined list (suc n) vs rest values)
+  parts_are_joined (value e ∷ list) n [] has values = refl
+  parts_are_joined (value e ∷ list) n (v ∷ vs) has values =
+      let behind = followed (value_of variable variables e) (part_values variable variables list) (v ∷ vs) values in
+      let same : behind.rest ≡ vs = cc in
+      ap (after_integer v) (parts_are_joined list n vs has (behind.known ∙ ap Known same))
+  parts_are_joined (character e ∷ list) n vs has values = absurd cc
 
 -- a value for each part that has one
 pub values_count : (variable : List ℕ → ℕ) (variables : List Held) (list : List PartTree) (n : ℕ) (vs : List Value) →
@@ -32,14 +49,6 @@ pub values_count : (variable : List ℕ → ℕ) (variables : List Held) (list :
 values_count variable variables [] n vs e = cc
 values_count variable variables (string bytes ∷ list) n vs e = values_count variable variables list (suc n) vs e
 values_count variable variables (value x ∷ list) n vs e =
-    on_first (values_count variable variables list n) (value_of variable variables x) e
-  where
-    on_rest : ((ws : List Value) → part_values variable variables list ≡ Known ws → operand_count (print_parts n list) ≡ length ws) → (v : Value) (g : Got (List Value)) → part_values variable variables list ≡ g → then_get g (λ ws. Known (v ∷ ws)) ≡ Known vs → suc (operand_count (print_parts n list)) ≡ length vs
-    on_rest counts v (Known ws) same e =
-        let both : v ∷ ws ≡ vs = cc in
-        ap suc (counts ws same) ∙ ap length both
-    on_rest counts v Stuck same e = absurd cc
-
-    on_first : ((ws : List Value) → part_values variable variables list ≡ Known ws → operand_count (print_parts n list) ≡ length ws) → (g : Got Value) → then_get g (λ v. then_get (part_values variable variables list) (λ ws. Known (v ∷ ws))) ≡ Known vs → suc (operand_count (print_parts n list)) ≡ length vs
-    on_first counts (Known v) e = on_rest counts v (part_values variable variables list) refl e
-    on_first counts Stuck e = absurd cc
+    let behind = followed (value_of variable variables x) (part_values variable variables list) vs e in
+    ap suc (values_count variable variables list n behind.rest behind.known) ∙ ap length behind.is
+values_count variable variables (character x ∷ list) n vs e = absurd cc

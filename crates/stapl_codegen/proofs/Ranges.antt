@@ -1,9 +1,9 @@
 -- The fields of the code of an accepted program are in their ranges.
-use Rattle.std.proofs.Common.{◌≡◌, ℕ, zero, suc, ◌+◌, ◌*◌, ◌<◌, ◌≤◌, inl, inr, List, [], ◌∷◌, length, length-append, replicate, Some, arith, refl, ap}
+use Rattle.std.proofs.Common.{◌≡◌, ℕ, zero, suc, ◌+◌, ◌*◌, ◌<◌, ◌≤◌, inl, inr, List, [], ◌∷◌, length, length-append, replicate, Some, None, arith, refl, ap}
 use Rattle.std.specs.Prelude.{slice_get, All, sum_by}
 use Rattle.std.proofs.lemmas.List.Folds.{sum_by-replicate}
-use Rattle.stapl_syntax.specs.declared.statement.BinOp.TheVariants.{Add, Less}
-use Rattle.stapl_syntax.specs.Trees.{ExprTree, number, scalar, binary, PartTree, string, value, BodyTree, action, procedure, end_procedure, integer, assign, goto, if_then, print, exit, StmtTree}
+use Rattle.stapl_syntax.specs.declared.signs.BinOp.TheVariants.{Add, Less}
+use Rattle.stapl_syntax.specs.Trees.{ExprTree, number, scalar, binary, PartTree, string, value, character, BodyTree, end_procedure, integer, assign, goto, if_then, print, exit, StmtTree}
 use Rattle.stapl_meaning.specs.Scopes.{Scope, block_after, declared_by, variables_from}
 use Rattle.stapl_code.specs.declared.instr.Instr.{Instr}
 use Rattle.stapl_code.specs.declared.instr.Instr.TheVariants.{Store, Binary, JumpIfZero, Print, Exit}
@@ -53,7 +53,7 @@ all_integers (suc m) (suc n) below = all_integers m n (omega (arith, below))
 
 -- a statement declares at most one variable
 one_declared : (b : ℕ) (body : BodyTree) → length (declared_by b body) ≤ 1
-one_declared b (integer name) = omega arith
+one_declared b (integer name start) = omega arith
 one_declared b _ = omega arith
 
 pub few_variables : (b : ℕ) (sts : List StmtTree) → length (variables_from b sts) ≤ length sts
@@ -66,11 +66,13 @@ parts_range : (texts first : ℕ) (list : List PartTree) → first + length (par
 parts_range texts first [] few = tt
 parts_range texts first (string bytes ∷ list) few = (omega (arith, few), parts_range texts (suc first) list (omega (arith, few)))
 parts_range texts first (value e ∷ list) few = (tt, parts_range texts first list few)
+parts_range texts first (character e ∷ list) few = (tt, parts_range texts first list few)
 
 parts_count : (first : ℕ) (list : List PartTree) → length (print_parts first list) ≡ length list
 parts_count first [] = refl
 parts_count first (string bytes ∷ list) = ap suc (parts_count (suc first) list)
 parts_count first (value e ∷ list) = ap suc (parts_count first list)
+parts_count first (character e ∷ list) = ap suc (parts_count first list)
 
 module _ (variables texts : ℕ) where
   abbrev pub InRange : List Instr → Type 0
@@ -82,26 +84,23 @@ module _ (variables texts : ℕ) where
     expr_range (scalar name) rest good more = (good, more)
     expr_range (binary Add a b) rest good more =
         expr_range a (expr_code v b (Binary (operator_number Add) ∷ rest)) good.0 (expr_range b (Binary (operator_number Add) ∷ rest) good.1 (inl refl, more))
-    expr_range (binary Less a b) rest good more = absurd good
+    expr_range _ rest good more = absurd good
 
     boolean_range : (e : ExprTree) (rest : List Instr) → IsBoolean v variables Leads e → InRange rest → InRange (expr_code v e rest)
     boolean_range (binary Less a b) rest good more =
         expr_range a (expr_code v b (Binary (operator_number Less) ∷ rest)) good.0 (expr_range b (Binary (operator_number Less) ∷ rest) good.1 (inr refl, more))
-    boolean_range (binary Add a b) rest good more = absurd good
-    boolean_range (number z) rest good more = absurd good
-    boolean_range (scalar name) rest good more = absurd good
+    boolean_range _ rest good more = absurd good
 
     values_range : (list : List PartTree) (rest : List Instr) → ArePrinted v variables Leads list → InRange rest → InRange (values_code v list rest)
     values_range [] rest good more = more
     values_range (string bytes ∷ list) rest good more = values_range list rest good more
     values_range (value e ∷ list) rest good more = expr_range e (values_code v list rest) good.0 (values_range list rest good.1 more)
+    values_range (character e ∷ list) rest good more = absurd good
 
   pub body_range : (Leads : List ℕ → Type 0) (scope : Scope) (place : ℕ → ℕ) (first : ℕ) (b : BodyTree) (rest : List Instr) →
       IsGood scope.variable variables Leads b → first + length (body_texts b) ≤ texts → InRange rest → InRange (body_code scope place first b rest)
-  body_range Leads scope place first (action name procedures) rest good few more = more
-  body_range Leads scope place first (procedure name) rest good few more = more
   body_range Leads scope place first end_procedure rest good few more = (tt, more)
-  body_range Leads scope place first (integer name) rest good few more = more
+  body_range Leads scope place first (integer name None) rest good few more = more
   body_range Leads scope place first (assign name e) rest good few more =
       expr_range Leads scope.variable e (Store (scope.variable name) ∷ rest) good.1 (good.0, more)
   body_range Leads scope place first (goto name) rest good few more = (tt, more)
@@ -113,3 +112,4 @@ module _ (variables texts : ℕ) where
       values_range Leads scope.variable list (Print (print_parts first list) ∷ rest) good.1
       ((some, each_all (IsPart texts) (print_parts first list) (parts_range texts first list few)), more)
   body_range Leads scope place first (exit e) rest good few more = expr_range Leads scope.variable e (Exit ∷ rest) good (tt, more)
+  body_range Leads scope place first _ rest good few more = absurd good

@@ -2,16 +2,17 @@
 use Rattle.std.proofs.Common.{◌≡◌, ◌≢◌, ℕ, zero, suc, ◌+◌, ◌-◌, ◌≤◌, Bool, true, false, cond, List, [], ◌∷◌, length, drop, Some, None, refl, sym, ap, subst, ◌∙◌, add-one}
 use Rattle.std.specs.Prelude.{slice_get}
 use Rattle.std.proofs.lemmas.List.{drop_all}
-use Rattle.stapl_syntax.specs.Trees.{BodyTree, action, procedure, StmtTree}
+use Rattle.stapl_syntax.specs.Trees.{BodyTree, end_procedure, integer, assign, goto, if_then, print, exit, StmtTree}
+use Rattle.stapl_syntax.specs.Statements.{is_outer}
 use Rattle.stapl_meaning.specs.States.{State, Turned, Leads, Over, NoTurn, next_chosen}
 use Rattle.stapl_meaning.specs.Scopes.{Scope, scope_at, entry_from, zeros_of}
 use Rattle.stapl_meaning.specs.Turns.{done, turn, turn_of}
-use Rattle.stapl_meaning.specs.Plays.{Outcome, Ended, Going, Stopped, Run, after, goes_on, run, start, play, told}
+use Rattle.stapl_meaning.specs.Plays.{Outcome, Ended, Going, Stopped, Run, after, goes_on, run, start, play, ending_of}
 use Rattle.stapl_code.specs.declared.instr.Instr.{Instr}
 use Rattle.stapl_code.specs.declared.instr.Instr.TheVariants.{Turn}
 use Rattle.stapl_code.specs.Machine.{nowhere, entry_of, stretch, begins, code_turn, code_run, begun, code_play}
 use Rattle.stapl_code.proofs.Preceded.{preceded_nothing}
-use Rattle.stapl_codegen.specs.Emit.{is_outer, body_code, first_text, texts_of, pieces_code, program_code, start_of, program_entries}
+use Rattle.stapl_codegen.specs.Emit.{body_code, first_text, texts_of, pieces_code, program_code, start_of, program_entries}
 use Rattle.stapl_codegen.specs.Correct.{GoesOn, IsClosed, Stands}
 use Rattle.stapl_codegen.proofs.Heads.{head_of, get_head, drop_tail}
 use Rattle.stapl_codegen.proofs.Texts.{texts_at}
@@ -21,12 +22,17 @@ use Rattle.stapl_codegen.proofs.Pieces.{start_is, start_none, start_head, code_f
 closed_drop : (n : ℕ) (sts : List StmtTree) → IsClosed sts → IsClosed (drop n sts)
 closed_drop zero sts c = c
 closed_drop (suc n) [] c = c
-closed_drop (suc n) (st ∷ rest) c = closed_drop n rest c.2
+closed_drop (suc n) (st ∷ rest) c = closed_drop n rest c.1
 
 outer_stays : (scope : Scope) (s : State) (b : BodyTree) → is_outer b ≡ true → done scope s b ≡ NoTurn []
-outer_stays scope s (action name procedures) e = refl
-outer_stays scope s (procedure name) e = refl
-outer_stays scope s _ e = absurd cc
+outer_stays scope s end_procedure e = absurd cc
+outer_stays scope s (integer name start) e = absurd cc
+outer_stays scope s (assign name x) e = absurd cc
+outer_stays scope s (goto name) e = absurd cc
+outer_stays scope s (if_then x b) e = absurd cc
+outer_stays scope s (print list) e = absurd cc
+outer_stays scope s (exit x) e = absurd cc
+outer_stays scope s _ e = refl
 
 -- the code of pieces is none, or begins with a turn
 pub record BeginsWithTurn (code : List Instr) : Type 0 where
@@ -90,7 +96,7 @@ module _ (program : List StmtTree) where
         let body = body_code scope place first st.body (From (i + 1) rest) in
         ap (λ d. begins Entries Texts All d s) (code_from program i st at inner ∙ ap (From i) e)
         ∙ ap (λ b. begins Entries Texts All (cond b (From (i + 1) rest) (Turn (i + 1) ∷ body)) s) inner
-        ∙ body_follows place Entries Texts All first scope s st.body (From (i + 1) rest) (entry_is program) (λ f. behind_piece i first rest next (c.1 inner f)) (texts_at i program st rest e) (c.0 inner)
+        ∙ body_follows place Entries Texts All first scope s st.body (From (i + 1) rest) (entry_is program) (λ f. behind_piece i first rest next (c.0 inner f)) (texts_at i program st rest e)
         ∙ ap (λ o. placed place (turn_of (scope_at program i) s o)) (sym at)
 
     by_piece : (i : ℕ) (s : State) (sts : List StmtTree) → drop i program ≡ sts → code_turn Entries Texts Code (place i) s ≡ placed place (turn program i s)
@@ -133,10 +139,10 @@ module _ (program : List StmtTree) where
         ap (λ t. goes_on t s (code_run Entries Texts Code n)) (turn_follows i s)
         ∙ goes_follows n (run_follows n) (turn program i s) s
 
-    told_placed : (o : Outcome) → told (placed_outcome o) ≡ told o
-    told_placed (Ended ending) = refl
-    told_placed (Going i) = refl
-    told_placed Stopped = refl
+    ending_placed : (o : Outcome) → ending_of (placed_outcome o) ≡ ending_of o
+    ending_placed (Ended ending) = refl
+    ending_placed (Going i) = refl
+    ending_placed Stopped = refl
 
     module _ (some : Code ≢ []) where
       -- the code has no prologue: its first instruction is a turn
@@ -155,6 +161,6 @@ module _ (program : List StmtTree) where
       pub stands : Stands program Entries Texts Code (zeros_of program)
       stands = record {
         same_events = λ chosen n. ap (λ r. r.events) (play_follows chosen n);
-        same_ending = λ chosen n. ap (λ r. told r.outcome) (play_follows chosen n) ∙ told_placed (play program chosen n).outcome;
+        same_ending = λ chosen n. ap (λ r. ending_of r.outcome) (play_follows chosen n) ∙ ending_placed (play program chosen n).outcome;
         same_variables = λ chosen n. ap (λ r. r.state.variables) (play_follows chosen n);
       }

@@ -2,16 +2,19 @@
 use Rattle.std.proofs.Common.{◌≡◌, ℕ, zero, suc, ◌+◌, ◌<◌, Bool, true, false, cond, not, ◌&&◌, ◌||◌, List, [], ◌∷◌, ◌++◌, length, take, drop, nat_eq, Option, Some, None, arith, refl, sym, ap, subst, ◌∙◌}
 use Rattle.std.specs.List.{list_all, list_any}
 use Rattle.std.specs.Str.{bytes_eq}
-use Rattle.stapl_lexer.specs.SpelledTokens.{SpelledToken}
-use Rattle.stapl_syntax.specs.Trees.{BodyTree, action, procedure, end_procedure, integer, assign, goto, if_then, print, exit, StmtTree}
-use Rattle.stapl_syntax.specs.Grammar.{Means, is_action, is_procedure, is_inner, is_labelled, MeansInner, MeansSimple, is_assign, is_goto, is_print_string, is_print_value, is_exit, is_end_procedure, is_integer, is_if, is_simple, unlabelled}
+use Rattle.stapl_syntax.specs.Trees.{BodyTree, procedure, end_procedure, integer, StmtTree}
+use Rattle.stapl_syntax.specs.Statements.{is_outer}
+use Rattle.stapl_syntax.specs.Built.{IsSimple, is_assign, is_goto, is_print_string, is_print_value, is_exit, IsInner, is_end_procedure, is_integer, is_if, is_simple, IsBuilt, is_action, is_procedure, is_inner, is_labelled, unlabelled, action_of, procedure_of}
 use Rattle.stapl_syntax.specs.Declarations.{body_declares, is_label}
 use Rattle.stapl_syntax.specs.Faults.{is_inside, is_end}
 use Rattle.stapl_syntax.specs.Shapes.{declares_variable_in, bears_label, is_between}
 use Rattle.stapl_meaning.specs.Scopes.{begins_block, blocks_in, block_at, variables_from, variables_of, number_of, label_from, is_name}
-use Rattle.stapl_codegen.specs.Emit.{is_outer}
 use Rattle.stapl_codegen.proofs.Good.{both_hold}
 use Rattle.stapl_codegen.proofs.WellPlaced.{IsBetween}
+
+pub not_true : (b : Bool) → not b ≡ true → b ≡ false
+not_true true e = absurd cc
+not_true false e = refl
 
 -- the statements of a procedure
 abbrev pub AreInner : List StmtTree → Type 0
@@ -19,26 +22,11 @@ AreInner [] = Unit {0}
 AreInner (st ∷ rest) = (is_inside st.body ≡ true) × AreInner rest
 
 pub inner_not_outer : (b : BodyTree) → is_inside b ≡ true → is_outer b ≡ false
-inner_not_outer (action name procedures) e = absurd cc
-inner_not_outer (procedure name) e = absurd cc
-inner_not_outer end_procedure e = refl
-inner_not_outer (integer name) e = refl
-inner_not_outer (assign name x) e = refl
-inner_not_outer (goto name) e = refl
-inner_not_outer (if_then x b) e = refl
-inner_not_outer (print list) e = refl
-inner_not_outer (exit x) e = refl
+inner_not_outer b e = not_true (is_outer b) e
 
 pub inner_begins_none : (b : BodyTree) → is_inside b ≡ true → begins_block b ≡ false
-inner_begins_none (procedure name) e = absurd cc
-inner_begins_none (action name procedures) e = absurd cc
-inner_begins_none end_procedure e = refl
-inner_begins_none (integer name) e = refl
-inner_begins_none (assign name x) e = refl
-inner_begins_none (goto name) e = refl
-inner_begins_none (if_then x b) e = refl
-inner_begins_none (print list) e = refl
-inner_begins_none (exit x) e = refl
+inner_begins_none (procedure name uses) e = absurd cc
+inner_begins_none _ e = refl
 
 pub are_inner : (inner : List StmtTree) (last : StmtTree) → list_all is_between inner ≡ true → last.body ≡ end_procedure → AreInner (inner ++ last ∷ [])
 are_inner [] last between is = (ap is_inside is, tt)
@@ -74,16 +62,10 @@ variable_below name (st ∷ rest) are any = by_body st.body are.0 any (variable_
     by_body : (b : BodyTree) → is_inside b ≡ true → (body_declares name b || list_any (declares_variable_in name) rest) ≡ true →
         (list_any (declares_variable_in name) rest ≡ true → number_of 1 name (variables_from 1 rest) < length (variables_from 1 rest)) →
         number_of 1 name (variables_from 1 (record { label = st.label; body = b } ∷ rest)) < length (variables_from 1 (record { label = st.label; body = b } ∷ rest))
-    by_body (integer own) inside e below =
+    by_body (integer own start) inside e below =
         variable_here name own (length (variables_from 1 rest)) (number_of 1 name (variables_from 1 rest)) (list_any (declares_variable_in name) rest) below e
-    by_body (action n ps) inside e below = absurd cc
-    by_body (procedure n) inside e below = absurd cc
-    by_body end_procedure inside e below = below e
-    by_body (assign n x) inside e below = below e
-    by_body (goto n) inside e below = below e
-    by_body (if_then x b) inside e below = below e
-    by_body (print list) inside e below = below e
-    by_body (exit x) inside e below = below e
+    by_body (procedure n uses) inside e below = absurd cc
+    by_body _ inside e below = below e
 
 -- a declared label has a place
 label_here : (name : List ℕ) (label : Option (List ℕ)) (count others : ℕ) (more : Bool) → (more ≡ true → others < count) → (is_label name label || more) ≡ true → cond (is_name label name) 0 (suc others) < suc count
@@ -102,34 +84,30 @@ label_below name (st ∷ rest) are any =
     by_block false e here = here
 
 -- a statement behind THEN is no ENDPROC
-simple_between : (tokens : List SpelledToken) (b : BodyTree) → MeansSimple tokens b → IsBetween b
-simple_between _ _ (is_assign name sum x free means) = tt
-simple_between _ _ (is_goto label free) = tt
-simple_between _ _ (is_print_string bytes) = tt
-simple_between _ _ (is_print_value a x atom) = tt
-simple_between _ _ (is_exit a x atom) = tt
+simple_between : (b : BodyTree) → IsSimple b → IsBetween b
+simple_between _ (is_assign name x sum) = tt
+simple_between _ (is_goto label) = tt
+simple_between _ (is_print_string bytes) = tt
+simple_between _ (is_print_value x atom) = tt
+simple_between _ (is_exit x atom) = tt
 
-pub inner_between : (tokens : List SpelledToken) (b : BodyTree) → MeansInner tokens b → is_end b ≡ false → IsBetween b
-inner_between _ _ is_end_procedure e = absurd cc
-inner_between _ _ (is_integer name free) e = tt
-inner_between _ _ (is_if a b x y tokens body left right means) e = simple_between tokens body means
-inner_between _ _ (is_simple tokens body means) e = simple_between tokens body means
+pub inner_between : (b : BodyTree) → IsInner b → is_end b ≡ false → IsBetween b
+inner_between _ is_end_procedure e = absurd cc
+inner_between _ (is_integer name) e = tt
+inner_between _ (is_if x y body left right simple) e = simple_between body simple
+inner_between _ (is_simple body simple) e = simple_between body simple
 
--- a statement of a procedure, by the tokens behind its label
-pub record MeansBody (b : BodyTree) : Type 0 where
-  pub tokens : List SpelledToken
-  pub means : MeansInner tokens b
-
-pub means_body : (tokens : List SpelledToken) (st : StmtTree) → Means tokens st → is_inside st.body ≡ true → MeansBody st.body
-means_body _ _ (is_action name run a b) inside = absurd cc
-means_body _ _ (is_procedure name a) inside = absurd cc
-means_body _ _ (is_inner tokens body means) inside = record { tokens = tokens; means = means }
-means_body _ _ (is_labelled label tokens body free means) inside = record { tokens = tokens; means = means }
+-- a statement of a procedure, without its label
+pub inner_of : (st : StmtTree) → IsBuilt st → is_inside st.body ≡ true → IsInner st.body
+inner_of _ (is_action name run) inside = absurd cc
+inner_of _ (is_procedure name) inside = absurd cc
+inner_of _ (is_inner body inner) inside = inner
+inner_of _ (is_labelled label body inner) inside = inner
 
 -- behind the ACTION and the PROCEDURE of a program stand the statements of that
 module _ (name run : List ℕ) (own : List StmtTree) (are : AreInner own) where
   abbrev pub whole : List StmtTree
-  whole = unlabelled (action name (run ∷ [])) ∷ unlabelled (procedure run) ∷ own
+  whole = unlabelled (action_of name run) ∷ unlabelled (procedure_of run) ∷ own
 
   pub one_block : (k : ℕ) → block_at whole (suc (suc k)) ≡ 1
   one_block k =

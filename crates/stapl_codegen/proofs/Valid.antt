@@ -6,6 +6,8 @@ use Rattle.std.proofs.lemmas.List.{take_all}
 use Rattle.std.proofs.Math.Dec.{leb-zero}
 use Rattle.std.proofs.lemmas.Bool.{lt-ltb}
 use Rattle.stapl_syntax.specs.Trees.{end_procedure, StmtTree}
+use Rattle.stapl_syntax.specs.Statements.{is_outer}
+use Rattle.stapl_syntax.specs.Built.{IsBuilt}
 use Rattle.stapl_syntax.specs.Declarations.{names_variables, names_labels}
 use Rattle.stapl_syntax.specs.Faults.{is_inside, is_end}
 use Rattle.stapl_syntax.specs.Shapes.{declares_variable_in, bears_label, names_declared, is_between}
@@ -19,13 +21,12 @@ use Rattle.stapl_code.specs.declared.raw.ActionDef.{ActionDef}
 use Rattle.stapl_code.specs.Kinds.{variable_kind}
 use Rattle.stapl_code.specs.Ranges.{IsInstr}
 use Rattle.stapl_code.specs.Valid.{is_turn, is_last, is_target, rest_break, first_of, next_entry, procedures_break, entry_break, prologue_break, first_break}
-use Rattle.stapl_codegen.specs.Emit.{is_outer, texts_of, body_code, first_text, pieces_code, program_code, start_of, entries_from, program_entries}
-use Rattle.stapl_codegen.specs.Accepted.{IsFormed}
+use Rattle.stapl_codegen.specs.Emit.{texts_of, body_code, first_text, pieces_code, program_code, start_of, entries_from, program_entries}
 use Rattle.stapl_codegen.proofs.Heads.{head_of, get_head, drop_tail}
 use Rattle.stapl_codegen.proofs.Good.{IsGood, inner_good, both_hold}
 use Rattle.stapl_codegen.proofs.WellKinded.{Fine, Follows, fine_step}
 use Rattle.stapl_codegen.proofs.WellPlaced.{IsBetween, body_last, body_fine, turn_stands}
-use Rattle.stapl_codegen.proofs.Shapes.{AreInner, inner_not_outer, inner_begins_none, inner_at, inner_between, means_body, whole, variable_there, LeadsInside, label_there}
+use Rattle.stapl_codegen.proofs.Shapes.{AreInner, not_true, inner_not_outer, inner_begins_none, inner_at, inner_between, inner_of, whole, variable_there, LeadsInside, label_there}
 use Rattle.stapl_codegen.proofs.Pieces.{start_is, code_from}
 use Rattle.stapl_codegen.proofs.Texts.{texts_below}
 use Rattle.stapl_codegen.proofs.Ranges.{each_all, InRange, body_range}
@@ -49,10 +50,6 @@ passes_at test (suc k) (y ∷ ys) x rest all e = passes_at test k ys x rest (bot
 
 not_end_of : (st : StmtTree) → is_between st ≡ true → is_end st.body ≡ false
 not_end_of st between = not_true (is_end st.body) (both_hold (is_inside st.body) (not (is_end st.body)) between).1
-  where
-    not_true : (b : Bool) → not b ≡ true → b ≡ false
-    not_true true e = absurd cc
-    not_true false e = refl
 
 -- a place below the length is that of an element
 pub record Stands {A : Type 0} (k : ℕ) (xs : List A) : Type 0 where
@@ -66,7 +63,7 @@ stands_at zero (x ∷ xs) below = record { item = x; rest = xs; is = refl }
 stands_at (suc k) (x ∷ xs) below = let s = stands_at k xs (omega (arith, below)) in record { item = s.item; rest = s.rest; is = s.is }
 
 -- an accepted program, by its parts
-module _ (name run : List ℕ) (own : List StmtTree) (are : AreInner own) (formed : All IsFormed own) (named : list_all (names_declared own) own ≡ true)
+module _ (name run : List ℕ) (own : List StmtTree) (are : AreInner own) (built : All IsBuilt own) (named : list_all (names_declared own) own ≡ true)
     (variables : List VarDef) (many : length (variables_of (whole name run own are)) ≤ length variables)
     (all_integers : (n : ℕ) → n < length variables → variable_kind (slice_get variables n) ≡ Some kinds.Int) where
   abbrev program : List StmtTree
@@ -106,21 +103,19 @@ module _ (name run : List ℕ) (own : List StmtTree) (are : AreInner own) (forme
   good_at : (k : ℕ) (st : StmtTree) (rest : List StmtTree) → drop k own ≡ st ∷ rest →
       IsGood (λ x. number_of (block_at program (suc (suc k))) x (variables_of program)) (length variables) (LeadsInside name run own are k) st.body
   good_at k st rest e =
-      let form = all_at IsFormed k own st rest formed e in
-      let means = means_body form.tokens st form.means (inner_at k own st rest are e) in
+      let inner = inner_of st (all_at IsBuilt k own st rest built e) (inner_at k own st rest are e) in
       let names = both_hold (names_variables (λ x. list_any (declares_variable_in x) own) st.body) (names_labels (λ x. list_any (bears_label x) own) st.body)
       (passes_at (names_declared own) k own st rest named e) in
       inner_good (λ x. number_of (block_at program (suc (suc k))) x (variables_of program)) (length variables) (LeadsInside name run own are k)
       (λ x. list_any (declares_variable_in x) own) (λ x. list_any (bears_label x) own)
       (λ x any. let below = variable_there name run own are k x any in omega (arith, below, many))
       (λ x any. label_there name run own are k x any)
-      means.tokens st.body means.means names.0 names.1
+      st.body inner names.0 names.1
 
   between_at : (k : ℕ) (st : StmtTree) (rest : List StmtTree) → drop k own ≡ st ∷ rest → is_end st.body ≡ false → IsBetween st.body
   between_at k st rest e not_end =
-      let form = all_at IsFormed k own st rest formed e in
-      let means = means_body form.tokens st form.means (inner_at k own st rest are e) in
-      inner_between means.tokens st.body means.means not_end
+      let inner = inner_of st (all_at IsBuilt k own st rest built e) (inner_at k own st rest are e) in
+      inner_between st.body inner not_end
 
   -- where a piece of the procedure stands behind a piece, the code of the one leads to that of the other
   some_from : (k : ℕ) (st : StmtTree) (rest : List StmtTree) → drop k own ≡ st ∷ rest → is_last (From (suc (suc k)) (st ∷ rest)) ≡ false

@@ -1,8 +1,8 @@
 -- The code of good statements finds its operands and stands well.
 use Rattle.std.proofs.Common.{◌≡◌, ℕ, zero, suc, ◌+◌, ◌<◌, Bool, true, false, List, [], ◌∷◌, length, Some, None, refl, ap, ◌∙◌}
 use Rattle.std.specs.Prelude.{slice_get}
-use Rattle.stapl_syntax.specs.declared.statement.BinOp.TheVariants.{Add, Less}
-use Rattle.stapl_syntax.specs.Trees.{ExprTree, number, scalar, binary, PartTree, string, value}
+use Rattle.stapl_syntax.specs.declared.signs.BinOp.TheVariants.{Add, Less}
+use Rattle.stapl_syntax.specs.Trees.{ExprTree, number, scalar, binary, PartTree, string, value, character}
 use Rattle.stapl_code.specs.declared.instr.Instr.{Instr}
 use Rattle.stapl_code.specs.declared.instr.Instr.TheVariants.{Push, Load, Binary}
 use Rattle.stapl_code.specs.declared.kinds.Kind.{Kind}
@@ -18,11 +18,13 @@ pub expr_last : (v : List ℕ → ℕ) (e : ExprTree) (rest : List Instr) → is
 expr_last v (number z) rest = refl
 expr_last v (scalar name) rest = refl
 expr_last v (binary op a b) rest = expr_last v a (expr_code v b (Binary (operator_number op) ∷ rest))
+expr_last v _ rest = refl
 
 pub values_last : (v : List ℕ → ℕ) (list : List PartTree) (i : Instr) (rest : List Instr) → is_last (values_code v list (i ∷ rest)) ≡ false
 values_last v [] i rest = refl
 values_last v (string bytes ∷ list) i rest = values_last v list i rest
 values_last v (value e ∷ list) i rest = expr_last v e (values_code v list (i ∷ rest))
+values_last v (character e ∷ list) i rest = refl
 
 -- integers put on the kinds of the operands
 abbrev pub ints : ℕ → List Kind → List Kind
@@ -60,7 +62,7 @@ module _ (variables : List VarDef) (code : List Instr) (all_integers : (n : ℕ)
         expr_fine a ks (expr_code v b (Binary (operator_number Add) ∷ rest)) good.0 (expr_last v b (Binary (operator_number Add) ∷ rest))
         (expr_fine b (kinds.Int ∷ ks) (Binary (operator_number Add) ∷ rest) good.1 refl
         (fine_step false (Binary (operator_number Add)) (kinds.Int ∷ kinds.Int ∷ ks) (kinds.Int ∷ ks) rest refl (ap (stands_well 0 code false (Binary (operator_number Add))) some) more))
-    expr_fine (binary Less a b) ks rest good some more = absurd good
+    expr_fine _ ks rest good some more = absurd good
 
     pub boolean_fine : (e : ExprTree) (ks : List Kind) (rest : List Instr) → IsBoolean v (length variables) Leads e → is_last rest ≡ false →
         Fine false (kinds.Bit ∷ ks) rest → Fine false ks (expr_code v e rest)
@@ -68,9 +70,7 @@ module _ (variables : List VarDef) (code : List Instr) (all_integers : (n : ℕ)
         expr_fine a ks (expr_code v b (Binary (operator_number Less) ∷ rest)) good.0 (expr_last v b (Binary (operator_number Less) ∷ rest))
         (expr_fine b (kinds.Int ∷ ks) (Binary (operator_number Less) ∷ rest) good.1 refl
         (fine_step false (Binary (operator_number Less)) (kinds.Int ∷ kinds.Int ∷ ks) (kinds.Bit ∷ ks) rest refl (ap (stands_well 0 code false (Binary (operator_number Less))) some) more))
-    boolean_fine (binary Add a b) ks rest good some more = absurd good
-    boolean_fine (number z) ks rest good some more = absurd good
-    boolean_fine (scalar name) ks rest good some more = absurd good
+    boolean_fine _ ks rest good some more = absurd good
 
     pub values_fine : (first : ℕ) (list : List PartTree) (ks : List Kind) (x : Instr) (rest : List Instr) → ArePrinted v (length variables) Leads list →
         Fine false (ints (operand_count (print_parts first list)) ks) (x ∷ rest) → Fine false ks (values_code v list (x ∷ rest))
@@ -78,6 +78,7 @@ module _ (variables : List VarDef) (code : List Instr) (all_integers : (n : ℕ)
     values_fine first (string bytes ∷ list) ks x rest good more = values_fine (suc first) list ks x rest good more
     values_fine first (value e ∷ list) ks x rest good more =
         expr_fine e ks (values_code v list (x ∷ rest)) good.0 (values_last v list x rest) (values_fine first list (kinds.Int ∷ ks) x rest good.1 more)
+    values_fine first (character e ∷ list) ks x rest good more = absurd good
 
     -- what stands behind a statement that is not the last: more instructions, which a statement may also jump over
     pub record Follows (rest : List Instr) : Type 0 where

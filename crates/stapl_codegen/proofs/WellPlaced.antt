@@ -1,7 +1,7 @@
 -- The code of the statements of a procedure breaks no rule.
-use Rattle.std.proofs.Common.{◌≡◌, ℕ, ◌<◌, Bool, true, false, List, [], ◌∷◌, length, Some, refl, ap}
+use Rattle.std.proofs.Common.{◌≡◌, ℕ, ◌<◌, Bool, true, false, List, [], ◌∷◌, length, Some, None, refl, ap}
 use Rattle.std.specs.Prelude.{slice_get}
-use Rattle.stapl_syntax.specs.Trees.{BodyTree, action, procedure, end_procedure, integer, assign, goto, if_then, print, exit}
+use Rattle.stapl_syntax.specs.Trees.{BodyTree, end_procedure, integer, assign, goto, if_then, print, exit}
 use Rattle.stapl_meaning.specs.Scopes.{Scope}
 use Rattle.stapl_code.specs.declared.instr.Instr.{Instr}
 use Rattle.stapl_code.specs.declared.instr.Instr.TheVariants.{Turn, Store, Jump, JumpIfZero, Print, Exit}
@@ -33,23 +33,20 @@ module _ (variables : List VarDef) (code : List Instr) (all_integers : (n : ℕ)
 
   module _ (Leads : List ℕ → Type 0) (scope : Scope) (place : ℕ → ℕ) (first : ℕ) (target : (name : List ℕ) → Leads name → is_target 0 code (place (scope.label name)) ≡ true) (next : is_target 0 code (place scope.follow) ≡ true) where
     pub body_last : (b : BodyTree) (rest : List Instr) → is_last rest ≡ false → is_last (body_code scope place first b rest) ≡ false
-    body_last (action name procedures) rest some = some
-    body_last (procedure name) rest some = some
     body_last end_procedure rest some = refl
-    body_last (integer name) rest some = some
+    body_last (integer name None) rest some = some
     body_last (assign name e) rest some = expr_last scope.variable e (Store (scope.variable name) ∷ rest)
     body_last (goto name) rest some = refl
     body_last (if_then e b) rest some = expr_last scope.variable e (JumpIfZero (place scope.follow) ∷ body_code scope place first b rest)
     body_last (print list) rest some = values_last scope.variable list (Print (print_parts first list)) rest
     body_last (exit e) rest some = expr_last scope.variable e (Exit ∷ rest)
+    body_last _ rest some = refl
 
     -- a statement other than ENDPROC
     pub body_fine : (b : BodyTree) (rest : List Instr) → IsGood scope.variable (length variables) Leads b → IsBetween b → Follows variables code all_integers scope.variable Leads rest →
         Fine variables code all_integers false [] (body_code scope place first b rest)
-    body_fine (action name procedures) rest good between follows = absurd good
-    body_fine (procedure name) rest good between follows = absurd good
     body_fine end_procedure rest good between follows = absurd between
-    body_fine (integer name) rest good between follows = follows.fine false
+    body_fine (integer name None) rest good between follows = follows.fine false
     body_fine (assign name e) rest good between follows =
         let n = scope.variable name in
         expr_fine variables code all_integers scope.variable Leads e [] (Store n ∷ rest) good.1 refl
@@ -71,3 +68,4 @@ module _ (variables : List VarDef) (code : List Instr) (all_integers : (n : ℕ)
     body_fine (exit e) rest good between follows =
         expr_fine variables code all_integers scope.variable Leads e [] (Exit ∷ rest) good refl
         (fine_step variables code all_integers false Exit (kinds.Int ∷ []) [] rest refl (ap (stands_well 0 code false Exit) follows.some) (follows.fine true))
+    body_fine _ rest good between follows = absurd good

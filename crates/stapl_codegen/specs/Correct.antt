@@ -1,19 +1,13 @@
 -- That a code does what a program does.
 use Rattle.std.specs.Prelude.{◌≡◌, ◌≢◌, ℕ, ◌≤◌, Bool, true, false, List, [], ◌∷◌, length}
-use Rattle.stapl_syntax.specs.Trees.{BodyTree, action, procedure, end_procedure, if_then, StmtTree}
+use Rattle.stapl_syntax.specs.Trees.{BodyTree, end_procedure, StmtTree}
+use Rattle.stapl_syntax.specs.Statements.{is_outer}
 use Rattle.stapl_meaning.specs.declared.values.Held.{Held}
-use Rattle.stapl_meaning.specs.Plays.{play, told}
+use Rattle.stapl_meaning.specs.Plays.{play, ending_of}
 use Rattle.stapl_code.specs.declared.instr.Instr.{Instr}
 use Rattle.stapl_code.specs.Machine.{code_play, nowhere}
 use Rattle.stapl_meaning.specs.Scopes.{zeros_of}
-use Rattle.stapl_codegen.specs.Emit.{is_outer, texts_of, program_code, program_entries}
-
--- a statement of a procedure
-abbrev pub is_inner : BodyTree → Bool
-is_inner (action name procedures) = false
-is_inner (procedure name) = false
-is_inner (if_then e body) = is_inner body
-is_inner _ = true
+use Rattle.stapl_codegen.specs.Emit.{texts_of, program_code, program_entries}
 
 -- the statement may lead to the piece behind it
 abbrev pub falls : BodyTree → Bool
@@ -25,12 +19,11 @@ abbrev pub GoesOn : List StmtTree → Type 0
 GoesOn [] = ⊥
 GoesOn (st ∷ rest) = is_outer st.body ≡ false
 
--- Each statement that stands not outside procedures is one of a procedure, and each but ENDPROC stands before another one.
+-- Each statement of a procedure but ENDPROC stands before another one.
 abbrev pub IsClosed : List StmtTree → Type 0
 IsClosed [] = Unit {0}
 IsClosed (st ∷ rest) =
-    (is_outer st.body ≡ false → is_inner st.body ≡ true)
-    × (is_outer st.body ≡ false → falls st.body ≡ true → GoesOn rest)
+    (is_outer st.body ≡ false → falls st.body ≡ true → GoesOn rest)
     × IsClosed rest
 
 -- The code stands for the program: for each choice of procedures and each number of turns, the events, the ending and the variables are
@@ -39,7 +32,7 @@ pub record Stands (program : List StmtTree) (entries : List ℕ) (texts : List (
   pub same_events : (chosen : List ℕ) (n : ℕ) →
       (code_play entries texts code chosen variables n).events ≡ (play program chosen n).events
   pub same_ending : (chosen : List ℕ) (n : ℕ) →
-      told (code_play entries texts code chosen variables n).outcome ≡ told (play program chosen n).outcome
+      ending_of (code_play entries texts code chosen variables n).outcome ≡ ending_of (play program chosen n).outcome
   pub same_variables : (chosen : List ℕ) (n : ℕ) →
       (code_play entries texts code chosen variables n).state.variables ≡ (play program chosen n).state.variables
 

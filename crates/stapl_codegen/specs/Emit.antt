@@ -1,8 +1,9 @@
 -- The code of a program. How statements are written as instructions is this profile's.
-use Rattle.std.specs.Prelude.{ℕ, suc, ◌+◌, ◌-◌, Bool, true, false, List, [], ◌∷◌, ◌++◌, length, take, drop, Option, Some, None, if◌then◌else◌, slice_get}
-use Rattle.stapl_syntax.specs.declared.statement.BinOp.{BinOp}
-use Rattle.stapl_syntax.specs.declared.statement.BinOp.TheVariants.{Add, Less}
-use Rattle.stapl_syntax.specs.Trees.{ExprTree, number, scalar, binary, PartTree, string, value, BodyTree, action, procedure, end_procedure, integer, assign, goto, if_then, print, exit, StmtTree}
+use Rattle.std.specs.Prelude.{ℕ, suc, ◌+◌, ◌-◌, List, [], ◌∷◌, ◌++◌, length, take, drop, Option, Some, None, if◌then◌else◌, slice_get}
+use Rattle.stapl_syntax.specs.declared.signs.BinOp.{BinOp}
+use Rattle.stapl_syntax.specs.declared.signs.BinOp.TheVariants.{Add, Less}
+use Rattle.stapl_syntax.specs.Trees.{ExprTree, number, scalar, binary, PartTree, string, value, character, BodyTree, end_procedure, integer, assign, goto, if_then, print, exit, StmtTree}
+use Rattle.stapl_syntax.specs.Statements.{is_outer}
 use Rattle.stapl_meaning.specs.Scopes.{Scope, scope_at, begins_block, number_of, variables_of}
 use Rattle.stapl_code.specs.declared.instr.PrintPart.{PrintPart}
 use Rattle.stapl_code.specs.declared.instr.PrintPart.TheVariants as parts
@@ -10,10 +11,15 @@ use Rattle.stapl_code.specs.declared.instr.Instr.{Instr}
 use Rattle.stapl_code.specs.declared.instr.Instr.TheVariants.{Turn, Push, Load, Store, Binary, Jump, JumpIfZero, EndProc, Print, Exit}
 use Rattle.stapl_code.specs.Machine.{nowhere}
 
+-- The number of no operator. No machine carries out a Binary with it, so it stands for what is not built.
+abbrev pub no_operator : ℕ
+no_operator = 255
+
 -- the number of an operator
 abbrev pub operator_number : BinOp → ℕ
 operator_number Add = 0
 operator_number Less = 12
+operator_number _ = no_operator
 
 -- where a name stands for the variable of a number
 module _ (variable : List ℕ → ℕ) where
@@ -22,24 +28,28 @@ module _ (variable : List ℕ → ℕ) where
   expr_code (number z) rest = Push z ∷ rest
   expr_code (scalar name) rest = Load (variable name) ∷ rest
   expr_code (binary op a b) rest = expr_code a (expr_code b (Binary (operator_number op) ∷ rest))
+  expr_code _ rest = Binary no_operator ∷ rest
 
   -- the code of the values that a PRINT prints
   abbrev pub values_code : List PartTree → List Instr → List Instr
   values_code [] rest = rest
   values_code (string bytes ∷ list) rest = values_code list rest
   values_code (value e ∷ list) rest = expr_code e (values_code list rest)
+  values_code (character e ∷ list) rest = Binary no_operator ∷ values_code list rest
 
 -- the parts of a PRINT whose first text has a number
 abbrev pub print_parts : ℕ → List PartTree → List PrintPart
 print_parts first [] = []
 print_parts first (string bytes ∷ list) = parts.Text first ∷ print_parts (suc first) list
 print_parts first (value e ∷ list) = parts.Int ∷ print_parts first list
+print_parts first (character e ∷ list) = parts.Int ∷ print_parts first list
 
 -- the texts of a program, in their order
 abbrev pub part_texts : List PartTree → List (List ℕ)
 part_texts [] = []
 part_texts (string bytes ∷ list) = bytes ∷ part_texts list
 part_texts (value e ∷ list) = part_texts list
+part_texts (character e ∷ list) = part_texts list
 
 abbrev pub body_texts : BodyTree → List (List ℕ)
 body_texts (print list) = part_texts list
@@ -54,27 +64,21 @@ texts_of (st ∷ rest) = body_texts st.body ++ texts_of rest
 abbrev pub first_text : List StmtTree → ℕ → ℕ
 first_text program i = length (texts_of (take i program))
 
--- The code of a statement, whose first text has a number; place says where the code of a piece begins.
+-- The code of a statement, whose first text has a number; place says where the code of a piece begins. A statement that is not built is
+-- never carried out.
 abbrev pub body_code : Scope → (ℕ → ℕ) → ℕ → BodyTree → List Instr → List Instr
-body_code scope place first (action name procedures) rest = rest
-body_code scope place first (procedure name) rest = rest
 body_code scope place first end_procedure rest = EndProc ∷ rest
-body_code scope place first (integer name) rest = rest
+body_code scope place first (integer name None) rest = rest
 body_code scope place first (assign name e) rest = expr_code scope.variable e (Store (scope.variable name) ∷ rest)
 body_code scope place first (goto name) rest = Jump (place (scope.label name)) ∷ rest
 body_code scope place first (if_then e body) rest =
     expr_code scope.variable e (JumpIfZero (place scope.follow) ∷ body_code scope place first body rest)
 body_code scope place first (print list) rest = values_code scope.variable list (Print (print_parts first list) ∷ rest)
 body_code scope place first (exit e) rest = expr_code scope.variable e (Exit ∷ rest)
-
--- the statement stands outside procedures, and has no code
-abbrev pub is_outer : BodyTree → Bool
-is_outer (action name procedures) = true
-is_outer (procedure name) = true
-is_outer _ = false
+body_code scope place first _ rest = Binary no_operator ∷ rest
 
 module _ (program : List StmtTree) (place : ℕ → ℕ) where
-  -- the code of the piece at a place: its turn, and its statement
+  -- the code of the piece at a place: its turn, and its statement; a statement outside procedures has no code
   abbrev pub piece_code : ℕ → StmtTree → List Instr → List Instr
   piece_code i st rest =
       if is_outer st.body then rest

@@ -7,11 +7,11 @@ use Rattle.stapl_codegen.specs.Correct.{Stands}
 use Rattle.stapl_code.specs.Safe.{entries_of}
 
 abbrev pub action_name : BodyTree → Option (List ℕ)
-action_name (action name procedures) = Some name
+action_name (action name text items) = Some name
 action_name _ = None
 
 abbrev pub procedure_name : BodyTree → Option (List ℕ)
-procedure_name (procedure name) = Some name
+procedure_name (procedure name uses) = Some name
 procedure_name _ = None
 
 -- the action with which a program begins, and the procedure behind it

@@ -30,11 +30,11 @@ found_or other (Some x) = x
 
 -- the variable that a statement declares, with its number, and the number of the next one
 abbrev pub variable_entry : ℕ → ℕ → BodyTree → List (Key × ℕ)
-variable_entry n block (integer name) = (record { block = block; name = name }, n) ∷ []
+variable_entry n block (integer name start) = (record { block = block; name = name }, n) ∷ []
 variable_entry n block _ = []
 
 abbrev pub behind_variable : ℕ → BodyTree → ℕ
-behind_variable n (integer name) = n + 1
+behind_variable n (integer name start) = n + 1
 behind_variable n _ = n
 
 -- the variables of these pieces with their numbers, from a number on

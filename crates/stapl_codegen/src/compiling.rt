@@ -26,7 +26,7 @@ fn action_name(body: &Body) -> Option<Name>
     ensures { result ≡ action_name (body_tree body.now) }
 {
     match body {
-        Body::Action(name, _) => Some(*name),
+        Body::Action(name, _, _) => Some(*name),
         _ => None,
     }
 }
@@ -35,7 +35,7 @@ fn procedure_name(body: &Body) -> Option<Name>
     ensures { result ≡ procedure_name (body_tree body.now) }
 {
     match body {
-        Body::Procedure(name) => Some(*name),
+        Body::Procedure(name, _) => Some(*name),
         _ => None,
     }
 }

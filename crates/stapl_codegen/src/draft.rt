@@ -1,10 +1,11 @@
 //! The instructions of a program: first with targets that are places of the program, then with numbers of instructions.
 ghost use Rattle.std.specs.Prelude.{◌≡◌, All, [], ◌∷◌, ◌++◌, ◌<◌, ◌≤◌, ◌^◌, ◌-◌, ◌+◌, length, map, OnOk, IfOk, if◌then◌else◌};
 ghost use Rattle.stapl_syntax.specs.Trees.{body_tree, stmt_tree};
+ghost use Rattle.stapl_syntax.specs.Statements.{is_outer};
+ghost use Rattle.stapl_syntax.specs.Built.{IsBuilt};
 ghost use Rattle.stapl_meaning.specs.Scopes.{block_at};
 ghost use Rattle.stapl_code.specs.Machine.{nowhere};
-ghost use Rattle.stapl_codegen.specs.Emit.{is_outer, first_text, body_texts, texts_of, piece_code, pieces_code, program_code, program_entries, entries_from, start_of, retarget};
-ghost use Rattle.stapl_codegen.specs.Accepted.{IsFormed};
+ghost use Rattle.stapl_codegen.specs.Emit.{first_text, body_texts, texts_of, piece_code, pieces_code, program_code, program_entries, entries_from, start_of, retarget};
 ghost use Rattle.stapl_codegen.specs.Tables.{trees, AreTables};
 ghost use Rattle.stapl_codegen.specs.Drafts.{AreStarts};
 
@@ -27,7 +28,15 @@ struct Draft {
 fn is_outer(body: &Body) -> bool
     ensures { result ≡ is_outer (body_tree body.now) }
 {
-    matches!(body, Body::Action(_, _) | Body::Procedure(_))
+    matches!(
+        body,
+        Body::Note(_, _)
+            | Body::Action(_, _, _)
+            | Body::Procedure(_, _)
+            | Body::Data(_)
+            | Body::EndData
+            | Body::Crc(_)
+    )
 }
 
 // A piece more.
@@ -71,7 +80,7 @@ fn start_at(before: usize, st: &Stmt) -> u32
 
 fn draft_program(alloc: Global, program: &[Stmt], tables: &Tables) -> Result<Draft, AllocError>
     requires tables { AreTables (trees program.now) tables.now }
-    requires formed { All IsFormed (trees program.now) }
+    requires built { All IsBuilt (trees program.now) }
     requires few { length program.now ≤ 100000 }
     ensures code { IfOk result (λ d. d.code.items ≡ pieces_code (trees program.now) (λ j. j) 0 (trees program.now)) }
     ensures texts { IfOk result (λ d. d.texts.items ≡ texts_of (trees program.now)) }
@@ -183,7 +192,7 @@ pub(crate) fn write_program(
     tables: &Tables,
 ) -> Result<Written, AllocError>
     requires tables { AreTables (trees program.now) tables.now }
-    requires formed { All IsFormed (trees program.now) }
+    requires built { All IsBuilt (trees program.now) }
     requires few { length program.now ≤ 100000 }
     ensures code { IfOk result (λ w. w.code.items ≡ program_code (trees program.now)) }
     ensures texts { IfOk result (λ w. w.texts.items ≡ texts_of (trees program.now)) }

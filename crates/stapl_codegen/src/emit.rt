@@ -8,11 +8,14 @@ ghost use Rattle.stapl_codegen.specs.Tables.{trees, AreTables};
 
 use crate::tables::Tables;
 use base::ItemList;
-use stapl_code::{Instr, PrintPart};
+use stapl_code::Instr;
 use stapl_lexer::Name;
 use stapl_meaning::Text;
-use stapl_syntax::{BinOp, Body, Expr, Part, Stmt};
+use stapl_syntax::{BinOp, Body, Expr, PrintPart, Stmt};
 use std::alloc::{AllocError, Global};
+
+/// The number of no operator. No machine carries out a Binary with it, so it stands for what is not built.
+const NO_OPERATOR: u8 = 255;
 
 pub(crate) fn put(code: &mut Vec<Instr>, instr: Instr) -> Result<(), AllocError>
     ensures { OnOk result (code.new.items ≡ code.old.items ++ instr ∷ []) }
@@ -27,6 +30,7 @@ fn operator_number(op: BinOp) -> u8
     match op {
         BinOp::Add => 0,
         BinOp::Less => 12,
+        _ => NO_OPERATOR,
     }
 }
 
@@ -59,6 +63,7 @@ fn emit_expr(
             put(code, Instr::Binary(operator_number(*op)))?;
             Ok(())
         }
+        _ => put(code, Instr::Binary(NO_OPERATOR)),
     }
 }
 
@@ -68,14 +73,15 @@ fn emit_part(
     program: &[Stmt],
     tables: &Tables,
     block: u32,
-    part: &Part,
+    part: &PrintPart,
 ) -> Result<(), AllocError>
     requires { AreTables (trees program.now) tables.now }
     ensures { OnOk result (code.new.items ≡ code.old.items ++ values_code (variable_in (trees program.now) block) (part_tree part.now ∷ []) []) }
 {
     match part {
-        Part::Text(_) => Ok(()),
-        Part::Value(e) => emit_expr(code, program, tables, block, e),
+        PrintPart::Text(_) => Ok(()),
+        PrintPart::Value(e) => emit_expr(code, program, tables, block, e),
+        PrintPart::Character(_) => put(code, Instr::Binary(NO_OPERATOR)),
     }
 }
 
@@ -85,7 +91,7 @@ fn emit_values(
     program: &[Stmt],
     tables: &Tables,
     block: u32,
-    parts: &[Part],
+    parts: &[PrintPart],
 ) -> Result<(), AllocError>
     requires { AreTables (trees program.now) tables.now }
     ensures { OnOk result (code.new.items ≡ code.old.items ++ values_code (variable_in (trees program.now) block) (map part_tree parts.now) []) }
@@ -98,10 +104,10 @@ fn emit_values(
 }
 
 // The text that a part is more, where it is one.
-fn put_text(alloc: Global, texts: &mut Vec<Text>, part: &Part) -> Result<(), AllocError>
+fn put_text(alloc: Global, texts: &mut Vec<Text>, part: &PrintPart) -> Result<(), AllocError>
     ensures { OnOk result (texts.new.items ≡ texts.old.items ++ part_texts (part_tree part.now ∷ [])) }
 {
-    if let Part::Text(bytes) = part {
+    if let PrintPart::Text(bytes) = part {
         let copy = Vec::from_slice(alloc, bytes.as_slice())?;
         texts.push(Text::of(copy))?;
     }
@@ -109,12 +115,12 @@ fn put_text(alloc: Global, texts: &mut Vec<Text>, part: &Part) -> Result<(), All
 }
 
 // What a part of a PRINT prints, where its text has a number.
-fn print_part(first: u32, part: &Part) -> PrintPart
+fn print_part(first: u32, part: &PrintPart) -> stapl_code::PrintPart
     ensures { result ∷ [] ≡ print_parts first (part_tree part.now ∷ []) }
 {
     match part {
-        Part::Text(_) => PrintPart::Text(first),
-        Part::Value(_) => PrintPart::Int,
+        PrintPart::Text(_) => stapl_code::PrintPart::Text(first),
+        PrintPart::Value(_) | PrintPart::Character(_) => stapl_code::PrintPart::Int,
     }
 }
 
@@ -122,8 +128,8 @@ fn print_part(first: u32, part: &Part) -> PrintPart
 fn put_parts(
     alloc: Global,
     texts: &mut Vec<Text>,
-    parts: &[Part],
-) -> Result<Vec<PrintPart>, AllocError>
+    parts: &[PrintPart],
+) -> Result<Vec<stapl_code::PrintPart>, AllocError>
     requires { length texts.old.items + length (part_texts (map part_tree parts.now)) < 2 ^ 32 }
     ensures parts { IfOk result (λ list. list.items ≡ print_parts (length texts.old.items) (map part_tree parts.now)) }
     ensures texts { OnOk result (texts.new.items ≡ texts.old.items ++ part_texts (map part_tree parts.now)) }
@@ -146,7 +152,7 @@ fn emit_print(
     program: &[Stmt],
     tables: &Tables,
     block: u32,
-    parts: &[Part],
+    parts: &[PrintPart],
 ) -> Result<(), AllocError>
     requires tables { AreTables (trees program.now) tables.now }
     requires few { length texts.old.items + length (part_texts (map part_tree parts.now)) < 2 ^ 32 }
@@ -179,7 +185,7 @@ pub(crate) fn emit_body(
     ensures texts { OnOk result (texts.new.items ≡ texts.old.items ++ body_texts (body_tree body.now)) }
 {
     match body {
-        Body::Action(_, _) | Body::Procedure(_) | Body::Integer(_) => Ok(()),
+        Body::Integer(_, None) => Ok(()),
         Body::EndProcedure => {
             put(code, Instr::EndProc)?;
             Ok(())
@@ -208,5 +214,6 @@ pub(crate) fn emit_body(
             put(code, Instr::Exit)?;
             Ok(())
         }
+        _ => put(code, Instr::Binary(NO_OPERATOR)),
     }
 }

@@ -53,7 +53,7 @@ impl<K: Eq + Hash + Drop> Numbers<K> {
 pub(crate) fn begins_block(body: &Body) -> bool
     ensures { result ≡ begins_block (body_tree body.now) }
 {
-    matches!(body, Body::Procedure(_))
+    matches!(body, Body::Procedure(_, _))
 }
 
 /// The number of the block behind a statement.
@@ -69,7 +69,7 @@ fn put_variable(numbers: &mut Numbers<Key>, block: u32, body: &Body) -> Result<(
     ensures entries { OnOk result (numbers.new.table.entries ≡ firsts_behind key_eq numbers.old.table.entries (variable_entry numbers.old.count block (body_tree body.now))) }
     ensures count { OnOk result (numbers.new.count ≡ behind_variable numbers.old.count (body_tree body.now)) }
 {
-    if let Body::Integer(name) = body {
+    if let Body::Integer(name, _) = body {
         let number = numbers.count;
         numbers.put(Key { block, name: *name }, number)?;
         numbers.count += 1;

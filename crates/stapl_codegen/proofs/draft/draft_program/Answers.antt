@@ -13,7 +13,7 @@ use Rattle.stapl_codegen.proofs.draft.draft_program.Goals as goal
 pub start_at-requires : goal.start_at-requires
 start_at-requires c =
     let program = trees c.args.program.now in
-    let size = pieces_size program (λ j. j) 0 program c.requires.formed in
+    let size = pieces_size program (λ j. j) 0 program c.requires.built in
     omega (
       arith,
       size,
@@ -36,7 +36,7 @@ pub emit_piece-requires-clause-few : goal.emit_piece-requires-clause-few
 emit_piece-requires-clause-few c =
     let program = c.args.program.now in
     let st = c.index-program-i.result in
-    texts_so_far (trees program) c.loop-i.i (stmt_tree st) c.loop-i.texts.items c.requires.formed (omega (arith, c.requires.few, length-map program stmt_tree))
+    texts_so_far (trees program) c.loop-i.i (stmt_tree st) c.loop-i.texts.items c.requires.built (omega (arith, c.requires.few, length-map program stmt_tree))
     (mapped_more stmt_tree c.loop-i.i program st c.loop-i-test.true c.index-program-i.is) c.loop-i.invariant.texts
 
 pub loop-i-preserved : goal.loop-i-preserved
