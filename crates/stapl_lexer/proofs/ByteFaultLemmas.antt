@@ -1,12 +1,13 @@
 -- On what is wrong with the bytes of a piece.
-use Rattle.std.proofs.Common.{◌≡◌, ◌≢◌, ◌+◌, ◌-◌, ℕ, List, [], ◌∷◌, ◌++◌, length, take, drop, get_or, refl, sym, ap, ◌∙◌, Bool, true, false, ◌&&◌, ◌||◌, ◌==◌, not, arith, subst, append-nil, slice_range}
+use Rattle.std.proofs.Common.{◌≡◌, ◌≢◌, ◌≤◌, ◌+◌, ◌-◌, ℕ, List, [], ◌∷◌, ◌++◌, length, take, drop, get_or, refl, sym, ap, ◌∙◌, Bool, true, false, ◌&&◌, ◌||◌, ◌==◌, not, arith, subst, append-nil, slice_range}
+use Rattle.std.proofs.Math.ListN.{drop_of_length-le}
 use Rattle.std.proofs.lemmas.Bool.Decides.{nat_tests}
 use Rattle.std.proofs.lemmas.List.{length-drop, drop-drop, length-append}
 use Rattle.std.specs.List.{list_any}
 use Rattle.stapl_lexer.specs.Scanning.{BeginsWithSegment}
 use Rattle.stapl_lexer.specs.Segments.{Segment, Plain, Closed, Open, Comment, spelled, IsSegment, Divides}
 use Rattle.stapl_lexer.specs.PieceFaults.{is_language_byte, is_foreign, is_open_string, is_compressed}
-use Rattle.stapl_lexer.specs.TokenReading.{is_open_spelling, IsSearchedUpTo}
+use Rattle.stapl_lexer.specs.TokenReading.{is_open_spelling, IsSearchedUpTo, AreSearched}
 use Rattle.stapl_lexer.proofs.ScanLemmas.{divides_more}
 use Rattle.stapl_lexer.proofs.FrontLemmas.{closed_by, take_front}
 
@@ -85,3 +86,14 @@ own_bytes bytes at n foreign unclosed compressed foreign_too unclosed_too compre
     (subst (λ (b : Bool). IsSearchedUpTo bytes (foreign || not (is_language_byte (get_or own 0 0))) b compressed_too (at + n)) (sym f)
     (subst (λ (b : Bool). IsSearchedUpTo bytes (foreign || not (is_language_byte (get_or own 0 0))) (unclosed || is_open_spelling own) b (at + n)) (sym g)
     (search_more bytes own foreign unclosed compressed at n before next (ap (λ (k : ℕ). take k (drop at bytes)) count))))
+
+-- all is searched
+pub all_searched : (bytes : List ℕ) (foreign unclosed compressed : Bool) (at : ℕ) → IsSearchedUpTo bytes foreign unclosed compressed at → length bytes ≤ at →
+    AreSearched bytes foreign unclosed compressed
+all_searched bytes foreign unclosed compressed at r end = record {
+  segments = r.segments;
+  divides = subst (λ (z : List ℕ). Divides r.segments bytes z) (drop_of_length-le bytes end) r.divides;
+  foreign_is = r.foreign_is;
+  unclosed_is = r.unclosed_is;
+  compressed_is = r.compressed_is;
+}

@@ -9,12 +9,15 @@ use Rattle.std.specs.Char.{is_ascii_alphabetic}
 use Rattle.stapl_lexer.specs.declared.token.TokenKind.{TokenKind}
 use Rattle.stapl_lexer.specs.declared.token.TokenKind.TheVariants as kinds
 use Rattle.stapl_lexer.specs.Names.{is_name_byte}
+use Rattle.stapl_lexer.specs.Marks.{is_mark_spelling}
+use Rattle.stapl_lexer.specs.ReservedWords.{spells_word}
 use Rattle.stapl_lexer.specs.Scanning.{BeginsWithSegment}
 use Rattle.stapl_lexer.specs.Segments.{Segment, Plain, Closed, Open, Comment, spelled, IsSegment, HasNone, ends_string}
-use Rattle.stapl_lexer.specs.PieceTokens.{AreBlanks, spells_word, HasNoDigit, SpacedDigits, AreFourDigits, is_closed}
+use Rattle.stapl_lexer.specs.PieceTokens.{AreBlanks, HasNoDigit, SpacedDigits, AreFourDigits, is_closed}
 use Rattle.stapl_lexer.specs.TokenReading.{IsRun, IsBlankFront, IsNumberFront, IsNextDigit, IsSpacedUpTo, IsSpacedFront, IsFront}
 use Rattle.stapl_lexer.proofs.RunLemmas.{run_has}
-use Rattle.stapl_lexer.proofs.PieceTokenLemmas.{same_spaced, same_blanks}
+use Rattle.stapl_lexer.proofs.PieceTokenLemmas.{clash, same_spaced, same_blanks}
+use Rattle.stapl_lexer.proofs.SpellingLemmas.{no_zero_mark}
 use Rattle.stapl_lexer.proofs.NumberLemmas.{passes_at}
 
 -- words
@@ -195,6 +198,13 @@ spaced_all kind bytes end count before none = record {
   count_is = before.count_is;
   spaced = subst (λ (v : List ℕ). SpacedDigits kind bytes v (drop end bytes)) (append-nil before.digits) (before.forward [] (drop end bytes) (refl, none));
 }
+
+-- marks
+pub double_mark : (bytes : List ℕ) → 0 < length bytes → is_mark_spelling (get_or bytes 0 0 ∷ get_or bytes 1 0 ∷ []) ≡ true →
+    IsFront kinds.Mark bytes (record { good = true; len = 2; value = 0 })
+double_mark [] some e = absurd (omega arith)
+double_mark (a ∷ []) some e = absurd (clash (is_mark_spelling (a ∷ 0 ∷ [])) e (no_zero_mark a))
+double_mark (a ∷ b ∷ bytes) some e = record { within = omega arith; some = omega arith; spelled = (e, sym e); value_is = refl }
 
 -- behind the word CRC
 -- blanks that reach the end leave nothing

@@ -12,7 +12,7 @@ use Rattle.stapl_lexer.specs.declared.token.Token.{Token}
 use Rattle.stapl_lexer.specs.declared.token.TokenKind.{TokenKind}
 use Rattle.stapl_lexer.specs.declared.token.TokenKind.TheVariants as kinds
 use Rattle.stapl_lexer.specs.Runs.{IsSolid}
-use Rattle.stapl_lexer.specs.PieceTokens.{AreBlanks, Spells, number_value, value_of, kind_at, first_word, Lexeme, BeginsWith, HasLexemes, LiesBetween}
+use Rattle.stapl_lexer.specs.PieceTokens.{AreBlanks, Spells, number_value, value_of, terminal_of, kind_at, first_word, Lexeme, BeginsWith, HasLexemes, LiesBetween}
 use Rattle.stapl_lexer.specs.PieceFaults.{is_number, is_large_number}
 use Rattle.stapl_lexer.specs.TokenReading.{cap, capped_value, IsBlankFront, IsFront, held_value, IsReadUpTo, AreRead}
 use Rattle.stapl_lexer.proofs.PieceTokenLemmas.{range_behind, range_front, range_length}
@@ -75,11 +75,12 @@ large_is kinds.Mark own value e = large_other value e
 large_is kinds.Hex4 own value e = large_other value e
 
 -- a token that is placed
-pub record IsPlaced (token : Token) (kind : TokenKind) (front : Front) (start : ℕ) : Type 0 where
+pub record IsPlaced (token : Token) (kind : TokenKind) (front : Front) (start : ℕ) (bytes : List ℕ) : Type 0 where
   pub kind_is : token.kind ≡ kind
   pub start_is : token.start ≡ start
   pub end_is : token.end ≡ start + front.len
   pub value_is : token.value ≡ held_value front.value
+  pub terminal_is : token.terminal ≡ terminal_of kind (take front.len bytes)
 
 first_taken : (k : ℕ) (xs : List ℕ) → 0 < k → get_or (take k xs) 0 0 ≡ get_or xs 0 0
 first_taken zero xs lt = absurd (omega arith)
@@ -98,7 +99,7 @@ before_limit text at limit skipped le within in_range more = omega (arith, in_ra
 -- the next token
 pub next_begins : (text : List ℕ) (is_crc : Option Bool) (at limit skipped : ℕ) (kind : TokenKind) (front : Front) (token : Token) (good : Bool) →
     at + skipped < limit → limit ≤ length text → IsBlankFront (slice_range text at limit) skipped → kind ≡ kind_at is_crc (slice_index text (at + skipped)) →
-    IsFront kind (slice_range text (at + skipped) limit) front → IsPlaced token kind front (at + skipped) → good ≡ front.good →
+    IsFront kind (slice_range text (at + skipped) limit) front → IsPlaced token kind front (at + skipped) (slice_range text (at + skipped) limit) → good ≡ front.good →
     BeginsWith text is_crc at limit (record { token = token; good = good })
 next_begins text is_crc at limit skipped kind front token good lt within blank is_kind found placed is_good =
     let start : ℕ = at + skipped in
@@ -125,10 +126,11 @@ next_begins text is_crc at limit skipped kind front token good lt within blank i
           (subst (λ (v : List ℕ). Spells kind front.good v (drop front.len (slice_range text start limit))) own found.spelled)));
       value = placed.value_is ∙ held_is kind (take front.len (slice_range text start limit)) front.value found.value_is
           ∙ ap (value_of kind) own ∙ ap (λ (k : TokenKind). value_of k (slice_range text token.start token.end)) (sym placed.kind_is);
+      terminal = placed.terminal_is ∙ ap (terminal_of kind) own ∙ ap (λ (k : TokenKind). terminal_of k (slice_range text token.start token.end)) (sym placed.kind_is);
     }
 
 pub next_large : (text : List ℕ) (limit : ℕ) (kind : TokenKind) (front : Front) (token : Token) (start : ℕ) → start ≤ limit → limit ≤ length text →
-    IsFront kind (slice_range text start limit) front → IsPlaced token kind front start → nat_lt 2147483648 front.value ≡ is_large_number text token
+    IsFront kind (slice_range text start limit) front → IsPlaced token kind front start (slice_range text start limit) → nat_lt 2147483648 front.value ≡ is_large_number text token
 next_large text limit kind front token start le within found placed =
     let starts : token.start ≡ start = placed.start_is in
     let ends : token.end ≡ start + front.len = placed.end_is in

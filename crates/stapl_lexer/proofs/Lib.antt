@@ -13,3 +13,5 @@ pub mod FrontLemmas
 pub mod LexemeLemmas
 pub mod ByteFaultLemmas
 pub mod DepthLemmas
+pub mod ReasonLemmas
+pub mod SpellingLemmas

@@ -1,15 +1,18 @@
 -- On names in upper case.
-use Rattle.std.proofs.Common.{◌≡◌, ◌<◌, ◌≤◌, ◌+◌, ◌-◌, ℕ, List, [], ◌∷◌, ◌++◌, length, take, get_or, map, refl, sym, ap, ◌∙◌, true, ◌&&◌, nat_le, arith, slice_set, subst, add-one, suc, append_assoc}
-use Rattle.std.proofs.lemmas.Bool.{and_parts, and_from, leb-true}
+use Rattle.std.proofs.Common.{◌≡◌, ◌<◌, ◌≤◌, ◌+◌, ◌-◌, ℕ, List, [], ◌∷◌, ◌++◌, length, take, get_or, map, refl, sym, ap, ◌∙◌, true, false, Bool, ◌&&◌, nat_le, Option, Some, None, arith, slice_set, subst, add-one, suc, append_assoc}
+use Rattle.std.proofs.lemmas.Bool.{and_parts, leb-true}
 use Rattle.std.proofs.lemmas.Bool.Decides.{nat_tests}
 use Rattle.std.proofs.lemmas.Grind.{common_steps}
 use Rattle.std.proofs.Math.Seq.{take-suc, set-append_seam}
 use Rattle.std.proofs.lemmas.List.{length-map, get_or-map, length-take-le}
 use Rattle.std.proofs.lemmas.Str.Ascii.{uppercase-uppercase}
-use Rattle.std.specs.Char.{to_ascii_uppercase, is_ascii_alphabetic}
+use Rattle.std.specs.Char.{to_ascii_uppercase, is_ascii_alphabetic, eq_ignore_ascii_case}
 use Rattle.std.specs.List.{list_all}
-use Rattle.std.specs.Prelude.{replicate}
+use Rattle.std.specs.Prelude.{replicate, is_some, ◌↔◌}
 use Rattle.std.specs.Str.{str_to_ascii_uppercase}
+use Rattle.stapl_lexer.specs.declared.terminal.Terminal.{Terminal}
+use Rattle.stapl_lexer.specs.ReservedWords.{reserved_words, spells_word, word_terminal, is_reserved_word}
+use Rattle.stapl_lexer.specs.Terminals.{terminal_in}
 use Rattle.stapl_lexer.specs.Names.{is_name_byte, is_name, IsUpperName, IsStored}
 
 -- one more byte of a name is stored
@@ -34,16 +37,25 @@ upper_more room bytes i b lt short byte so_far =
     stored_more room (map to_ascii_uppercase bytes) i b (omega arith) (omega arith)
     (byte ∙ sym (get_or-map to_ascii_uppercase bytes i 0 0 lt)) so_far
 
-letter_upper : (b : ℕ) → is_ascii_alphabetic b ≡ true → is_ascii_alphabetic (to_ascii_uppercase b) ≡ true
-letter_upper b e = grind (arith, nat_tests)
+same_first : (b : ℕ) → is_ascii_alphabetic (to_ascii_uppercase b) ≡ is_ascii_alphabetic b
+same_first b = grind (arith, nat_tests)
 
-byte_upper : (b : ℕ) → is_name_byte b ≡ true → is_name_byte (to_ascii_uppercase b) ≡ true
-byte_upper b e = grind (arith, nat_tests)
+same_byte : (b : ℕ) → is_name_byte (to_ascii_uppercase b) ≡ is_name_byte b
+same_byte b = grind (arith, nat_tests)
 
-bytes_upper : (bytes : List ℕ) → list_all is_name_byte bytes ≡ true → list_all is_name_byte (map to_ascii_uppercase bytes) ≡ true
-bytes_upper [] e = refl
-bytes_upper (b ∷ bs) e =
-    and_from _ _ (byte_upper b (and_parts (is_name_byte b) _ e).0) (bytes_upper bs (and_parts (is_name_byte b) _ e).1)
+same_bytes : (bytes : List ℕ) → list_all is_name_byte (map to_ascii_uppercase bytes) ≡ list_all is_name_byte bytes
+same_bytes [] = refl
+same_bytes (b ∷ bs) =
+    ap (λ (z : Bool). z && list_all is_name_byte (map to_ascii_uppercase bs)) (same_byte b) ∙ ap (λ (z : Bool). is_name_byte b && z) (same_bytes bs)
+
+-- a spelling in upper case is a name if the spelling is
+pub upper_is_name : (bytes : List ℕ) → is_name (str_to_ascii_uppercase bytes) ≡ is_name bytes
+upper_is_name [] = refl
+upper_is_name (b ∷ bs) =
+    let long : length (map to_ascii_uppercase (b ∷ bs)) ≡ length (b ∷ bs) = length-map (b ∷ bs) to_ascii_uppercase in
+    ap (λ (z : Bool). (z && list_all is_name_byte (map to_ascii_uppercase (b ∷ bs))) && nat_le (length (map to_ascii_uppercase (b ∷ bs))) 32) (same_first b)
+    ∙ ap (λ (z : Bool). (is_ascii_alphabetic b && z) && nat_le (length (map to_ascii_uppercase (b ∷ bs))) 32) (same_bytes (b ∷ bs))
+    ∙ ap (λ (z : ℕ). (is_ascii_alphabetic b && list_all is_name_byte (b ∷ bs)) && nat_le z 32) long
 
 upper_upper : (bytes : List ℕ) → map to_ascii_uppercase (map to_ascii_uppercase bytes) ≡ map to_ascii_uppercase bytes
 upper_upper [] = refl
@@ -59,11 +71,8 @@ upper_name [] e = cc
 upper_name (b ∷ bs) e =
     let same : length (map to_ascii_uppercase (b ∷ bs)) ≡ length (b ∷ bs) = length-map (b ∷ bs) to_ascii_uppercase in
     let short : length (b ∷ bs) ≤ 32 = name_short (b ∷ bs) e in
-    let front : (is_ascii_alphabetic b && list_all is_name_byte (b ∷ bs)) ≡ true = (and_parts _ (nat_le (length (b ∷ bs)) 32) e).0 in
     record {
-      spelled = and_from _ _ (and_from _ _ (letter_upper b (and_parts (is_ascii_alphabetic b) _ front).0)
-          (bytes_upper (b ∷ bs) (and_parts (is_ascii_alphabetic b) _ front).1))
-          (rw same (and_parts (is_ascii_alphabetic b && list_all is_name_byte (b ∷ bs)) _ e).1);
+      spelled = upper_is_name (b ∷ bs) ∙ e;
       some = omega arith;
       short = omega arith;
       upper = upper_upper (b ∷ bs);
@@ -84,3 +93,31 @@ stored_name room bytes name e =
       padded = grind (arith, common_steps, e, front, same);
       name = subst IsUpperName (sym front) (upper_name bytes name);
     }
+
+-- words in either case
+same_letter : (b k : ℕ) → eq_ignore_ascii_case (to_ascii_uppercase b) k ≡ eq_ignore_ascii_case b k
+same_letter b k = grind (arith, nat_tests)
+
+-- if letter case is ignored, upper case makes no difference
+pub same_spelling : (word own : List ℕ) → spells_word word (str_to_ascii_uppercase own) ≡ spells_word word own
+same_spelling [] [] = refl
+same_spelling (c ∷ word) [] = refl
+same_spelling [] (b ∷ own) = refl
+same_spelling (c ∷ word) (b ∷ own) =
+    ap (λ (z : Bool). z && spells_word word (str_to_ascii_uppercase own)) (same_letter b c)
+    ∙ ap (λ (z : Bool). eq_ignore_ascii_case b c && z) (same_spelling word own)
+
+-- a word in upper case is the same reserved word
+pub upper_is_word : (own : List ℕ) → word_terminal (str_to_ascii_uppercase own) ≡ word_terminal own
+unfolding word_terminal
+upper_is_word own j = terminal_in (λ word. same_spelling word own j) reserved_words
+
+none_if : (found : Option Terminal) → (found ≡ None) ↔ (is_some found ≡ false)
+none_if None = (λ e. refl, λ e. refl)
+none_if (Some terminal) = (λ e. absurd cc, λ e. absurd cc)
+
+-- a word is no terminal exactly if it is not reserved in upper case
+pub free_words : (own : List ℕ) → (word_terminal own ≡ None) ↔ (is_reserved_word (str_to_ascii_uppercase own) ≡ false)
+free_words own =
+    let same : is_some (word_terminal (str_to_ascii_uppercase own)) ≡ is_some (word_terminal own) = ap is_some (upper_is_word own) in
+    (λ e. same ∙ (none_if (word_terminal own)).0 e, λ e. (none_if (word_terminal own)).1 (sym same ∙ e))

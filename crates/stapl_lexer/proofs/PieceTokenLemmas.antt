@@ -5,19 +5,18 @@ use Rattle.std.proofs.lemmas.Bool.Decides.{nat_tests}
 use Rattle.std.proofs.lemmas.List.{length-drop, take-append-drop, drop-take, drop-drop, length-take-le, append_cancel_right, take-take}
 use Rattle.std.specs.Char.{is_ascii_digit, is_ascii_hexdigit}
 use Rattle.std.specs.List.{list_all}
-use Rattle.stapl_lexer.specs.declared.piece.Piece.{Piece}
-use Rattle.stapl_lexer.specs.declared.reason.Reason.{Reason}
+use Rattle.stapl_lexer.specs.declared.terminal.Terminal.{Terminal}
 use Rattle.stapl_lexer.specs.declared.token.Token.{Token}
 use Rattle.stapl_lexer.specs.declared.token.TokenKind.{TokenKind}
 use Rattle.stapl_lexer.specs.declared.token.TokenKind.TheVariants as kinds
 use Rattle.stapl_lexer.specs.Names.{is_name_byte}
 use Rattle.stapl_lexer.specs.Pieces.{is_white}
-use Rattle.stapl_lexer.specs.ReservedWords.{is_one_of}
+use Rattle.stapl_lexer.specs.Marks.{is_mark_spelling}
+use Rattle.stapl_lexer.specs.ReservedWords.{spells_word}
 use Rattle.stapl_lexer.specs.Segments.{Segment, spelled}
 use Rattle.stapl_lexer.specs.Runs.{StartsWithout, IsSolid, IsDigits}
-use Rattle.stapl_lexer.specs.PieceTokens.{AreBlanks, spells_word, IsWordTail, IsWord, is_exponent_mark, begins_exponent, IsExponent, IsNumber, is_literal_digit, HasNoDigit, SpacedDigits, IsLiteral, IsCheckWord, double_marks, is_whole_mark, IsMark, is_closed, Spells, kind_at, first_word, value_of, Lexeme, BeginsWith, HasLexemes}
+use Rattle.stapl_lexer.specs.PieceTokens.{AreBlanks, IsWordTail, IsWord, is_exponent_mark, begins_exponent, IsExponent, IsNumber, is_literal_digit, HasNoDigit, SpacedDigits, IsLiteral, IsCheckWord, IsMark, is_closed, Spells, kind_at, first_word, value_of, terminal_of, Lexeme, BeginsWith, HasLexemes}
 use Rattle.stapl_lexer.proofs.EndLemmas.{same_run, same_solid}
-use Rattle.stapl_lexer.specs.PieceFaults.{fault_of_bytes, fault_of_tokens, first_fault, IsLexed}
 use Rattle.stapl_lexer.proofs.Unique.{same_segment, tails, one_way}
 
 pub same_blanks : (bytes x y : List ℕ) → AreBlanks bytes x → AreBlanks bytes y → IsSolid x → IsSolid y → x ≡ y
@@ -151,8 +150,8 @@ same_check false false own other r q a b e = record {
 }
 
 -- marks
-mark_clash : (a c : ℕ) (r : List ℕ) → slice_index r 0 ≡ c → is_one_of double_marks (a ∷ slice_index r 0 ∷ []) ≡ false → is_one_of double_marks (a ∷ c ∷ []) ≡ true → ⊥
-mark_clash a c r e p q = clash _ q (ap (λ (k : ℕ). is_one_of double_marks (a ∷ k ∷ [])) (sym e) ∙ p)
+mark_clash : (a c : ℕ) (r : List ℕ) → slice_index r 0 ≡ c → is_mark_spelling (a ∷ slice_index r 0 ∷ []) ≡ false → is_mark_spelling (a ∷ c ∷ []) ≡ true → ⊥
+mark_clash a c r e p q = clash _ q (ap (λ (k : ℕ). is_mark_spelling (a ∷ k ∷ [])) (sym e) ∙ p)
 
 same_mark : (own other r q : List ℕ) → IsMark own r → IsMark other q → own ++ r ≡ other ++ q → (own ≡ other) × (r ≡ q)
 same_mark [] other r q a b e = absurd a
@@ -160,10 +159,10 @@ same_mark (x ∷ xs) [] r q a b e = absurd b
 same_mark (x ∷ []) (y ∷ []) r q a b e = let first = same_head e in (cc, tails e)
 same_mark (x ∷ []) (y ∷ z ∷ []) r q a b e =
     let first : x ≡ y = same_head e in
-    absurd (mark_clash y z r (ap (λ (v : List ℕ). slice_index v 0) (tails e)) (subst (λ (k : ℕ). is_one_of double_marks (k ∷ slice_index r 0 ∷ []) ≡ false) first a) b)
+    absurd (mark_clash y z r (ap (λ (v : List ℕ). slice_index v 0) (tails e)) (subst (λ (k : ℕ). is_mark_spelling (k ∷ slice_index r 0 ∷ []) ≡ false) first a) b)
 same_mark (x ∷ w ∷ []) (y ∷ []) r q a b e =
     let first : y ≡ x = sym (same_head e) in
-    absurd (mark_clash x w q (ap (λ (v : List ℕ). slice_index v 0) (sym (tails e))) (subst (λ (k : ℕ). is_one_of double_marks (k ∷ slice_index q 0 ∷ []) ≡ false) first b) a)
+    absurd (mark_clash x w q (ap (λ (v : List ℕ). slice_index v 0) (sym (tails e))) (subst (λ (k : ℕ). is_mark_spelling (k ∷ slice_index q 0 ∷ []) ≡ false) first b) a)
 same_mark (x ∷ w ∷ []) (y ∷ z ∷ []) r q a b e =
     let first = same_head e in let second = same_head (tails e) in (cc, tails (tails e))
 same_mark (x ∷ w ∷ v ∷ vs) other r q a b e = absurd a
@@ -186,7 +185,7 @@ same_spelled kinds.Hexadecimal g h own other r q some more a b e = same_literal 
 same_spelled kinds.Mark g h own other r q some more a b e =
     let m = same_mark own other r q a.0 b.0 e in
     let bytes : own ≡ other = m.0 in
-    record { good = a.1 ∙ ap is_whole_mark bytes ∙ sym b.1; bytes = bytes; behind = m.1 }
+    record { good = a.1 ∙ ap is_mark_spelling bytes ∙ sym b.1; bytes = bytes; behind = m.1 }
 same_spelled kinds.Hex4 g h own other r q some more a b e = same_check g h own other r q a b e
 
 -- what stands behind so many bytes of a range
@@ -223,16 +222,14 @@ same_start text a b limit p q within e =
 same_end : (text : List ℕ) (at a b : ℕ) → at ≤ a → at ≤ b → a ≤ length text → b ≤ length text → slice_range text at a ≡ slice_range text at b → a ≡ b
 same_end text at a b p q u v e = omega (arith, ap length e, range_length text at a p u, range_length text at b q v)
 
-abbrev token_with : TokenKind → ℕ → ℕ → ℤ → Token
-token_with kind start end value = record { kind = kind; start = start; end = end; value = value }
+abbrev token_with : TokenKind → ℕ → ℕ → ℤ → Option Terminal → Token
+token_with kind start end value terminal = record { kind = kind; start = start; end = end; value = value; terminal = terminal }
 
 abbrev lexeme_with : Token → Bool → Lexeme
 lexeme_with token good = record { token = token; good = good }
 
-token_is : (s t : Token) → s.kind ≡ t.kind → s.start ≡ t.start → s.end ≡ t.end → s.value ≡ t.value → s ≡ t
-token_is s t p q r v =
-    ap (λ (k : TokenKind). token_with k s.start s.end s.value) p ∙ ap (λ (k : ℕ). token_with t.kind k s.end s.value) q
-    ∙ ap (λ (k : ℕ). token_with t.kind t.start k s.value) r ∙ ap (λ (k : ℤ). token_with t.kind t.start t.end k) v
+token_is : (s t : Token) → s.kind ≡ t.kind → s.start ≡ t.start → s.end ≡ t.end → s.value ≡ t.value → s.terminal ≡ t.terminal → s ≡ t
+token_is s t p q r v w j = token_with (p j) (q j) (r j) (v j) (w j)
 
 lexeme_is : (a b : Lexeme) → a.token ≡ b.token → a.good ≡ b.good → a ≡ b
 lexeme_is a b p q = ap (λ (t : Token). lexeme_with t a.good) p ∙ ap (λ (g : Bool). lexeme_with b.token g) q
@@ -259,7 +256,9 @@ same_first text first at limit a b within f g =
     let ends : s.end ≡ t.end = same_end text t.start s.end t.end (omega arith) (omega arith) (omega arith) (omega arith) same.bytes in
     let values : s.value ≡ t.value = f.value ∙ ap (λ (k : TokenKind). value_of k (slice_range text s.start s.end)) same_kind
     ∙ ap (λ (k : ℕ). value_of t.kind (slice_range text k s.end)) starts ∙ ap (value_of t.kind) same.bytes ∙ sym g.value in
-    lexeme_is a b (token_is s t same_kind starts ends values) same.good
+    let terminals : s.terminal ≡ t.terminal = f.terminal ∙ ap (λ (k : TokenKind). terminal_of k (slice_range text s.start s.end)) same_kind
+    ∙ ap (λ (k : ℕ). terminal_of t.kind (slice_range text k s.end)) starts ∙ ap (terminal_of t.kind) same.bytes ∙ sym g.terminal in
+    lexeme_is a b (token_is s t same_kind starts ends values terminals) same.good
 
 nothing_behind : (text : List ℕ) (first : Option Bool) (at limit : ℕ) (a : Lexeme) → limit ≤ length text → AreBlanks (slice_range text at limit) [] →
     BeginsWith text first at limit a → ⊥
@@ -281,18 +280,3 @@ same_lexemes text first at limit (x ∷ xs) (y ∷ ys) within a b =
     let more : xs ≡ ys = same_lexemes text (first_word first y.token.kind (slice_range text y.token.start y.token.end)) y.token.end limit xs ys within
     (subst (λ (l : Lexeme). HasLexemes text (first_word first l.token.kind (slice_range text l.token.start l.token.end)) l.token.end limit xs) same a.1) b.1 in
     cc
-
--- a piece has one list of tokens, and one fault or none
-pub lexed_one_way : (text : List ℕ) (piece : Piece) (a b : List Token) (f g : Option Reason) → piece.end ≤ length text → IsLexed text piece a f → IsLexed text piece b g →
-    (a ≡ b) × (f ≡ g)
-lexed_one_way text piece a b f g within m n =
-    let segments : m.segments ≡ n.segments = one_way m.segments n.segments (slice_range text piece.start piece.end) m.divides n.divides in
-    let lexemes : m.lexemes ≡ n.lexemes = same_lexemes text None piece.start piece.end m.lexemes n.lexemes within m.has n.has in
-    let tokens : a ≡ b = m.tokens_are ∙ ap (map (λ (l : Lexeme). l.token)) lexemes ∙ sym n.tokens_are in (
-      tokens,
-      m.fault_is
-          ∙ ap (λ (s : List Segment). first_fault (fault_of_bytes piece.closed s) (fault_of_tokens text a (list_all (λ (l : Lexeme). l.good) m.lexemes))) segments
-          ∙ ap (λ (t : List Token). first_fault (fault_of_bytes piece.closed n.segments) (fault_of_tokens text t (list_all (λ (l : Lexeme). l.good) m.lexemes))) tokens
-          ∙ ap (λ (ls : List Lexeme). first_fault (fault_of_bytes piece.closed n.segments) (fault_of_tokens text b (list_all (λ (l : Lexeme). l.good) ls))) lexemes
-          ∙ sym n.fault_is,
-    )

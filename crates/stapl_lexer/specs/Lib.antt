@@ -2,6 +2,8 @@ pub mod Segments
 pub mod Pieces
 pub mod Scanning
 pub mod Names
+pub mod Terminals
+pub mod Marks
 pub mod ReservedWords
 pub mod Reasons
 pub mod Runs
@@ -10,4 +12,3 @@ pub mod Depth
 pub mod PieceFaults
 pub mod Crc
 pub mod TokenReading
-pub mod SpelledTokens

@@ -1,5 +1,5 @@
--- What is wrong with the bytes and the tokens of a piece. The reasons and their order are this profile's.
-use Rattle.std.specs.Prelude.{◌≡◌, ℕ, ◌-◌, List, [], Bool, true, false, ◌&&◌, ◌||◌, ◌==◌, not, if◌then◌else◌, codes, nat_lt, slice_range, Option, None, Some, map}
+-- The tokens of a piece, and the reasons against it that lie in its bytes and its tokens. The reasons and their order are this profile's.
+use Rattle.std.specs.Prelude.{◌≡◌, ℕ, ◌-◌, ◌≤◌, List, [], Bool, true, false, ◌&&◌, ◌||◌, ◌==◌, not, codes, length, nat_lt, slice_range, None, map}
 use Rattle.std.specs.List.{list_all, list_any}
 use Rattle.stapl_lexer.specs.declared.piece.Piece.{Piece}
 use Rattle.stapl_lexer.specs.declared.reason.Reason.{Reason}
@@ -9,9 +9,10 @@ use Rattle.stapl_lexer.specs.declared.token.TokenKind.{TokenKind}
 use Rattle.stapl_lexer.specs.declared.token.TokenKind.TheVariants as kinds
 use Rattle.stapl_lexer.specs.Names.{is_name_byte}
 use Rattle.stapl_lexer.specs.Pieces.{is_white}
+use Rattle.stapl_lexer.specs.Reasons.{reason_number}
 use Rattle.stapl_lexer.specs.Segments.{Segment, Plain, Open, Divides}
-use Rattle.stapl_lexer.specs.PieceTokens.{number_value, Lexeme, HasLexemes}
-use Rattle.stapl_lexer.specs.Depth.{token_bytes, is_word, is_too_deep}
+use Rattle.stapl_lexer.specs.PieceTokens.{number_value, token_bytes, Lexeme, HasLexemes}
+use Rattle.stapl_lexer.specs.Depth.{is_word, IsTooDeep}
 
 -- the marks of the language, each a byte, and the bytes that begin strings, comments and literals
 abbrev pub is_mark_byte : ℕ → Bool
@@ -48,36 +49,58 @@ is_number _ = false
 abbrev pub is_large_number : List ℕ → Token → Bool
 is_large_number text token = is_number token.kind && nat_lt 2147483648 (number_value (token_bytes text token))
 
--- the smallest reason that lies in the bytes of a piece: it has no semicolon, or a byte or a string in it is wrong
-abbrev pub fault_of_bytes : Bool → List Segment → Option Reason
-fault_of_bytes closed segments =
-    if not closed then Some reasons.Unterminated
-    else if list_any is_foreign segments then Some reasons.BadByte
-    else if list_any is_open_string segments then Some reasons.OpenString
-    else if list_any is_compressed segments then Some reasons.Compressed
-    else None
+-- the tokens of some lexemes
+abbrev pub tokens_of : List Lexeme → List Token
+tokens_of lexemes = map (λ lexeme. lexeme.token) lexemes
 
--- the smallest reason that lies in its tokens
-abbrev pub fault_of_tokens : List ℕ → List Token → Bool → Option Reason
-fault_of_tokens text tokens good =
-    if list_any is_long_word tokens then Some reasons.NameTooLong
-    else if list_any (is_large_number text) tokens then Some reasons.NumberTooLarge
-    else if is_too_deep text tokens then Some reasons.TooDeep
-    else if good then None
-    else Some reasons.Syntax
+-- The bytes of the piece are these segments.
+abbrev pub HasSegments : List ℕ → Piece → List Segment → Type 0
+HasSegments text piece segments = Divides segments (slice_range text piece.start piece.end) []
 
--- the first reason, or the second where there is no first
-abbrev pub first_fault : Option Reason → Option Reason → Option Reason
-first_fault (Some reason) other = Some reason
-first_fault None other = other
+-- The bytes of the piece have these tokens, good and bad ones.
+abbrev pub HasPieceLexemes : List ℕ → Piece → List Lexeme → Type 0
+HasPieceLexemes text piece lexemes = HasLexemes text None piece.start piece.end lexemes
 
--- The piece of this text has these tokens, good and bad ones, and this is the smallest of its reasons from `Unterminated` to `TooDeep`,
--- or `Syntax` where it has none of them and a bad token.
-pub record IsLexed (text : List ℕ) (piece : Piece) (tokens : List Token) (fault : Option Reason) : Type 0 where
-  pub segments : List Segment
+-- The reasons against a piece that lie in its bytes and its tokens, each by its own fact.
+pub data HasTokenReason (text : List ℕ) (piece : Piece) : Reason → Type 0 where
+  -- no semicolon ends it
+  NoSemicolon : piece.closed ≡ false → HasTokenReason text piece reasons.Unterminated
+  -- a byte stands outside strings and comments that is none of the language
+  ForeignByte : (segments : List Segment) → HasSegments text piece segments → list_any is_foreign segments ≡ true →
+      HasTokenReason text piece reasons.BadByte
+  -- its line or the text ends a string
+  UnclosedString : (segments : List Segment) → HasSegments text piece segments → list_any is_open_string segments ≡ true →
+      HasTokenReason text piece reasons.OpenString
+  -- an `@` stands outside strings and comments
+  AtSign : (segments : List Segment) → HasSegments text piece segments → list_any is_compressed segments ≡ true →
+      HasTokenReason text piece reasons.Compressed
+  -- a word has more than 32 characters
+  LongWord : (lexemes : List Lexeme) → HasPieceLexemes text piece lexemes → list_any is_long_word (tokens_of lexemes) ≡ true →
+      HasTokenReason text piece reasons.NameTooLong
+  -- a number is above 2,147,483,648
+  LargeNumber : (lexemes : List Lexeme) → HasPieceLexemes text piece lexemes → list_any (is_large_number text) (tokens_of lexemes) ≡ true →
+      HasTokenReason text piece reasons.NumberTooLarge
+  -- the tokens pass the limits of the depth rule
+  Deep : (lexemes : List Lexeme) → HasPieceLexemes text piece lexemes → IsTooDeep (tokens_of lexemes) →
+      HasTokenReason text piece reasons.TooDeep
+  -- a token is bad
+  BadToken : (lexemes : List Lexeme) → HasPieceLexemes text piece lexemes → list_all (λ lexeme. lexeme.good) lexemes ≡ false →
+      HasTokenReason text piece reasons.Syntax
+
+-- the smallest of these reasons against the piece, by its number
+pub record IsSmallestTokenReason (text : List ℕ) (piece : Piece) (reason : Reason) : Type 0 where
+  pub holds : HasTokenReason text piece reason
+  pub smallest : (other : Reason) → HasTokenReason text piece other → reason_number reason ≤ reason_number other
+
+-- The piece has these tokens, and all of them are good.
+pub record AreGoodTokens (text : List ℕ) (piece : Piece) (tokens : List Token) : Type 0 where
+  pub within : piece.end ≤ length text
   pub lexemes : List Lexeme
-  pub divides : Divides segments (slice_range text piece.start piece.end) []
-  pub has : HasLexemes text None piece.start piece.end lexemes
-  pub tokens_are : tokens ≡ map (λ lexeme. lexeme.token) lexemes
-  pub fault_is : fault ≡ first_fault (fault_of_bytes piece.closed segments)
-      (fault_of_tokens text tokens (list_all (λ lexeme. lexeme.good) lexemes))
+  pub has : HasPieceLexemes text piece lexemes
+  pub good : list_all (λ lexeme. lexeme.good) lexemes ≡ true
+  pub tokens_are : tokens ≡ tokens_of lexemes
+
+-- The piece has these tokens, all of them are good, and none of these reasons holds of it.
+pub record AreTokens (text : List ℕ) (piece : Piece) (tokens : List Token) : Type 0 where
+  pub good : AreGoodTokens text piece tokens
+  pub faultless : (reason : Reason) → HasTokenReason text piece reason → ⊥

@@ -4,14 +4,15 @@ use Rattle.std.specs.Prelude.{◌≡◌, ℕ, ℤ, pos, ◌<◌, ◌≤◌, ◌+
 use Rattle.std.specs.Char.{is_ascii_alphabetic, is_ascii_digit, is_ascii_hexdigit}
 use Rattle.std.specs.Int.{cast_signed, w32}
 use Rattle.std.specs.List.{list_all}
-use Rattle.std.specs.Str.{str_eq_ignore_ascii_case}
 use Rattle.std.specs.Str.Parse.{digits_value}
+use Rattle.stapl_lexer.specs.declared.terminal.Terminal.{Terminal}
 use Rattle.stapl_lexer.specs.declared.token.Token.{Token}
 use Rattle.stapl_lexer.specs.declared.token.TokenKind.{TokenKind}
 use Rattle.stapl_lexer.specs.declared.token.TokenKind.TheVariants as kinds
 use Rattle.stapl_lexer.specs.Names.{is_name_byte}
 use Rattle.stapl_lexer.specs.Pieces.{is_blank}
-use Rattle.stapl_lexer.specs.ReservedWords.{is_one_of}
+use Rattle.stapl_lexer.specs.Marks.{mark_terminal, is_mark_spelling}
+use Rattle.stapl_lexer.specs.ReservedWords.{spells_word, word_terminal}
 use Rattle.stapl_lexer.specs.Segments.{Segment, Closed, spelled, IsSegment, Divides}
 use Rattle.stapl_lexer.specs.Runs.{StartsWithout, IsSolid, IsDigits}
 
@@ -20,10 +21,6 @@ pub record AreBlanks (bytes rest : List ℕ) : Type 0 where
   pub blanks : List Segment
   pub divides : Divides blanks bytes rest
   pub blank : list_all is_blank blanks ≡ true
-
--- the bytes spell this word; letter case is ignored
-abbrev pub spells_word : List ℕ → List ℕ → Bool
-spells_word word bytes = str_eq_ignore_ascii_case bytes word
 
 -- What stands between the letters of a word and those bytes: nothing, or the `$` (36) of the word CHR$. That `$` belongs to the
 -- word where it stands directly behind CHR.
@@ -104,27 +101,11 @@ abbrev pub IsCheckWord : Bool → List ℕ → List ℕ → Type 0
 IsCheckWord true own behind = AreFourDigits own behind
 IsCheckWord false own behind = (behind ≡ []) × ((front rest : List ℕ) → own ≡ front ++ rest → AreFourDigits front rest → ⊥)
 
--- the marks of two bytes
-abbrev pub double_marks : List (List ℕ)
-double_marks =
-    codes ".." ∷ codes "<<" ∷ codes ">>" ∷ codes "==" ∷ codes "!=" ∷ codes "<=" ∷ codes ">=" ∷ codes "&&" ∷ codes "||" ∷ []
-
--- the marks of one byte
-abbrev pub single_marks : List (List ℕ)
-single_marks =
-    codes ":" ∷ codes "," ∷ codes "=" ∷ codes "[" ∷ codes "]" ∷ codes "(" ∷ codes ")" ∷ codes "+" ∷ codes "-" ∷ codes "*" ∷
-    codes "/" ∷ codes "%" ∷ codes "&" ∷ codes "|" ∷ codes "^" ∷ codes "~" ∷ codes "<" ∷ codes ">" ∷ codes "!" ∷ []
-
--- a mark of one byte or of two
-abbrev pub is_whole_mark : List ℕ → Bool
-is_whole_mark (a ∷ []) = is_one_of single_marks (a ∷ [])
-is_whole_mark own = is_one_of double_marks own
-
 -- a mark, as long as it can be, or a single byte that begins no token
 abbrev pub IsMark : List ℕ → List ℕ → Type 0
 IsMark [] behind = ⊥
-IsMark (a ∷ []) behind = is_one_of double_marks (a ∷ slice_index behind 0 ∷ []) ≡ false
-IsMark (a ∷ b ∷ []) behind = is_one_of double_marks (a ∷ b ∷ []) ≡ true
+IsMark (a ∷ []) behind = is_mark_spelling (a ∷ slice_index behind 0 ∷ []) ≡ false
+IsMark (a ∷ b ∷ []) behind = is_mark_spelling (a ∷ b ∷ []) ≡ true
 IsMark (a ∷ b ∷ _ ∷ _) behind = ⊥
 
 -- a string that is closed
@@ -141,7 +122,7 @@ Spells kinds.Number good own behind = IsNumber own behind × (good ≡ not (is_n
 Spells kinds.Text good own behind = (s : Segment) × (own ≡ spelled s) × IsSegment s behind × (good ≡ is_closed s)
 Spells kinds.Binary good own behind = IsLiteral kinds.Binary good own behind
 Spells kinds.Hexadecimal good own behind = IsLiteral kinds.Hexadecimal good own behind
-Spells kinds.Mark good own behind = IsMark own behind × (good ≡ is_whole_mark own)
+Spells kinds.Mark good own behind = IsMark own behind × (good ≡ is_mark_spelling own)
 Spells kinds.Hex4 good own behind = IsCheckWord good own behind
 
 -- The kind of the token that begins with this byte. What is none of the other tokens is a mark, good or bad.
@@ -172,6 +153,16 @@ abbrev pub value_of : TokenKind → List ℕ → ℤ
 value_of kinds.Number own = if nat_le (number_value own) 2147483648 then cast_signed w32 (number_value own) else pos 0
 value_of _ own = pos 0
 
+-- the reserved word or the mark that a token is, if it is one
+abbrev pub terminal_of : TokenKind → List ℕ → Option Terminal
+terminal_of kinds.Word own = word_terminal own
+terminal_of kinds.Mark own = mark_terminal own
+terminal_of _ own = None
+
+-- the bytes of a token
+abbrev pub token_bytes : List ℕ → Token → List ℕ
+token_bytes text token = slice_range text token.start token.end
+
 -- a token that is good or bad
 pub record Lexeme : Type 0 where
   pub token : Token
@@ -188,6 +179,7 @@ pub record BeginsWith (text : List ℕ) (first : Option Bool) (at limit : ℕ) (
   pub spelled : Spells lexeme.token.kind lexeme.good (slice_range text lexeme.token.start lexeme.token.end)
       (slice_range text lexeme.token.end limit)
   pub value : lexeme.token.value ≡ value_of lexeme.token.kind (slice_range text lexeme.token.start lexeme.token.end)
+  pub terminal : lexeme.token.terminal ≡ terminal_of lexeme.token.kind (slice_range text lexeme.token.start lexeme.token.end)
 
 -- The bytes of the text from one place up to another have these tokens. White space and comments separate tokens and mean
 -- nothing else. Reading goes on behind a bad token.

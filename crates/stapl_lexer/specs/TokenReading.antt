@@ -1,15 +1,17 @@
 -- What the reader of tokens finds in front of some bytes.
-use Rattle.std.specs.Prelude.{◌≡◌, ℕ, ℤ, ◌-◌, ◌&&◌, ◌==◌, not, nat_le, Option, None, pos, nat_lt, if◌then◌else◌, All, ◌<◌, ◌≤◌, List, [], ◌++◌, Bool, true, length, take, drop, slice_index, min, map}
+use Rattle.std.specs.Prelude.{◌≡◌, ℕ, ℤ, ◌-◌, ◌&&◌, ◌==◌, not, nat_le, Option, None, Some, pos, nat_lt, if◌then◌else◌, All, ◌<◌, ◌≤◌, List, [], ◌++◌, Bool, true, length, take, drop, slice_index, min, map}
 use Rattle.std.specs.Int.{cast_signed, w32}
 use Rattle.std.specs.List.{list_all, list_any}
 use Rattle.stapl_lexer.specs.declared.front.Front.{Front}
+use Rattle.stapl_lexer.specs.declared.piece.Piece.{Piece}
 use Rattle.stapl_lexer.specs.declared.token.Token.{Token}
 use Rattle.stapl_lexer.specs.declared.token.TokenKind.{TokenKind}
 use Rattle.stapl_lexer.specs.declared.token.TokenKind.TheVariants as kinds
 use Rattle.stapl_lexer.specs.Runs.{StartsWithout, IsSolid}
 use Rattle.stapl_lexer.specs.PieceTokens.{AreBlanks, IsNumber, number_value, is_literal_digit, SpacedDigits, Spells, Lexeme, HasLexemes, LiesBetween}
 use Rattle.stapl_lexer.specs.declared.reason.Reason.{Reason}
-use Rattle.stapl_lexer.specs.PieceFaults.{is_foreign, is_open_string, is_compressed, is_large_number, fault_of_bytes}
+use Rattle.stapl_lexer.specs.PieceFaults.{is_foreign, is_open_string, is_compressed, is_large_number, HasTokenReason, IsSmallestTokenReason}
+use Rattle.stapl_lexer.specs.Reasons.{reason_number}
 use Rattle.stapl_lexer.specs.Segments.{Segment, Divides}
 
 -- the first n bytes are white space and comments, and behind them no such stands
@@ -106,8 +108,25 @@ pub record IsSearchedUpTo (bytes : List ℕ) (foreign unclosed compressed : Bool
   pub unclosed_is : unclosed ≡ list_any is_open_string segments
   pub compressed_is : compressed ≡ list_any is_compressed segments
 
--- the smallest reason that lies in the bytes
-pub record IsFaultOfBytes (closed : Bool) (bytes : List ℕ) (fault : Option Reason) : Type 0 where
+-- all bytes are read segment by segment, and it is known what is wrong with them
+pub record AreSearched (bytes : List ℕ) (foreign unclosed compressed : Bool) : Type 0 where
   pub segments : List Segment
   pub divides : Divides segments bytes []
-  pub fault_is : fault ≡ fault_of_bytes closed segments
+  pub foreign_is : foreign ≡ list_any is_foreign segments
+  pub unclosed_is : unclosed ≡ list_any is_open_string segments
+  pub compressed_is : compressed ≡ list_any is_compressed segments
+
+-- each reason against the piece has at least this number
+abbrev pub HasNoReasonBelow : List ℕ → Piece → ℕ → Type 0
+HasNoReasonBelow text piece least = (reason : Reason) → HasTokenReason text piece reason → least ≤ reason_number reason
+
+-- no reason lies in the bytes of the piece, and its tokens are read
+pub record IsReadPiece (text : List ℕ) (piece : Piece) (tokens : List Token) (good large : Bool) : Type 0 where
+  pub within : piece.end ≤ length text
+  pub read : AreRead text piece.start piece.end tokens good large
+  pub below : HasNoReasonBelow text piece 6
+
+-- the smallest reason against the piece, or none if none holds
+abbrev pub IsTokenAnswer : List ℕ → Piece → Bool → Option Reason → Type 0
+IsTokenAnswer text piece good (Some reason) = IsSmallestTokenReason text piece reason
+IsTokenAnswer text piece good None = (good ≡ true) × ((reason : Reason) → HasTokenReason text piece reason → ⊥)

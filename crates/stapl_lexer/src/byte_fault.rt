@@ -1,12 +1,13 @@
 //! What is wrong with the bytes of a piece.
-ghost use Rattle.std.specs.Prelude.{◌≡◌, ℕ, ◌≤◌, ◌<◌, ◌||◌, ◌==◌, not, length, slice_index};
-ghost use Rattle.stapl_lexer.specs.PieceFaults.{is_mark_byte, is_language_byte};
-ghost use Rattle.stapl_lexer.specs.TokenReading.{is_open_spelling, IsSearchedUpTo, IsFaultOfBytes};
+ghost use Rattle.std.specs.Prelude.{◌≡◌, ℕ, ◌≤◌, ◌<◌, ◌||◌, ◌==◌, not, length, slice_index, IfSome, IfNone};
+ghost use Rattle.stapl_lexer.specs.PieceFaults.{is_mark_byte, is_language_byte, IsSmallestTokenReason};
+ghost use Rattle.stapl_lexer.specs.Pieces.{LiesIn};
+ghost use Rattle.stapl_lexer.specs.TokenReading.{is_open_spelling, AreSearched, HasNoReasonBelow};
 
 use crate::cutting::is_white;
 use crate::front::ends_in_quote;
 use crate::name::is_name_byte;
-use crate::{Reason, segment_len};
+use crate::{Piece, Reason, segment_len};
 
 static MARK_BYTES: &str = ";:,=[]()+-*/%&|^~<>!.#$@\"'";
 
@@ -57,9 +58,10 @@ impl ByteFaults {
 }
 
 // What is wrong with the segments of some bytes.
+#[tactic(auto, using(crate::proofs::ByteFaultLemmas::all_searched))]
 fn byte_faults(bytes: &[u8]) -> ByteFaults
     requires { length bytes.now ≤ 4194304 }
-    ensures { IsSearchedUpTo bytes.now result.foreign result.unclosed result.compressed (length bytes.now) }
+    ensures { AreSearched bytes.now result.foreign result.unclosed result.compressed }
 {
     let mut faults = ByteFaults {
         foreign: false,
@@ -75,21 +77,26 @@ fn byte_faults(bytes: &[u8]) -> ByteFaults
     faults
 }
 
-// The smallest reason that lies in the bytes of a piece.
-pub(crate) fn fault_of_bytes(closed: bool, bytes: &[u8]) -> Option<Reason>
-    requires { length bytes.now ≤ 4194304 }
-    ensures { IsFaultOfBytes closed bytes.now result }
+// The smallest reason that lies in the bytes of a piece; if there is none, each reason against it lies in its tokens.
+#[tactic(auto, using(crate::proofs::ReasonLemmas::unterminated_first, crate::proofs::ReasonLemmas::bad_byte_first, crate::proofs::ReasonLemmas::open_string_first, crate::proofs::ReasonLemmas::compressed_first, crate::proofs::ReasonLemmas::good_bytes))]
+pub(crate) fn reason_of_bytes(text: &[u8], piece: &Piece) -> Option<Reason>
+    requires small { length text.now ≤ 4194304 }
+    requires lies { LiesIn text.now piece.now }
+    ensures some { IfSome result (IsSmallestTokenReason text.now piece.now) }
+    ensures none { IfNone result (HasNoReasonBelow text.now piece.now 6) }
 {
-    let faults = byte_faults(bytes);
-    if !closed {
-        Some(Reason::Unterminated)
-    } else if faults.foreign {
-        Some(Reason::BadByte)
-    } else if faults.unclosed {
-        Some(Reason::OpenString)
-    } else if faults.compressed {
-        Some(Reason::Compressed)
-    } else {
-        None
+    let faults = byte_faults(&text[piece.start as usize..piece.end as usize]);
+    if !piece.closed {
+        return Some(Reason::Unterminated);
     }
+    if faults.foreign {
+        return Some(Reason::BadByte);
+    }
+    if faults.unclosed {
+        return Some(Reason::OpenString);
+    }
+    if faults.compressed {
+        return Some(Reason::Compressed);
+    }
+    None
 }

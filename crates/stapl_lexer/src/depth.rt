@@ -1,11 +1,9 @@
 //! The depth rule.
-ghost use Rattle.std.specs.Prelude.{◌≡◌, ℕ, ◌≤◌, ◌∷◌, [], All, codes, length, count_by};
-ghost use Rattle.stapl_lexer.specs.PieceTokens.{LiesBetween};
-ghost use Rattle.stapl_lexer.specs.Depth.{token_bytes, is_the_word, is_a_mark, opening_marks, closing_marks, operator_marks, open_behind, has_open_brackets, is_label_word, is_integer_piece, is_too_deep};
+ghost use Rattle.std.specs.Prelude.{◌≡◌, ◌+◌, ◌-◌, ◌≤◌, if◌then◌else◌, true, false};
+ghost use Rattle.stapl_lexer.specs.Depth.{is_opening, is_closing, is_condition, is_operator, is_colon, is_integer, count_of, is_label_word, after_label, begins_with_integer, HasOpenBrackets, IsTooDeep};
 
-use crate::reserved::is_one_of;
-use crate::run::spells_word;
-use crate::{Name, Token, TokenKind};
+use crate::terminal::{InnerWord, Mark, Terminal};
+use crate::{Token, TokenKind};
 
 // The most brackets that may be open at once.
 const MOST_OPEN: usize = 32;
@@ -16,62 +14,68 @@ const MOST_CONDITIONS: usize = 32;
 // The most operator marks of a piece.
 const MOST_OPERATORS: usize = 256;
 
-static OPERATOR_MARKS: [&str; 20] = [
-    "+", "-", "*", "/", "%", "&", "|", "^", "~", "<<", ">>", "==", "!=", "<", "<=", ">", ">=",
-    "&&", "||", "!",
-];
+// The most bytes of a name.
+const LONGEST_NAME: u32 = 32;
 
-fn token_bytes<'a>(text: &'a [u8], token: &Token) -> &'a [u8]
-    requires { LiesBetween 0 (length text.now) token.now }
-    ensures { result.now ≡ token_bytes text.now token.now }
+#[tactic(auto, unfolding(crate::specs::Depth::is_opening))]
+fn is_opening(terminal: Option<Terminal>) -> bool
+    ensures { result ≡ is_opening terminal }
 {
-    &text[token.start as usize..token.end as usize]
+    matches!(
+        terminal,
+        Some(Terminal::Mark(Mark::LeftRound | Mark::LeftSquare))
+    )
 }
 
-fn is_the_word(word: &str, text: &[u8], token: &Token) -> bool
-    requires { LiesBetween 0 (length text.now) token.now }
-    ensures { result ≡ is_the_word word.now text.now token.now }
+#[tactic(auto, unfolding(crate::specs::Depth::is_closing))]
+fn is_closing(terminal: Option<Terminal>) -> bool
+    ensures { result ≡ is_closing terminal }
 {
-    matches!(token.kind, TokenKind::Word) && spells_word(word, token_bytes(text, token))
+    matches!(
+        terminal,
+        Some(Terminal::Mark(Mark::RightRound | Mark::RightSquare))
+    )
 }
 
-fn is_opening(text: &[u8], token: &Token) -> bool
-    requires { LiesBetween 0 (length text.now) token.now }
-    ensures { result ≡ is_a_mark opening_marks text.now token.now }
+#[tactic(auto, unfolding(crate::specs::Depth::is_condition))]
+fn is_condition(terminal: Option<Terminal>) -> bool
+    ensures { result ≡ is_condition terminal }
 {
-    matches!(token.kind, TokenKind::Mark) && is_one_of(&["(", "["], token_bytes(text, token))
+    matches!(terminal, Some(Terminal::If))
 }
 
-fn is_closing(text: &[u8], token: &Token) -> bool
-    requires { LiesBetween 0 (length text.now) token.now }
-    ensures { result ≡ is_a_mark closing_marks text.now token.now }
+#[tactic(auto, unfolding(crate::specs::Depth::is_operator))]
+fn is_operator(terminal: Option<Terminal>) -> bool
+    ensures { result ≡ is_operator terminal }
 {
-    matches!(token.kind, TokenKind::Mark) && is_one_of(&[")", "]"], token_bytes(text, token))
+    matches!(
+        terminal,
+        Some(Terminal::Operator(_) | Terminal::Mark(Mark::Tilde | Mark::Exclamation))
+    )
 }
 
-fn is_operator(text: &[u8], token: &Token) -> bool
-    requires { LiesBetween 0 (length text.now) token.now }
-    ensures { result ≡ is_a_mark operator_marks text.now token.now }
+#[tactic(auto, unfolding(crate::specs::Depth::is_colon))]
+fn is_colon(terminal: Option<Terminal>) -> bool
+    ensures { result ≡ is_colon terminal }
 {
-    matches!(token.kind, TokenKind::Mark) && is_one_of(&OPERATOR_MARKS, token_bytes(text, token))
+    matches!(terminal, Some(Terminal::Mark(Mark::Colon)))
 }
 
-fn is_colon(text: &[u8], token: &Token) -> bool
-    requires { LiesBetween 0 (length text.now) token.now }
-    ensures { result ≡ is_a_mark (codes ":" ∷ []) text.now token.now }
+#[tactic(auto, unfolding(crate::specs::Depth::is_integer))]
+fn is_integer(terminal: Option<Terminal>) -> bool
+    ensures { result ≡ is_integer terminal }
 {
-    matches!(token.kind, TokenKind::Mark) && is_one_of(&[":"], token_bytes(text, token))
+    matches!(terminal, Some(Terminal::Inner(InnerWord::Integer)))
 }
 
-// How many brackets are open behind a token, where so many are before it.
-fn open_behind(text: &[u8], token: &Token, before: usize) -> usize
-    requires lies { LiesBetween 0 (length text.now) token.now }
-    requires few { before ≤ 32 }
-    ensures { result ≡ open_behind text.now token.now before }
+// How many brackets are open after a token. A closing bracket closes the last open one, of whichever kind, and nothing if none is open.
+fn open_after(terminal: Option<Terminal>, before: usize) -> usize
+    requires { before ≤ 32 }
+    ensures { result ≡ (if is_opening terminal then before + 1 else if is_closing terminal then before - 1 else before) }
 {
-    if is_opening(text, token) {
+    if is_opening(terminal) {
         before + 1
-    } else if is_closing(text, token) {
+    } else if is_closing(terminal) {
         before.saturating_sub(1)
     } else {
         before
@@ -79,13 +83,13 @@ fn open_behind(text: &[u8], token: &Token, before: usize) -> usize
 }
 
 // Whether too many brackets are open at some place.
-fn has_open_brackets(text: &[u8], tokens: &[Token]) -> bool
-    requires { All (LiesBetween 0 (length text.now)) tokens.now }
-    ensures { result ≡ has_open_brackets text.now 0 tokens.now }
+fn has_open_brackets(tokens: &[Token]) -> bool
+    ensures yes { result ≡ true → HasOpenBrackets tokens.now }
+    ensures no { result ≡ false → HasOpenBrackets tokens.now → ⊥ }
 {
     let mut depth = 0;
     for token in tokens {
-        depth = open_behind(text, token, depth);
+        depth = open_after(token.terminal, depth);
         if depth > MOST_OPEN {
             return true;
         }
@@ -94,13 +98,12 @@ fn has_open_brackets(text: &[u8], tokens: &[Token]) -> bool
 }
 
 // How many times the word IF stands there.
-fn count_conditions(text: &[u8], tokens: &[Token]) -> usize
-    requires { All (LiesBetween 0 (length text.now)) tokens.now }
-    ensures { result ≡ count_by (is_the_word (codes "IF") text.now) tokens.now }
+fn count_conditions(tokens: &[Token]) -> usize
+    ensures { result ≡ count_of is_condition tokens.now }
 {
     let mut count = 0;
     for token in tokens {
-        if is_the_word("IF", text, token) {
+        if is_condition(token.terminal) {
             count += 1;
         }
     }
@@ -108,13 +111,12 @@ fn count_conditions(text: &[u8], tokens: &[Token]) -> usize
 }
 
 // How many operator marks stand there.
-fn count_operators(text: &[u8], tokens: &[Token]) -> usize
-    requires { All (LiesBetween 0 (length text.now)) tokens.now }
-    ensures { result ≡ count_by (is_a_mark operator_marks text.now) tokens.now }
+fn count_operators(tokens: &[Token]) -> usize
+    ensures { result ≡ count_of is_operator tokens.now }
 {
     let mut count = 0;
     for token in tokens {
-        if is_operator(text, token) {
+        if is_operator(token.terminal) {
             count += 1;
         }
     }
@@ -122,36 +124,37 @@ fn count_operators(text: &[u8], tokens: &[Token]) -> usize
 }
 
 // Whether a token may be a label: a name that is not reserved.
-fn is_label_word(text: &[u8], token: &Token) -> bool
-    requires { LiesBetween 0 (length text.now) token.now }
-    ensures { result ≡ is_label_word text.now token.now }
+fn is_label_word(token: &Token) -> bool
+    ensures { result ≡ is_label_word token.now }
 {
-    if !matches!(token.kind, TokenKind::Word) {
-        return false;
-    }
-    match Name::read(token_bytes(text, token)) {
-        Some(name) => !name.is_reserved(),
-        None => false,
-    }
+    matches!(token.kind, TokenKind::Word)
+        && token.terminal.is_none()
+        && token.end.saturating_sub(token.start) <= LONGEST_NAME
 }
 
-// Whether the piece declares an INTEGER, behind its label where it has one.
-fn is_integer_piece(text: &[u8], tokens: &[Token]) -> bool
-    requires { All (LiesBetween 0 (length text.now)) tokens.now }
-    ensures { result ≡ is_integer_piece text.now tokens.now }
+// The tokens after the label, if there is one.
+fn after_label(tokens: &[Token]) -> &[Token]
+    ensures { result.now ≡ after_label tokens.now }
 {
-    if tokens.len() > 2 && is_label_word(text, &tokens[0]) && is_colon(text, &tokens[1]) {
-        return is_the_word("INTEGER", text, &tokens[2]);
+    if tokens.len() >= 2 && is_label_word(&tokens[0]) && is_colon(tokens[1].terminal) {
+        return &tokens[2..];
     }
-    !tokens.is_empty() && is_the_word("INTEGER", text, &tokens[0])
+    tokens
+}
+
+// Whether the first token is the word INTEGER.
+fn begins_with_integer(tokens: &[Token]) -> bool
+    ensures { result ≡ begins_with_integer tokens.now }
+{
+    !tokens.is_empty() && is_integer(tokens[0].terminal)
 }
 
 // Whether the piece of these tokens is too deep.
-pub(crate) fn is_too_deep(text: &[u8], tokens: &[Token]) -> bool
-    requires { All (LiesBetween 0 (length text.now)) tokens.now }
-    ensures { result ≡ is_too_deep text.now tokens.now }
+pub(crate) fn is_too_deep(tokens: &[Token]) -> bool
+    ensures yes { result ≡ true → IsTooDeep tokens.now }
+    ensures no { result ≡ false → IsTooDeep tokens.now → ⊥ }
 {
-    has_open_brackets(text, tokens)
-        || count_conditions(text, tokens) > MOST_CONDITIONS
-        || (!is_integer_piece(text, tokens) && count_operators(text, tokens) > MOST_OPERATORS)
+    has_open_brackets(tokens)
+        || count_conditions(tokens) > MOST_CONDITIONS
+        || (!begins_with_integer(after_label(tokens)) && count_operators(tokens) > MOST_OPERATORS)
 }

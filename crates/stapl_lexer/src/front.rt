@@ -2,22 +2,17 @@
 ghost use Rattle.std.specs.Prelude.{◌≡◌, ℕ, ◌≤◌, ◌<◌, ◌∷◌, [], ◌&&◌, ◌==◌, ◌-◌, codes, nat_le, true, false, length, slice_index, take, Option};
 ghost use Rattle.std.specs.Char.{is_ascii_alphabetic, is_ascii_digit};
 ghost use Rattle.stapl_lexer.specs.declared.token.TokenKind.TheVariants as kinds;
-ghost use Rattle.stapl_lexer.specs.PieceTokens.{AreBlanks, spells_word, kind_of, kind_at, double_marks, single_marks};
-ghost use Rattle.stapl_lexer.specs.ReservedWords.{is_one_of};
+ghost use Rattle.stapl_lexer.specs.PieceTokens.{AreBlanks, kind_of, kind_at};
+ghost use Rattle.stapl_lexer.specs.Marks.{is_mark_spelling};
+ghost use Rattle.stapl_lexer.specs.ReservedWords.{spells_word};
 ghost use Rattle.stapl_lexer.specs.TokenReading.{IsFront};
 
 use crate::literal::spaced_digits;
 use crate::name::is_name_byte;
 use crate::number::number_in_front;
-use crate::reserved::is_one_of;
 use crate::run::{blank_len, byte_at, name_len, spells_word};
+use crate::spelling::mark_terminal;
 use crate::{TokenKind, segment_len};
-
-static DOUBLE_MARKS: [&str; 9] = ["..", "<<", ">>", "==", "!=", "<=", ">=", "&&", "||"];
-
-static SINGLE_MARKS: [&str; 19] = [
-    ":", ",", "=", "[", "]", "(", ")", "+", "-", "*", "/", "%", "&", "|", "^", "~", "<", ">", "!",
-];
 
 // A token in front of some bytes.
 #[derive(Clone, Copy)]
@@ -141,17 +136,18 @@ fn hexadecimal_front(bytes: &[u8]) -> Front
 
 // Whether two bytes are a mark. A byte 0 is in none.
 fn is_double_mark(first: u8, second: u8) -> bool
-    ensures { result ≡ is_one_of double_marks (first ∷ second ∷ []) }
+    ensures { result ≡ is_mark_spelling (first ∷ second ∷ []) }
 {
-    is_one_of(&DOUBLE_MARKS, &[first, second])
+    mark_terminal(&[first, second]).is_some()
 }
 
 fn is_single_mark(byte: u8) -> bool
-    ensures { result ≡ is_one_of single_marks (byte ∷ []) }
+    ensures { result ≡ is_mark_spelling (byte ∷ []) }
 {
-    is_one_of(&SINGLE_MARKS, &[byte])
+    mark_terminal(&[byte]).is_some()
 }
 
+#[tactic(auto, using(crate::proofs::FrontLemmas::double_mark))]
 fn mark_front(bytes: &[u8]) -> Front
     requires { 0 < length bytes.now }
     ensures { IsFront kinds.Mark bytes.now result }

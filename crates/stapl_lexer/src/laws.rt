@@ -1,11 +1,13 @@
 //! Laws of the definitions.
-ghost use Rattle.std.specs.Prelude.{◌≡◌, ℕ, ◌≤◌, List, [], Option, length};
+ghost use Rattle.std.specs.Prelude.{◌≡◌, ℕ, ◌↔◌, List, [], None, false};
+ghost use Rattle.std.specs.Str.{str_to_ascii_uppercase};
 ghost use Rattle.stapl_lexer.specs.declared.piece.Piece.{Piece};
 ghost use Rattle.stapl_lexer.specs.Pieces.{IsCut};
 ghost use Rattle.stapl_lexer.specs.Segments.{Segment, Divides};
 ghost use Rattle.stapl_lexer.specs.declared.reason.Reason.{Reason};
 ghost use Rattle.stapl_lexer.specs.declared.token.Token.{Token};
-ghost use Rattle.stapl_lexer.specs.PieceFaults.{IsLexed};
+ghost use Rattle.stapl_lexer.specs.PieceFaults.{IsSmallestTokenReason, AreGoodTokens, AreTokens};
+ghost use Rattle.stapl_lexer.specs.ReservedWords.{word_terminal, is_reserved_word};
 
 /// Each text is divided into some segments.
 pub fn every_text_is_divided()
@@ -22,7 +24,22 @@ pub fn cut_in_one_way()
     ensures { (text : List ℕ) (a b : List Piece) → IsCut text a → IsCut text b → a ≡ b }
 {}
 
-/// A piece of a text has at most one list of tokens, and at most one smallest reason.
-pub fn lexed_in_one_way()
-    ensures { (text : List ℕ) (piece : Piece) (a b : List Token) (f g : Option Reason) → piece.end ≤ length text → IsLexed text piece a f → IsLexed text piece b g → (a ≡ b) × (f ≡ g) }
+/// A piece of a text has at most one list of good tokens.
+pub fn one_list_of_tokens()
+    ensures { (text : List ℕ) (piece : Piece) (a b : List Token) → AreGoodTokens text piece a → AreGoodTokens text piece b → a ≡ b }
+{}
+
+/// A piece has at most one smallest reason.
+pub fn one_smallest_reason()
+    ensures { (text : List ℕ) (piece : Piece) (a b : Reason) → IsSmallestTokenReason text piece a → IsSmallestTokenReason text piece b → a ≡ b }
+{}
+
+/// A piece that has tokens has no reason against it.
+pub fn tokens_or_a_reason()
+    ensures { (text : List ℕ) (piece : Piece) (tokens : List Token) (reason : Reason) → AreTokens text piece tokens → IsSmallestTokenReason text piece reason → ⊥ }
+{}
+
+/// A word is no terminal exactly if its bytes in upper case are not reserved.
+pub fn free_words_are_no_terminals()
+    ensures { (own : List ℕ) → (word_terminal own ≡ None) ↔ (is_reserved_word (str_to_ascii_uppercase own) ≡ false) }
 {}

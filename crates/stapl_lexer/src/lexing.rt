@@ -1,15 +1,14 @@
 //! The tokens of a piece.
-ghost use Rattle.std.specs.Prelude.{◌≡◌, ◌≤◌, List, length, All, IfOk, None, Some, Err};
+ghost use Rattle.std.specs.Prelude.{◌≡◌, ◌≤◌, length, All, IfOk, Err};
 ghost use Rattle.stapl_lexer.specs.declared.reason.Reason.{Reason};
-ghost use Rattle.stapl_lexer.specs.declared.token.Token.{Token};
 ghost use Rattle.stapl_lexer.specs.declared.lexing.LexRefused.TheVariants as refusals;
 ghost use Rattle.stapl_lexer.specs.Pieces.{LiesIn};
 ghost use Rattle.stapl_lexer.specs.PieceTokens.{LiesBetween};
-ghost use Rattle.stapl_lexer.specs.PieceFaults.{IsLexed};
+ghost use Rattle.stapl_lexer.specs.PieceFaults.{AreTokens, IsSmallestTokenReason};
 
-use crate::byte_fault::fault_of_bytes;
+use crate::byte_fault::reason_of_bytes;
 use crate::reading::read_lexemes;
-use crate::token_fault::fault_of_tokens;
+use crate::token_fault::reason_of_tokens;
 use crate::{Piece, Reason, Token};
 use std::alloc::Global;
 use thiserror::Error;
@@ -25,26 +24,25 @@ pub enum LexRefused {
     Memory,
 }
 
-/// The tokens of a piece of a text, as `cut` gives it (JESD71, statements). White space and comments separate tokens and mean nothing else,
-/// and each token is as long as it can be.
+/// The tokens of a piece of a text, as `cut` gives it (JESD71, statements). White space and comments separate tokens and mean nothing
+/// else, and each token is as long as it can be.
 ///
-/// The error `Because` has the smallest reason of the piece from `Unterminated` to `TooDeep`; where it has none of them and one of its
-/// tokens is bad, it is `Syntax`. `Memory` is want of memory. The time is linear in the length of the piece.
+/// The error `Because` has the smallest reason against the piece that lies in its bytes and its tokens. `Memory` is want of memory. The
+/// time is linear in the length of the piece.
 pub fn tokens(alloc: Global, text: &[u8], piece: &Piece) -> Result<Vec<Token>, LexRefused>
     requires small { length text.now ≤ 4194304 }
     requires lies { LiesIn text.now piece.now }
-    ensures ok { IfOk result (λ tokens. IsLexed text.now piece.now tokens.items None) }
+    ensures ok { IfOk result (λ tokens. AreTokens text.now piece.now tokens.items) }
     ensures lie { IfOk result (λ tokens. All (LiesBetween piece.now.start piece.now.end) tokens.items) }
-    ensures because { (reason : Reason) → result ≡ Err (refusals.Because reason) → (tokens : List Token) × IsLexed text.now piece.now tokens (Some reason) }
+    ensures because { (reason : Reason) → result ≡ Err (refusals.Because reason) → IsSmallestTokenReason text.now piece.now reason }
 {
-    let (start, end) = (piece.start as usize, piece.end as usize);
-    let Ok(lexed) = read_lexemes(alloc, text, start, end) else {
+    let Ok(lexed) = read_lexemes(alloc, text, piece.start as usize, piece.end as usize) else {
         return Err(LexRefused::Memory);
     };
-    if let Some(reason) = fault_of_bytes(piece.closed, &text[start..end]) {
+    if let Some(reason) = reason_of_bytes(text, piece) {
         return Err(LexRefused::Because(reason));
     }
-    if let Some(reason) = fault_of_tokens(text, &lexed) {
+    if let Some(reason) = reason_of_tokens(&lexed) {
         return Err(LexRefused::Because(reason));
     }
     Ok(lexed.tokens)

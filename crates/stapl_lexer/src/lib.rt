@@ -14,8 +14,9 @@ mod number;
 mod piece;
 mod reading;
 mod reason;
-mod reserved;
 mod run;
+mod spelling;
+mod terminal;
 mod token;
 mod token_fault;
 
@@ -25,4 +26,8 @@ pub use lexing::{LexRefused, tokens};
 pub use name::Name;
 pub use piece::Piece;
 pub use reason::Reason;
+pub use terminal::{
+    BinOp, Function, InnerWord, JoinWord, Mark, OuterWord, Padding, PortWord, Register, SimpleWord,
+    Terminal,
+};
 pub use token::{Token, TokenKind};

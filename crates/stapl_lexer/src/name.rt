@@ -8,9 +8,9 @@ ghost use Rattle.std.specs.Str.{str_to_ascii_uppercase};
 ghost use Rattle.std.proofs.Common.{ap};
 ghost use Rattle.std.proofs.lemmas.Slice.Eq.{bytes_eq-Decides};
 ghost use Rattle.stapl_lexer.specs.Names.{is_name_byte, is_name, IsUpperName};
-ghost use Rattle.stapl_lexer.specs.ReservedWords.{is_reserved_word};
+ghost use Rattle.stapl_lexer.specs.ReservedWords.{is_reserved_word, is_free_name};
 
-use crate::reserved;
+use crate::spelling::word_terminal;
 use std::fmt;
 use std::hash::{Hash, Hasher};
 use std::marker::Model;
@@ -87,6 +87,19 @@ impl Name {
         })
     }
 
+    /// The name that the bytes spell, in either case; `None` exactly if they spell none, or a reserved word.
+    pub fn read_free(bytes: &[u8]) -> Option<Name>
+        ensures value { IfSome result (λ name. name ≡ str_to_ascii_uppercase bytes.now) }
+        ensures name { IfSome result IsUpperName }
+        ensures some { IfSome result (λ _. is_free_name bytes.now ≡ true) }
+        ensures none { IfNone result (is_free_name bytes.now ≡ false) }
+    {
+        if word_terminal(bytes).is_some() {
+            return None;
+        }
+        Name::read(bytes)
+    }
+
     /// The bytes of the name, 1 to 32, in upper case.
     pub fn bytes(&self) -> &[u8]
         ensures value { result.now ≡ self.now }
@@ -99,7 +112,7 @@ impl Name {
     pub fn is_reserved(&self) -> bool
         ensures { result ≡ is_reserved_word self.now }
     {
-        reserved::is_reserved_word(self.bytes())
+        word_terminal(self.bytes()).is_some()
     }
 }
 

@@ -1,13 +1,14 @@
 //! The tokens between two places of a text, good and bad ones.
-ghost use Rattle.std.specs.Prelude.{◌≡◌, ℕ, ℤ, nat_lt, ◌≤◌, ◌<◌, ◌+◌, ◌++◌, ◌∷◌, [], ◌&&◌, ◌||◌, length, drop, slice_range, IfOk, OnOk, IfSome, IfNone, Option};
-ghost use Rattle.stapl_lexer.specs.PieceTokens.{AreBlanks, BeginsWith, first_word};
+ghost use Rattle.std.specs.Prelude.{◌≡◌, ℕ, ℤ, nat_lt, ◌≤◌, ◌<◌, ◌+◌, ◌++◌, ◌∷◌, [], ◌&&◌, ◌||◌, length, take, drop, slice_range, IfOk, OnOk, IfSome, IfNone, Option};
+ghost use Rattle.stapl_lexer.specs.PieceTokens.{AreBlanks, BeginsWith, first_word, terminal_of};
 ghost use Rattle.stapl_lexer.specs.PieceFaults.{is_large_number};
 ghost use Rattle.stapl_lexer.specs.TokenReading.{IsFront, held_value, AreRead};
 
 use crate::front::{Front, front_of, kind_at};
 use crate::number::GREATEST;
 use crate::run::{blank_len, spells_word};
-use crate::{Token, TokenKind};
+use crate::spelling::{mark_terminal, word_terminal};
+use crate::{Terminal, Token, TokenKind};
 use std::alloc::{AllocError, Global};
 
 // A token, whether it is good, and whether it is a number that is too large.
@@ -28,13 +29,26 @@ fn held_value(value: u32) -> i32
     value.cast_signed()
 }
 
-// The token that stands at a place.
-fn placed(kind: TokenKind, front: Front, start: usize) -> Lexeme
-    requires { start + front.len ≤ 4194304 }
+// The reserved word or the mark that a token is, if it is one.
+fn terminal_of(kind: TokenKind, own: &[u8]) -> Option<Terminal>
+    ensures { result ≡ terminal_of kind own.now }
+{
+    match kind {
+        TokenKind::Word => word_terminal(own),
+        TokenKind::Mark => mark_terminal(own),
+        _ => None,
+    }
+}
+
+// The token that stands at a place, with the bytes from there on.
+fn placed(kind: TokenKind, front: Front, start: usize, bytes: &[u8]) -> Lexeme
+    requires within { front.len ≤ length bytes.now }
+    requires small { start + front.len ≤ 4194304 }
     ensures kind { result.token.kind ≡ kind }
     ensures start { result.token.start ≡ start }
     ensures end { result.token.end ≡ start + front.len }
     ensures value { result.token.value ≡ held_value front.value }
+    ensures terminal { result.token.terminal ≡ terminal_of kind (take front.len bytes.now) }
     ensures good { result.good ≡ front.good }
     ensures large { result.large ≡ nat_lt 2147483648 front.value }
 {
@@ -44,6 +58,7 @@ fn placed(kind: TokenKind, front: Front, start: usize) -> Lexeme
             start: start as u32,
             end: (start + front.len) as u32,
             value: held_value(front.value),
+            terminal: terminal_of(kind, &bytes[..front.len]),
         },
         good: front.good,
         large: front.value > GREATEST,
@@ -66,7 +81,7 @@ fn next_lexeme(text: &[u8], is_crc: Option<bool>, at: usize, limit: usize) -> Op
     let bytes = &text[start..limit];
     let kind = kind_at(is_crc, bytes[0]);
     let front = front_of(kind, is_crc, bytes);
-    Some(placed(kind, front, start))
+    Some(placed(kind, front, start, bytes))
 }
 
 // Whether the first word is CRC, behind one more token.

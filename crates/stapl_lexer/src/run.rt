@@ -3,7 +3,7 @@ ghost use Rattle.std.specs.Prelude.{◌≡◌, ℕ, ◌≤◌, ◌↔◌, List, 
 ghost use Rattle.std.specs.Char.{is_ascii_digit};
 ghost use Rattle.std.specs.Str.{str_eq_ignore_ascii_case};
 ghost use Rattle.stapl_lexer.specs.Names.{is_name_byte};
-ghost use Rattle.stapl_lexer.specs.PieceTokens.{spells_word};
+ghost use Rattle.stapl_lexer.specs.ReservedWords.{spells_word};
 ghost use Rattle.stapl_lexer.specs.TokenReading.{IsBlankFront, IsRun};
 
 use crate::cutting::is_blank_start;

@@ -1,5 +1,7 @@
 //! The tokens of a piece.
 
+use crate::Terminal;
+
 /// What a token is: its row in the table of tokens (JESD71, statements).
 #[derive(Clone, Copy, Debug, PartialEq, Eq)]
 pub enum TokenKind {
@@ -13,7 +15,7 @@ pub enum TokenKind {
     Binary,
     /// `$` and hexadecimal digits. White space and comments may stand before each digit.
     Hexadecimal,
-    /// A mark of one or two bytes. It is known by its bytes.
+    /// A mark of one or two bytes, or a single byte that begins no token.
     Mark,
     /// The four hexadecimal digits behind the word `CRC`. White space and comments may stand between them.
     Hex4,
@@ -30,4 +32,6 @@ pub struct Token {
     pub end: u32,
     /// The value of a number, where 2147483648 stands for -2147483648; 0 for every other token.
     pub value: i32,
+    /// The reserved word or the mark that it is; `None` for every other token.
+    pub terminal: Option<Terminal>,
 }

@@ -1,8 +1,9 @@
 //! What is wrong with the tokens of a piece.
-ghost use Rattle.std.specs.Prelude.{◌≡◌, All, length};
+ghost use Rattle.std.specs.Prelude.{◌≡◌, ℕ, List};
 ghost use Rattle.std.specs.List.{list_any};
-ghost use Rattle.stapl_lexer.specs.PieceTokens.{LiesBetween};
-ghost use Rattle.stapl_lexer.specs.PieceFaults.{is_long_word, is_large_number, fault_of_tokens};
+ghost use Rattle.stapl_lexer.specs.declared.piece.Piece.{Piece};
+ghost use Rattle.stapl_lexer.specs.PieceFaults.{is_long_word};
+ghost use Rattle.stapl_lexer.specs.TokenReading.{IsReadPiece, IsTokenAnswer};
 
 use crate::depth::is_too_deep;
 use crate::reading::Lexed;
@@ -23,21 +24,22 @@ fn has_long_word(tokens: &[Token]) -> bool
     tokens.iter().any(|token| is_long_word(token))
 }
 
-// The smallest reason that lies in the tokens of a piece, or `Syntax` where one is bad.
-pub(crate) fn fault_of_tokens(text: &[u8], lexed: &Lexed) -> Option<Reason>
-    requires lie { All (LiesBetween 0 (length text.now)) lexed.now.tokens.items }
-    requires large { lexed.now.large ≡ list_any (is_large_number text.now) lexed.now.tokens.items }
-    ensures { result ≡ fault_of_tokens text.now lexed.now.tokens.items lexed.now.good }
+// The smallest reason against a piece with these tokens, in whose bytes no reason lies.
+
+pub(crate) fn reason_of_tokens(lexed: &Lexed) -> Option<Reason>
+    ensures { (text : List ℕ) (piece : Piece) → IsReadPiece text piece lexed.now.tokens.items lexed.now.good lexed.now.large → IsTokenAnswer text piece lexed.now.good result }
 {
     if has_long_word(&lexed.tokens) {
-        Some(Reason::NameTooLong)
-    } else if lexed.large {
-        Some(Reason::NumberTooLarge)
-    } else if is_too_deep(text, &lexed.tokens) {
-        Some(Reason::TooDeep)
-    } else if lexed.good {
-        None
-    } else {
-        Some(Reason::Syntax)
+        return Some(Reason::NameTooLong);
     }
+    if lexed.large {
+        return Some(Reason::NumberTooLarge);
+    }
+    if is_too_deep(&lexed.tokens) {
+        return Some(Reason::TooDeep);
+    }
+    if !lexed.good {
+        return Some(Reason::Syntax);
+    }
+    None
 }

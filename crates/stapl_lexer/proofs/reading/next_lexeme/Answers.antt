@@ -12,7 +12,7 @@ returns-clause-some c =
     lt c.requires.within c.blank_len.ensures.blank
     (c.kind_at-kind.ensures ∙ ap (kind_at c.args.is_crc) (range_first text (c.args.at + c.blank_len.result) c.args.limit lt))
     c.front_of-front.ensures
-    (record { kind_is = c.placed.ensures.kind; start_is = c.placed.ensures.start; end_is = c.placed.ensures.end; value_is = c.placed.ensures.value })
+    (record { kind_is = c.placed.ensures.kind; start_is = c.placed.ensures.start; end_is = c.placed.ensures.end; value_is = c.placed.ensures.value; terminal_is = c.placed.ensures.terminal })
     c.placed.ensures.good
 
 pub returns-clause-large : goal.returns-clause-large
@@ -23,4 +23,4 @@ returns-clause-large c =
     c.placed.ensures.large
     ∙ next_large text c.args.limit c.kind_at-kind.result c.front_of-front.result c.placed.result.token (c.args.at + c.blank_len.result) (omega arith) c.requires.within
     c.front_of-front.ensures
-    (record { kind_is = c.placed.ensures.kind; start_is = c.placed.ensures.start; end_is = c.placed.ensures.end; value_is = c.placed.ensures.value })
+    (record { kind_is = c.placed.ensures.kind; start_is = c.placed.ensures.start; end_is = c.placed.ensures.end; value_is = c.placed.ensures.value; terminal_is = c.placed.ensures.terminal })
