@@ -4,11 +4,11 @@ use Rattle.std.proofs.Math.ListN.{drop_of_length-le}
 use Rattle.std.proofs.lemmas.Bool.Decides.{nat_tests}
 use Rattle.std.proofs.lemmas.List.{length-drop, drop-drop, length-append}
 use Rattle.std.specs.List.{list_any}
-use Rattle.stapl_lexer.specs.Scanning.{BeginsWithSegment}
+use Rattle.stapl_lexer.specs.Cutting.{BeginsWithSegment}
 use Rattle.stapl_lexer.specs.Segments.{Segment, Plain, Closed, Open, Comment, spelled, IsSegment, Divides}
 use Rattle.stapl_lexer.specs.PieceFaults.{is_language_byte, is_foreign, is_open_string, is_compressed}
 use Rattle.stapl_lexer.specs.TokenReading.{is_open_spelling, IsSearchedUpTo, AreSearched}
-use Rattle.stapl_lexer.proofs.ScanLemmas.{divides_more}
+use Rattle.stapl_lexer.proofs.CutLemmas.{divides_more}
 use Rattle.stapl_lexer.proofs.FrontLemmas.{closed_by, take_front}
 
 any_last : (p : Segment → Bool) (xs : List Segment) (y : Segment) → list_any p (xs ++ y ∷ []) ≡ (list_any p xs || p y)

@@ -4,7 +4,7 @@ use Rattle.std.specs.List.{position_or_len}
 use Rattle.std.proofs.lemmas.Bool.{cases_eq, cases_order}
 use Rattle.std.proofs.lemmas.List.{length-drop}
 use Rattle.stapl_lexer.specs.Segments.{Segment, Divides, ends_string, ends_comment}
-use Rattle.stapl_lexer.specs.Scanning.{BeginsWithSegment}
+use Rattle.stapl_lexer.specs.Cutting.{BeginsWithSegment}
 use Rattle.stapl_lexer.proofs.SegmentLemmas.{closed_begins, open_begins, comment_begins, plain_begins, begins_at_front}
 
 -- a text that is not empty begins with a segment

@@ -11,7 +11,7 @@ use Rattle.stapl_lexer.specs.declared.token.TokenKind.TheVariants as kinds
 use Rattle.stapl_lexer.specs.Names.{is_name_byte}
 use Rattle.stapl_lexer.specs.Marks.{is_mark_spelling}
 use Rattle.stapl_lexer.specs.ReservedWords.{spells_word}
-use Rattle.stapl_lexer.specs.Scanning.{BeginsWithSegment}
+use Rattle.stapl_lexer.specs.Cutting.{BeginsWithSegment}
 use Rattle.stapl_lexer.specs.Segments.{Segment, Plain, Closed, Open, Comment, spelled, IsSegment, HasNone, ends_string}
 use Rattle.stapl_lexer.specs.PieceTokens.{AreBlanks, HasNoDigit, SpacedDigits, AreFourDigits, is_closed}
 use Rattle.stapl_lexer.specs.TokenReading.{IsRun, IsBlankFront, IsNumberFront, IsNextDigit, IsSpacedUpTo, IsSpacedFront, IsFront}

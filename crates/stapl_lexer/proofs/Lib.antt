@@ -2,7 +2,7 @@ pub mod Dividing
 pub mod NameLemmas
 pub mod PieceLemmas
 pub mod SegmentLemmas
-pub mod ScanLemmas
+pub mod CutLemmas
 pub mod Unique
 pub mod EndLemmas
 pub mod PieceTokenLemmas
@@ -14,4 +14,5 @@ pub mod LexemeLemmas
 pub mod ByteFaultLemmas
 pub mod DepthLemmas
 pub mod ReasonLemmas
+pub mod DigitLemmas
 pub mod SpellingLemmas

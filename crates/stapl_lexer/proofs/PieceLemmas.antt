@@ -10,7 +10,7 @@ use Rattle.std.proofs.lemmas.List.Sums.{count_by-le-length}
 use Rattle.stapl_lexer.specs.declared.piece.Piece.{Piece}
 use Rattle.stapl_lexer.specs.Segments.{Segment, Plain, Closed, Open, Comment, spelled, spelling, Divides}
 use Rattle.stapl_lexer.specs.Pieces.{is_blank, is_semicolon, line_at, piece_of, pieces_from, IsCut, LiesIn, Follows, LieInOrder}
-use Rattle.stapl_lexer.proofs.ScanLemmas.{first_part, split_has}
+use Rattle.stapl_lexer.proofs.CutLemmas.{first_part, split_has}
 use Rattle.stapl_lexer.proofs.Unique.{one_way}
 
 -- the pieces of a text are one list

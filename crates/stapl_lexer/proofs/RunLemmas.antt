@@ -4,11 +4,11 @@ use Rattle.std.proofs.lemmas.List.{drop-drop, get_or-drop}
 use Rattle.std.proofs.lemmas.List.Folds.{list_all-append}
 use Rattle.stapl_lexer.specs.Segments.{Divides}
 use Rattle.stapl_lexer.specs.Pieces.{is_white, is_blank}
-use Rattle.stapl_lexer.specs.Scanning.{BeginsWithSegment}
+use Rattle.stapl_lexer.specs.Cutting.{BeginsWithSegment}
 use Rattle.stapl_lexer.specs.Runs.{StartsWithout}
 use Rattle.stapl_lexer.specs.PieceTokens.{AreBlanks}
 use Rattle.stapl_lexer.specs.TokenReading.{IsRun}
-use Rattle.stapl_lexer.proofs.ScanLemmas.{divides_more, blank_by_head, head, head_is}
+use Rattle.stapl_lexer.proofs.CutLemmas.{divides_more, blank_by_head, head, head_is}
 
 -- the byte at a place, where there is one, fails the test
 pub starts_without_at : (test : ℕ → Bool) (bytes : List ℕ) (at : ℕ) → (at < length bytes → test (get_or bytes at 0) ≡ false) → StartsWithout test (drop at bytes)

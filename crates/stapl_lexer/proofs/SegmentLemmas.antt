@@ -6,7 +6,7 @@ use Rattle.std.specs.List.{list_all, position, position_or_len, before_first, af
 use Rattle.std.proofs.lemmas.List.{take-append-drop, length-take-le, length-append}
 use Rattle.std.proofs.lemmas.List.Sums.{take_while-cons, split_at_first, passes_at_first, prefix_len-le-length}
 use Rattle.stapl_lexer.specs.Segments.{Plain, Closed, Open, Comment, EndsLine, ends_string, ends_comment}
-use Rattle.stapl_lexer.specs.Scanning.{BeginsWithSegment}
+use Rattle.stapl_lexer.specs.Cutting.{BeginsWithSegment}
 
 position_found : (n len : ℕ) → n ≤ len → unwrap_or (cond (nat_lt n len) (Some n) None) len ≡ n
 position_found n len le = grind (arith, nat_tests)

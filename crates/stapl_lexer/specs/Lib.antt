@@ -1,6 +1,6 @@
 pub mod Segments
 pub mod Pieces
-pub mod Scanning
+pub mod Cutting
 pub mod Names
 pub mod Terminals
 pub mod Marks

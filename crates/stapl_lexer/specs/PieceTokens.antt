@@ -1,6 +1,6 @@
 -- The tokens of a piece, good and bad ones (JESD71, statements). That `E` and digits may follow the digits of a number, that white
 -- space may stand between the digits of a literal, and how bad tokens are read, are this profile's rules.
-use Rattle.std.specs.Prelude.{◌≡◌, ℕ, ℤ, pos, ◌<◌, ◌≤◌, ◌+◌, ◌*◌, ◌^◌, List, [], ◌∷◌, ◌++◌, Bool, true, false, ◌&&◌, ◌||◌, ◌==◌, not, if◌then◌else◌, codes, drop, length, slice_index, slice_range, Option, None, Some, nat_le, take_while}
+use Rattle.std.specs.Prelude.{◌≡◌, ℕ, ℤ, pos, ◌<◌, ◌≤◌, ◌+◌, ◌-◌, ◌*◌, ◌^◌, List, [], ◌∷◌, ◌++◌, Bool, true, false, ◌&&◌, ◌||◌, ◌==◌, not, if◌then◌else◌, codes, take, drop, length, slice_index, slice_range, Option, None, Some, nat_le, take_while}
 use Rattle.std.specs.Char.{is_ascii_alphabetic, is_ascii_digit, is_ascii_hexdigit}
 use Rattle.std.specs.Int.{cast_signed, w32}
 use Rattle.std.specs.List.{list_all}
@@ -89,6 +89,16 @@ abbrev pub IsLiteral : TokenKind → Bool → List ℕ → List ℕ → Type 0
 IsLiteral kind good own behind =
     (digits : List ℕ) × SpacedDigits kind (drop 1 own ++ behind) digits behind × (good ≡ nat_le 1 (length digits))
 
+-- The digits of a literal: those of its bytes that are digits, but for those in comments (JESD71, program text), which go from an
+-- apostrophe (39) up to a line feed (10). The flag says whether the bytes begin inside a comment.
+abbrev pub digits_in : TokenKind → Bool → List ℕ → List ℕ
+digits_in kind in_comment [] = []
+digits_in kind true (b ∷ bs) = digits_in kind (not (b == 10)) bs
+digits_in kind false (b ∷ bs) =
+    if b == 39 then digits_in kind true bs
+    else if is_literal_digit kind b then b ∷ digits_in kind false bs
+    else digits_in kind false bs
+
 -- four hexadecimal digits, and nothing but white space and comments behind them
 pub record AreFourDigits (own behind : List ℕ) : Type 0 where
   pub digits : List ℕ
@@ -163,6 +173,10 @@ terminal_of _ own = None
 abbrev pub token_bytes : List ℕ → Token → List ℕ
 token_bytes text token = slice_range text token.start token.end
 
+-- what stands between the first byte of a string and its last one, which are its quotes
+abbrev pub string_inside : List ℕ → List ℕ
+string_inside own = take (length own - 2) (drop 1 own)
+
 -- a token that is good or bad
 pub record Lexeme : Type 0 where
   pub token : Token
@@ -176,10 +190,9 @@ pub record BeginsWith (text : List ℕ) (first : Option Bool) (at limit : ℕ) (
   pub blank : AreBlanks (slice_range text at limit) (slice_range text lexeme.token.start limit)
   pub solid : IsSolid (slice_range text lexeme.token.start limit)
   pub kind : lexeme.token.kind ≡ kind_at first (slice_index text lexeme.token.start)
-  pub spelled : Spells lexeme.token.kind lexeme.good (slice_range text lexeme.token.start lexeme.token.end)
-      (slice_range text lexeme.token.end limit)
-  pub value : lexeme.token.value ≡ value_of lexeme.token.kind (slice_range text lexeme.token.start lexeme.token.end)
-  pub terminal : lexeme.token.terminal ≡ terminal_of lexeme.token.kind (slice_range text lexeme.token.start lexeme.token.end)
+  pub spelled : Spells lexeme.token.kind lexeme.good (token_bytes text lexeme.token) (slice_range text lexeme.token.end limit)
+  pub value : lexeme.token.value ≡ value_of lexeme.token.kind (token_bytes text lexeme.token)
+  pub terminal : lexeme.token.terminal ≡ terminal_of lexeme.token.kind (token_bytes text lexeme.token)
 
 -- The bytes of the text from one place up to another have these tokens. White space and comments separate tokens and mean
 -- nothing else. Reading goes on behind a bad token.
@@ -187,7 +200,7 @@ abbrev pub HasLexemes : List ℕ → Option Bool → ℕ → ℕ → List Lexeme
 HasLexemes text first at limit [] = AreBlanks (slice_range text at limit) []
 HasLexemes text first at limit (lexeme ∷ lexemes) =
     BeginsWith text first at limit lexeme
-    × HasLexemes text (first_word first lexeme.token.kind (slice_range text lexeme.token.start lexeme.token.end)) lexeme.token.end limit lexemes
+    × HasLexemes text (first_word first lexeme.token.kind (token_bytes text lexeme.token)) lexeme.token.end limit lexemes
 
 -- a token lies between two places
 pub record LiesBetween (start limit : ℕ) (token : Token) : Type 0 where

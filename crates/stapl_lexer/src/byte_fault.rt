@@ -1,7 +1,7 @@
 //! What is wrong with the bytes of a piece.
 ghost use Rattle.std.specs.Prelude.{◌≡◌, ℕ, ◌≤◌, ◌<◌, ◌||◌, ◌==◌, not, length, slice_index, IfSome, IfNone};
 ghost use Rattle.stapl_lexer.specs.PieceFaults.{is_mark_byte, is_language_byte, IsSmallestTokenReason};
-ghost use Rattle.stapl_lexer.specs.Pieces.{LiesIn};
+ghost use Rattle.stapl_lexer.specs.Pieces.{LiesIn, text_limit};
 ghost use Rattle.stapl_lexer.specs.TokenReading.{is_open_spelling, AreSearched, HasNoReasonBelow};
 
 use crate::cutting::is_white;
@@ -60,7 +60,7 @@ impl ByteFaults {
 // What is wrong with the segments of some bytes.
 #[tactic(auto, using(crate::proofs::ByteFaultLemmas::all_searched))]
 fn byte_faults(bytes: &[u8]) -> ByteFaults
-    requires { length bytes.now ≤ 4194304 }
+    requires { length bytes.now ≤ text_limit }
     ensures { AreSearched bytes.now result.foreign result.unclosed result.compressed }
 {
     let mut faults = ByteFaults {
@@ -80,7 +80,7 @@ fn byte_faults(bytes: &[u8]) -> ByteFaults
 // The smallest reason that lies in the bytes of a piece; if there is none, each reason against it lies in its tokens.
 #[tactic(auto, using(crate::proofs::ReasonLemmas::unterminated_first, crate::proofs::ReasonLemmas::bad_byte_first, crate::proofs::ReasonLemmas::open_string_first, crate::proofs::ReasonLemmas::compressed_first, crate::proofs::ReasonLemmas::good_bytes))]
 pub(crate) fn reason_of_bytes(text: &[u8], piece: &Piece) -> Option<Reason>
-    requires small { length text.now ≤ 4194304 }
+    requires small { length text.now ≤ text_limit }
     requires lies { LiesIn text.now piece.now }
     ensures some { IfSome result (IsSmallestTokenReason text.now piece.now) }
     ensures none { IfNone result (HasNoReasonBelow text.now piece.now 6) }

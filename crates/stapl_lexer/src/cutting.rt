@@ -3,11 +3,14 @@ ghost use Rattle.std.specs.Prelude.{◌≡◌, ℕ, ◌+◌, ◌<◌, ◌≤◌,
 ghost use Rattle.std.specs.List.{position, position_or_len};
 ghost use Rattle.stapl_lexer.specs.declared.piece.Piece.{Piece};
 ghost use Rattle.stapl_lexer.specs.Segments.{ends_string, ends_comment};
-ghost use Rattle.stapl_lexer.specs.Pieces.{IsCut, is_white, LiesIn, LieInOrder};
-ghost use Rattle.stapl_lexer.specs.Scanning.{BeginsWithSegment, with_piece};
+ghost use Rattle.stapl_lexer.specs.Pieces.{IsCut, is_white, LiesIn, LieInOrder, text_limit};
+ghost use Rattle.stapl_lexer.specs.Cutting.{BeginsWithSegment, with_piece};
 
 use crate::Piece;
 use std::alloc::{AllocError, Global};
+
+/// The most bytes of a text.
+pub const TEXT_LIMIT: usize = 4_194_304;
 
 fn is_string_end(b: u8) -> bool
     ensures { result ≡ ends_string b }
@@ -81,9 +84,9 @@ pub(crate) fn is_blank_start(b: u8) -> bool
     is_white(b) || b == b'\''
 }
 
-// How far a text is read.
+// How far a text is cut.
 #[derive(Clone, Copy)]
-struct Scan {
+struct Progress {
     at: usize,
     // The line of that place.
     line: u32,
@@ -93,14 +96,14 @@ struct Scan {
     first: Option<u32>,
 }
 
-impl Scan {
-    ghost use Rattle.stapl_lexer.specs.Scanning.{IsScanned, open_piece, Within};
+impl Progress {
+    ghost use Rattle.stapl_lexer.specs.Cutting.{IsCutUpTo, open_piece, Within};
 
-    fn new() -> Scan
-        ensures start { (text : List ℕ) → IsScanned text result [] }
+    fn new() -> Progress
+        ensures start { (text : List ℕ) → IsCutUpTo text result [] }
         ensures bounds { Within 0 result }
     {
-        Scan {
+        Progress {
             at: 0,
             line: 1,
             start: 0,
@@ -111,9 +114,9 @@ impl Scan {
     // Reads a semicolon, which ends a piece.
     fn close(&mut self) -> Piece
         requires bounds { Within self.old.at self.old }
-        requires small { self.old.at < 4194304 }
+        requires small { self.old.at < text_limit }
         ensures piece { result ≡ record { start = self.old.start; end = self.old.at; line = unwrap_or self.old.first self.old.line; closed = true } }
-        ensures scan { self.new ≡ record { at = self.old.at + 1; line = self.old.line; start = self.old.at + 1; first = None } }
+        ensures after { self.new ≡ record { at = self.old.at + 1; line = self.old.line; start = self.old.at + 1; first = None } }
     {
         let piece = Piece {
             start: self.start as u32,
@@ -130,7 +133,7 @@ impl Scan {
     // Reads a segment of n bytes that is no semicolon, by its first byte.
     fn pass(&mut self, byte: u8, n: usize)
         requires bounds { Within self.old.at self.old }
-        requires small { self.old.at + n ≤ 4194304 }
+        requires small { self.old.at + n ≤ text_limit }
         ensures at { self.new.at ≡ self.old.at + n }
         ensures start { self.new.start ≡ self.old.start }
         ensures line { self.new.line ≡ self.old.line + (if byte == 10 then 1 else 0) }
@@ -146,14 +149,14 @@ impl Scan {
     }
 
     // Reads a segment, and says which piece it ends.
-    #[tactic(auto, using(crate::proofs::ScanLemmas::scanned_close, crate::proofs::ScanLemmas::scanned_pass))]
+    #[tactic(auto, using(crate::proofs::CutLemmas::cut_close, crate::proofs::CutLemmas::cut_pass))]
     fn step(&mut self, text: &[u8]) -> Option<Piece>
         requires bounds { Within (length text.now) self.old }
         requires inside { self.old.at < length text.now }
-        requires small { length text.now ≤ 4194304 }
+        requires small { length text.now ≤ text_limit }
         ensures bounds { Within (length text.now) self.new }
         ensures forward { self.old.at < self.new.at }
-        ensures scanned { (pieces : List Piece) → IsScanned text.now self.old pieces → IsScanned text.now self.new (with_piece pieces result) }
+        ensures cut_up_to { (pieces : List Piece) → IsCutUpTo text.now self.old pieces → IsCutUpTo text.now self.new (with_piece pieces result) }
     {
         let byte = text[self.at];
         if byte == b';' {
@@ -166,7 +169,7 @@ impl Scan {
 
     // The piece that the end of the text leaves open.
     fn rest(&self) -> Option<Piece>
-        requires { Within 4194304 self.now }
+        requires { Within text_limit self.now }
         ensures { result ≡ open_piece self.now.start self.now.at self.now.first }
     {
         let line = self.first?;
@@ -189,22 +192,22 @@ fn push_if_some(pieces: &mut Vec<Piece>, piece: Option<Piece>) -> Result<(), All
     Ok(())
 }
 
-/// The pieces of a text of at most 4,194,304 bytes, which may be any bytes (JESD71, program text). Each semicolon outside
+/// The pieces of a text of at most `TEXT_LIMIT` bytes, which may be any bytes (JESD71, program text). Each semicolon outside
 /// strings and comments ends a piece. What is left behind the last one is a piece that is not closed, where a byte of it is
 /// neither white space nor comment. The only error is want of memory. The time is linear in the length of the text.
-#[tactic(auto, using(crate::proofs::ScanLemmas::scanned_all))]
+#[tactic(auto, using(crate::proofs::CutLemmas::cut_all))]
 pub fn cut(alloc: Global, text: &[u8]) -> Result<Vec<Piece>, AllocError>
-    requires { length text.now ≤ 4194304 }
+    requires { length text.now ≤ text_limit }
     ensures cut { IfOk result (λ pieces. IsCut text.now pieces.items) }
     ensures each { IfOk result (λ pieces. All (LiesIn text.now) pieces.items) }
     ensures in_order { IfOk result (λ pieces. LieInOrder pieces.items) }
     ensures few { IfOk result (λ pieces. length pieces.items ≤ length text.now + 1) }
 {
     let mut pieces = Vec::new(alloc);
-    let mut scan = Scan::new();
-    'segments: while scan.at < text.len() {
-        push_if_some(&mut pieces, scan.step(text))?;
+    let mut progress = Progress::new();
+    'segments: while progress.at < text.len() {
+        push_if_some(&mut pieces, progress.step(text))?;
     }
-    push_if_some(&mut pieces, scan.rest())?;
+    push_if_some(&mut pieces, progress.rest())?;
     Ok(pieces)
 }

@@ -6,6 +6,7 @@ ghost use Rattle.stapl_lexer.specs.PieceTokens.{AreBlanks, kind_of, kind_at};
 ghost use Rattle.stapl_lexer.specs.Marks.{is_mark_spelling};
 ghost use Rattle.stapl_lexer.specs.ReservedWords.{spells_word};
 ghost use Rattle.stapl_lexer.specs.TokenReading.{IsFront};
+ghost use Rattle.stapl_lexer.specs.Pieces.{text_limit};
 
 use crate::literal::spaced_digits;
 use crate::name::is_name_byte;
@@ -63,7 +64,7 @@ fn has_dollar(bytes: &[u8], n: usize) -> bool
 
 fn word_front(bytes: &[u8]) -> Front
     requires letter { is_ascii_alphabetic (slice_index bytes.now 0) ≡ true }
-    requires small { length bytes.now ≤ 4194304 }
+    requires small { length bytes.now ≤ text_limit }
     ensures { IsFront kinds.Word bytes.now result }
 {
     let n = name_len(bytes);
@@ -76,7 +77,7 @@ fn word_front(bytes: &[u8]) -> Front
 
 fn number_front(bytes: &[u8]) -> Front
     requires digit { is_ascii_digit (slice_index bytes.now 0) ≡ true }
-    requires small { length bytes.now ≤ 4194304 }
+    requires small { length bytes.now ≤ text_limit }
     ensures { IsFront kinds.Number bytes.now result }
 {
     let (len, value) = number_in_front(bytes);
@@ -97,7 +98,7 @@ pub(crate) fn ends_in_quote(bytes: &[u8], n: usize) -> bool
 fn text_front(bytes: &[u8]) -> Front
     requires quote { slice_index bytes.now 0 ≡ 34 }
     requires some { 0 < length bytes.now }
-    requires small { length bytes.now ≤ 4194304 }
+    requires small { length bytes.now ≤ text_limit }
     ensures { IsFront kinds.Text bytes.now result }
 {
     let len = segment_len(bytes);
@@ -110,7 +111,7 @@ fn text_front(bytes: &[u8]) -> Front
 
 fn binary_front(bytes: &[u8]) -> Front
     requires some { 0 < length bytes.now }
-    requires small { length bytes.now ≤ 4194304 }
+    requires small { length bytes.now ≤ text_limit }
     ensures { IsFront kinds.Binary bytes.now result }
 {
     let (end, count) = spaced_digits(TokenKind::Binary, &bytes[1..]);
@@ -123,7 +124,7 @@ fn binary_front(bytes: &[u8]) -> Front
 
 fn hexadecimal_front(bytes: &[u8]) -> Front
     requires some { 0 < length bytes.now }
-    requires small { length bytes.now ≤ 4194304 }
+    requires small { length bytes.now ≤ text_limit }
     ensures { IsFront kinds.Hexadecimal bytes.now result }
 {
     let (end, count) = spaced_digits(TokenKind::Hexadecimal, &bytes[1..]);
@@ -169,7 +170,7 @@ fn mark_front(bytes: &[u8]) -> Front
 
 // Whether four digits are all that stands there: how many digits were read, and what stands behind them.
 fn are_four_digits(count: usize, behind: &[u8]) -> bool
-    requires { length behind.now ≤ 4194304 }
+    requires { length behind.now ≤ text_limit }
     ensures yes { result ≡ true → (count ≡ 4) × AreBlanks behind.now [] }
     ensures no { result ≡ false → count ≡ 4 → AreBlanks behind.now [] → ⊥ }
 {
@@ -179,7 +180,7 @@ fn are_four_digits(count: usize, behind: &[u8]) -> bool
 // What stands behind the word CRC.
 fn check_front(bytes: &[u8]) -> Front
     requires some { 0 < length bytes.now }
-    requires small { length bytes.now ≤ 4194304 }
+    requires small { length bytes.now ≤ text_limit }
     ensures { IsFront kinds.Hex4 bytes.now result }
 {
     let (end, count) = spaced_digits(TokenKind::Hex4, bytes);
@@ -201,7 +202,7 @@ fn check_front(bytes: &[u8]) -> Front
 pub(crate) fn front_of(kind: TokenKind, is_crc: Option<bool>, bytes: &[u8]) -> Front
     requires kind { kind ≡ kind_at is_crc (slice_index bytes.now 0) }
     requires some { 0 < length bytes.now }
-    requires small { length bytes.now ≤ 4194304 }
+    requires small { length bytes.now ≤ text_limit }
     ensures { IsFront kind bytes.now result }
 {
     match kind {

@@ -1,8 +1,10 @@
 //! Laws of the definitions.
-ghost use Rattle.std.specs.Prelude.{◌≡◌, ℕ, ◌↔◌, List, [], None, false};
+ghost use Rattle.std.specs.Prelude.{◌≡◌, ℕ, ◌↔◌, List, [], ◌++◌, None, false};
 ghost use Rattle.std.specs.Str.{str_to_ascii_uppercase};
 ghost use Rattle.stapl_lexer.specs.declared.piece.Piece.{Piece};
+ghost use Rattle.stapl_lexer.specs.declared.token.TokenKind.{TokenKind};
 ghost use Rattle.stapl_lexer.specs.Pieces.{IsCut};
+ghost use Rattle.stapl_lexer.specs.PieceTokens.{SpacedDigits, digits_in};
 ghost use Rattle.stapl_lexer.specs.Segments.{Segment, Divides};
 ghost use Rattle.stapl_lexer.specs.declared.reason.Reason.{Reason};
 ghost use Rattle.stapl_lexer.specs.declared.token.Token.{Token};
@@ -42,4 +44,10 @@ pub fn tokens_or_a_reason()
 /// A word is no terminal exactly if its bytes in upper case are not reserved.
 pub fn free_words_are_no_terminals()
     ensures { (own : List ℕ) → (word_terminal own ≡ None) ↔ (is_reserved_word (str_to_ascii_uppercase own) ≡ false) }
+{}
+
+/// The digits of a literal are those of its bytes that stand outside comments.
+pub fn digits_of_a_literal()
+    ensures { (kind : TokenKind) (own behind digits : List ℕ) → SpacedDigits kind (own ++ behind) digits behind
+        → digits ≡ digits_in kind false own }
 {}

@@ -2,7 +2,7 @@
 ghost use Rattle.std.specs.Prelude.{◌≡◌, ◌≤◌, length, All, IfOk, Err};
 ghost use Rattle.stapl_lexer.specs.declared.reason.Reason.{Reason};
 ghost use Rattle.stapl_lexer.specs.declared.lexing.LexRefused.TheVariants as refusals;
-ghost use Rattle.stapl_lexer.specs.Pieces.{LiesIn};
+ghost use Rattle.stapl_lexer.specs.Pieces.{LiesIn, text_limit};
 ghost use Rattle.stapl_lexer.specs.PieceTokens.{LiesBetween};
 ghost use Rattle.stapl_lexer.specs.PieceFaults.{AreTokens, IsSmallestTokenReason};
 
@@ -30,7 +30,7 @@ pub enum LexRefused {
 /// The error `Because` has the smallest reason against the piece that lies in its bytes and its tokens. `Memory` is want of memory. The
 /// time is linear in the length of the piece.
 pub fn tokens(alloc: Global, text: &[u8], piece: &Piece) -> Result<Vec<Token>, LexRefused>
-    requires small { length text.now ≤ 4194304 }
+    requires small { length text.now ≤ text_limit }
     requires lies { LiesIn text.now piece.now }
     ensures ok { IfOk result (λ tokens. AreTokens text.now piece.now tokens.items) }
     ensures lie { IfOk result (λ tokens. All (LiesBetween piece.now.start piece.now.end) tokens.items) }

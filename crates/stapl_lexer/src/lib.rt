@@ -21,8 +21,9 @@ mod token;
 mod token_fault;
 
 pub use crc::crc_of;
-pub use cutting::{cut, segment_len};
+pub use cutting::{TEXT_LIMIT, cut, segment_len};
 pub use lexing::{LexRefused, tokens};
+pub use literal::literal_digits;
 pub use name::Name;
 pub use piece::Piece;
 pub use reason::Reason;

@@ -5,6 +5,7 @@ ghost use Rattle.std.specs.List.{list_all};
 ghost use Rattle.std.specs.Str.Parse.{digits_value};
 ghost use Rattle.stapl_lexer.specs.PieceTokens.{begins_exponent};
 ghost use Rattle.stapl_lexer.specs.TokenReading.{cap, IsNumberFront};
+ghost use Rattle.stapl_lexer.specs.Pieces.{text_limit};
 
 use crate::run::{byte_at, digits_len};
 
@@ -48,7 +49,7 @@ fn scaled(value: u64, power: u64) -> u64
 // How many bytes the number that stands in front has, and its value, or the cap where it is greater.
 pub(crate) fn number_in_front(bytes: &[u8]) -> (usize, u64)
     requires digit { is_ascii_digit (slice_index bytes.now 0) ≡ true }
-    requires small { length bytes.now ≤ 4194304 }
+    requires small { length bytes.now ≤ text_limit }
     ensures { IsNumberFront bytes.now result.0 result.1 }
 {
     let n = digits_len(bytes);

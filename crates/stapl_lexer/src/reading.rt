@@ -3,6 +3,7 @@ ghost use Rattle.std.specs.Prelude.{◌≡◌, ℕ, ℤ, nat_lt, ◌≤◌, ◌<
 ghost use Rattle.stapl_lexer.specs.PieceTokens.{AreBlanks, BeginsWith, first_word, terminal_of};
 ghost use Rattle.stapl_lexer.specs.PieceFaults.{is_large_number};
 ghost use Rattle.stapl_lexer.specs.TokenReading.{IsFront, held_value, AreRead};
+ghost use Rattle.stapl_lexer.specs.Pieces.{text_limit};
 
 use crate::front::{Front, front_of, kind_at};
 use crate::number::GREATEST;
@@ -43,7 +44,7 @@ fn terminal_of(kind: TokenKind, own: &[u8]) -> Option<Terminal>
 // The token that stands at a place, with the bytes from there on.
 fn placed(kind: TokenKind, front: Front, start: usize, bytes: &[u8]) -> Lexeme
     requires within { front.len ≤ length bytes.now }
-    requires small { start + front.len ≤ 4194304 }
+    requires small { start + front.len ≤ text_limit }
     ensures kind { result.token.kind ≡ kind }
     ensures start { result.token.start ≡ start }
     ensures end { result.token.end ≡ start + front.len }
@@ -69,7 +70,7 @@ fn placed(kind: TokenKind, front: Front, start: usize, bytes: &[u8]) -> Lexeme
 fn next_lexeme(text: &[u8], is_crc: Option<bool>, at: usize, limit: usize) -> Option<Lexeme>
     requires ordered { at ≤ limit }
     requires within { limit ≤ length text.now }
-    requires small { length text.now ≤ 4194304 }
+    requires small { length text.now ≤ text_limit }
     ensures some { IfSome result (λ lexeme. BeginsWith text.now is_crc at limit (record { token = lexeme.token; good = lexeme.good })) }
     ensures large { IfSome result (λ lexeme. lexeme.large ≡ is_large_number text.now lexeme.token) }
     ensures none { IfNone result (AreBlanks (slice_range text.now at limit) []) }
@@ -131,7 +132,7 @@ pub(crate) fn read_lexemes(
 ) -> Result<Lexed, AllocError>
     requires ordered { start ≤ limit }
     requires within { limit ≤ length text.now }
-    requires small { length text.now ≤ 4194304 }
+    requires small { length text.now ≤ text_limit }
     ensures { IfOk result (λ lexed. AreRead text.now start limit lexed.tokens.items lexed.good lexed.large) }
 {
     let mut lexed = Lexed {
@@ -144,7 +145,7 @@ pub(crate) fn read_lexemes(
     'lexemes: while let Some(lexeme) = next_lexeme(text, is_crc, at, limit) {
         let token = lexeme.token;
         at = token.end as usize;
-        is_crc = first_word(is_crc, token.kind, &text[token.start as usize..at]);
+        is_crc = first_word(is_crc, token.kind, token.bytes(text));
         lexed.push(lexeme)?;
     }
     Ok(lexed)

@@ -5,6 +5,7 @@ ghost use Rattle.std.specs.Str.{str_eq_ignore_ascii_case};
 ghost use Rattle.stapl_lexer.specs.Names.{is_name_byte};
 ghost use Rattle.stapl_lexer.specs.ReservedWords.{spells_word};
 ghost use Rattle.stapl_lexer.specs.TokenReading.{IsBlankFront, IsRun};
+ghost use Rattle.stapl_lexer.specs.Pieces.{text_limit};
 
 use crate::cutting::is_blank_start;
 use crate::name::is_name_byte;
@@ -26,7 +27,7 @@ pub(crate) fn spells_word(word: &str, bytes: &[u8]) -> bool
 
 // How many bytes of white space and comments stand in front.
 pub(crate) fn blank_len(bytes: &[u8]) -> usize
-    requires { length bytes.now ≤ 4194304 }
+    requires { length bytes.now ≤ text_limit }
     ensures within { result ≤ length bytes.now }
     ensures blank { IsBlankFront bytes.now result }
 {

@@ -35,3 +35,28 @@ pub struct Token {
     /// The reserved word or the mark that it is; `None` for every other token.
     pub terminal: Option<Terminal>,
 }
+
+impl Token {
+    ghost use Rattle.std.specs.Prelude.{◌≡◌, length};
+    ghost use Rattle.stapl_lexer.specs.PieceTokens.{token_bytes, string_inside, LiesBetween};
+
+    /// The bytes of a token of this text.
+    pub fn bytes<'a>(&self, text: &'a [u8]) -> &'a [u8]
+        requires { LiesBetween 0 (length text.now) self.now }
+        ensures { result.now ≡ token_bytes text.now self.now }
+    {
+        &text[self.start as usize..self.end as usize]
+    }
+
+    /// What stands between the quotes of a string of this text.
+    pub fn inside<'a>(&self, text: &'a [u8]) -> &'a [u8]
+        requires { LiesBetween 0 (length text.now) self.now }
+        ensures { result.now ≡ string_inside (token_bytes text.now self.now) }
+    {
+        let own = self.bytes(text);
+        if own.len() < 2 {
+            return &own[..0];
+        }
+        &own[1..own.len() - 1]
+    }
+}

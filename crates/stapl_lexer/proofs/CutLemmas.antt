@@ -9,10 +9,10 @@ use Rattle.std.proofs.lemmas.List.Folds.{list_all-append}
 use Rattle.std.proofs.lemmas.List.Sums.{take_while-cons, sum_by-cons, sum_by-append, count_by_more_no}
 use Rattle.std.proofs.lemmas.Grind.{flat_map-append}
 use Rattle.stapl_lexer.specs.declared.piece.Piece.{Piece}
-use Rattle.stapl_lexer.specs.declared.cutting.Scan.{Scan}
+use Rattle.stapl_lexer.specs.declared.cutting.Progress.{Progress}
 use Rattle.stapl_lexer.specs.Segments.{Segment, Plain, Closed, Open, Comment, spelled, spelling, IsSegment, HasNone, ends_string, ends_comment, Divides}
 use Rattle.stapl_lexer.specs.Pieces.{is_white, is_blank, is_semicolon, line_at, piece_of, pieces_from, IsCut}
-use Rattle.stapl_lexer.specs.Scanning.{BeginsWithSegment, IsScanned, gather, with_piece, open_piece}
+use Rattle.stapl_lexer.specs.Cutting.{BeginsWithSegment, IsCutUpTo, gather, with_piece, open_piece}
 
 -- one segment more
 pub divides_more : (done : List Segment) (text : List ℕ) (s : Segment) (rest : List ℕ) → Divides done text (spelled s ++ rest) → IsSegment s rest →
@@ -48,8 +48,8 @@ gather_other group s rest e = rw e (gather_onto group s (slice_split is_semicolo
 gather_none : (rest : List Segment) → gather [] (slice_split is_semicolon rest) ≡ slice_split is_semicolon rest
 gather_none rest = elim (split_has rest) [ first_part first others e ↦ rw e refl ]
 
-pub scanned_start : (text : List ℕ) → IsScanned text (record { at = 0; line = 1; start = 0; first = None }) []
-scanned_start text = record {
+pub cut_start : (text : List ℕ) → IsCutUpTo text (record { at = 0; line = 1; start = 0; first = None }) []
+cut_start text = record {
   done = [];
   group = [];
   divides = refl;
@@ -174,17 +174,17 @@ piece_same : (start a b l m : ℕ) → a ≡ b → l ≡ m →
 piece_same start a b l m e f = cc
 
 -- a semicolon ends the open piece
-pub scanned_close : (text : List ℕ) (scan : Scan) (pieces : List Piece) → IsScanned text scan pieces → scan.at < length text → get_or text scan.at 0 ≡ 59 →
-    IsScanned text (record { at = scan.at + 1; line = scan.line; start = scan.at + 1; first = None })
-    (pieces ++ record { start = scan.start; end = scan.at; line = unwrap_or scan.first scan.line; closed = true } ∷ [])
+pub cut_close : (text : List ℕ) (progress : Progress) (pieces : List Piece) → IsCutUpTo text progress pieces → progress.at < length text → get_or text progress.at 0 ≡ 59 →
+    IsCutUpTo text (record { at = progress.at + 1; line = progress.line; start = progress.at + 1; first = None })
+    (pieces ++ record { start = progress.start; end = progress.at; line = unwrap_or progress.first progress.line; closed = true } ∷ [])
 unfolding line_of_group
-scanned_close text scan pieces s lt byte =
-    let here : drop scan.at text ≡ 59 ∷ drop (scan.at + 1) text =
-    rw add-one (drop-cons text scan.at 0 lt ∙ ap (λ (q : ℕ). q ∷ drop (suc scan.at) text) byte) in
-    let piece : Piece = record { start = scan.start; end = scan.at; line = unwrap_or scan.first scan.line; closed = true } in
-    let same : piece_of text scan.start s.group true ≡ piece =
-    piece_same scan.start _ _ _ _ s.place (sym (open_line text scan.start scan.at scan.line s.group scan.first (list_all is_blank s.group) refl s.place s.line_is s.first_is)) in
-    let no_line : (get_or text scan.at 0 == 10) ≡ false = rw byte refl in
+cut_close text progress pieces s lt byte =
+    let here : drop progress.at text ≡ 59 ∷ drop (progress.at + 1) text =
+    rw add-one (drop-cons text progress.at 0 lt ∙ ap (λ (q : ℕ). q ∷ drop (suc progress.at) text) byte) in
+    let piece : Piece = record { start = progress.start; end = progress.at; line = unwrap_or progress.first progress.line; closed = true } in
+    let same : piece_of text progress.start s.group true ≡ piece =
+    piece_same progress.start _ _ _ _ s.place (sym (open_line text progress.start progress.at progress.line s.group progress.first (list_all is_blank s.group) refl s.place s.line_is s.first_is)) in
+    let no_line : (get_or text progress.at 0 == 10) ≡ false = rw byte refl in
     record {
       done = s.done ++ Plain 59 ∷ [];
       group = [];
@@ -192,12 +192,12 @@ scanned_close text scan pieces s lt byte =
       so_far = λ rest.
           ap (λ (v : List Segment). pieces_from text 0 (slice_split is_semicolon v)) (append_assoc s.done (Plain 59 ∷ []) rest)
           ∙ s.so_far (Plain 59 ∷ rest)
-          ∙ ap (λ (v : List Piece). pieces ++ v) (closed_group text scan.start s.group rest
-          ∙ ap (λ (v : Piece). v ∷ pieces_from text (scan.start + length (spelling s.group) + 1) (gather [] (slice_split is_semicolon rest))) same
+          ∙ ap (λ (v : List Piece). pieces ++ v) (closed_group text progress.start s.group rest
+          ∙ ap (λ (v : Piece). v ∷ pieces_from text (progress.start + length (spelling s.group) + 1) (gather [] (slice_split is_semicolon rest))) same
           ∙ ap (λ (k : ℕ). piece ∷ pieces_from text (k + 1) (gather [] (slice_split is_semicolon rest))) s.place)
           ∙ sym (append_assoc pieces (piece ∷ []) _);
       place = omega arith;
-      line_is = s.line_is ∙ ap (λ (k : ℕ). k + 1) (sym (count_by_more_no (λ b. b == 10) text scan.at 0 lt no_line));
+      line_is = s.line_is ∙ ap (λ (k : ℕ). k + 1) (sym (count_by_more_no (λ b. b == 10) text progress.at 0 lt no_line));
       first_is = refl;
     }
 
@@ -226,26 +226,26 @@ first_after text start at line group s first false false all blank place line_is
     rw first_is (ap (λ (v : List Segment). Some (line_at text (start + length (spelling v)))) (sym (front_stays group (s ∷ []) all)))
 
 -- any other segment goes to the open piece
-pub scanned_pass : (text : List ℕ) (scan after : Scan) (pieces : List Piece) (n byte : ℕ) → IsScanned text scan pieces → scan.at < length text →
-    BeginsWithSegment (drop scan.at text) n → get_or text scan.at 0 ≡ byte → byte ≢ 59 →
-    after.at ≡ scan.at + n → after.start ≡ scan.start → after.line ≡ scan.line + (if byte == 10 then 1 else 0) →
-    after.first ≡ (if is_white byte || byte == 39 then scan.first else Some (unwrap_or scan.first scan.line)) →
-    IsScanned text after pieces
+pub cut_pass : (text : List ℕ) (progress after : Progress) (pieces : List Piece) (n byte : ℕ) → IsCutUpTo text progress pieces → progress.at < length text →
+    BeginsWithSegment (drop progress.at text) n → get_or text progress.at 0 ≡ byte → byte ≢ 59 →
+    after.at ≡ progress.at + n → after.start ≡ progress.start → after.line ≡ progress.line + (if byte == 10 then 1 else 0) →
+    after.first ≡ (if is_white byte || byte == 39 then progress.first else Some (unwrap_or progress.first progress.line)) →
+    IsCutUpTo text after pieces
 unfolding line_of_group
-scanned_pass text scan after pieces n byte s lt b byte_is other at_is start_is line_is first_is =
+cut_pass text progress after pieces n byte s lt b byte_is other at_is start_is line_is first_is =
     let seg = b.segment in
     let head_byte : head seg ≡ byte =
-    sym (head_is seg (drop n (drop scan.at text))) ∙ ap (λ (v : List ℕ). get_or v 0 0) (sym b.parts)
-    ∙ get_or-drop scan.at text 0 0 ∙ ap (λ (k : ℕ). get_or text k 0) (omega arith) ∙ byte_is in
+    sym (head_is seg (drop n (drop progress.at text))) ∙ ap (λ (v : List ℕ). get_or v 0 0) (sym b.parts)
+    ∙ get_or-drop progress.at text 0 0 ∙ ap (λ (k : ℕ). get_or text k 0) (omega arith) ∙ byte_is in
     let no_semicolon : is_semicolon seg ≡ false = semicolon_by_head seg ∙ rw head_byte (ne_eqb byte 59 other) in
-    let rest_is : drop n (drop scan.at text) ≡ drop after.at text = drop-drop n scan.at text ∙ ap (λ (k : ℕ). drop k text) (sym at_is) in
-    let here : drop scan.at text ≡ spelled seg ++ drop after.at text = b.parts ∙ ap (λ (v : List ℕ). spelled seg ++ v) rest_is in
+    let rest_is : drop n (drop progress.at text) ≡ drop after.at text = drop-drop n progress.at text ∙ ap (λ (k : ℕ). drop k text) (sym at_is) in
+    let here : drop progress.at text ≡ spelled seg ++ drop after.at text = b.parts ∙ ap (λ (v : List ℕ). spelled seg ++ v) rest_is in
     let wider : length (spelling (s.group ++ seg ∷ [])) ≡ length (spelling s.group) + n =
     ap length (flat_map-append spelled s.group (seg ∷ [])) ∙ omega (arith, length-append (spelling s.group) (spelled seg ++ []), length-append (spelled seg) [], b.len) in
     let feeds : count_by (λ b. b == 10) (spelled seg) ≡ (if byte == 10 then 1 else 0) =
-    feeds_by_head seg (drop n (drop scan.at text)) b.valid ∙ ap (λ (q : ℕ). if q == 10 then 1 else 0) head_byte in
+    feeds_by_head seg (drop n (drop progress.at text)) b.valid ∙ ap (λ (q : ℕ). if q == 10 then 1 else 0) head_byte in
     let blank : is_blank seg ≡ (is_white byte || byte == 39) =
-    blank_by_head seg (drop n (drop scan.at text)) b.valid ∙ ap (λ (q : ℕ). is_white q || q == 39) head_byte in
+    blank_by_head seg (drop n (drop progress.at text)) b.valid ∙ ap (λ (q : ℕ). is_white q || q == 39) head_byte in
     let wide = s.group ++ seg ∷ [] in
     let all_is : list_all is_blank wide ≡ (list_all is_blank s.group && (is_white byte || byte == 39)) =
     list_all-append is_blank s.group (seg ∷ []) ∙ ap (λ (q : Bool). list_all is_blank s.group && q) (and_true (is_blank seg) ∙ blank) in
@@ -257,14 +257,14 @@ scanned_pass text scan after pieces n byte s lt b byte_is other at_is start_is l
       so_far = λ rest.
           ap (λ (v : List Segment). pieces_from text 0 (slice_split is_semicolon v)) (append_assoc s.done (seg ∷ []) rest)
           ∙ s.so_far (seg ∷ rest)
-          ∙ ap (λ (v : List (List Segment)). pieces ++ pieces_from text scan.start v) (gather_other s.group seg rest no_semicolon)
+          ∙ ap (λ (v : List (List Segment)). pieces ++ pieces_from text progress.start v) (gather_other s.group seg rest no_semicolon)
           ∙ ap (λ (k : ℕ). pieces ++ pieces_from text k (gather wide (slice_split is_semicolon rest))) (sym start_is);
       place = omega (arith, wider, s.place);
-      line_is = line_is ∙ ap (λ (k : ℕ). k + (if byte == 10 then 1 else 0)) s.line_is ∙ ap (λ (k : ℕ). line_at text scan.at + k) (sym feeds)
-          ∙ sym (line_after text scan.at n b) ∙ ap (line_at text) (sym at_is);
+      line_is = line_is ∙ ap (λ (k : ℕ). k + (if byte == 10 then 1 else 0)) s.line_is ∙ ap (λ (k : ℕ). line_at text progress.at + k) (sym feeds)
+          ∙ sym (line_after text progress.at n b) ∙ ap (line_at text) (sym at_is);
       first_is = first_is
-          ∙ first_after text scan.start scan.at scan.line s.group seg scan.first (list_all is_blank s.group) (is_white byte || byte == 39) refl blank s.place s.line_is s.first_is
-          ∙ ap (λ (q : Bool). if q then None else Some (line_of_group text scan.start wide)) (sym all_is)
+          ∙ first_after text progress.start progress.at progress.line s.group seg progress.first (list_all is_blank s.group) (is_white byte || byte == 39) refl blank s.place s.line_is s.first_is
+          ∙ ap (λ (q : Bool). if q then None else Some (line_of_group text progress.start wide)) (sym all_is)
           ∙ ap (λ (k : ℕ). if list_all is_blank wide then None else Some (line_of_group text k wide)) (sym start_is);
     }
 
@@ -286,16 +286,16 @@ with_piece_is pieces None = sym (append-nil pieces)
 with_piece_is pieces (Some piece) = refl
 
 -- the text is read
-pub scanned_all : (text : List ℕ) (scan : Scan) (pieces : List Piece) → IsScanned text scan pieces → length text ≤ scan.at →
-    IsCut text (with_piece pieces (open_piece scan.start scan.at scan.first))
+pub cut_all : (text : List ℕ) (progress : Progress) (pieces : List Piece) → IsCutUpTo text progress pieces → length text ≤ progress.at →
+    IsCut text (with_piece pieces (open_piece progress.start progress.at progress.first))
 unfolding line_of_group
-scanned_all text scan pieces s end = record {
+cut_all text progress pieces s end = record {
   segments = s.done;
   divides = subst (λ (v : List ℕ). Divides s.done text v) (drop_of_length-le text end) s.divides;
   pieces_are =
-      with_piece_is pieces (open_piece scan.start scan.at scan.first)
-      ∙ ap (λ (v : List Piece). pieces ++ v) (sym (last_piece text scan.start scan.at scan.line s.group scan.first (list_all is_blank s.group) refl s.place s.line_is s.first_is))
-      ∙ ap (λ (v : List Segment). pieces ++ pieces_from text scan.start (v ∷ [])) (sym (append-nil s.group))
+      with_piece_is pieces (open_piece progress.start progress.at progress.first)
+      ∙ ap (λ (v : List Piece). pieces ++ v) (sym (last_piece text progress.start progress.at progress.line s.group progress.first (list_all is_blank s.group) refl s.place s.line_is s.first_is))
+      ∙ ap (λ (v : List Segment). pieces ++ pieces_from text progress.start (v ∷ [])) (sym (append-nil s.group))
       ∙ sym (s.so_far [])
       ∙ ap (λ (v : List Segment). pieces_from text 0 (slice_split is_semicolon v)) (append-nil s.done);
 }
