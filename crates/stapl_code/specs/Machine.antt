@@ -1,7 +1,7 @@
 -- What the stack machine does with a code. The machine is this profile's. Places are numbers of instructions, from 0.
 use Rattle.std.specs.Prelude.{ℕ, zero, suc, ◌-◌, ◌^◌, true, false, List, [], ◌∷◌, ◌++◌, length, drop, Option, Some, None, ◌==◌, if◌then◌else◌, slice_get, slice_index_or}
-use Rattle.stapl_syntax.specs.declared.signs.BinOp.{BinOp}
-use Rattle.stapl_syntax.specs.declared.signs.BinOp.TheVariants.{Add, Less}
+use Rattle.stapl_lexer.specs.declared.terminal.BinOp.{BinOp}
+use Rattle.stapl_lexer.specs.declared.terminal.BinOp.TheVariants.{Add, Less}
 use Rattle.stapl_meaning.specs.declared.events.Event.{Event}
 use Rattle.stapl_meaning.specs.declared.events.Event.TheVariants as events
 use Rattle.stapl_meaning.specs.declared.events.Ending.TheVariants as endings

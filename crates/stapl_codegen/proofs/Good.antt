@@ -1,6 +1,6 @@
 -- A statement that is built and whose names are declared names variables that there are, and its expressions are of their kinds.
 use Rattle.std.proofs.Common.{◌≡◌, ℕ, ◌<◌, ◌≤◌, Bool, true, false, ◌&&◌, List, [], ◌∷◌, None, length, arith, refl}
-use Rattle.stapl_syntax.specs.declared.signs.BinOp.TheVariants.{Add, Less}
+use Rattle.stapl_lexer.specs.declared.terminal.BinOp.TheVariants.{Add, Less}
 use Rattle.stapl_syntax.specs.Trees.{ExprTree, number, scalar, binary, PartTree, string, value, character, BodyTree, end_procedure, integer, assign, goto, if_then, print, exit}
 use Rattle.stapl_syntax.specs.Built.{IsAtom, is_number, is_scalar, IsSum, is_atom, is_sum, IsSimple, is_assign, is_goto, is_print_string, is_print_value, is_exit, IsInner, is_end_procedure, is_integer, is_if, is_simple}
 use Rattle.stapl_syntax.specs.Declarations.{expr_names, names_variables, names_labels}

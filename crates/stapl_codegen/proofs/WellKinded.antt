@@ -1,7 +1,7 @@
 -- The code of good statements finds its operands and stands well.
 use Rattle.std.proofs.Common.{◌≡◌, ℕ, zero, suc, ◌+◌, ◌<◌, Bool, true, false, List, [], ◌∷◌, length, Some, None, refl, ap, ◌∙◌}
 use Rattle.std.specs.Prelude.{slice_get}
-use Rattle.stapl_syntax.specs.declared.signs.BinOp.TheVariants.{Add, Less}
+use Rattle.stapl_lexer.specs.declared.terminal.BinOp.TheVariants.{Add, Less}
 use Rattle.stapl_syntax.specs.Trees.{ExprTree, number, scalar, binary, PartTree, string, value, character}
 use Rattle.stapl_code.specs.declared.instr.Instr.{Instr}
 use Rattle.stapl_code.specs.declared.instr.Instr.TheVariants.{Push, Load, Binary}

@@ -1,10 +1,10 @@
 -- A reader can tell the parts of each statement apart.
 use Rattle.std.proofs.Common.{◌≡◌, ℤ, ◌<◌, Bool, true, false, List, [], ◌∷◌, ◌++◌, length, Option, Some, None, inl, inr, refl, ap, arith, append_assoc, length-append}
 use Rattle.std.specs.Prelude.{◌⊎◌}
-use Rattle.stapl_syntax.specs.declared.signs.Mark.{Mark}
-use Rattle.stapl_syntax.specs.declared.signs.Mark.TheVariants as marks
-use Rattle.stapl_syntax.specs.declared.signs.JoinWord.{JoinWord}
-use Rattle.stapl_syntax.specs.declared.signs.JoinWord.TheVariants as joins
+use Rattle.stapl_lexer.specs.declared.terminal.Mark.{Mark}
+use Rattle.stapl_lexer.specs.declared.terminal.Mark.TheVariants as marks
+use Rattle.stapl_lexer.specs.declared.terminal.JoinWord.{JoinWord}
+use Rattle.stapl_lexer.specs.declared.terminal.JoinWord.TheVariants as joins
 use Rattle.stapl_syntax.specs.declared.statement.ItemChoice.{ItemChoice}
 use Rattle.stapl_syntax.specs.Symbols.{Symbol}
 use Rattle.stapl_syntax.specs.Trees.{ExprTree, PartTree}

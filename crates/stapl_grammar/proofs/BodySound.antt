@@ -1,15 +1,15 @@
 -- What is read as a statement is one.
 use Rattle.std.proofs.Common.{◌≡◌, ℕ, ℤ, zero, suc, Bool, false, List, [], ◌∷◌, ◌++◌, length, Option, Some, inl, inr, refl, sym, ap, subst, ◌∙◌, append_assoc}
 use Rattle.std.specs.Prelude.{◌⊎◌}
-use Rattle.stapl_syntax.specs.declared.signs.JoinWord.TheVariants as joins
-use Rattle.stapl_syntax.specs.declared.signs.OuterWord.{OuterWord}
-use Rattle.stapl_syntax.specs.declared.signs.OuterWord.TheVariants as outer_words
-use Rattle.stapl_syntax.specs.declared.signs.InnerWord.{InnerWord}
-use Rattle.stapl_syntax.specs.declared.signs.InnerWord.TheVariants as inner_words
-use Rattle.stapl_syntax.specs.declared.signs.SimpleWord.{SimpleWord}
-use Rattle.stapl_syntax.specs.declared.signs.SimpleWord.TheVariants as simple_words
-use Rattle.stapl_syntax.specs.declared.signs.PortWord.{PortWord}
-use Rattle.stapl_syntax.specs.declared.signs.PortWord.TheVariants as port_words
+use Rattle.stapl_lexer.specs.declared.terminal.JoinWord.TheVariants as joins
+use Rattle.stapl_lexer.specs.declared.terminal.OuterWord.{OuterWord}
+use Rattle.stapl_lexer.specs.declared.terminal.OuterWord.TheVariants as outer_words
+use Rattle.stapl_lexer.specs.declared.terminal.InnerWord.{InnerWord}
+use Rattle.stapl_lexer.specs.declared.terminal.InnerWord.TheVariants as inner_words
+use Rattle.stapl_lexer.specs.declared.terminal.SimpleWord.{SimpleWord}
+use Rattle.stapl_lexer.specs.declared.terminal.SimpleWord.TheVariants as simple_words
+use Rattle.stapl_lexer.specs.declared.terminal.PortWord.{PortWord}
+use Rattle.stapl_lexer.specs.declared.terminal.PortWord.TheVariants as port_words
 use Rattle.stapl_syntax.specs.declared.signs.Sign.TheVariants as signs
 use Rattle.stapl_syntax.specs.Symbols.{Symbol, Plain, sign_of}
 use Rattle.stapl_syntax.specs.Trees.{ExprTree, ArrayTree, BodyTree, data_block, end_data, crc, end_procedure, call, goto, if_then, next, push, pop, print, exit, stop, state_list, frequency}

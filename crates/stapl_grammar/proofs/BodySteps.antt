@@ -1,7 +1,7 @@
 -- The steps of the code that reads assignments.
 use Rattle.std.proofs.Common.{◌≡◌, ℕ, List, Option, Some, None, Result, inr, refl, sym, ap, subst, ◌∙◌}
 use Rattle.std.specs.Prelude.{◌⊎◌}
-use Rattle.stapl_syntax.specs.declared.signs.Mark.TheVariants as marks
+use Rattle.stapl_lexer.specs.declared.terminal.Mark.TheVariants as marks
 use Rattle.stapl_syntax.specs.Symbols.{Symbol}
 use Rattle.stapl_syntax.specs.Trees.{ExprTree, ArrayTree, BodyTree}
 use Rattle.stapl_syntax.specs.Parts.{after_mark}

@@ -1,7 +1,7 @@
 -- Brackets tell an array from an expression: where an expression is read, no array is.
 use Rattle.std.proofs.Common.{◌≡◌, ℕ, List, [], ◌∷◌, ◌++◌, Some, None, refl, sym, ◌∙◌}
-use Rattle.stapl_syntax.specs.declared.signs.Mark.TheVariants as marks
-use Rattle.stapl_syntax.specs.declared.signs.Function.TheVariants as functions
+use Rattle.stapl_lexer.specs.declared.terminal.Mark.TheVariants as marks
+use Rattle.stapl_lexer.specs.declared.terminal.Function.TheVariants as functions
 use Rattle.stapl_syntax.specs.declared.signs.Sign.TheVariants as signs
 use Rattle.stapl_syntax.specs.Symbols.{Symbol, Plain, Literal}
 use Rattle.stapl_syntax.specs.Trees.{ExprTree, ExportTree}

@@ -1,6 +1,9 @@
 -- On the digits of literals.
 use Rattle.std.proofs.Common.{◌≡◌, ℕ, zero, suc, ◌+◌, ◌*◌, ◌%◌, ◌<◌, ◌≤◌, List, [], ◌∷◌, Bool, true, false, cond, not, ◌==◌, Option, None, Some, length, take, get_or, refl, sym, ap, ◌∙◌, arith}
 use Rattle.std.specs.Prelude.{All, ◌||◌}
+use Rattle.std.specs.List.{list_all}
+use Rattle.std.proofs.lemmas.Bool.{and_parts}
+use Rattle.std.proofs.lemmas.List.Elements.{All-nil, All-cons}
 use Rattle.std.specs.Char.{digit_value, is_ascii_hexdigit}
 use Rattle.std.specs.Option.{SomeIff}
 use Rattle.std.specs.Str.Parse.{digits_value}
@@ -10,7 +13,6 @@ use Rattle.bit_list.specs.Digits.{IsDigit, IsFirstBadDigit}
 use Rattle.stapl_lexer.specs.declared.token.TokenKind.{TokenKind}
 use Rattle.stapl_lexer.specs.declared.token.TokenKind.TheVariants as kinds
 use Rattle.stapl_lexer.specs.PieceTokens.{is_literal_digit}
-use Rattle.stapl_syntax.specs.Symbols.{digits_in}
 
 -- what `to_digit` reads is the value of the digit
 value_of_digit : (read : Option ℕ) (P : Type 0) (value x : ℕ) → SomeIff read P value → read ≡ Some x → x ≡ value
@@ -48,53 +50,24 @@ digit_below kinds.Hexadecimal b h = hex_digit b h
 digit_below kinds.Mark b h = hex_digit b h
 digit_below kinds.Hex4 b h = hex_digit b h
 
-all_nil : (P : ℕ → Type 0) → All P []
-all_nil P k d lt = absurd (omega arith)
+-- the digits of a literal are digits of its base
+each_digit : (kind : TokenKind) (digits : List ℕ) → list_all (is_literal_digit kind) digits ≡ true → All (IsDigit (base_of kind)) digits
+each_digit kind [] all = All-nil (IsDigit (base_of kind))
+each_digit kind (b ∷ bs) all =
+    let both = and_parts (is_literal_digit kind b) (list_all (is_literal_digit kind) bs) all in
+    All-cons (IsDigit (base_of kind)) b bs (digit_below kind b both.0) (each_digit kind bs both.1)
 
-all_cons : (P : ℕ → Type 0) (b : ℕ) (rest : List ℕ) → P b → All P rest → All P (b ∷ rest)
-all_cons P b rest here all zero d lt = here
-all_cons P b rest here all (suc k) d lt = all k d (omega arith)
-
-all_cond : (kind : TokenKind) (b : ℕ) (rest : List ℕ) (test : Bool) → is_literal_digit kind b ≡ test → All (IsDigit (base_of kind)) rest → All (IsDigit (base_of kind)) (cond test (b ∷ rest) rest)
-all_cond kind b rest true e all = all_cons (IsDigit (base_of kind)) b rest (digit_below kind b e) all
-all_cond kind b rest false e all = all
-
-all_digits : (kind : TokenKind) (inside : Bool) (bytes : List ℕ) → All (IsDigit (base_of kind)) (digits_in kind inside bytes)
-all_digits kind true [] = all_nil (IsDigit (base_of kind))
-all_digits kind false [] = all_nil (IsDigit (base_of kind))
-all_digits kind true (b ∷ bs) = all_digits kind (not (b == 10)) bs
-all_digits kind false (b ∷ bs) =
-    elim (b == 39) as (λ z. All (IsDigit (base_of kind)) (cond z (digits_in kind true bs) (cond (is_literal_digit kind b) (b ∷ digits_in kind false bs) (digits_in kind false bs)))) [
-      | true ↦ all_digits kind true bs
-      | false ↦ all_cond kind b (digits_in kind false bs) (is_literal_digit kind b) refl (all_digits kind false bs)
-    ]
-
--- there are at most as many digits as bytes
-few_cond : (b : ℕ) (rest : List ℕ) (test : Bool) (n : ℕ) → length rest ≤ n → length (cond test (b ∷ rest) rest) ≤ n + 1
-few_cond b rest true n le = omega arith
-few_cond b rest false n le = omega arith
-
-pub few_digits : (kind : TokenKind) (inside : Bool) (bytes : List ℕ) → length (digits_in kind inside bytes) ≤ length bytes
-few_digits kind true [] = omega arith
-few_digits kind false [] = omega arith
-few_digits kind true (b ∷ bs) = omega (arith, few_digits kind (not (b == 10)) bs)
-few_digits kind false (b ∷ bs) =
-    elim (b == 39) as (λ z. length (cond z (digits_in kind true bs) (cond (is_literal_digit kind b) (b ∷ digits_in kind false bs) (digits_in kind false bs))) ≤ length (b ∷ bs)) [
-      | true ↦ omega (arith, few_digits kind true bs)
-      | false ↦ omega (arith, few_cond b (digits_in kind false bs) (is_literal_digit kind b) (length bs) (few_digits kind false bs))
-    ]
-
-pub all_binary : (bytes : List ℕ) → All (IsDigit 2) (digits_in kinds.Binary false bytes)
+pub all_binary : (digits : List ℕ) → list_all (is_literal_digit kinds.Binary) digits ≡ true → All (IsDigit 2) digits
 unfolding base_of
-all_binary bytes = all_digits kinds.Binary false bytes
+all_binary digits all = each_digit kinds.Binary digits all
 
-pub all_hexadecimal : (bytes : List ℕ) → All (IsDigit 16) (digits_in kinds.Hexadecimal false bytes)
+pub all_hexadecimal : (digits : List ℕ) → list_all (is_literal_digit kinds.Hexadecimal) digits ≡ true → All (IsDigit 16) digits
 unfolding base_of
-all_hexadecimal bytes = all_digits kinds.Hexadecimal false bytes
+all_hexadecimal digits all = each_digit kinds.Hexadecimal digits all
 
-pub all_check : (bytes : List ℕ) → All (IsDigit 16) (digits_in kinds.Hex4 false bytes)
+pub all_check : (digits : List ℕ) → list_all (is_literal_digit kinds.Hex4) digits ≡ true → All (IsDigit 16) digits
 unfolding base_of
-all_check bytes = all_digits kinds.Hex4 false bytes
+all_check digits all = each_digit kinds.Hex4 digits all
 
 -- where all bytes are digits none is the first that is none
 pub no_bad_digit : (base : ℕ) (bytes : List ℕ) (place : ℕ) → IsFirstBadDigit base bytes place → All (IsDigit base) bytes → ⊥

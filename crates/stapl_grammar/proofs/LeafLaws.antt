@@ -1,10 +1,10 @@
 -- The parts that have no parts are read exactly.
 use Rattle.std.proofs.Common.{◌≡◌, ℕ, ℤ, pos, zero, suc, ◌<◌, Bool, true, false, List, [], ◌∷◌, ◌++◌, length, Some, None, refl, ap, subst, ◌∙◌, arith}
 use Rattle.std.specs.Int.{w32, int_wrapping_neg}
-use Rattle.stapl_syntax.specs.declared.signs.BinOp.TheVariants.{Subtract}
-use Rattle.stapl_syntax.specs.declared.signs.Mark.TheVariants as marks
-use Rattle.stapl_syntax.specs.declared.signs.JoinWord.TheVariants as joins
-use Rattle.stapl_syntax.specs.declared.signs.Function.TheVariants as functions
+use Rattle.stapl_lexer.specs.declared.terminal.BinOp.TheVariants.{Subtract}
+use Rattle.stapl_lexer.specs.declared.terminal.Mark.TheVariants as marks
+use Rattle.stapl_lexer.specs.declared.terminal.JoinWord.TheVariants as joins
+use Rattle.stapl_lexer.specs.declared.terminal.Function.TheVariants as functions
 use Rattle.stapl_syntax.specs.declared.signs.Sign.TheVariants as signs
 use Rattle.stapl_syntax.specs.declared.statement.ItemChoice.{ItemChoice}
 use Rattle.stapl_syntax.specs.declared.statement.ItemChoice.TheVariants as choices

@@ -3,7 +3,6 @@ pub mod Sound
 pub mod Steps
 pub mod Complete
 pub mod Loop
-pub mod Spelling
 pub mod ContentLemmas
 pub mod LeafLaws
 pub mod Choice

@@ -1,7 +1,7 @@
 -- The steps of the loops over lists.
 use Rattle.std.proofs.Common.{◌≡◌, ℕ, ℤ, List, [], ◌∷◌, ◌++◌, true, false, Option, Some, None, refl, sym, ap, append_assoc}
 use Rattle.std.proofs.lemmas.List.{append-nil}
-use Rattle.stapl_syntax.specs.declared.signs.Mark.TheVariants as marks
+use Rattle.stapl_lexer.specs.declared.terminal.Mark.TheVariants as marks
 use Rattle.stapl_syntax.specs.declared.signs.Sign.TheVariants as signs
 use Rattle.stapl_syntax.specs.Symbols.{Symbol, Plain}
 use Rattle.stapl_syntax.specs.Trees.{ItemTree, PartTree}

@@ -1,6 +1,6 @@
 -- The steps of the code that reads expressions.
 use Rattle.std.proofs.Common.{◌≡◌, ℕ, ◌-◌, List, Some, None}
-use Rattle.stapl_syntax.specs.declared.signs.BinOp.{BinOp}
+use Rattle.stapl_lexer.specs.declared.terminal.BinOp.{BinOp}
 use Rattle.stapl_syntax.specs.declared.signs.UnOp.{UnOp}
 use Rattle.stapl_syntax.specs.declared.signs.Sign.{Sign}
 use Rattle.stapl_syntax.specs.Symbols.{Symbol}

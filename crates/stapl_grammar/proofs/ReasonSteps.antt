@@ -1,6 +1,6 @@
 -- The steps of the code that finds the reason of symbols that are no statement.
 use Rattle.std.proofs.Common.{◌≡◌, List, [], ◌∷◌, true, false, not, Some, None, refl, ap}
-use Rattle.stapl_syntax.specs.declared.signs.Mark.TheVariants as marks
+use Rattle.stapl_lexer.specs.declared.terminal.Mark.TheVariants as marks
 use Rattle.stapl_syntax.specs.declared.signs.Sign.{Sign}
 use Rattle.stapl_syntax.specs.declared.signs.Sign.TheVariants as signs
 use Rattle.stapl_syntax.specs.Symbols.{Symbol, Plain, sign_of}

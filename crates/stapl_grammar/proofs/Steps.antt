@@ -1,9 +1,9 @@
 -- Reading without a bound on its steps: one equation for each function.
 use Rattle.std.proofs.Common.{◌≡◌, ℕ, zero, suc, ◌-◌, ◌<◌, ◌≤◌, List, [], ◌∷◌, length, Option, Some, None, refl, ap, arith}
 use Rattle.std.specs.Option.{option_map_or}
-use Rattle.stapl_syntax.specs.declared.signs.Mark.{Mark}
-use Rattle.stapl_syntax.specs.declared.signs.Mark.TheVariants as marks
-use Rattle.stapl_syntax.specs.declared.signs.Function.TheVariants as functions
+use Rattle.stapl_lexer.specs.declared.terminal.Mark.{Mark}
+use Rattle.stapl_lexer.specs.declared.terminal.Mark.TheVariants as marks
+use Rattle.stapl_lexer.specs.declared.terminal.Function.TheVariants as functions
 use Rattle.stapl_syntax.specs.declared.signs.Sign.{Sign}
 use Rattle.stapl_syntax.specs.declared.signs.Sign.TheVariants as signs
 use Rattle.stapl_syntax.specs.Symbols.{Symbol, Plain, Text, Literal, CheckWord, sign_of}

@@ -3,12 +3,12 @@ use Rattle.std.proofs.Common.{◌≡◌, ℕ, suc, ◌-◌, ◌≤◌, Bool, tru
 use Rattle.std.specs.Prelude.{nat_le}
 use Rattle.std.specs.Option.{option_map_or}
 use Rattle.std.proofs.lemmas.Bool.{eqb-true, eq-eqb, leb-true, le-leb, lt-leb, cases_lt}
-use Rattle.stapl_syntax.specs.declared.signs.BinOp.{BinOp}
-use Rattle.stapl_syntax.specs.declared.signs.BinOp.TheVariants.{Multiply, Divide, Remainder, Add, Subtract, ShiftLeft, ShiftRight, Less, AtMost, Greater, AtLeast, Equal, NotEqual, BitAnd, BitXor, BitOr, And, Or}
-use Rattle.stapl_syntax.specs.declared.signs.Mark.{Mark}
-use Rattle.stapl_syntax.specs.declared.signs.Mark.TheVariants.{Tilde, Exclamation, LeftRound, RightRound, LeftSquare, RightSquare, Dots, Comma, Equals, Colon}
-use Rattle.stapl_syntax.specs.declared.signs.JoinWord.{JoinWord}
-use Rattle.stapl_syntax.specs.declared.signs.JoinWord.TheVariants.{Capture, Compare, Cycles, Optional, Recommended, Step, Then, To, Usec, Uses}
+use Rattle.stapl_lexer.specs.declared.terminal.BinOp.{BinOp}
+use Rattle.stapl_lexer.specs.declared.terminal.BinOp.TheVariants.{Multiply, Divide, Remainder, Add, Subtract, ShiftLeft, ShiftRight, Less, AtMost, Greater, AtLeast, Equal, NotEqual, BitAnd, BitXor, BitOr, And, Or}
+use Rattle.stapl_lexer.specs.declared.terminal.Mark.{Mark}
+use Rattle.stapl_lexer.specs.declared.terminal.Mark.TheVariants.{Tilde, Exclamation, LeftRound, RightRound, LeftSquare, RightSquare, Dots, Comma, Equals, Colon}
+use Rattle.stapl_lexer.specs.declared.terminal.JoinWord.{JoinWord}
+use Rattle.stapl_lexer.specs.declared.terminal.JoinWord.TheVariants.{Capture, Compare, Cycles, Optional, Recommended, Step, Then, To, Usec, Uses}
 use Rattle.stapl_syntax.specs.declared.signs.Sign.TheVariants as signs
 use Rattle.stapl_syntax.specs.Symbols.{Symbol, Plain, sign_of}
 use Rattle.stapl_syntax.specs.Expressions.{level_of, operator, mark}

@@ -2,18 +2,18 @@
 use Rattle.std.specs.Prelude.{ℕ, ℤ, zero, suc, List, length, Option, Some, None, Bool, ◌⊎◌, if◌then◌else◌}
 use Rattle.std.proofs.Common.{inl, inr}
 use Rattle.std.specs.Option.{option_map_or}
-use Rattle.stapl_syntax.specs.declared.signs.Mark.TheVariants as marks
-use Rattle.stapl_syntax.specs.declared.signs.Register.{Register}
-use Rattle.stapl_syntax.specs.declared.signs.Padding.{Padding}
-use Rattle.stapl_syntax.specs.declared.signs.JoinWord.TheVariants as joins
-use Rattle.stapl_syntax.specs.declared.signs.OuterWord.{OuterWord}
-use Rattle.stapl_syntax.specs.declared.signs.OuterWord.TheVariants as outer_words
-use Rattle.stapl_syntax.specs.declared.signs.InnerWord.{InnerWord}
-use Rattle.stapl_syntax.specs.declared.signs.InnerWord.TheVariants as inner_words
-use Rattle.stapl_syntax.specs.declared.signs.SimpleWord.{SimpleWord}
-use Rattle.stapl_syntax.specs.declared.signs.SimpleWord.TheVariants as simple_words
-use Rattle.stapl_syntax.specs.declared.signs.PortWord.{PortWord}
-use Rattle.stapl_syntax.specs.declared.signs.PortWord.TheVariants as port_words
+use Rattle.stapl_lexer.specs.declared.terminal.Mark.TheVariants as marks
+use Rattle.stapl_lexer.specs.declared.terminal.Register.{Register}
+use Rattle.stapl_lexer.specs.declared.terminal.Padding.{Padding}
+use Rattle.stapl_lexer.specs.declared.terminal.JoinWord.TheVariants as joins
+use Rattle.stapl_lexer.specs.declared.terminal.OuterWord.{OuterWord}
+use Rattle.stapl_lexer.specs.declared.terminal.OuterWord.TheVariants as outer_words
+use Rattle.stapl_lexer.specs.declared.terminal.InnerWord.{InnerWord}
+use Rattle.stapl_lexer.specs.declared.terminal.InnerWord.TheVariants as inner_words
+use Rattle.stapl_lexer.specs.declared.terminal.SimpleWord.{SimpleWord}
+use Rattle.stapl_lexer.specs.declared.terminal.SimpleWord.TheVariants as simple_words
+use Rattle.stapl_lexer.specs.declared.terminal.PortWord.{PortWord}
+use Rattle.stapl_lexer.specs.declared.terminal.PortWord.TheVariants as port_words
 use Rattle.stapl_syntax.specs.declared.signs.Sign.{Sign}
 use Rattle.stapl_syntax.specs.declared.signs.Sign.TheVariants as signs
 use Rattle.stapl_syntax.specs.Symbols.{Symbol}

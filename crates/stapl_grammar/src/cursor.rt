@@ -1,15 +1,15 @@
 //! The tokens of a piece that are still to be read.
-use crate::contents::{between_quotes, binary_bits, check_number, hexadecimal_bits};
+use crate::contents::{binary_bits, check_number, hexadecimal_bits};
 use crate::looks::{
     choice_of, is_assign_sign, is_character, is_hz, is_join, is_mark, is_minus, is_state, level,
     operator_of,
 };
 use crate::refused::Refused;
-use crate::sign::{bytes_in, sign_of};
+use crate::sign::sign_of;
 use base::ItemList;
 use bit_list::Bits;
-use stapl_lexer::{Name, Token, TokenKind};
-use stapl_syntax::{BinOp, JoinWord, Mark, Sign};
+use stapl_lexer::{BinOp, JoinWord, Mark, Name, Token, TokenKind};
+use stapl_syntax::Sign;
 use std::alloc::Global;
 use std::marker::Model;
 
@@ -300,8 +300,7 @@ impl<'a> Cursor<'a> {
         };
         match token.kind {
             TokenKind::Text => {
-                let own = bytes_in(self.text, token);
-                let bytes = Vec::from_slice(alloc, between_quotes(own))?;
+                let bytes = Vec::from_slice(alloc, token.inside(self.text))?;
                 self.rest = &self.rest[1..];
                 Ok(ItemList::of(bytes))
             }
@@ -329,7 +328,7 @@ impl<'a> Cursor<'a> {
         let Some(token) = self.rest.first() else {
             return Err(Refused::Syntax);
         };
-        let own = bytes_in(self.text, token);
+        let own = token.bytes(self.text);
         let bits = match token.kind {
             TokenKind::Binary => binary_bits(alloc, &own[1..])?,
             TokenKind::Hexadecimal => hexadecimal_bits(alloc, &own[1..])?,
@@ -350,7 +349,7 @@ impl<'a> Cursor<'a> {
         };
         match token.kind {
             TokenKind::Hex4 => {
-                let number = check_number(alloc, bytes_in(self.text, token))?;
+                let number = check_number(alloc, token.bytes(self.text))?;
                 self.rest = &self.rest[1..];
                 Ok(number)
             }

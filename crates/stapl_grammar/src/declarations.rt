@@ -3,7 +3,8 @@ use crate::cursor::Cursor;
 use crate::refused::Refused;
 use base::ItemList;
 use bit_list::Bits;
-use stapl_syntax::{Body, InnerWord, Mark};
+use stapl_lexer::{InnerWord, Mark};
+use stapl_syntax::Body;
 use std::alloc::Global;
 
 impl<'a> Cursor<'a> {

@@ -2,15 +2,14 @@
 ghost use Rattle.std.specs.Prelude.{◌≡◌, ℕ, List, false};
 ghost use Rattle.stapl_lexer.specs.declared.piece.Piece.{Piece};
 ghost use Rattle.stapl_lexer.specs.declared.reason.Reason.{Reason};
-ghost use Rattle.stapl_lexer.specs.SpelledTokens.{SpelledToken};
-ghost use Rattle.stapl_syntax.specs.Symbols.{symbols_of};
+ghost use Rattle.stapl_syntax.specs.Symbols.{Symbol};
 ghost use Rattle.stapl_syntax.specs.Trees.{StmtTree};
 ghost use Rattle.stapl_syntax.specs.Statements.{Means, IsPieceStatement};
 ghost use Rattle.stapl_syntax.specs.Reasons.{HasReason, behind_label, is_unknown, holds_left_out};
 
-/// Tokens mean at most one statement.
+/// Symbols mean at most one statement.
 pub fn one_statement()
-    ensures { (tokens : List SpelledToken) (a b : StmtTree) → Means tokens a → Means tokens b → a ≡ b }
+    ensures { (s : List Symbol) (a b : StmtTree) → Means s a → Means s b → a ≡ b }
 {}
 
 /// A piece is at most one statement.
@@ -18,11 +17,11 @@ pub fn a_piece_is_one_statement()
     ensures { (text : List ℕ) (piece : Piece) (a b : StmtTree) → IsPieceStatement text piece a → IsPieceStatement text piece b → a ≡ b }
 {}
 
-/// Tokens that mean a statement begin as a statement, and hold no word that the profile leaves out. So where one of these two reasons
+/// Symbols that mean a statement begin as a statement, and hold no word that the profile leaves out. So if one of these two reasons
 /// holds, the piece is not in the grammar.
 pub fn a_statement_is_known_and_supported()
-    ensures known { (tokens : List SpelledToken) (statement : StmtTree) → Means tokens statement → is_unknown (behind_label (symbols_of tokens)) ≡ false }
-    ensures supported { (tokens : List SpelledToken) (statement : StmtTree) → Means tokens statement → holds_left_out (symbols_of tokens) ≡ false }
+    ensures known { (s : List Symbol) (statement : StmtTree) → Means s statement → is_unknown (behind_label s) ≡ false }
+    ensures supported { (s : List Symbol) (statement : StmtTree) → Means s statement → holds_left_out s ≡ false }
 {}
 
 /// A piece that is a statement has no reason why it is none.

@@ -2,7 +2,8 @@
 use crate::cursor::Cursor;
 use crate::looks::choice_of;
 use crate::refused::Refused;
-use stapl_syntax::{Exported, ItemChoice, Mark, PrintPart, Sign};
+use stapl_lexer::Mark;
+use stapl_syntax::{Exported, ItemChoice, PrintPart, Sign};
 use std::alloc::Global;
 
 impl<'a> Cursor<'a> {

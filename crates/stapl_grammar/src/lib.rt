@@ -17,6 +17,5 @@ mod sign;
 mod simple;
 mod statements;
 mod terms;
-mod words;
 
 pub use parsing::{ParseRefused, parse};

@@ -2,8 +2,8 @@
 use crate::cursor::Cursor;
 use crate::refused::Refused;
 use base::ItemList;
-use stapl_lexer::Name;
-use stapl_syntax::{Item, Mark, PrintPart};
+use stapl_lexer::{Mark, Name};
+use stapl_syntax::{Item, PrintPart};
 use std::alloc::Global;
 
 impl<'a> Cursor<'a> {

@@ -6,7 +6,8 @@ ghost use Rattle.stapl_syntax.specs.Reasons.{is_left_out, is_assign_sign};
 ghost use Rattle.stapl_grammar.specs.Reading.{operator_of, unary_of};
 ghost use Rattle.stapl_grammar.specs.PartReading.{is_minus, is_character, is_hz};
 
-use stapl_syntax::{BinOp, Function, ItemChoice, JoinWord, Mark, Sign, UnOp};
+use stapl_lexer::{BinOp, Function, JoinWord, Mark};
+use stapl_syntax::{ItemChoice, Sign, UnOp};
 
 // How tightly an operator binds: 1 is the tightest, 10 the loosest.
 #[tactic(auto, unfolding(stapl_syntax::specs::Expressions::level_of))]

@@ -2,8 +2,8 @@
 use crate::cursor::Cursor;
 use crate::refused::Refused;
 use base::ItemList;
-use stapl_lexer::Name;
-use stapl_syntax::{Body, JoinWord, Mark, OuterWord};
+use stapl_lexer::{JoinWord, Mark, Name, OuterWord};
+use stapl_syntax::Body;
 use std::alloc::Global;
 
 impl<'a> Cursor<'a> {

@@ -1,7 +1,8 @@
 //! Statements that drive the test access port.
 use crate::cursor::Cursor;
 use crate::refused::Refused;
-use stapl_syntax::{ArrayExpr, Body, Compare, Expr, JoinWord, Mark, Padding, PortWord, Register};
+use stapl_lexer::{JoinWord, Mark, Padding, PortWord, Register};
+use stapl_syntax::{ArrayExpr, Body, Compare, Expr};
 use std::alloc::Global;
 
 impl<'a> Cursor<'a> {

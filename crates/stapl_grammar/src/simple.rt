@@ -1,8 +1,8 @@
 //! Statements that may stand behind THEN.
 use crate::cursor::Cursor;
 use crate::refused::Refused;
-use stapl_lexer::Name;
-use stapl_syntax::{Body, Expr, JoinWord, Mark, Sign, SimpleWord};
+use stapl_lexer::{JoinWord, Mark, Name, SimpleWord};
+use stapl_syntax::{Body, Expr, Sign};
 use std::alloc::Global;
 
 impl<'a> Cursor<'a> {

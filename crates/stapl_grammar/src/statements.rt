@@ -1,8 +1,8 @@
 //! Whole statements.
 use crate::cursor::Cursor;
 use crate::refused::Refused;
-use stapl_lexer::Name;
-use stapl_syntax::{Body, Mark, Sign, Stmt};
+use stapl_lexer::{Mark, Name};
+use stapl_syntax::{Body, Sign, Stmt};
 use std::alloc::Global;
 
 impl<'a> Cursor<'a> {

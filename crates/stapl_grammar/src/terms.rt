@@ -2,8 +2,8 @@
 use crate::cursor::Cursor;
 use crate::looks::{level, unary_of};
 use crate::refused::Refused;
-use stapl_lexer::Name;
-use stapl_syntax::{ArrayExpr, Expr, Function, Mark, Sign};
+use stapl_lexer::{Function, Mark, Name};
+use stapl_syntax::{ArrayExpr, Expr, Sign};
 use std::alloc::Global;
 
 // The level of the loosest operators.

@@ -51,11 +51,11 @@ by_number reasons.NothingToDo = refl
 by_number reasons.TooLong = refl
 
 -- reasons with one number are one reason
-same_number : (a b : Reason) → reason_number a ≡ reason_number b → a ≡ b
+pub same_number : (a b : Reason) → reason_number a ≡ reason_number b → a ≡ b
 same_number a b e = sym (by_number a) ∙ ap numbered e ∙ by_number b
 
 -- no reason has one number below 2
-from_two : (text : List ℕ) (piece : Piece) → HasNoReasonBelow text piece 2
+pub from_two : (text : List ℕ) (piece : Piece) → HasNoReasonBelow text piece 2
 from_two text piece reason (NoSemicolon is) = lit≤ tt
 from_two text piece reason (ForeignByte segments has is) = lit≤ tt
 from_two text piece reason (UnclosedString segments has is) = lit≤ tt

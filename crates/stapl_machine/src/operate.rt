@@ -1,7 +1,7 @@
 //! What instructions do to values and variables.
 ghost use Rattle.std.specs.Prelude.{◌≡◌, slice_get, ◌+ℤ◌};
 ghost use Rattle.std.specs.Int.{int_wrap, w32};
-ghost use Rattle.stapl_syntax.specs.declared.signs.BinOp.TheVariants.{Add, Less};
+ghost use Rattle.stapl_lexer.specs.declared.terminal.BinOp.TheVariants.{Add, Less};
 ghost use Rattle.stapl_meaning.specs.Values.{combined, scalar_of};
 ghost use Rattle.stapl_meaning.specs.States.{with_scalar, scalar_written};
 ghost use Rattle.stapl_code.specs.Machine.{operated};

@@ -2,8 +2,8 @@
 use Rattle.std.specs.Prelude.{ℕ, ℤ, ◌+ℤ◌, int_lt, Bool, List, [], ◌∷◌, ◌++◌, Option, Some, slice_get}
 use Rattle.std.specs.Int.{int_wrap, w32}
 use Rattle.std.specs.Fmt.{signed_decimal}
-use Rattle.stapl_syntax.specs.declared.signs.BinOp.{BinOp}
-use Rattle.stapl_syntax.specs.declared.signs.BinOp.TheVariants.{Add, Less}
+use Rattle.stapl_lexer.specs.declared.terminal.BinOp.{BinOp}
+use Rattle.stapl_lexer.specs.declared.terminal.BinOp.TheVariants.{Add, Less}
 use Rattle.stapl_syntax.specs.Trees.{ExprTree, number, scalar, binary, PartTree, string, value, character}
 use Rattle.stapl_meaning.specs.declared.values.Value.{Value}
 use Rattle.stapl_meaning.specs.declared.values.Value.TheVariants.{Int, Bit}

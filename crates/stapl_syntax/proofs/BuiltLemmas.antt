@@ -1,13 +1,10 @@
 -- The statements of a program are built.
-use Rattle.std.proofs.Common.{◌≡◌, ◌<◌, ◌≤◌, ◌+◌, ℕ, zero, suc, List, [], ◌∷◌, ◌++◌, length, refl, sym, ap, ◌∙◌, subst, Bool, true, false, not, ◌&&◌, ◌||◌, Option, None, Some, map, arith, slice_get}
-use Rattle.std.specs.Prelude.{All}
-use Rattle.std.specs.List.{list_all}
+use Rattle.std.proofs.Common.{◌≡◌, ℕ, List, [], ◌∷◌, true, not, ◌||◌, Option, None, Some}
 use Rattle.std.proofs.lemmas.Bool.{and_parts}
-use Rattle.std.proofs.lemmas.List.Elements.{All-cons, All-nil}
-use Rattle.stapl_syntax.specs.declared.signs.BinOp.TheVariants as operators
+use Rattle.stapl_lexer.specs.declared.terminal.BinOp.TheVariants as operators
 use Rattle.stapl_syntax.specs.Trees.{ExprTree, number, scalar, binary, PartTree, string, value, BodyTree, action, procedure, end_procedure, integer, assign, goto, if_then, print, exit, StmtTree}
 use Rattle.stapl_syntax.specs.Statements.{is_outer}
-use Rattle.stapl_syntax.specs.Built.{is_built_atom, is_built_sum, is_built_condition, is_built_print, is_built_simple, is_built_inner, is_built_outer, is_built, IsAtom, is_number, is_scalar, IsSum, is_atom, is_sum, IsSimple, is_assign, is_goto, is_print_string, is_print_value, is_exit, IsInner, is_end_procedure, is_integer, is_if, is_simple, unlabelled, labelled, IsBuilt, is_inner, is_labelled}
+use Rattle.stapl_syntax.specs.Built.{is_built_atom, is_built_sum, is_built_condition, is_built_print, is_built_simple, is_built_inner, is_built_outer, is_built, IsAtom, is_number, is_scalar, IsSum, is_atom, is_sum, IsSimple, is_assign, is_goto, is_print_string, is_print_value, is_exit, IsInner, is_end_procedure, is_integer, is_if, is_simple, IsBuilt, is_inner, is_labelled}
 
 atom : (x : ExprTree) → is_built_atom x ≡ true → IsAtom x
 atom (number z) h = is_number z

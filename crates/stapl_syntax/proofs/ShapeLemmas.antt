@@ -13,7 +13,7 @@ use Rattle.stapl_lexer.specs.declared.piece.Piece.{Piece}
 use Rattle.stapl_lexer.specs.declared.reason.Reason.TheVariants as reasons
 use Rattle.stapl_syntax.specs.Trees.{ItemTree, BodyTree, action, procedure, end_procedure, integer, StmtTree}
 use Rattle.stapl_syntax.specs.Symbols.{Symbol}
-use Rattle.stapl_syntax.specs.Statements.{IsLabelled, IsPieceStatement, is_outer}
+use Rattle.stapl_syntax.specs.Statements.{IsLabelled, IsPieceStatement}
 use Rattle.stapl_syntax.specs.Built.{is_built, unlabelled, action_of, procedure_of, IsBuilt, is_action, is_procedure}
 use Rattle.stapl_syntax.specs.Declarations.{body_declares, is_label, declares_variable, declares_label, names_variables, names_labels, known_at, variable_passes, label_passes}
 use Rattle.stapl_syntax.specs.Faults.{piece_limit, is_end, ends, is_inside, up_to_end, run_of_items, run_of_body, is_procedure_body, is_procedure as is_the_procedure, declares_again, names_known, fits_inside, is_refused_inside, is_refused, AreReadAs, HasReasonAt, ends_early, not_built, IsProgram}

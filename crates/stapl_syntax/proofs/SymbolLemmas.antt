@@ -1,25 +1,24 @@
 -- What holds of the symbols of a piece: a name is no reserved word, and a string is no longer than the text.
-use Rattle.std.proofs.Common.{◌≡◌, ℕ, ℤ, ◌-◌, ◌≤◌, Bool, true, false, not, ◌||◌, List, [], ◌∷◌, ◌++◌, length, length-drop, drop, map, Option, Some, None, arith, refl, sym, ap, subst, ◌∙◌, codes}
-use Rattle.std.specs.Prelude.{All, find, position, if◌then◌else◌}
-use Rattle.std.specs.List.{list_any, list_all}
-use Rattle.std.specs.Str.{bytes_eq, str_to_ascii_uppercase}
-use Rattle.std.proofs.lemmas.Bool.{and_parts}
+use Rattle.std.proofs.Common.{◌≡◌, ◌↔◌, ℕ, ℤ, ◌-◌, ◌≤◌, Bool, true, false, List, [], ◌∷◌, ◌++◌, length, length-drop, drop, map, Option, Some, None, arith, refl, sym, ap, subst, ◌∙◌}
+use Rattle.std.specs.Prelude.{All, if◌then◌else◌}
+use Rattle.std.specs.Str.{str_to_ascii_uppercase}
 use Rattle.std.proofs.lemmas.List.{length-take}
 use Rattle.std.proofs.lemmas.List.Elements.{All-nil, All-cons}
-use Rattle.std.proofs.lemmas.Slice.Eq.{bytes_eq-Decides}
 use Rattle.stapl_lexer.specs.declared.piece.Piece.{Piece}
+use Rattle.stapl_lexer.specs.declared.terminal.Terminal.{Terminal}
+use Rattle.stapl_lexer.specs.declared.terminal.Terminal.TheVariants as terminals
+use Rattle.stapl_lexer.specs.declared.terminal.JoinWord.TheVariants as joins
 use Rattle.stapl_lexer.specs.declared.token.Token.{Token}
 use Rattle.stapl_lexer.specs.declared.token.TokenKind.{TokenKind}
 use Rattle.stapl_lexer.specs.declared.token.TokenKind.TheVariants as kinds
-use Rattle.stapl_lexer.specs.Depth.{token_bytes}
 use Rattle.stapl_lexer.specs.Names.{is_name}
-use Rattle.stapl_lexer.specs.PieceTokens.{spells_word}
-use Rattle.stapl_lexer.specs.ReservedWords.{statement_words, inner_words, function_words, state_words, is_one_of, is_reserved_word}
-use Rattle.stapl_lexer.specs.SpelledTokens.{SpelledToken, spelled, spelled_as}
+use Rattle.stapl_lexer.specs.PieceFaults.{tokens_of, AreTokens}
+use Rattle.stapl_lexer.specs.PieceTokens.{token_bytes, terminal_of, first_word, Lexeme, HasLexemes}
+use Rattle.stapl_lexer.specs.ReservedWords.{word_terminal, is_reserved_word}
+use Rattle.stapl_lexer.proofs.NameLemmas.{upper_is_name, free_words}
 use Rattle.stapl_syntax.specs.declared.signs.Sign.{Sign}
 use Rattle.stapl_syntax.specs.declared.signs.Sign.TheVariants as signs
-use Rattle.stapl_syntax.specs.declared.signs.JoinWord.TheVariants as joins
-use Rattle.stapl_syntax.specs.Symbols.{Symbol, Plain, Text, sign_or, symbol_of, symbols_of, word_sign, mark_sign, name_sign, reserved_or, left_out_words, left_out_statements, all_functions, function_spelling, all_join_words, join_spelling, all_port_words, port_spelling, all_simple_words, simple_spelling, all_inner_words, inner_spelling, all_outer_words, outer_spelling, all_marks, mark_spelling, all_operators, operator_spelling}
+use Rattle.stapl_syntax.specs.Symbols.{Symbol, Plain, Text, terminal_sign, word_sign, mark_sign, symbol_as, symbols_of}
 use Rattle.stapl_syntax.specs.Expressions.{name}
 use Rattle.stapl_syntax.specs.Trees.{PartTree, BodyTree, action, procedure, if_then, print, StmtTree}
 use Rattle.stapl_syntax.specs.Parts.{IsPart, Separated, IsPrintPart, of_string, of_value, of_character, a_print_part}
@@ -31,86 +30,64 @@ use Rattle.stapl_syntax.specs.Shapes.{HasFreeName, IsShortPart, PrintsShortStrin
 -- ---- names
 
 -- the name that a sign is, if it is one
-abbrev name_in : Sign → Option (List ℕ)
+abbrev pub name_in : Sign → Option (List ℕ)
 name_in (signs.Name v) = Some v
 name_in _ = None
 
--- a word of the table is no name
-abbrev is_named : List ℕ → Bool
-is_named bytes = elim (name_in (word_sign bytes)) [ Some v ↦ true | None ↦ false ]
+terminal_no_name : (t : Terminal) → name_in (terminal_sign t) ≡ None
+unfolding terminal_sign
+terminal_no_name (terminals.Operator op) = refl
+terminal_no_name (terminals.Mark m) = refl
+terminal_no_name (terminals.Outer w) = refl
+terminal_no_name (terminals.Inner w) = refl
+terminal_no_name (terminals.Simple w) = refl
+terminal_no_name terminals.If = refl
+terminal_no_name (terminals.Port w) = refl
+terminal_no_name (terminals.Join w) = refl
+terminal_no_name (terminals.Function f) = refl
+terminal_no_name (terminals.State k) = refl
+terminal_no_name terminals.LeftOutStatement = refl
+terminal_no_name terminals.LeftOutWord = refl
 
-not_named : (b : Bool) → not b ≡ true → b ≡ false
-not_named true e = absurd cc
-not_named false e = refl
+-- what a word is that is seen as a name
+pub record IsNameOf (own v : List ℕ) : Type 0 where
+  pub name_spelled : is_name own ≡ true
+  pub free : is_reserved_word (str_to_ascii_uppercase own) ≡ false
+  pub upper : v ≡ str_to_ascii_uppercase own
 
-of_table : (words : List (List ℕ)) (bytes : List ℕ) → list_all (λ word. not (is_named word)) words ≡ true → is_one_of words bytes ≡ true → is_named bytes ≡ false
-of_table [] bytes all one = absurd cc
-of_table (word ∷ words) bytes all one = by (bytes_eq word bytes) refl one (of_table words bytes both.1)
+none_some : (o : Option (List ℕ)) (v : List ℕ) → o ≡ None → o ≡ Some v → ⊥
+none_some o v n e = cc
+
+-- a word is seen as a name if it is spelled as one and is not reserved
+named : (own v : List ℕ) (terminal : Option Terminal) → terminal ≡ word_terminal own → name_in (word_sign terminal own) ≡ Some v → IsNameOf own v
+named own v (Some t) is e = absurd (none_some (name_in (terminal_sign t)) v (terminal_no_name t) e)
+named own v None is e = by (is_name (str_to_ascii_uppercase own)) refl e
   where
-    both : (not (is_named word) ≡ true) × (list_all (λ word. not (is_named word)) words ≡ true)
-    both = and_parts (not (is_named word)) (list_all (λ word. not (is_named word)) words) all
+    by : (b : Bool) → is_name (str_to_ascii_uppercase own) ≡ b → name_in (if b then signs.Name (str_to_ascii_uppercase own) else signs.Other) ≡ Some v → IsNameOf own v
+    by true spelled e = record { name_spelled = sym (upper_is_name own) ∙ spelled; free = (free_words own).0 (sym is); upper = cc }
+    by false spelled e = absurd cc
 
-    by : (b : Bool) → bytes_eq word bytes ≡ b → (b || is_one_of words bytes) ≡ true → (is_one_of words bytes ≡ true → is_named bytes ≡ false) → is_named bytes ≡ false
-    by true same any others = ap is_named (sym ((bytes_eq-Decides word bytes).0 same)) ∙ not_named (is_named word) both.0
-    by false other any others = others any
+sign_name : (own v : List ℕ) → word_sign (word_terminal own) own ≡ signs.Name v → IsNameOf own v
+sign_name own v e = named own v (word_terminal own) refl (ap name_in e)
 
-reserved_no_name : (bytes : List ℕ) → is_reserved_word bytes ≡ true → is_named bytes ≡ false
-reserved_no_name bytes e =
-    by (is_one_of statement_words bytes) refl (is_one_of inner_words bytes) refl (is_one_of function_words bytes) refl e
-  where
-    by : (a : Bool) → is_one_of statement_words bytes ≡ a → (b : Bool) → is_one_of inner_words bytes ≡ b → (c : Bool) → is_one_of function_words bytes ≡ c →
-        (a || b || c || is_one_of state_words bytes) ≡ true → is_named bytes ≡ false
-    by true one b _ c _ _ = of_table statement_words bytes refl one
-    by false _ true one c _ _ = of_table inner_words bytes refl one
-    by false _ false _ true one _ = of_table function_words bytes refl one
-    by false _ false _ false _ one = of_table state_words bytes refl one
+name_sign_of : (own v : List ℕ) → IsNameOf own v → word_sign (word_terminal own) own ≡ signs.Name v
+name_sign_of own v is =
+    ap (λ (t : Option Terminal). word_sign t own) ((free_words own).1 is.free)
+    ∙ ap (λ (b : Bool). if b then signs.Name (str_to_ascii_uppercase own) else signs.Other) (upper_is_name own ∙ is.name_spelled)
+    ∙ ap signs.Name (sym is.upper)
 
--- a sign that may be a name only if that other sign is one
-name_or : {A : Type 0} (make : A → Sign) (found : Option A) (other : Sign) (v : List ℕ) → ((x : A) → name_in (make x) ≡ None) →
-    name_in (sign_or make found other) ≡ Some v → name_in other ≡ Some v
-name_or make None other v none e = e
-name_or make (Some x) other v none e = absurd (none_some (name_in (make x)) (none x) e)
-  where
-    none_some : (o : Option (List ℕ)) → o ≡ None → o ≡ Some v → ⊥
-    none_some o n e = cc
+pub seen_as_name : (own v : List ℕ) → (word_sign (word_terminal own) own ≡ signs.Name v) ↔ ((is_name own ≡ true) × (is_reserved_word (str_to_ascii_uppercase own) ≡ false) × (v ≡ str_to_ascii_uppercase own))
+seen_as_name own v = (
+  (λ e. let is = sign_name own v e in (is.name_spelled, is.free, is.upper)),
+  (λ is. name_sign_of own v (record { name_spelled = is.0; free = is.1; upper = is.2 })),
+)
 
-name_if : (b : Bool) (first other : Sign) (v : List ℕ) → name_in first ≡ None → name_in (if b then first else other) ≡ Some v → name_in other ≡ Some v
-name_if true first other v none e = absurd cc
-name_if false first other v none e = e
+free_word : (own v : List ℕ) (terminal : Option Terminal) → terminal ≡ word_terminal own → name_in (word_sign terminal own) ≡ Some v → is_reserved_word v ≡ false
+free_word own v terminal is e = let n = named own v terminal is e in ap is_reserved_word n.upper ∙ n.free
 
--- a name is a word that is none of the table
-name_of_reserved : (spells : List ℕ → Bool) (other : Sign) (v : List ℕ) → name_in (reserved_or spells other) ≡ Some v → name_in other ≡ Some v
-name_of_reserved spells other v e =
-    name_or signs.State (position spells state_words) other v (λ x. refl)
-    (name_if (list_any spells left_out_words) signs.LeftOutWord _ v refl
-    (name_if (list_any spells left_out_statements) signs.LeftOutStatement _ v refl
-    (name_or signs.Function (find (λ word. spells (function_spelling word)) all_functions) _ v (λ x. refl)
-    (name_or signs.Join (find (λ word. spells (join_spelling word)) all_join_words) _ v (λ x. refl)
-    (name_if (spells (codes "IF")) signs.If _ v refl
-    (name_or signs.Port (find (λ word. spells (port_spelling word)) all_port_words) _ v (λ x. refl)
-    (name_or signs.Simple (find (λ word. spells (simple_spelling word)) all_simple_words) _ v (λ x. refl)
-    (name_or signs.Inner (find (λ word. spells (inner_spelling word)) all_inner_words) _ v (λ x. refl)
-    (name_or signs.Outer (find (λ word. spells (outer_spelling word)) all_outer_words) _ v (λ x. refl) e)))))))))
-
-same_name : (bytes v : List ℕ) (b : Bool) → name_in (if b then signs.Name bytes else signs.Other) ≡ Some v → bytes ≡ v
-same_name bytes v true e = cc
-same_name bytes v false e = absurd cc
-
-free_word : (bytes v : List ℕ) → name_in (word_sign bytes) ≡ Some v → is_reserved_word v ≡ false
-free_word bytes v e =
-    let same = same_name bytes v (is_name bytes) (name_of_reserved (λ word. spells_word word bytes) (name_sign bytes) v e) in
-    ap is_reserved_word (sym same) ∙ by (is_reserved_word bytes) refl
-  where
-    by : (b : Bool) → is_reserved_word bytes ≡ b → b ≡ false
-    by true reserved = absurd (let no = reserved_no_name bytes reserved in let some : is_named bytes ≡ true = ap (λ (o : Option (List ℕ)). elim o [ Some w ↦ true | None ↦ false ]) e in cc)
-    by false other = refl
-
-no_mark : (bytes v : List ℕ) → name_in (mark_sign bytes) ≡ Some v → is_reserved_word v ≡ false
-no_mark bytes v e =
-    let none : name_in signs.Other ≡ Some v =
-    name_or signs.Mark (find (λ mark. bytes_eq (mark_spelling mark) bytes) all_marks) signs.Other v (λ x. refl)
-    (name_or signs.Operator (find (λ op. bytes_eq (operator_spelling op) bytes) all_operators) _ v (λ x. refl) e) in
-    absurd cc
+no_mark : (v : List ℕ) (terminal : Option Terminal) → name_in (mark_sign terminal) ≡ Some v → ⊥
+no_mark v (Some t) e = none_some (name_in (terminal_sign t)) v (terminal_no_name t) e
+no_mark v None e = cc
 
 -- ---- symbols
 
@@ -124,20 +101,31 @@ abbrev AreSound : ℕ → List Symbol → Type 0
 AreSound n [] = Unit {0}
 AreSound n (t ∷ s) = IsSound n t × AreSound n s
 
-sound_as : (n : ℕ) (kind : TokenKind) (value : ℤ) (own : List ℕ) → length own ≤ n → IsSound n (symbol_of (spelled_as kind value own))
-sound_as n kinds.Word value own short = free_word (str_to_ascii_uppercase own)
-sound_as n kinds.Number value own short = λ v e. absurd cc
-sound_as n kinds.Text value own short = omega (arith, length-take (length own - 2) (drop 1 own), length-drop 1 own, short)
-sound_as n kinds.Binary value own short = tt
-sound_as n kinds.Hexadecimal value own short = tt
-sound_as n kinds.Mark value own short = no_mark own
-sound_as n kinds.Hex4 value own short = tt
+sound_as : (n : ℕ) (kind : TokenKind) (value : ℤ) (terminal : Option Terminal) (own : List ℕ) → terminal ≡ terminal_of kind own → length own ≤ n →
+    IsSound n (symbol_as kind value terminal own)
+sound_as n kinds.Word value terminal own is short = λ v e. free_word own v terminal is e
+sound_as n kinds.Number value terminal own is short = λ v e. absurd cc
+sound_as n kinds.Text value terminal own is short = omega (arith, length-take (length own - 2) (drop 1 own), length-drop 1 own, short)
+sound_as n kinds.Binary value terminal own is short = tt
+sound_as n kinds.Hexadecimal value terminal own is short = tt
+sound_as n kinds.Mark value terminal own is short = λ v e. absurd (no_mark v terminal e)
+sound_as n kinds.Hex4 value terminal own is short = tt
 
-sound_tokens : (text : List ℕ) (tokens : List Token) → AreSound (length text) (symbols_of (map (spelled text) tokens))
-sound_tokens text [] = tt
-sound_tokens text (t ∷ ts) =
-    let own : length (token_bytes text t) ≤ length text = omega (arith, length-take (t.end - t.start) (drop t.start text), length-drop t.start text) in
-    (sound_as (length text) t.kind t.value (token_bytes text t) own, sound_tokens text ts)
+sound_lexemes : (text : List ℕ) (first : Option Bool) (at limit : ℕ) (lexemes : List Lexeme) → HasLexemes text first at limit lexemes →
+    AreSound (length text) (symbols_of text (tokens_of lexemes))
+sound_lexemes text first at limit [] has = tt
+sound_lexemes text first at limit (l ∷ ls) has =
+    let own : length (token_bytes text l.token) ≤ length text =
+    omega (arith, length-take (l.token.end - l.token.start) (drop l.token.start text), length-drop l.token.start text) in
+    (
+      sound_as (length text) l.token.kind l.token.value l.token.terminal (token_bytes text l.token) has.0.terminal own,
+      sound_lexemes text (first_word first l.token.kind (token_bytes text l.token)) l.token.end limit ls has.1,
+    )
+
+sound_tokens : (text : List ℕ) (piece : Piece) (tokens : List Token) → AreTokens text piece tokens → AreSound (length text) (symbols_of text tokens)
+sound_tokens text piece tokens are =
+    subst (λ (t : List Token). AreSound (length text) (symbols_of text t)) (sym are.good.tokens_are)
+    (sound_lexemes text None piece.start piece.end are.good.lexemes are.good.has)
 
 sound_left : (n : ℕ) (a b : List Symbol) → AreSound n (a ++ b) → AreSound n a
 sound_left n [] b sound = tt
@@ -191,8 +179,8 @@ of_pieces P text each [] (st ∷ sts) read = absurd read
 of_pieces P text each (p ∷ ps) [] read = absurd read
 of_pieces P text each (p ∷ ps) (st ∷ sts) read =
     let own = read.0 in
-    let sound = subst (λ (tokens : List SpelledToken). AreSound (length text) (symbols_of tokens)) (sym own.spelled.list_is) (sound_tokens text own.spelled.tokens) in
-    All-cons (λ (st : StmtTree). P st.body) st sts (of_labelled P (length text) each (symbols_of own.tokens) st.label st.body own.means sound) (of_pieces P text each ps sts read.1)
+    let sound = sound_tokens text p own.tokens own.are in
+    All-cons (λ (st : StmtTree). P st.body) st sts (of_labelled P (length text) each (symbols_of text own.tokens) st.label st.body own.means sound) (of_pieces P text each ps sts read.1)
 
 pub free_names : (text : List ℕ) (statements : List StmtTree) → IsProgram text statements → All (λ (st : StmtTree). HasFreeName st.body) statements
 free_names text statements program = of_pieces HasFreeName text (free_body (length text)) program.pieces statements program.read

@@ -1,6 +1,6 @@
 -- Which statements are built: those that the compiler takes. Which these are is this profile's, and grows.
-use Rattle.std.specs.Prelude.{ℕ, ℤ, List, [], ◌∷◌, Bool, true, false, ◌&&◌, ◌||◌, Option, None, Some}
-use Rattle.stapl_syntax.specs.declared.signs.BinOp.TheVariants as operators
+use Rattle.std.specs.Prelude.{ℕ, ℤ, List, [], ◌∷◌, Bool, true, false, ◌&&◌, ◌||◌, None, Some}
+use Rattle.stapl_lexer.specs.declared.terminal.BinOp.TheVariants as operators
 use Rattle.stapl_syntax.specs.Trees.{ExprTree, number, scalar, binary, ItemTree, PartTree, string, value, BodyTree, action, procedure, end_procedure, integer, assign, goto, if_then, print, exit, StmtTree}
 
 -- a number or a scalar variable

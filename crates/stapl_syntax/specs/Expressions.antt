@@ -1,13 +1,13 @@
 -- How expressions and arrays are written (JESD71, expressions, Boolean arrays): one case for each production, and one for each level of
 -- operators. A list of symbols may be split anywhere.
 use Rattle.std.specs.Prelude.{◌≡◌, ℕ, suc, ℤ, Bool, List, [], ◌∷◌, ◌++◌}
-use Rattle.stapl_syntax.specs.declared.signs.BinOp.{BinOp}
-use Rattle.stapl_syntax.specs.declared.signs.BinOp.TheVariants.{Multiply, Divide, Remainder, Add, Subtract, ShiftLeft, ShiftRight, Less, AtMost, Greater, AtLeast, Equal, NotEqual, BitAnd, BitXor, BitOr, And, Or}
+use Rattle.stapl_lexer.specs.declared.terminal.BinOp.{BinOp}
+use Rattle.stapl_lexer.specs.declared.terminal.BinOp.TheVariants.{Multiply, Divide, Remainder, Add, Subtract, ShiftLeft, ShiftRight, Less, AtMost, Greater, AtLeast, Equal, NotEqual, BitAnd, BitXor, BitOr, And, Or}
 use Rattle.stapl_syntax.specs.declared.signs.UnOp.TheVariants.{Negate, Complement, Not}
-use Rattle.stapl_syntax.specs.declared.signs.Mark.{Mark as MarkKind}
-use Rattle.stapl_syntax.specs.declared.signs.Mark.TheVariants as marks
-use Rattle.stapl_syntax.specs.declared.signs.Function.{Function as FunctionKind}
-use Rattle.stapl_syntax.specs.declared.signs.Function.TheVariants as functions
+use Rattle.stapl_lexer.specs.declared.terminal.Mark.{Mark as MarkKind}
+use Rattle.stapl_lexer.specs.declared.terminal.Mark.TheVariants as marks
+use Rattle.stapl_lexer.specs.declared.terminal.Function.{Function as FunctionKind}
+use Rattle.stapl_lexer.specs.declared.terminal.Function.TheVariants as functions
 use Rattle.stapl_syntax.specs.declared.signs.Sign.TheVariants as signs
 use Rattle.stapl_syntax.specs.Symbols.{Symbol, Plain, Literal}
 use Rattle.stapl_syntax.specs.Trees.{ExprTree, ArrayTree, number, scalar, element, unary, binary, abs, int, literal, whole, range, of_int}

@@ -8,7 +8,7 @@ use Rattle.std.specs.Str.{bytes_eq}
 use Rattle.stapl_lexer.specs.declared.piece.Piece.{Piece}
 use Rattle.stapl_lexer.specs.declared.reason.Reason.{Reason}
 use Rattle.stapl_lexer.specs.declared.reason.Reason.TheVariants as reasons
-use Rattle.stapl_lexer.specs.Pieces.{IsCut, line_at}
+use Rattle.stapl_lexer.specs.Pieces.{IsCut, line_at, text_limit}
 use Rattle.stapl_lexer.specs.Reasons.{reason_number}
 use Rattle.stapl_syntax.specs.Trees.{ItemTree, BodyTree, action, procedure, end_procedure, StmtTree}
 use Rattle.stapl_syntax.specs.Statements.{IsPieceStatement, is_outer}
@@ -16,10 +16,7 @@ use Rattle.stapl_syntax.specs.Reasons.{HasReason}
 use Rattle.stapl_syntax.specs.Built.{is_built}
 use Rattle.stapl_syntax.specs.Declarations.{Known, known_at, variable_passes, label_passes, names_variables, names_labels}
 
--- how many bytes a text may have, and how many pieces
-abbrev pub text_limit : ℕ
-text_limit = 4194304
-
+-- how many pieces a text may have
 abbrev pub piece_limit : ℕ
 piece_limit = 100000
 

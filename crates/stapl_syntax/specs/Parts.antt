@@ -2,12 +2,12 @@
 use Rattle.std.specs.Prelude.{◌≡◌, ℕ, ℤ, pos, List, [], ◌∷◌, ◌++◌, Option, Some, None, Bool, true, false, ◌&&◌, ◌==◌, not, is_some, ◌⊎◌, if◌then◌else◌, codes, option_and_then}
 use Rattle.std.proofs.Common.{inl, inr}
 use Rattle.std.specs.Int.{w32, int_wrapping_neg}
-use Rattle.stapl_syntax.specs.declared.signs.BinOp.TheVariants.{Subtract}
-use Rattle.stapl_syntax.specs.declared.signs.Mark.{Mark as MarkKind}
-use Rattle.stapl_syntax.specs.declared.signs.Mark.TheVariants as marks
-use Rattle.stapl_syntax.specs.declared.signs.JoinWord.{JoinWord}
-use Rattle.stapl_syntax.specs.declared.signs.JoinWord.TheVariants as joins
-use Rattle.stapl_syntax.specs.declared.signs.Function.TheVariants as functions
+use Rattle.stapl_lexer.specs.declared.terminal.BinOp.TheVariants.{Subtract}
+use Rattle.stapl_lexer.specs.declared.terminal.Mark.{Mark as MarkKind}
+use Rattle.stapl_lexer.specs.declared.terminal.Mark.TheVariants as marks
+use Rattle.stapl_lexer.specs.declared.terminal.JoinWord.{JoinWord}
+use Rattle.stapl_lexer.specs.declared.terminal.JoinWord.TheVariants as joins
+use Rattle.stapl_lexer.specs.declared.terminal.Function.TheVariants as functions
 use Rattle.stapl_syntax.specs.declared.signs.Sign.{Sign}
 use Rattle.stapl_syntax.specs.declared.signs.Sign.TheVariants as signs
 use Rattle.stapl_syntax.specs.declared.statement.ItemChoice.{ItemChoice}

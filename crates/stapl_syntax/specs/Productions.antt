@@ -1,8 +1,8 @@
 -- The statements, each as the parts behind its first word (JESD71, statements).
 use Rattle.std.specs.Prelude.{ℕ, ℤ, List, Option, Bool, ◌⊎◌}
-use Rattle.stapl_syntax.specs.declared.signs.Mark.TheVariants as marks
-use Rattle.stapl_syntax.specs.declared.signs.JoinWord.{JoinWord}
-use Rattle.stapl_syntax.specs.declared.signs.JoinWord.TheVariants as joins
+use Rattle.stapl_lexer.specs.declared.terminal.Mark.TheVariants as marks
+use Rattle.stapl_lexer.specs.declared.terminal.JoinWord.{JoinWord}
+use Rattle.stapl_lexer.specs.declared.terminal.JoinWord.TheVariants as joins
 use Rattle.stapl_syntax.specs.declared.signs.Sign.TheVariants as signs
 use Rattle.stapl_syntax.specs.Symbols.{Symbol, Plain}
 use Rattle.stapl_syntax.specs.Trees.{ExprTree, ArrayTree, ItemTree, PartTree, ExportTree, CompareTree}

@@ -1,14 +1,13 @@
 -- Why a piece is no statement. The reasons, and their numbers, are this profile's.
-use Rattle.std.specs.Prelude.{◌≡◌, ℕ, ◌≤◌, List, [], ◌∷◌, Some, Bool, true, false, not}
+use Rattle.std.specs.Prelude.{◌≡◌, ℕ, ◌≤◌, List, [], ◌∷◌, Bool, true, false, not}
 use Rattle.std.specs.List.{list_any}
 use Rattle.stapl_lexer.specs.declared.piece.Piece.{Piece}
 use Rattle.stapl_lexer.specs.declared.reason.Reason.{Reason}
 use Rattle.stapl_lexer.specs.declared.reason.Reason.TheVariants as reasons
 use Rattle.stapl_lexer.specs.declared.token.Token.{Token}
-use Rattle.stapl_lexer.specs.PieceFaults.{IsLexed}
+use Rattle.stapl_lexer.specs.PieceFaults.{HasTokenReason, AreGoodTokens}
 use Rattle.stapl_lexer.specs.Reasons.{reason_number}
-use Rattle.stapl_lexer.specs.SpelledTokens.{SpelledToken, IsSpelled}
-use Rattle.stapl_syntax.specs.declared.signs.Mark.TheVariants as marks
+use Rattle.stapl_lexer.specs.declared.terminal.Mark.TheVariants as marks
 use Rattle.stapl_syntax.specs.declared.signs.Sign.{Sign}
 use Rattle.stapl_syntax.specs.declared.signs.Sign.TheVariants as signs
 use Rattle.stapl_syntax.specs.Symbols.{Symbol, Plain, sign_of, symbols_of}
@@ -56,19 +55,19 @@ is_left_out _ = false
 abbrev pub holds_left_out : List Symbol → Bool
 holds_left_out s = list_any (λ t. is_left_out (sign_of t)) s
 
--- A reason why the piece is no statement, one case for each row of the table of reasons. What is said of the grammar holds only of pieces
+-- A reason why the piece is no statement, one case for each row of the table of reasons. What is said of the grammar is said of pieces
 -- whose tokens are good.
 pub data HasReason (text : List ℕ) (piece : Piece) : Reason → Type 0 where
   -- a reason that lies in the bytes or in single tokens, or a bad token
-  in_tokens : {reason : Reason} (tokens : List Token) → IsLexed text piece tokens (Some reason) → HasReason text piece reason
+  in_tokens : {reason : Reason} → HasTokenReason text piece reason → HasReason text piece reason
   -- after the label stands no statement
-  unknown : (tokens : List SpelledToken) → IsSpelled text piece tokens → is_unknown (behind_label (symbols_of tokens)) ≡ true →
+  unknown : (tokens : List Token) → AreGoodTokens text piece tokens → is_unknown (behind_label (symbols_of text tokens)) ≡ true →
       HasReason text piece reasons.UnknownStatement
   -- a word stands in it that this profile leaves out
-  left_out : (tokens : List SpelledToken) → IsSpelled text piece tokens → holds_left_out (symbols_of tokens) ≡ true →
+  left_out : (tokens : List Token) → AreGoodTokens text piece tokens → holds_left_out (symbols_of text tokens) ≡ true →
       HasReason text piece reasons.Unsupported
   -- the tokens are no statement
-  not_in_grammar : (tokens : List SpelledToken) → IsSpelled text piece tokens → ((st : StmtTree) → Means tokens st → ⊥) →
+  not_in_grammar : (tokens : List Token) → AreGoodTokens text piece tokens → ((st : StmtTree) → Means (symbols_of text tokens) st → ⊥) →
       HasReason text piece reasons.Syntax
 
 -- Of the reasons that hold, the one with the smallest number.

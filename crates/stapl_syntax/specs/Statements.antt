@@ -1,25 +1,21 @@
 -- Which tokens mean which statement, and why a piece is no statement (JESD71, statements). The reasons are this profile's.
-use Rattle.std.specs.Prelude.{◌≡◌, ℕ, List, [], ◌∷◌, ◌++◌, Option, Some, None, Bool, true, false, not, if◌then◌else◌}
-use Rattle.std.specs.List.{list_any}
+use Rattle.std.specs.Prelude.{◌≡◌, ℕ, List, [], ◌∷◌, ◌++◌, Option, Some, None, Bool, true, false}
 use Rattle.stapl_lexer.specs.declared.piece.Piece.{Piece}
-use Rattle.stapl_lexer.specs.declared.reason.Reason.{Reason}
-use Rattle.stapl_lexer.specs.declared.reason.Reason.TheVariants as reasons
 use Rattle.stapl_lexer.specs.declared.token.Token.{Token}
-use Rattle.stapl_lexer.specs.PieceFaults.{IsLexed}
-use Rattle.stapl_lexer.specs.SpelledTokens.{SpelledToken, IsSpelled}
-use Rattle.stapl_syntax.specs.declared.signs.OuterWord.{OuterWord}
-use Rattle.stapl_syntax.specs.declared.signs.OuterWord.TheVariants as outer_words
-use Rattle.stapl_syntax.specs.declared.signs.InnerWord.{InnerWord}
-use Rattle.stapl_syntax.specs.declared.signs.InnerWord.TheVariants as inner_words
-use Rattle.stapl_syntax.specs.declared.signs.SimpleWord.{SimpleWord}
-use Rattle.stapl_syntax.specs.declared.signs.SimpleWord.TheVariants as simple_words
-use Rattle.stapl_syntax.specs.declared.signs.PortWord.{PortWord}
-use Rattle.stapl_syntax.specs.declared.signs.PortWord.TheVariants as port_words
-use Rattle.stapl_syntax.specs.declared.signs.JoinWord.TheVariants as joins
-use Rattle.stapl_syntax.specs.declared.signs.Mark.TheVariants as marks
-use Rattle.stapl_syntax.specs.declared.signs.Sign.{Sign}
+use Rattle.stapl_lexer.specs.declared.token.Token.{Token}
+use Rattle.stapl_lexer.specs.PieceFaults.{AreTokens}
+use Rattle.stapl_lexer.specs.declared.terminal.OuterWord.{OuterWord}
+use Rattle.stapl_lexer.specs.declared.terminal.OuterWord.TheVariants as outer_words
+use Rattle.stapl_lexer.specs.declared.terminal.InnerWord.{InnerWord}
+use Rattle.stapl_lexer.specs.declared.terminal.InnerWord.TheVariants as inner_words
+use Rattle.stapl_lexer.specs.declared.terminal.SimpleWord.{SimpleWord}
+use Rattle.stapl_lexer.specs.declared.terminal.SimpleWord.TheVariants as simple_words
+use Rattle.stapl_lexer.specs.declared.terminal.PortWord.{PortWord}
+use Rattle.stapl_lexer.specs.declared.terminal.PortWord.TheVariants as port_words
+use Rattle.stapl_lexer.specs.declared.terminal.JoinWord.TheVariants as joins
+use Rattle.stapl_lexer.specs.declared.terminal.Mark.TheVariants as marks
 use Rattle.stapl_syntax.specs.declared.signs.Sign.TheVariants as signs
-use Rattle.stapl_syntax.specs.Symbols.{Symbol, Plain, sign_of, symbols_of}
+use Rattle.stapl_syntax.specs.Symbols.{Symbol, Plain, symbols_of}
 use Rattle.stapl_syntax.specs.Trees.{BodyTree, StmtTree, note, action, procedure, data_block, end_data, crc, end_procedure, boolean, boolean_array, integer, integer_array, assign, assign_element, assign_array, assign_range, call, goto, if_then, for_loop, next, push, pop, print, export, exit, scan, stop, pad, state_list, wait_cycles, wait_usec, frequency}
 use Rattle.stapl_syntax.specs.Expressions.{IsExpr, name, mark, left_square, right_square, dots}
 use Rattle.stapl_syntax.specs.Parts.{IsPart, a_name, a_state, a_check_word, an_expr, an_array, a_cell, some_states, after, both}
@@ -110,12 +106,13 @@ abbrev pub IsLabelled : List Symbol → Option (List ℕ) → BodyTree → Type 
 IsLabelled s None body = IsBody s body
 IsLabelled s (Some v) body = (r : List Symbol) × (s ≡ name v ∷ mark marks.Colon ∷ r) × (is_outer body ≡ false) × IsBody r body
 
--- The tokens mean the statement.
-abbrev pub Means : List SpelledToken → StmtTree → Type 0
-Means tokens st = IsLabelled (symbols_of tokens) st.label st.body
+-- The symbols mean the statement.
+abbrev pub Means : List Symbol → StmtTree → Type 0
+Means s st = IsLabelled s st.label st.body
 
--- The piece of the text is this statement: nothing is wrong with its bytes and its tokens, and its tokens mean the statement.
+-- The piece of the text is this statement: it has tokens, nothing is wrong with them, and what the grammar sees of them means the
+-- statement.
 pub record IsPieceStatement (text : List ℕ) (piece : Piece) (st : StmtTree) : Type 0 where
-  pub tokens : List SpelledToken
-  pub spelled : IsSpelled text piece tokens
-  pub means : Means tokens st
+  pub tokens : List Token
+  pub are : AreTokens text piece tokens
+  pub means : Means (symbols_of text tokens) st

@@ -1,10 +1,10 @@
 -- Statements as trees: what is kept of them, without where it lies in memory (JESD71, statements).
 use Rattle.std.specs.Prelude.{ℕ, ℤ, List, Option, Bool, map}
 use Rattle.std.specs.Option.{option_map}
-use Rattle.stapl_syntax.specs.declared.signs.BinOp.{BinOp}
+use Rattle.stapl_lexer.specs.declared.terminal.BinOp.{BinOp}
 use Rattle.stapl_syntax.specs.declared.signs.UnOp.{UnOp}
-use Rattle.stapl_syntax.specs.declared.signs.Register.{Register}
-use Rattle.stapl_syntax.specs.declared.signs.Padding.{Padding}
+use Rattle.stapl_lexer.specs.declared.terminal.Register.{Register}
+use Rattle.stapl_lexer.specs.declared.terminal.Padding.{Padding}
 use Rattle.stapl_syntax.specs.declared.statement.Expr.{Expr}
 use Rattle.stapl_syntax.specs.declared.statement.Expr.TheVariants as exprs
 use Rattle.stapl_syntax.specs.declared.statement.ArrayExpr.{ArrayExpr}

@@ -1,7 +1,12 @@
 //! Laws of the definitions.
-ghost use Rattle.std.specs.Prelude.{◌≡◌, ℕ, List, All, length};
+ghost use Rattle.std.specs.Prelude.{◌≡◌, ◌↔◌, ℕ, List, All, length, true, false};
+ghost use Rattle.std.specs.Str.{str_to_ascii_uppercase};
 ghost use Rattle.stapl_lexer.specs.declared.piece.Piece.{Piece};
 ghost use Rattle.stapl_lexer.specs.declared.reason.Reason.{Reason};
+ghost use Rattle.stapl_lexer.specs.Names.{is_name};
+ghost use Rattle.stapl_lexer.specs.ReservedWords.{word_terminal, is_reserved_word};
+ghost use Rattle.stapl_syntax.specs.declared.signs.Sign.TheVariants as signs;
+ghost use Rattle.stapl_syntax.specs.Symbols.{word_sign};
 ghost use Rattle.stapl_syntax.specs.Trees.{StmtTree};
 ghost use Rattle.stapl_syntax.specs.Reasons.{SmallestReason};
 ghost use Rattle.stapl_syntax.specs.Built.{IsBuilt};
@@ -32,4 +37,10 @@ pub fn texts_of_prints_are_short()
 /// A piece has at most one smallest reason.
 pub fn a_piece_has_one_smallest_reason()
     ensures { (text : List ℕ) (piece : Piece) (r s : Reason) → SmallestReason text piece r → SmallestReason text piece s → r ≡ s }
+{}
+
+/// A word is seen as a name exactly if it is spelled as one and is not reserved.
+pub fn free_words_are_names()
+    ensures { (own v : List ℕ) → (word_sign (word_terminal own) own ≡ signs.Name v)
+        ↔ ((is_name own ≡ true) × (is_reserved_word (str_to_ascii_uppercase own) ≡ false) × (v ≡ str_to_ascii_uppercase own)) }
 {}

@@ -5,8 +5,7 @@ pub mod laws;
 mod signs;
 mod statement;
 
-pub use signs::{
-    BinOp, Function, InnerWord, JoinWord, Mark, OuterWord, Padding, PortWord, Register, Sign,
-    SimpleWord, UnOp,
+pub use signs::{Sign, UnOp};
+pub use statement::{
+    ArrayExpr, Body, Compare, Exported, Expr, Item, ItemChoice, PrintPart, Stmt,
 };
-pub use statement::{ArrayExpr, Body, Compare, Exported, Expr, Item, ItemChoice, PrintPart, Stmt};

@@ -1,28 +1,7 @@
-//! What the grammar sees of tokens: operators, marks and reserved words, each by its place in the grammar.
-use stapl_lexer::Name;
-
-/// An operator with two operands (JESD71, expressions).
-#[derive(Clone, Copy, Debug, PartialEq, Eq)]
-pub enum BinOp {
-    Multiply,
-    Divide,
-    Remainder,
-    Add,
-    Subtract,
-    ShiftLeft,
-    ShiftRight,
-    Less,
-    AtMost,
-    Greater,
-    AtLeast,
-    Equal,
-    NotEqual,
-    BitAnd,
-    BitXor,
-    BitOr,
-    And,
-    Or,
-}
+//! What the grammar sees of tokens, and the operators with one operand.
+use stapl_lexer::{
+    BinOp, Function, InnerWord, JoinWord, Mark, Name, OuterWord, PortWord, SimpleWord,
+};
 
 /// An operator with one operand (JESD71, expressions).
 #[derive(Clone, Copy, Debug, PartialEq, Eq)]
@@ -32,109 +11,7 @@ pub enum UnOp {
     Not,
 }
 
-/// A mark that is no operator with two operands.
-#[derive(Clone, Copy, Debug, PartialEq, Eq)]
-pub enum Mark {
-    Tilde,
-    Exclamation,
-    LeftRound,
-    RightRound,
-    LeftSquare,
-    RightSquare,
-    Dots,
-    Comma,
-    Equals,
-    Colon,
-}
-
-/// Which register a scan or a stop state speaks of: `Data` is DR, `Instruction` is IR.
-#[derive(Clone, Copy, Debug, PartialEq, Eq)]
-pub enum Register {
-    Data,
-    Instruction,
-}
-
-/// Which of the four paddings: before or behind the data or the instruction register.
-#[derive(Clone, Copy, Debug, PartialEq, Eq)]
-pub enum Padding {
-    PreData,
-    PostData,
-    PreInstruction,
-    PostInstruction,
-}
-
-/// The first word of a statement outside procedures and DATA blocks, or of one that begins or ends such a block from outside.
-#[derive(Clone, Copy, Debug, PartialEq, Eq)]
-pub enum OuterWord {
-    Note,
-    Action,
-    Procedure,
-    Data,
-    EndData,
-    Crc,
-}
-
-/// ENDPROC, or the first word of a declaration.
-#[derive(Clone, Copy, Debug, PartialEq, Eq)]
-pub enum InnerWord {
-    EndProcedure,
-    Boolean,
-    Integer,
-}
-
-/// The first word of a statement that may stand behind THEN, other than IF and those that drive the test access port.
-#[derive(Clone, Copy, Debug, PartialEq, Eq)]
-pub enum SimpleWord {
-    Call,
-    Goto,
-    For,
-    Next,
-    Push,
-    Pop,
-    Print,
-    Export,
-    Exit,
-}
-
-/// The first word of a statement that drives the test access port.
-#[derive(Clone, Copy, Debug, PartialEq, Eq)]
-pub enum PortWord {
-    /// DRSCAN, IRSCAN.
-    Scan(Register),
-    /// DRSTOP, IRSTOP.
-    Stop(Register),
-    /// PREDR, POSTDR, PREIR, POSTIR.
-    Pad(Padding),
-    State,
-    Wait,
-    Frequency,
-}
-
-/// A word that stands inside statements.
-#[derive(Clone, Copy, Debug, PartialEq, Eq)]
-pub enum JoinWord {
-    Capture,
-    Compare,
-    Cycles,
-    Optional,
-    Recommended,
-    Step,
-    Then,
-    To,
-    Usec,
-    Uses,
-}
-
-/// A function of expressions; `Character` is `CHR$`, which stands in PRINT alone.
-#[derive(Clone, Copy, Debug, PartialEq, Eq)]
-pub enum Function {
-    Abs,
-    Bool,
-    Character,
-    Int,
-}
-
-/// What the grammar sees of a token, but for what a string, a literal and the digits behind CRC hold.
+/// What the grammar sees of a token, but for what a string, a literal and the digits after CRC hold.
 #[derive(Clone, Copy)]
 pub enum Sign {
     /// A number, where 2147483648 stands for -2147483648.

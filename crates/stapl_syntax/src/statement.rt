@@ -1,9 +1,9 @@
 //! Statements as trees, as they are kept (JESD71, statements). Contracts speak of them by `stmt_tree` and the other functions of
 //! `specs/Trees`.
-use crate::signs::{BinOp, Padding, Register, UnOp};
+use crate::signs::UnOp;
 use base::ItemList;
 use bit_list::Bits;
-use stapl_lexer::Name;
+use stapl_lexer::{BinOp, Name, Padding, Register};
 
 /// An expression (JESD71, expressions).
 #[derive(Drop)]
