@@ -1,5 +1,5 @@
 -- On the depth rule: brackets are counted from the front, and the count falls to 0 and not below.
-use Rattle.std.proofs.Common.{◌≡◌, ◌≤◌, ◌<◌, ◌+◌, ◌-◌, ℕ, List, [], ◌∷◌, ◌++◌, length, drop, get_or, refl, sym, ap, ◌∙◌, Bool, true, false, ◌||◌, arith, suc, zero, add-one, nat_lt, if◌then◌else◌, Option, Some, inl, inr, ◌⊎◌, subst}
+use Rattle.std.proofs.Common.{◌≡◌, ◌≤◌, ◌<◌, ◌+◌, ◌-◌, ℕ, List, [], ◌∷◌, ◌++◌, length, drop, get_or, refl, sym, ap, ◌∙◌, Bool, true, false, ◌||◌, arith, suc, add-one, nat_lt, if◌then◌else◌, Option, Some, inl, inr, ◌⊎◌}
 use Rattle.std.proofs.Math.ListN.{drop_of_length-le}
 use Rattle.std.proofs.Math.Seq.{drop-cons}
 use Rattle.std.proofs.lemmas.List.Sums.{sum_by-cons}
@@ -46,7 +46,8 @@ open_at n i tokens none le lt =
 pub open_at_end : (n i : ℕ) (tokens : List Token) → n ≤ 32 → length tokens ≤ i → opens_many n (drop i tokens) ≡ false
 open_at_end n i tokens le end = ap (opens_many n) (drop_of_length-le tokens end) ∙ not_above n le
 
--- Some front of the tokens has so many more opening than closing brackets that more than 32 are open after it, if so many are before it.
+-- Some front of the tokens has so many more opening than closing brackets that more than 32 are open after it, if so
+-- many are before it.
 record OpensInFront (n : ℕ) (tokens : List Token) : Type 0 where
   front : List Token
   rest : List Token

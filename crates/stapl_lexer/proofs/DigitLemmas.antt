@@ -1,5 +1,5 @@
 -- On the digits of literals.
-use Rattle.std.proofs.Common.{◌≡◌, ◌≢◌, ◌≤◌, ◌+◌, ℕ, List, [], ◌∷◌, ◌++◌, length, refl, sym, ap, ◌∙◌, Bool, true, false, ◌&&◌, ◌||◌, ◌==◌, not, cond, arith, subst, append_assoc, append-nil, drop}
+use Rattle.std.proofs.Common.{◌≡◌, ◌≤◌, ◌+◌, ℕ, List, [], ◌∷◌, ◌++◌, length, refl, sym, ap, ◌∙◌, Bool, true, false, ◌||◌, ◌==◌, not, cond, arith, subst, append_assoc, append-nil, drop}
 use Rattle.std.proofs.Math.ListN.{drop_of_length-le}
 use Rattle.std.proofs.lemmas.Bool.{and_parts}
 use Rattle.std.proofs.lemmas.Bool.Decides.{nat_tests}
@@ -7,7 +7,7 @@ use Rattle.std.proofs.lemmas.List.{append_cancel_right}
 use Rattle.std.specs.List.{list_all}
 use Rattle.stapl_lexer.specs.declared.token.TokenKind.{TokenKind}
 use Rattle.stapl_lexer.specs.Pieces.{is_white, is_blank}
-use Rattle.stapl_lexer.specs.PieceTokens.{AreBlanks, is_literal_digit, SpacedDigits, digits_in}
+use Rattle.stapl_lexer.specs.PieceTokens.{is_literal_digit, SpacedDigits, digits_in}
 use Rattle.stapl_lexer.specs.Segments.{Segment, Plain, Closed, Open, Comment, spelled, spelling, HasNone, EndsLine, ends_comment, Divides}
 use Rattle.stapl_lexer.proofs.RunLemmas.{both_true}
 use Rattle.stapl_lexer.proofs.PieceTokenLemmas.{clash, digit_solid}

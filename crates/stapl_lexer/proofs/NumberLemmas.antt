@@ -27,12 +27,12 @@ passes_at test [] i all lt = absurd (omega arith)
 passes_at test (b ∷ bs) zero all lt = (and_parts (test b) _ all).0
 passes_at test (b ∷ bs) (suc i) all lt = passes_at test bs i (and_parts (test b) _ all).1 (omega arith)
 
-pub digits_more : (digits : List ℕ) (i v : ℕ) → list_all is_ascii_digit digits ≡ true → i < length digits → v ≡ min (digits_value 10 (take i digits)) cap →
-    min (v * 10 + (get_or digits i 0 - 48)) cap ≡ min (digits_value 10 (take (i + 1) digits)) cap
-digits_more digits i v all lt e =
-    capped (digits_value 10 (take i digits)) v (get_or digits i 0 - 48) cap e
-    ∙ ap (λ (d : ℕ). min (digits_value 10 (take i digits) * 10 + d) cap) (sym (digit_value_is _ (passes_at is_ascii_digit digits i all lt)))
-    ∙ ap (λ (d : ℕ). min d cap) (sym (digits_value_more 10 digits i lt))
+pub digits_more : (digits : List ℕ) (i v limit : ℕ) → list_all is_ascii_digit digits ≡ true → i < length digits →
+    v ≡ min (digits_value 10 (take i digits)) limit → min (v * 10 + (get_or digits i 0 - 48)) limit ≡ min (digits_value 10 (take (i + 1) digits)) limit
+digits_more digits i v limit all lt e =
+    capped (digits_value 10 (take i digits)) v (get_or digits i 0 - 48) limit e
+    ∙ ap (λ (d : ℕ). min (digits_value 10 (take i digits) * 10 + d) limit) (sym (digit_value_is _ (passes_at is_ascii_digit digits i all lt)))
+    ∙ ap (λ (d : ℕ). min d limit) (sym (digits_value_more 10 digits i lt))
 
 -- one more power of ten
 pub scaled_more : (value turns scaled : ℕ) → scaled ≡ min (value * 10 ^ turns) cap → min (scaled * 10) cap ≡ min (value * 10 ^ (turns + 1)) cap

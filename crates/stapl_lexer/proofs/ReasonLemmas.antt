@@ -1,5 +1,5 @@
 -- The smallest of the reasons that lie in the bytes and the tokens of a piece.
-use Rattle.std.proofs.Common.{◌≡◌, ◌≤◌, ◌<◌, ◌+◌, ℕ, List, [], ◌∷◌, get_or, refl, sym, ap, ◌∙◌, Bool, true, false, arith, subst, Some, None, inl, inr, slice_range, lit≤}
+use Rattle.std.proofs.Common.{◌≡◌, ◌≤◌, ◌+◌, ℕ, List, [], ◌∷◌, get_or, refl, sym, ap, ◌∙◌, Bool, true, false, arith, subst, None, inl, inr, slice_range, lit≤}
 use Rattle.std.proofs.lemmas.Bool.{cases_order}
 use Rattle.std.specs.List.{list_all, list_any}
 use Rattle.stapl_lexer.specs.declared.piece.Piece.{Piece}

@@ -9,7 +9,7 @@ use Rattle.std.proofs.lemmas.Slice.Eq.{bytes_eq-Decides}
 use Rattle.std.specs.Char.{eq_ignore_ascii_case}
 use Rattle.std.specs.List.{list_all, list_any}
 use Rattle.std.specs.Prelude.{is_some}
-use Rattle.std.specs.Str.{str_eq_ignore_ascii_case, bytes_eq}
+use Rattle.std.specs.Str.{bytes_eq}
 use Rattle.stapl_lexer.specs.declared.terminal.Terminal.{Terminal}
 use Rattle.stapl_lexer.specs.Marks.{mark_table, mark_terminal, is_mark_spelling}
 use Rattle.stapl_lexer.specs.ReservedWords.{reserved_words, spells_word, word_terminal}

@@ -1,5 +1,5 @@
--- The check word of a text: the remainder of the CRC statement (JESD71, CRC statement). That carriage returns are left out is this
--- profile's rule.
+-- The check word of a text: the remainder of the CRC statement (JESD71, CRC statement). That carriage returns are left
+-- out is this profile's rule.
 use Rattle.std.specs.Prelude.{ℕ, ◌-◌, ◌/◌, ◌%◌, List, [], ◌∷◌, Bool, ◌==◌, if◌then◌else◌, zero, suc}
 use Rattle.std.specs.Bool.{beq}
 use Rattle.std.specs.Int.Bits.{bit_xor}

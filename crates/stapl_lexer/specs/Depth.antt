@@ -1,5 +1,5 @@
--- The depth rule, which is this profile's: a piece must not nest brackets or conditions too deep, nor hold too many operator marks.
--- Only tokens count, good and bad ones.
+-- The depth rule, which is this profile's: a piece must not nest brackets or conditions too deep, nor hold too many
+-- operator marks. Only tokens count, good and bad ones.
 use Rattle.std.specs.Prelude.{◌≡◌, ℕ, ◌+◌, ◌-◌, ◌<◌, List, [], ◌∷◌, ◌++◌, Bool, true, false, ◌&&◌, if◌then◌else◌, Option, Some, is_none, nat_le, count_by}
 use Rattle.stapl_lexer.specs.declared.terminal.InnerWord.TheVariants as inners
 use Rattle.stapl_lexer.specs.declared.terminal.Mark.TheVariants as marks
@@ -50,8 +50,8 @@ is_integer _ = false
 abbrev pub count_of : (Option Terminal → Bool) → List Token → ℕ
 count_of test tokens = count_by (λ token. test token.terminal) tokens
 
--- At some place more than 32 brackets are open: some run of tokens has over 32 more opening brackets than closing ones. A closing
--- bracket closes the last open one, of whichever kind, and nothing if none is open.
+-- At some place more than 32 brackets are open: some run of tokens has over 32 more opening brackets than closing ones.
+-- A closing bracket closes the last open one, of whichever kind, and nothing if none is open.
 pub record HasOpenBrackets (tokens : List Token) : Type 0 where
   pub front : List Token
   pub run : List Token
@@ -65,7 +65,8 @@ is_label_word token = is_word token.kind && is_none token.terminal && nat_le (to
 
 -- the tokens after the label, if there is one
 abbrev pub after_label : List Token → List Token
-after_label (label ∷ colon ∷ tokens) = if is_label_word label && is_colon colon.terminal then tokens else (label ∷ colon ∷ tokens)
+after_label (label ∷ colon ∷ tokens) =
+    if is_label_word label && is_colon colon.terminal then tokens else (label ∷ colon ∷ tokens)
 after_label (token ∷ []) = token ∷ []
 after_label [] = []
 
@@ -74,8 +75,8 @@ abbrev pub begins_with_integer : List Token → Bool
 begins_with_integer (token ∷ tokens) = is_integer token.terminal
 begins_with_integer [] = false
 
--- The piece is too deep. The number of operator marks is not tested in a declaration of an INTEGER, in which a sign may stand before
--- each initial value.
+-- The piece is too deep. The number of operator marks is not tested in a declaration of an INTEGER, in which a sign may
+-- stand before each initial value.
 pub data IsTooDeep (tokens : List Token) : Type 0 where
   -- more than 32 brackets are open at once
   Brackets : HasOpenBrackets tokens → IsTooDeep tokens

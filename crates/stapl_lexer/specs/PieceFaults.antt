@@ -1,4 +1,5 @@
--- The tokens of a piece, and the reasons against it that lie in its bytes and its tokens. The reasons and their order are this profile's.
+-- The tokens of a piece, and the reasons against it that lie in its bytes and its tokens. The reasons and their order
+-- are this profile's.
 use Rattle.std.specs.Prelude.{◌≡◌, ℕ, ◌-◌, ◌≤◌, List, [], Bool, true, false, ◌&&◌, ◌||◌, ◌==◌, not, codes, length, nat_lt, slice_range, None, map}
 use Rattle.std.specs.List.{list_all, list_any}
 use Rattle.stapl_lexer.specs.declared.piece.Piece.{Piece}
@@ -69,23 +70,23 @@ pub data HasTokenReason (text : List ℕ) (piece : Piece) : Reason → Type 0 wh
   ForeignByte : (segments : List Segment) → HasSegments text piece segments → list_any is_foreign segments ≡ true →
       HasTokenReason text piece reasons.BadByte
   -- its line or the text ends a string
-  UnclosedString : (segments : List Segment) → HasSegments text piece segments → list_any is_open_string segments ≡ true →
-      HasTokenReason text piece reasons.OpenString
+  UnclosedString : (segments : List Segment) → HasSegments text piece segments →
+      list_any is_open_string segments ≡ true → HasTokenReason text piece reasons.OpenString
   -- an `@` stands outside strings and comments
   AtSign : (segments : List Segment) → HasSegments text piece segments → list_any is_compressed segments ≡ true →
       HasTokenReason text piece reasons.Compressed
   -- a word has more than 32 characters
-  LongWord : (lexemes : List Lexeme) → HasPieceLexemes text piece lexemes → list_any is_long_word (tokens_of lexemes) ≡ true →
-      HasTokenReason text piece reasons.NameTooLong
+  LongWord : (lexemes : List Lexeme) → HasPieceLexemes text piece lexemes →
+      list_any is_long_word (tokens_of lexemes) ≡ true → HasTokenReason text piece reasons.NameTooLong
   -- a number is above 2,147,483,648
-  LargeNumber : (lexemes : List Lexeme) → HasPieceLexemes text piece lexemes → list_any (is_large_number text) (tokens_of lexemes) ≡ true →
-      HasTokenReason text piece reasons.NumberTooLarge
+  LargeNumber : (lexemes : List Lexeme) → HasPieceLexemes text piece lexemes →
+      list_any (is_large_number text) (tokens_of lexemes) ≡ true → HasTokenReason text piece reasons.NumberTooLarge
   -- the tokens pass the limits of the depth rule
   Deep : (lexemes : List Lexeme) → HasPieceLexemes text piece lexemes → IsTooDeep (tokens_of lexemes) →
       HasTokenReason text piece reasons.TooDeep
   -- a token is bad
-  BadToken : (lexemes : List Lexeme) → HasPieceLexemes text piece lexemes → list_all (λ lexeme. lexeme.good) lexemes ≡ false →
-      HasTokenReason text piece reasons.Syntax
+  BadToken : (lexemes : List Lexeme) → HasPieceLexemes text piece lexemes →
+      list_all (λ lexeme. lexeme.good) lexemes ≡ false → HasTokenReason text piece reasons.Syntax
 
 -- the smallest of these reasons against the piece, by its number
 pub record IsSmallestTokenReason (text : List ℕ) (piece : Piece) (reason : Reason) : Type 0 where

@@ -1,5 +1,5 @@
--- The tokens of a piece, good and bad ones (JESD71, statements). That `E` and digits may follow the digits of a number, that white
--- space may stand between the digits of a literal, and how bad tokens are read, are this profile's rules.
+-- The tokens of a piece, good and bad ones (JESD71, statements). That `E` and digits may follow the digits of a number,
+-- that white space may stand between the digits of a literal, and how bad tokens are read, are this profile's rules.
 use Rattle.std.specs.Prelude.{◌≡◌, ℕ, ℤ, pos, ◌<◌, ◌≤◌, ◌+◌, ◌-◌, ◌*◌, ◌^◌, List, [], ◌∷◌, ◌++◌, Bool, true, false, ◌&&◌, ◌||◌, ◌==◌, not, if◌then◌else◌, codes, take, drop, length, slice_index, slice_range, Option, None, Some, nat_le, take_while}
 use Rattle.std.specs.Char.{is_ascii_alphabetic, is_ascii_digit, is_ascii_hexdigit}
 use Rattle.std.specs.Int.{cast_signed, w32}
@@ -22,8 +22,8 @@ pub record AreBlanks (bytes rest : List ℕ) : Type 0 where
   pub divides : Divides blanks bytes rest
   pub blank : list_all is_blank blanks ≡ true
 
--- What stands between the letters of a word and those bytes: nothing, or the `$` (36) of the word CHR$. That `$` belongs to the
--- word where it stands directly behind CHR.
+-- What stands between the letters of a word and those bytes: nothing, or the `$` (36) of the word CHR$. That `$`
+-- belongs to the word where it stands directly behind CHR.
 abbrev pub IsWordTail : List ℕ → List ℕ → List ℕ → Type 0
 IsWordTail name [] behind =
     StartsWithout is_name_byte behind × ((spells_word (codes "CHR") name && slice_index behind 0 == 36) ≡ false)
@@ -82,15 +82,16 @@ pub record HasNoDigit (kind : TokenKind) (bytes : List ℕ) : Type 0 where
 abbrev pub SpacedDigits : TokenKind → List ℕ → List ℕ → List ℕ → Type 0
 SpacedDigits kind bytes [] behind = (bytes ≡ behind) × HasNoDigit kind bytes
 SpacedDigits kind bytes (d ∷ digits) behind =
-    (rest : List ℕ) × AreBlanks bytes (d ∷ rest) × (is_literal_digit kind d ≡ true) × SpacedDigits kind rest digits behind
+    (rest : List ℕ) × AreBlanks bytes (d ∷ rest) × (is_literal_digit kind d ≡ true)
+    × SpacedDigits kind rest digits behind
 
 -- A literal: its mark, and the digits behind that. It is good where it has a digit.
 abbrev pub IsLiteral : TokenKind → Bool → List ℕ → List ℕ → Type 0
 IsLiteral kind good own behind =
     (digits : List ℕ) × SpacedDigits kind (drop 1 own ++ behind) digits behind × (good ≡ nat_le 1 (length digits))
 
--- The digits of a literal: those of its bytes that are digits, but for those in comments (JESD71, program text), which go from an
--- apostrophe (39) up to a line feed (10). The flag says whether the bytes begin inside a comment.
+-- The digits of a literal: those of its bytes that are digits, but for those in comments (JESD71, program text), which
+-- go from an apostrophe (39) up to a line feed (10). The flag says whether the bytes begin inside a comment.
 abbrev pub digits_in : TokenKind → Bool → List ℕ → List ℕ
 digits_in kind in_comment [] = []
 digits_in kind true (b ∷ bs) = digits_in kind (not (b == 10)) bs
@@ -109,7 +110,8 @@ pub record AreFourDigits (own behind : List ℕ) : Type 0 where
 -- What stands behind the word CRC: four hexadecimal digits, or else it is all bytes there, and bad.
 abbrev pub IsCheckWord : Bool → List ℕ → List ℕ → Type 0
 IsCheckWord true own behind = AreFourDigits own behind
-IsCheckWord false own behind = (behind ≡ []) × ((front rest : List ℕ) → own ≡ front ++ rest → AreFourDigits front rest → ⊥)
+IsCheckWord false own behind =
+    (behind ≡ []) × ((front rest : List ℕ) → own ≡ front ++ rest → AreFourDigits front rest → ⊥)
 
 -- a mark, as long as it can be, or a single byte that begins no token
 abbrev pub IsMark : List ℕ → List ℕ → Type 0
@@ -123,9 +125,9 @@ abbrev pub is_closed : Segment → Bool
 is_closed (Closed bytes) = true
 is_closed _ = false
 
--- These bytes are a token of this kind where those stand behind. It is good or bad:
--- a number that a letter or an underscore follows is bad, and so is a string that is open, a literal without a digit, and a
--- single byte that is no mark, as a single `.`, an underscore that stands in no word, or a byte that is none of the language.
+-- These bytes are a token of this kind where those stand behind. It is good or bad: a number that a letter or an
+-- underscore follows is bad, and so is a string that is open, a literal without a digit, and a single byte that is no
+-- mark, as a single `.`, an underscore that stands in no word, or a byte that is none of the language.
 abbrev pub Spells : TokenKind → Bool → List ℕ → List ℕ → Type 0
 Spells kinds.Word good own behind = IsWord own behind × (good ≡ true)
 Spells kinds.Number good own behind = IsNumber own behind × (good ≡ not (is_name_byte (slice_index behind 0)))
@@ -145,8 +147,8 @@ kind_of b =
     else if b == 36 then kinds.Hexadecimal
     else kinds.Mark
 
--- The kind of the token that begins with this byte, where it is known whether the first word of the piece is CRC, or that no word
--- has been before.
+-- The kind of the token that begins with this byte, where it is known whether the first word of the piece is CRC, or
+-- that no word has been before.
 abbrev pub kind_at : Option Bool → ℕ → TokenKind
 kind_at (Some true) b = kinds.Hex4
 kind_at (Some false) b = kind_of b
@@ -157,8 +159,8 @@ abbrev pub first_word : Option Bool → TokenKind → List ℕ → Option Bool
 first_word None kinds.Word own = Some (spells_word (codes "CRC") own)
 first_word first _ own = first
 
--- The value of a token: of a number its own, where 2147483648 stands for -2147483648; 0 for a greater number, and for every other
--- token.
+-- The value of a token: of a number its own, where 2147483648 stands for -2147483648; 0 for a greater number, and for
+-- every other token.
 abbrev pub value_of : TokenKind → List ℕ → ℤ
 value_of kinds.Number own = if nat_le (number_value own) 2147483648 then cast_signed w32 (number_value own) else pos 0
 value_of _ own = pos 0
@@ -190,17 +192,19 @@ pub record BeginsWith (text : List ℕ) (first : Option Bool) (at limit : ℕ) (
   pub blank : AreBlanks (slice_range text at limit) (slice_range text lexeme.token.start limit)
   pub solid : IsSolid (slice_range text lexeme.token.start limit)
   pub kind : lexeme.token.kind ≡ kind_at first (slice_index text lexeme.token.start)
-  pub spelled : Spells lexeme.token.kind lexeme.good (token_bytes text lexeme.token) (slice_range text lexeme.token.end limit)
+  pub spelled : Spells lexeme.token.kind lexeme.good (token_bytes text lexeme.token)
+      (slice_range text lexeme.token.end limit)
   pub value : lexeme.token.value ≡ value_of lexeme.token.kind (token_bytes text lexeme.token)
   pub terminal : lexeme.token.terminal ≡ terminal_of lexeme.token.kind (token_bytes text lexeme.token)
 
--- The bytes of the text from one place up to another have these tokens. White space and comments separate tokens and mean
--- nothing else. Reading goes on behind a bad token.
+-- The bytes of the text from one place up to another have these tokens. White space and comments separate tokens and
+-- mean nothing else. Reading goes on behind a bad token.
 abbrev pub HasLexemes : List ℕ → Option Bool → ℕ → ℕ → List Lexeme → Type 0
 HasLexemes text first at limit [] = AreBlanks (slice_range text at limit) []
 HasLexemes text first at limit (lexeme ∷ lexemes) =
     BeginsWith text first at limit lexeme
-    × HasLexemes text (first_word first lexeme.token.kind (token_bytes text lexeme.token)) lexeme.token.end limit lexemes
+    × HasLexemes text (first_word first lexeme.token.kind (token_bytes text lexeme.token)) lexeme.token.end limit
+    lexemes
 
 -- a token lies between two places
 pub record LiesBetween (start limit : ℕ) (token : Token) : Type 0 where

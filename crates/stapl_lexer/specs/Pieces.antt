@@ -1,5 +1,5 @@
--- The pieces of a text (JESD71, program text): what stands between its semicolons, but for those in strings and comments.
--- The lines of pieces, and the piece that no semicolon ends, are this profile's.
+-- The pieces of a text (JESD71, program text): what stands between its semicolons, but for those in strings and
+-- comments. The lines of pieces, and the piece that no semicolon ends, are this profile's.
 use Rattle.std.specs.Prelude.{◌≡◌, ℕ, ◌+◌, ◌<◌, ◌≤◌, List, [], ◌∷◌, Bool, true, false, ◌||◌, ◌==◌, if◌then◌else◌, length, take, count_by, take_while, slice_index, slice_get, IfSome}
 use Rattle.std.specs.List.{list_all, slice_split, AllAdjacentBelow}
 use Rattle.stapl_lexer.specs.declared.piece.Piece.{Piece}
@@ -32,8 +32,8 @@ is_semicolon (Comment bytes) = false
 abbrev pub line_at : List ℕ → ℕ → ℕ
 line_at text at = count_by (λ b. b == 10) (take at text) + 1
 
--- The piece of a group of segments that begins at a place of the text. Its line is that of its first byte that is neither
--- white space nor comment, or where there is none that of its end, where its semicolon stands.
+-- The piece of a group of segments that begins at a place of the text. Its line is that of its first byte that is
+-- neither white space nor comment, or where there is none that of its end, where its semicolon stands.
 abbrev pub piece_of : List ℕ → ℕ → List Segment → Bool → Piece
 piece_of text start group closed = record {
   start = start;
@@ -42,8 +42,8 @@ piece_of text start group closed = record {
   closed = closed;
 }
 
--- The pieces of the groups between the semicolons, from a place of the text on. Each group but the last is a closed piece.
--- The last one is a piece that is not closed, or none if it has white space and comments alone.
+-- The pieces of the groups between the semicolons, from a place of the text on. Each group but the last is a closed
+-- piece. The last one is a piece that is not closed, or none if it has white space and comments alone.
 abbrev pub pieces_from : List ℕ → ℕ → List (List Segment) → List Piece
 pieces_from text start [] = []
 pieces_from text start (group ∷ []) = if list_all is_blank group then [] else piece_of text start group false ∷ []
@@ -71,8 +71,8 @@ pub record Follows (piece next : Piece) : Type 0 where
   pub closed : piece.closed ≡ true
   pub start : next.start ≡ piece.end + 1
 
--- The pieces stand in order and apart: the first one begins at the front of the text, and each other one right behind the
--- semicolon of the one before.
+-- The pieces stand in order and apart: the first one begins at the front of the text, and each other one right behind
+-- the semicolon of the one before.
 pub record LieInOrder (pieces : List Piece) : Type 0 where
   pub first : IfSome (slice_get pieces 0) (λ piece. piece.start ≡ 0)
   pub next : AllAdjacentBelow Follows pieces (length pieces)

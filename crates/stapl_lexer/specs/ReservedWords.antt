@@ -1,4 +1,5 @@
--- The reserved words. The words are those of JESD71; that all of them, and no others, are reserved is this profile's rule.
+-- The reserved words. The words are those of JESD71; that all of them, and no others, are reserved is this profile's
+-- rule.
 use Rattle.std.specs.Prelude.{ℕ, List, [], ◌∷◌, Bool, ◌&&◌, not, codes, Option, is_some}
 use Rattle.std.specs.Str.{str_eq_ignore_ascii_case}
 use Rattle.stapl_lexer.specs.declared.terminal.Function.TheVariants as functions
@@ -14,8 +15,9 @@ use Rattle.stapl_lexer.specs.declared.terminal.Terminal.TheVariants as terminals
 use Rattle.stapl_lexer.specs.Names.{is_name}
 use Rattle.stapl_lexer.specs.Terminals.{terminal_in}
 
--- The reserved words, each with what it is, the shortest first. A state has its number in the order of the table of states; TRST, VECTOR
--- and VMAP begin statements that this profile leaves out, and CEIL, FLOOR, LOG2, MAX and SQRT are left out too.
+-- The reserved words, each with what it is, the shortest first. A state has its number in the order of the table of
+-- states; TRST, VECTOR and VMAP begin statements that this profile leaves out, and CEIL, FLOOR, LOG2, MAX and SQRT are
+-- left out too.
 abbrev pub reserved_words : List (List ℕ × Terminal)
 reserved_words =
     (codes "IF", terminals.If) ∷

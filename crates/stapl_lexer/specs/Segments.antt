@@ -1,5 +1,5 @@
--- The segments of a text (JESD71, program text): strings, comments, and single bytes. That a line feed or the end of the
--- text ends a string is this profile's rule.
+-- The segments of a text (JESD71, program text): strings, comments, and single bytes. That a line feed or the end of
+-- the text ends a string is this profile's rule.
 use Rattle.std.specs.Prelude.{◌≡◌, ◌≢◌, ℕ, List, [], ◌∷◌, ◌++◌, Bool, true, ◌||◌, ◌==◌, not}
 use Rattle.std.specs.List.{list_all, flat_map}
 
@@ -38,8 +38,8 @@ EndsLine [] = Unit {0}
 EndsLine (b ∷ bs) = b ≡ 10
 
 -- The segment may stand before this rest of the text. A string begins at a quote and ends with the next quote; where a
--- line feed or the end of the text comes first, it is open and ends before that. A comment goes from an apostrophe up to
--- a line feed or the end of the text. The line feed is no part of either. Each other byte is a segment by itself.
+-- line feed or the end of the text comes first, it is open and ends before that. A comment goes from an apostrophe up
+-- to a line feed or the end of the text. The line feed is no part of either. Each other byte is a segment by itself.
 abbrev pub IsSegment : Segment → List ℕ → Type 0
 IsSegment (Plain b) rest = (b ≢ 34) × (b ≢ 39)
 IsSegment (Closed bytes) rest = HasNone ends_string bytes
@@ -49,7 +49,8 @@ IsSegment (Comment bytes) rest = (HasNone ends_comment bytes) × EndsLine rest
 -- The text is divided into these segments, and the rest.
 abbrev pub Divides : List Segment → List ℕ → List ℕ → Type 0
 Divides [] text rest = text ≡ rest
-Divides (s ∷ ss) text rest = (behind : List ℕ) × (text ≡ spelled s ++ behind) × IsSegment s behind × Divides ss behind rest
+Divides (s ∷ ss) text rest =
+    (behind : List ℕ) × (text ≡ spelled s ++ behind) × IsSegment s behind × Divides ss behind rest
 
 -- the bytes of all segments
 abbrev pub spelling : List Segment → List ℕ

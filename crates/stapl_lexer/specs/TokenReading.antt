@@ -48,7 +48,8 @@ pub record IsSpacedUpTo (kind : TokenKind) (bytes : List ℕ) (end count : ℕ) 
   pub few : count ≤ end
   pub digits : List ℕ
   pub count_is : count ≡ length digits
-  pub forward : (more : List ℕ) (behind : List ℕ) → SpacedDigits kind (drop end bytes) more behind → SpacedDigits kind bytes (digits ++ more) behind
+  pub forward : (more behind : List ℕ) → SpacedDigits kind (drop end bytes) more behind →
+      SpacedDigits kind bytes (digits ++ more) behind
 
 -- all digits of a literal are read
 pub record IsSpacedFront (kind : TokenKind) (bytes : List ℕ) (end count : ℕ) : Type 0 where
@@ -74,9 +75,10 @@ pub record IsFront (kind : TokenKind) (bytes : List ℕ) (front : Front) : Type 
 abbrev pub held_value : ℕ → ℤ
 held_value value = if nat_lt 2147483648 value then pos 0 else cast_signed w32 value
 
--- The text is read from one place up to another: these are the tokens so far, and it is known whether all of them are good, and
--- whether one is a number that is too large. What the rest has, the whole has behind these tokens.
-pub record IsReadUpTo (text : List ℕ) (start limit : ℕ) (tokens : List Token) (good large : Bool) (is_crc : Option Bool) (at : ℕ) : Type 0 where
+-- The text is read from one place up to another: these are the tokens so far, and it is known whether all of them are
+-- good, and whether one is a number that is too large. What the rest has, the whole has behind these tokens.
+pub record IsReadUpTo (text : List ℕ) (start limit : ℕ) (tokens : List Token) (good large : Bool)
+    (is_crc : Option Bool) (at : ℕ) : Type 0 where
   pub within : at ≤ limit
   pub from : start ≤ at
   pub done : List Lexeme
@@ -84,7 +86,8 @@ pub record IsReadUpTo (text : List ℕ) (start limit : ℕ) (tokens : List Token
   pub good_is : good ≡ list_all (λ lexeme. lexeme.good) done
   pub large_is : large ≡ list_any (is_large_number text) tokens
   pub lie : All (LiesBetween start limit) tokens
-  pub forward : (more : List Lexeme) → HasLexemes text is_crc at limit more → HasLexemes text None start limit (done ++ more)
+  pub forward : (more : List Lexeme) → HasLexemes text is_crc at limit more →
+      HasLexemes text None start limit (done ++ more)
 
 -- all tokens between two places are read
 pub record AreRead (text : List ℕ) (start limit : ℕ) (tokens : List Token) (good large : Bool) : Type 0 where
@@ -97,7 +100,8 @@ pub record AreRead (text : List ℕ) (start limit : ℕ) (tokens : List Token) (
 
 -- The bytes of a segment are an open string: they begin with a quote and do not end in another one.
 abbrev pub is_open_spelling : List ℕ → Bool
-is_open_spelling own = (slice_index own 0 == 34) && not (nat_le 2 (length own) && slice_index own (length own - 1) == 34)
+is_open_spelling own =
+    (slice_index own 0 == 34) && not (nat_le 2 (length own) && slice_index own (length own - 1) == 34)
 
 -- the bytes up to a place are read segment by segment, and it is known what is wrong with them
 pub record IsSearchedUpTo (bytes : List ℕ) (foreign unclosed compressed : Bool) (at : ℕ) : Type 0 where

@@ -78,7 +78,7 @@ fn byte_faults(bytes: &[u8]) -> ByteFaults
 }
 
 // The smallest reason that lies in the bytes of a piece; if there is none, each reason against it lies in its tokens.
-#[tactic(auto, using(crate::proofs::ReasonLemmas::unterminated_first, crate::proofs::ReasonLemmas::bad_byte_first, crate::proofs::ReasonLemmas::open_string_first, crate::proofs::ReasonLemmas::compressed_first, crate::proofs::ReasonLemmas::good_bytes))]
+#[tactic(auto, using(crate::proofs::ReasonLemmas::unterminated_first, crate::proofs::ReasonLemmas::good_bytes))]
 pub(crate) fn reason_of_bytes(text: &[u8], piece: &Piece) -> Option<Reason>
     requires small { length text.now ≤ text_limit }
     requires lies { LiesIn text.now piece.now }

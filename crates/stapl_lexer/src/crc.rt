@@ -32,8 +32,9 @@ fn behind_byte(mut crc: u16, byte: u8) -> u16
     crc
 }
 
-/// The check word of a text: the reflected CCITT remainder with the polynomial 8408 hex, started with FFFF hex and complemented at the
-/// end, over all bytes but carriage returns (JESD71, CRC statement). That of `123456789` is 906E hex.
+/// The check word of a text: the reflected CCITT remainder with the polynomial 8408 hex, started with FFFF hex and
+/// complemented at the end, over all bytes but carriage returns (JESD71, CRC statement). That of `123456789` is 906E
+/// hex.
 pub fn crc_of(bytes: &[u8]) -> u16
     ensures { result ≡ check_word bytes.now }
 {

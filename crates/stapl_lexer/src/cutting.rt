@@ -55,7 +55,8 @@ fn comment_len(behind: &[u8]) -> usize
     comment_end(behind).unwrap_or(behind.len())
 }
 
-/// How many bytes the first segment of some bytes has: a string with its quotes, a comment with its apostrophe, or one byte.
+/// How many bytes the first segment of some bytes has: a string with its quotes, a comment with its apostrophe, or one
+/// byte.
 #[tactic(auto, using(crate::proofs::SegmentLemmas::begins_at_front, crate::proofs::SegmentLemmas::plain_begins))]
 pub fn segment_len(rest: &[u8]) -> usize
     requires { 0 < length rest.now }
@@ -115,8 +116,15 @@ impl Progress {
     fn close(&mut self) -> Piece
         requires bounds { Within self.old.at self.old }
         requires small { self.old.at < text_limit }
-        ensures piece { result ≡ record { start = self.old.start; end = self.old.at; line = unwrap_or self.old.first self.old.line; closed = true } }
-        ensures after { self.new ≡ record { at = self.old.at + 1; line = self.old.line; start = self.old.at + 1; first = None } }
+        ensures piece { result
+            ≡ record {
+              start = self.old.start;
+              end = self.old.at;
+              line = unwrap_or self.old.first self.old.line;
+              closed = true;
+            } }
+        ensures after { self.new
+            ≡ record { at = self.old.at + 1; line = self.old.line; start = self.old.at + 1; first = None } }
     {
         let piece = Piece {
             start: self.start as u32,
@@ -137,7 +145,8 @@ impl Progress {
         ensures at { self.new.at ≡ self.old.at + n }
         ensures start { self.new.start ≡ self.old.start }
         ensures line { self.new.line ≡ self.old.line + (if byte == 10 then 1 else 0) }
-        ensures first { self.new.first ≡ (if is_white byte || byte == 39 then self.old.first else Some (unwrap_or self.old.first self.old.line)) }
+        ensures first { self.new.first
+            ≡ (if is_white byte || byte == 39 then self.old.first else Some (unwrap_or self.old.first self.old.line)) }
     {
         if !is_blank_start(byte) && self.first.is_none() {
             self.first = Some(self.line);
@@ -156,7 +165,8 @@ impl Progress {
         requires small { length text.now ≤ text_limit }
         ensures bounds { Within (length text.now) self.new }
         ensures forward { self.old.at < self.new.at }
-        ensures cut_up_to { (pieces : List Piece) → IsCutUpTo text.now self.old pieces → IsCutUpTo text.now self.new (with_piece pieces result) }
+        ensures cut_up_to { (pieces : List Piece) → IsCutUpTo text.now self.old pieces
+            → IsCutUpTo text.now self.new (with_piece pieces result) }
     {
         let byte = text[self.at];
         if byte == b';' {
@@ -192,9 +202,10 @@ fn push_if_some(pieces: &mut Vec<Piece>, piece: Option<Piece>) -> Result<(), All
     Ok(())
 }
 
-/// The pieces of a text of at most `TEXT_LIMIT` bytes, which may be any bytes (JESD71, program text). Each semicolon outside
-/// strings and comments ends a piece. What is left behind the last one is a piece that is not closed, where a byte of it is
-/// neither white space nor comment. The only error is want of memory. The time is linear in the length of the text.
+/// The pieces of a text of at most `TEXT_LIMIT` bytes, which may be any bytes (JESD71, program text). Each semicolon
+/// outside strings and comments ends a piece. What is left behind the last one is a piece that is not closed, where a
+/// byte of it is neither white space nor comment. The only error is want of memory. The time is linear in the length of
+/// the text.
 #[tactic(auto, using(crate::proofs::CutLemmas::cut_all))]
 pub fn cut(alloc: Global, text: &[u8]) -> Result<Vec<Piece>, AllocError>
     requires { length text.now ≤ text_limit }

@@ -68,10 +68,12 @@ fn is_integer(terminal: Option<Terminal>) -> bool
     matches!(terminal, Some(Terminal::Inner(InnerWord::Integer)))
 }
 
-// How many brackets are open after a token. A closing bracket closes the last open one, of whichever kind, and nothing if none is open.
+// How many brackets are open after a token. A closing bracket closes the last open one, of whichever kind, and nothing
+// if none is open.
 fn open_after(terminal: Option<Terminal>, before: usize) -> usize
     requires { before ≤ 32 }
-    ensures { result ≡ (if is_opening terminal then before + 1 else if is_closing terminal then before - 1 else before) }
+    ensures { result
+        ≡ (if is_opening terminal then before + 1 else if is_closing terminal then before - 1 else before) }
 {
     if is_opening(terminal) {
         before + 1

@@ -44,7 +44,8 @@ fn kind_of(byte: u8) -> TokenKind
     }
 }
 
-// The kind of the token that begins with this byte, where `is_crc` says whether the first word of the piece is CRC, if there has been one.
+// The kind of the token that begins with this byte, where `is_crc` says whether the first word of the piece is CRC, if
+// there has been one.
 pub(crate) fn kind_at(is_crc: Option<bool>, byte: u8) -> TokenKind
     ensures { result ≡ kind_at is_crc byte }
 {

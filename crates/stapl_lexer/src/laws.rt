@@ -28,17 +28,20 @@ pub fn cut_in_one_way()
 
 /// A piece of a text has at most one list of good tokens.
 pub fn one_list_of_tokens()
-    ensures { (text : List ℕ) (piece : Piece) (a b : List Token) → AreGoodTokens text piece a → AreGoodTokens text piece b → a ≡ b }
+    ensures { (text : List ℕ) (piece : Piece) (a b : List Token)
+        → AreGoodTokens text piece a → AreGoodTokens text piece b → a ≡ b }
 {}
 
 /// A piece has at most one smallest reason.
 pub fn one_smallest_reason()
-    ensures { (text : List ℕ) (piece : Piece) (a b : Reason) → IsSmallestTokenReason text piece a → IsSmallestTokenReason text piece b → a ≡ b }
+    ensures { (text : List ℕ) (piece : Piece) (a b : Reason)
+        → IsSmallestTokenReason text piece a → IsSmallestTokenReason text piece b → a ≡ b }
 {}
 
 /// A piece that has tokens has no reason against it.
 pub fn tokens_or_a_reason()
-    ensures { (text : List ℕ) (piece : Piece) (tokens : List Token) (reason : Reason) → AreTokens text piece tokens → IsSmallestTokenReason text piece reason → ⊥ }
+    ensures { (text : List ℕ) (piece : Piece) (tokens : List Token) (reason : Reason)
+        → AreTokens text piece tokens → IsSmallestTokenReason text piece reason → ⊥ }
 {}
 
 /// A word is no terminal exactly if its bytes in upper case are not reserved.

@@ -24,17 +24,18 @@ pub enum LexRefused {
     Memory,
 }
 
-/// The tokens of a piece of a text, as `cut` gives it (JESD71, statements). White space and comments separate tokens and mean nothing
-/// else, and each token is as long as it can be.
+/// The tokens of a piece of a text, as `cut` gives it (JESD71, statements). White space and comments separate tokens
+/// and mean nothing else, and each token is as long as it can be.
 ///
-/// The error `Because` has the smallest reason against the piece that lies in its bytes and its tokens. `Memory` is want of memory. The
-/// time is linear in the length of the piece.
+/// The error `Because` has the smallest reason against the piece that lies in its bytes and its tokens. `Memory` is
+/// want of memory. The time is linear in the length of the piece.
 pub fn tokens(alloc: Global, text: &[u8], piece: &Piece) -> Result<Vec<Token>, LexRefused>
     requires small { length text.now ≤ text_limit }
     requires lies { LiesIn text.now piece.now }
     ensures ok { IfOk result (λ tokens. AreTokens text.now piece.now tokens.items) }
     ensures lie { IfOk result (λ tokens. All (LiesBetween piece.now.start piece.now.end) tokens.items) }
-    ensures because { (reason : Reason) → result ≡ Err (refusals.Because reason) → IsSmallestTokenReason text.now piece.now reason }
+    ensures because { (reason : Reason) → result ≡ Err (refusals.Because reason)
+        → IsSmallestTokenReason text.now piece.now reason }
 {
     let Ok(lexed) = read_lexemes(alloc, text, piece.start as usize, piece.end as usize) else {
         return Err(LexRefused::Memory);

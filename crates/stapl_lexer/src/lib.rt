@@ -25,6 +25,7 @@ pub use cutting::{TEXT_LIMIT, cut, segment_len};
 pub use lexing::{LexRefused, tokens};
 pub use literal::literal_digits;
 pub use name::Name;
+pub use number::capped_digits;
 pub use piece::Piece;
 pub use reason::Reason;
 pub use terminal::{

@@ -32,7 +32,8 @@ fn next_digit(kind: TokenKind, bytes: &[u8]) -> Option<usize>
     Some(n)
 }
 
-// Where the digits that stand in front end, and how many they are. White space and comments may stand before each of them.
+// Where the digits that stand in front end, and how many they are. White space and comments may stand before each of
+// them.
 pub(crate) fn spaced_digits(kind: TokenKind, bytes: &[u8]) -> (usize, usize)
     requires { length bytes.now ≤ text_limit }
     ensures { IsSpacedFront kind bytes.now result.0 result.1 }
@@ -59,8 +60,8 @@ fn takes_digit(kind: TokenKind, in_comment: &mut bool, byte: u8) -> bool
     !*in_comment && is_literal_digit(kind, byte)
 }
 
-/// The digits of a literal that has these bytes after its mark, or those after the word CRC, without the white space and the comments
-/// between them. The only error is want of memory. The time is linear in the number of bytes.
+/// The digits of a literal that has these bytes after its mark, or those after the word CRC, without the white space
+/// and the comments between them. The only error is want of memory. The time is linear in the number of bytes.
 pub fn literal_digits(alloc: Global, kind: TokenKind, own: &[u8]) -> Result<Vec<u8>, AllocError>
     ensures digits { IfOk result (λ digits. digits.items ≡ digits_in kind false own.now) }
     ensures each { IfOk result (λ digits. list_all (is_literal_digit kind) digits.items ≡ true) }

@@ -66,7 +66,8 @@ fn is_name(bytes: &[u8]) -> bool
 }
 
 impl Name {
-    /// The name that the bytes spell, in either case; `None` exactly where they spell none. A reserved word is read too.
+    /// The name that the bytes spell, in either case; `None` exactly where they spell none. A reserved word is read
+    /// too.
     #[tactic(auto, using(crate::proofs::NameLemmas::name_short, crate::proofs::NameLemmas::upper_more))]
     pub fn read(bytes: &[u8]) -> Option<Name>
         ensures value { IfSome result (λ name. name ≡ str_to_ascii_uppercase bytes.now) }

@@ -22,14 +22,15 @@ fn begins_exponent(bytes: &[u8]) -> bool
     matches!(byte_at(bytes, 0), b'E' | b'e') && byte_at(bytes, 1).is_ascii_digit()
 }
 
-// The value of decimal digits, or the cap where it is greater.
-fn capped_digits(digits: &[u8]) -> u64
-    requires { list_all is_ascii_digit digits.now ≡ true }
-    ensures { result ≡ min (digits_value 10 digits.now) cap }
+/// The value of decimal digits, or the limit if it is greater. The time is linear in the number of digits.
+pub fn capped_digits(digits: &[u8], limit: u64) -> u64
+    requires digits { list_all is_ascii_digit digits.now ≡ true }
+    requires small { limit ≤ 2 ^ 60 }
+    ensures { result ≡ min (digits_value 10 digits.now) limit }
 {
     let mut value = 0;
     for digit in digits {
-        value = (value * 10 + u64::from(*digit - b'0')).min(CAP);
+        value = (value * 10 + u64::from(*digit - b'0')).min(limit);
     }
     value
 }
@@ -53,12 +54,12 @@ pub(crate) fn number_in_front(bytes: &[u8]) -> (usize, u64)
     ensures { IsNumberFront bytes.now result.0 result.1 }
 {
     let n = digits_len(bytes);
-    let value = capped_digits(&bytes[..n]);
+    let value = capped_digits(&bytes[..n], CAP);
     if !begins_exponent(&bytes[n..]) {
         return (n, value);
     }
     let behind = &bytes[n + 1..];
     let m = digits_len(behind);
-    let power = capped_digits(&behind[..m]);
+    let power = capped_digits(&behind[..m], CAP);
     (n + 1 + m, scaled(value, power))
 }

@@ -71,7 +71,8 @@ fn next_lexeme(text: &[u8], is_crc: Option<bool>, at: usize, limit: usize) -> Op
     requires ordered { at ≤ limit }
     requires within { limit ≤ length text.now }
     requires small { length text.now ≤ text_limit }
-    ensures some { IfSome result (λ lexeme. BeginsWith text.now is_crc at limit (record { token = lexeme.token; good = lexeme.good })) }
+    ensures some { IfSome result (λ lexeme.
+        BeginsWith text.now is_crc at limit (record { token = lexeme.token; good = lexeme.good })) }
     ensures large { IfSome result (λ lexeme. lexeme.large ≡ is_large_number text.now lexeme.token) }
     ensures none { IfNone result (AreBlanks (slice_range text.now at limit) []) }
 {

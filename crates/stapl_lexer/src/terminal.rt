@@ -1,4 +1,5 @@
-//! The symbols of the grammar that have a fixed spelling: operators, other marks and reserved words, each by its place in the grammar.
+//! The symbols of the grammar that have a fixed spelling: operators, other marks and reserved words, each by its place
+//! in the grammar.
 
 /// An operator with two operands (JESD71, expressions).
 #[derive(Clone, Copy, Debug, PartialEq, Eq)]
@@ -54,7 +55,8 @@ pub enum Padding {
     PostInstruction,
 }
 
-/// The first word of a statement outside procedures and DATA blocks, or of one that begins or ends such a block from outside.
+/// The first word of a statement outside procedures and DATA blocks, or of one that begins or ends such a block from
+/// outside.
 #[derive(Clone, Copy, Debug, PartialEq, Eq)]
 pub enum OuterWord {
     Note,

@@ -27,7 +27,9 @@ fn has_long_word(tokens: &[Token]) -> bool
 // The smallest reason against a piece with these tokens, in whose bytes no reason lies.
 
 pub(crate) fn reason_of_tokens(lexed: &Lexed) -> Option<Reason>
-    ensures { (text : List ℕ) (piece : Piece) → IsReadPiece text piece lexed.now.tokens.items lexed.now.good lexed.now.large → IsTokenAnswer text piece lexed.now.good result }
+    ensures { (text : List ℕ) (piece : Piece)
+        → IsReadPiece text piece lexed.now.tokens.items lexed.now.good lexed.now.large
+        → IsTokenAnswer text piece lexed.now.good result }
 {
     if has_long_word(&lexed.tokens) {
         return Some(Reason::NameTooLong);

@@ -1,4 +1,4 @@
-use Rattle.std.proofs.Common.{◌≡◌, ◌∙◌, ◌+◌, ap, ℕ, sym, drop}
+use Rattle.std.proofs.Common.{◌∙◌, ◌+◌, ap, ℕ, sym, drop}
 use Rattle.stapl_lexer.proofs.DepthLemmas.{open_at, open_at_end, open_found, opens_many, brackets_found, no_brackets}
 use Rattle.stapl_lexer.proofs.depth.has_open_brackets.Goals as goal
 

@@ -1,6 +1,6 @@
-use Rattle.std.proofs.Common.{◌≡◌, ◌≤◌, ℕ, List, Bool, sym, subst, false, true, length}
+use Rattle.std.proofs.Common.{◌≡◌, ◌≤◌, ℕ, List, sym, subst, false, true, length}
 use Rattle.std.specs.List.{list_all}
-use Rattle.stapl_lexer.specs.PieceTokens.{is_literal_digit, digits_in}
+use Rattle.stapl_lexer.specs.PieceTokens.{is_literal_digit}
 use Rattle.stapl_lexer.proofs.DigitLemmas.{each_digit, few_digits, digits_read}
 use Rattle.stapl_lexer.proofs.literal.literal_digits.Goals as goal
 

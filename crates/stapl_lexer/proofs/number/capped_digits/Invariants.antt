@@ -1,7 +1,6 @@
 use Rattle.std.proofs.Common.{◌≡◌, min, take}
 use Rattle.std.specs.Str.Parse.{digits_value}
-use Rattle.stapl_lexer.specs.TokenReading.{cap}
 use Rattle.stapl_lexer.proofs.number.capped_digits.Given as goal
 
 abbrev pub invariant-loop-digit : goal.invariant-loop-digit
-invariant-loop-digit l = l.value ≡ min (digits_value 10 (take l.digit-index l.digits)) cap
+invariant-loop-digit l = l.value ≡ min (digits_value 10 (take l.digit-index l.digits)) l.limit

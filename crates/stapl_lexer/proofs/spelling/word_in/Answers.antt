@@ -1,4 +1,4 @@
-use Rattle.std.proofs.Common.{◌∙◌, sym, ap, ℕ, List}
+use Rattle.std.proofs.Common.{◌∙◌, sym}
 use Rattle.stapl_lexer.specs.ReservedWords.{spells_word}
 use Rattle.stapl_lexer.proofs.SpellingLemmas.{row_found, row_passed, no_row_left}
 use Rattle.stapl_lexer.proofs.spelling.word_in.Goals as goal

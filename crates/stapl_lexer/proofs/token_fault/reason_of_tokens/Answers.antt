@@ -1,4 +1,4 @@
-use Rattle.std.proofs.Common.{◌∙◌, sym, ap, subst, ℕ, List}
+use Rattle.std.proofs.Common.{◌∙◌, sym, ap, subst}
 use Rattle.std.specs.List.{list_any}
 use Rattle.stapl_lexer.specs.Depth.{IsTooDeep}
 use Rattle.stapl_lexer.specs.PieceFaults.{is_long_word}
