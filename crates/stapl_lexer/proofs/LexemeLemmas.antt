@@ -188,6 +188,5 @@ read_all text start limit tokens good large is_crc at r blank = record {
   tokens_are = r.tokens_are;
   good_is = r.good_is;
   large_is = r.large_is;
-  lie = r.lie;
   has = subst (HasLexemes text None start limit) (append-nil r.done) (r.forward [] blank);
 }

@@ -16,3 +16,5 @@ pub mod DepthLemmas
 pub mod ReasonLemmas
 pub mod DigitLemmas
 pub mod SpellingLemmas
+pub mod Existence
+pub mod Answered

@@ -95,7 +95,6 @@ pub record AreRead (text : List ℕ) (start limit : ℕ) (tokens : List Token) (
   pub tokens_are : tokens ≡ map (λ lexeme. lexeme.token) lexemes
   pub good_is : good ≡ list_all (λ lexeme. lexeme.good) lexemes
   pub large_is : large ≡ list_any (is_large_number text) tokens
-  pub lie : All (LiesBetween start limit) tokens
   pub has : HasLexemes text None start limit lexemes
 
 -- The bytes of a segment are an open string: they begin with a quote and do not end in another one.

@@ -1,6 +1,6 @@
 //! The tokens between two places of a text, good and bad ones.
-ghost use Rattle.std.specs.Prelude.{◌≡◌, ℕ, ℤ, nat_lt, ◌≤◌, ◌<◌, ◌+◌, ◌++◌, ◌∷◌, [], ◌&&◌, ◌||◌, length, take, drop, slice_range, IfOk, OnOk, IfSome, IfNone, Option};
-ghost use Rattle.stapl_lexer.specs.PieceTokens.{AreBlanks, BeginsWith, first_word, terminal_of};
+ghost use Rattle.std.specs.Prelude.{◌≡◌, ℕ, ℤ, nat_lt, ◌≤◌, ◌<◌, ◌+◌, ◌++◌, ◌∷◌, [], ◌&&◌, ◌||◌, length, take, drop, slice_range, IfOk, OnOk, IfSome, IfNone, Option, All};
+ghost use Rattle.stapl_lexer.specs.PieceTokens.{AreBlanks, BeginsWith, first_word, terminal_of, LiesBetween};
 ghost use Rattle.stapl_lexer.specs.PieceFaults.{is_large_number};
 ghost use Rattle.stapl_lexer.specs.TokenReading.{IsFront, held_value, AreRead};
 ghost use Rattle.stapl_lexer.specs.Pieces.{text_limit};
@@ -134,7 +134,8 @@ pub(crate) fn read_lexemes(
     requires ordered { start ≤ limit }
     requires within { limit ≤ length text.now }
     requires small { length text.now ≤ text_limit }
-    ensures { IfOk result (λ lexed. AreRead text.now start limit lexed.tokens.items lexed.good lexed.large) }
+    ensures read { IfOk result (λ lexed. AreRead text.now start limit lexed.tokens.items lexed.good lexed.large) }
+    ensures lie { IfOk result (λ lexed. All (LiesBetween start limit) lexed.tokens.items) }
 {
     let mut lexed = Lexed {
         tokens: Vec::new(alloc),

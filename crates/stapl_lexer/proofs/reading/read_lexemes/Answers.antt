@@ -18,7 +18,7 @@ lexemes-preserved c =
     (read_one text c.args.start c.args.limit lexed.tokens.items lexed.good lexed.large c.lexemes.is_crc c.lexemes.at lexeme.token lexeme.good lexeme.large
     c.lexemes.invariant c.in-Some.ensures.some c.in-Some.ensures.large))))
 
-pub returns : goal.returns
-returns c =
+pub returns-clause-read : goal.returns-clause-read
+returns-clause-read c =
     let lexed = c.lexemes.lexed in
     read_all c.args.text.now c.args.start c.args.limit lexed.tokens.items lexed.good lexed.large c.lexemes.is_crc c.lexemes.at c.lexemes.invariant c.in_default.ensures.none
