@@ -1,12 +1,12 @@
 -- Each piece has tokens, or a smallest reason against it.
-use Rattle.std.proofs.Common.{◌≡◌, ◌≤◌, ◌<◌, ℕ, List, [], refl, Bool, true, false, None, ◌⊎◌, inl, inr, slice_range, length, arith}
+use Rattle.std.proofs.Common.{◌≡◌, ◌≤◌, ◌<◌, ℕ, List, refl, Bool, true, false, None, ◌⊎◌, inl, inr, slice_range, length, arith}
 use Rattle.std.proofs.lemmas.Bool.{cases_order}
 use Rattle.std.specs.List.{list_all, list_any}
 use Rattle.stapl_lexer.specs.declared.piece.Piece.{Piece}
 use Rattle.stapl_lexer.specs.declared.reason.Reason.{Reason}
 use Rattle.stapl_lexer.specs.declared.reason.Reason.TheVariants as reasons
 use Rattle.stapl_lexer.specs.declared.token.Token.{Token}
-use Rattle.stapl_lexer.specs.Depth.{is_condition, is_operator, count_of, after_label, begins_with_integer, HasOpenBrackets, IsTooDeep, Brackets, Conditions, Operators}
+use Rattle.stapl_lexer.specs.Depth.{is_condition, is_operator, count_of, after_label, begins_with_integer, IsTooDeep, Brackets, Conditions, Operators}
 use Rattle.stapl_lexer.specs.PieceFaults.{is_foreign, is_open_string, is_compressed, is_long_word, is_large_number, tokens_of, HasPieceLexemes, AreTokens, IsSmallestTokenReason}
 use Rattle.stapl_lexer.specs.PieceTokens.{Lexeme}
 use Rattle.stapl_lexer.specs.TokenReading.{AreSearched, IsReadPiece}

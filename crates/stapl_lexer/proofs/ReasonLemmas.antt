@@ -54,7 +54,7 @@ by_number reasons.TooLong = refl
 pub same_number : (a b : Reason) → reason_number a ≡ reason_number b → a ≡ b
 same_number a b e = sym (by_number a) ∙ ap numbered e ∙ by_number b
 
--- no reason has one number below 2
+-- each reason that holds has a number of at least 2
 pub from_two : (text : List ℕ) (piece : Piece) → HasNoReasonBelow text piece 2
 from_two text piece reason (NoSemicolon is) = lit≤ tt
 from_two text piece reason (ForeignByte segments has is) = lit≤ tt

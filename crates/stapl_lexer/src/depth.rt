@@ -3,6 +3,7 @@ ghost use Rattle.std.specs.Prelude.{◌≡◌, ◌+◌, ◌-◌, ◌≤◌, if�
 ghost use Rattle.stapl_lexer.specs.Depth.{is_opening, is_closing, is_condition, is_operator, is_colon, is_integer, count_of, is_label_word, after_label, begins_with_integer, HasOpenBrackets, IsTooDeep};
 
 use crate::terminal::{InnerWord, Mark, Terminal};
+use crate::token_fault::LONGEST_WORD;
 use crate::{Token, TokenKind};
 
 // The most brackets that may be open at once.
@@ -13,9 +14,6 @@ const MOST_CONDITIONS: usize = 32;
 
 // The most operator marks of a piece.
 const MOST_OPERATORS: usize = 256;
-
-// The most bytes of a name.
-const LONGEST_NAME: u32 = 32;
 
 #[tactic(auto, unfolding(crate::specs::Depth::is_opening))]
 fn is_opening(terminal: Option<Terminal>) -> bool
@@ -131,7 +129,7 @@ fn is_label_word(token: &Token) -> bool
 {
     matches!(token.kind, TokenKind::Word)
         && token.terminal.is_none()
-        && token.end.saturating_sub(token.start) <= LONGEST_NAME
+        && token.end.saturating_sub(token.start) <= LONGEST_WORD
 }
 
 // The tokens after the label, if there is one.

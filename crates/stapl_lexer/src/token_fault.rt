@@ -10,7 +10,7 @@ use crate::reading::Lexed;
 use crate::{Reason, Token, TokenKind};
 
 // The most characters of a word.
-const LONGEST_WORD: u32 = 32;
+pub(crate) const LONGEST_WORD: u32 = 32;
 
 fn is_long_word(token: &Token) -> bool
     ensures { result ≡ is_long_word token.now }
