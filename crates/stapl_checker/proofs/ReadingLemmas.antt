@@ -1,8 +1,7 @@
 -- On what pieces are.
-use Rattle.std.proofs.Common.{◌≡◌, ◌≤◌, ◌<◌, ◌+◌, ℕ, zero, suc, List, [], ◌∷◌, ◌++◌, length, refl, sym, ap, ◌∙◌, Option, None, Some, take, get_or, slice_get, arith, subst, false, ◌⊎◌, inl, inr}
+use Rattle.std.proofs.Common.{◌≡◌, ◌≤◌, ◌<◌, ◌+◌, ℕ, zero, suc, List, [], ◌∷◌, ◌++◌, length, refl, sym, Option, None, Some, take, get_or, slice_get, subst, false, ◌⊎◌, inl, inr}
 use Rattle.std.proofs.lemmas.List.{take_more, take_all}
 use Rattle.stapl_lexer.specs.declared.piece.Piece.{Piece}
-use Rattle.stapl_syntax.specs.Trees.{StmtTree}
 use Rattle.stapl_syntax.specs.Faults.{IsReadAs, AreReadAs}
 use Rattle.stapl_grammar.proofs.LawLemmas.{no_reason}
 use Rattle.stapl_checker.specs.declared.reading.Read.{Read}

@@ -1,58 +1,24 @@
 -- Which reason holds against what stands at an index.
-use Rattle.std.proofs.Common.{◌≡◌, ◌≤◌, ◌<◌, ◌+◌, ℕ, zero, suc, Bool, true, false, not, ◌||◌, if◌then◌else◌, nat_le, List, [], ◌∷◌, length, refl, sym, ap, ◌∙◌, subst, Option, None, Some, is_some, take, drop, slice_get, arith}
+use Rattle.std.proofs.Common.{◌≡◌, ◌≤◌, ◌<◌, ◌+◌, ℕ, zero, suc, Bool, true, false, not, ◌||◌, nat_le, List, [], ◌∷◌, refl, sym, ap, ◌∙◌, subst, Option, None, Some, is_some, take, drop, slice_get, arith}
 use Rattle.std.specs.List.{list_any}
 use Rattle.std.proofs.lemmas.Bool.Decides.{nat_tests}
 use Rattle.stapl_lexer.specs.declared.piece.Piece.{Piece}
 use Rattle.stapl_lexer.specs.declared.reason.Reason.{Reason}
 use Rattle.stapl_lexer.specs.declared.reason.Reason.TheVariants as reasons
-use Rattle.stapl_lexer.specs.declared.token.Token.{Token}
-use Rattle.stapl_lexer.specs.PieceFaults.{IsLexed, is_foreign, is_open_string, is_compressed, is_long_word, is_large_number, fault_of_bytes, fault_of_tokens, first_fault}
-use Rattle.stapl_lexer.specs.Depth.{is_too_deep}
-use Rattle.stapl_lexer.specs.Segments.{Segment}
 use Rattle.stapl_lexer.specs.Reasons.{reason_number}
+use Rattle.stapl_lexer.proofs.ReasonLemmas.{from_two}
 use Rattle.stapl_syntax.specs.Trees.{StmtTree}
 use Rattle.stapl_syntax.specs.Statements.{IsPieceStatement}
 use Rattle.stapl_syntax.specs.Reasons.{HasReason, in_tokens, unknown, left_out, not_in_grammar, SmallestReason}
-use Rattle.stapl_syntax.specs.Faults.{piece_limit, IsReadAs, AreReadAs, run_of, is_procedure, ends, procedure_pieces, fits_inside, is_refused_inside, is_refused, HasReasonAt, ends_early, not_built, one_too_many, no_statement, SmallestReasonAt}
+use Rattle.stapl_syntax.specs.Faults.{piece_limit, IsReadAs, AreReadAs, run_of, is_procedure, ends, procedure_pieces, is_refused_inside, is_refused, HasReasonAt, ends_early, not_built, one_too_many, no_statement, SmallestReasonAt}
 use Rattle.stapl_grammar.proofs.LawLemmas.{no_reason}
-
-abbrev AtLeastOne : Option Reason → Type 0
-AtLeastOne None = Unit {0}
-AtLeastOne (Some reason) = 1 ≤ reason_number reason
-
-choose : (b : Bool) (reason : Reason) (rest : Option Reason) → 1 ≤ reason_number reason → AtLeastOne rest → AtLeastOne (if b then Some reason else rest)
-choose true reason rest here more = here
-choose false reason rest here more = more
-
-both_above : (a b : Option Reason) → AtLeastOne a → AtLeastOne b → AtLeastOne (first_fault a b)
-both_above (Some reason) b h k = h
-both_above None b h k = k
-
-bytes_above : (closed : Bool) (segments : List Segment) → AtLeastOne (fault_of_bytes closed segments)
-bytes_above closed segments =
-    choose (not closed) reasons.Unterminated _ (omega arith)
-    (choose (list_any is_foreign segments) reasons.BadByte _ (omega arith)
-    (choose (list_any is_open_string segments) reasons.OpenString _ (omega arith)
-    (choose (list_any is_compressed segments) reasons.Compressed None (omega arith) tt)))
-
-tokens_above : (text : List ℕ) (tokens : List Token) (good : Bool) → AtLeastOne (fault_of_tokens text tokens good)
-tokens_above text tokens good =
-    choose (list_any is_long_word tokens) reasons.NameTooLong _ (omega arith)
-    (choose (list_any (is_large_number text) tokens) reasons.NumberTooLarge _ (omega arith)
-    (choose (is_too_deep text tokens) reasons.TooDeep _ (omega arith)
-    (last good)))
-  where
-    last : (b : Bool) → AtLeastOne (if b then None else Some reasons.Syntax)
-    last true = tt
-    last false = omega arith
 
 module _ (text : List ℕ) (piece : Piece) where
   pub above : (reason : Reason) → HasReason text piece reason → 1 ≤ reason_number reason
-  above reason (in_tokens tokens lexed) =
-      subst AtLeastOne (sym lexed.fault_is) (both_above _ _ (bytes_above piece.closed lexed.segments) (tokens_above text tokens _))
-  above _ (unknown tokens spelled e) = omega arith
-  above _ (left_out tokens spelled e) = omega arith
-  above _ (not_in_grammar tokens spelled nothing) = omega arith
+  above reason (in_tokens has) = let two = from_two text piece reason has in omega (arith, two)
+  above _ (unknown tokens good e) = omega arith
+  above _ (left_out tokens good e) = omega arith
+  above _ (not_in_grammar tokens good nothing) = omega arith
 
 -- a piece that is no statement is refused
 or_last : (a b : Bool) → a || b || true ≡ true

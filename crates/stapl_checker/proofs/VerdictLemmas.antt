@@ -2,14 +2,13 @@
 use Rattle.std.proofs.Common.{◌≡◌, ◌≤◌, ◌<◌, ◌+◌, ℕ, Bool, true, false, List, [], ◌∷◌, length, refl, sym, ap, ◌∙◌, Option, None, Some, map, get_or, nat_le, if◌then◌else◌, All, arith, subst, ◌⊎◌, inl, inr}
 use Rattle.std.specs.Prelude.{slice_get}
 use Rattle.std.proofs.lemmas.Bool.Decides.{nat_tests}
-use Rattle.std.proofs.lemmas.List.{length-map}
 use Rattle.stapl_lexer.specs.declared.piece.Piece.{Piece}
 use Rattle.stapl_lexer.specs.declared.reason.Reason.{Reason}
 use Rattle.stapl_lexer.specs.declared.reason.Reason.TheVariants as reasons
-use Rattle.stapl_lexer.specs.Pieces.{IsCut}
+use Rattle.stapl_lexer.specs.Pieces.{IsCut, text_limit}
 use Rattle.stapl_syntax.specs.declared.statement.Stmt.{Stmt}
 use Rattle.stapl_syntax.specs.Trees.{StmtTree, stmt_tree}
-use Rattle.stapl_syntax.specs.Faults.{text_limit, piece_limit, is_refused, line_of_index, AreReadAs, IsProgram, SmallestReasonAt, NoneBefore, FirstFault, is_first}
+use Rattle.stapl_syntax.specs.Faults.{piece_limit, is_refused, line_of_index, AreReadAs, IsProgram, SmallestReasonAt, NoneBefore, FirstFault, is_first}
 use Rattle.stapl_checker.specs.declared.reading.Read.{Read}
 use Rattle.stapl_checker.specs.declared.reading.Read.TheVariants.{Statement, Faulty}
 use Rattle.stapl_checker.specs.Reads.{read_tree, IsRead, AreRead, IsStatement, trees}
@@ -81,6 +80,6 @@ all_statements read all = λ k d lt. by k lt (get_or read k d) (tree_at read k (
         let yes = refused_at (trees read) k e in
         let no = all.none k (omega arith) in absurd cc
 
-pub few_read : (text : List ℕ) (pieces : List Piece) (read : List Read) → AreRead text pieces read → length pieces ≤ length text + 1 → length text ≤ 4194304 →
-    length read ≤ 4194305
+pub few_read : (text : List ℕ) (pieces : List Piece) (read : List Read) → AreRead text pieces read → length pieces ≤ length text + 1 → length text ≤ text_limit →
+    length read ≤ text_limit + 1
 few_read text pieces read are few short = let long = read_length text pieces read are in omega arith

@@ -4,7 +4,8 @@ ghost use Rattle.stapl_syntax.specs.Trees.{expr_tree, item_tree, part_tree, body
 ghost use Rattle.stapl_syntax.specs.Statements.{is_outer};
 ghost use Rattle.stapl_syntax.specs.Built.{is_built_atom, is_built_sum, is_built_condition, is_built_print, is_built_simple, is_built_inner, is_built_list, is_built_outer, is_built};
 
-use stapl_syntax::{BinOp, Body, Expr, Item, PrintPart, Stmt};
+use stapl_lexer::BinOp;
+use stapl_syntax::{Body, Expr, Item, PrintPart, Stmt};
 
 // A number or a scalar variable.
 fn is_atom(expr: &Expr) -> bool

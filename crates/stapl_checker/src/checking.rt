@@ -1,6 +1,6 @@
 //! The check of a whole text.
-ghost use Rattle.std.specs.Prelude.{◌≡◌, ◌≤◌, ◌<◌, ℕ, List, true, length, map, All, IfOk, IfErr, Some, is_some};
-ghost use Rattle.stapl_lexer.specs.Pieces.{IsCut, LiesIn};
+ghost use Rattle.std.specs.Prelude.{◌≡◌, ◌≤◌, ◌+◌, length, map, All, IfOk, IfErr};
+ghost use Rattle.stapl_lexer.specs.Pieces.{IsCut, LiesIn, text_limit};
 ghost use Rattle.stapl_syntax.specs.Trees.{stmt_tree};
 ghost use Rattle.stapl_syntax.specs.Faults.{line_of_index, end_line, procedure_pieces, IsProgram};
 ghost use Rattle.stapl_checker.specs.declared.reading.Read.TheVariants as reads;
@@ -12,13 +12,10 @@ use crate::names::Names;
 use crate::reading::{Read, read_pieces};
 use crate::reasons::reason_at;
 use crate::refusing::{first_refused, own_pieces};
-use stapl_lexer::{Piece, Reason, cut};
+use stapl_lexer::{Piece, Reason, TEXT_LIMIT, cut};
 use stapl_syntax::Stmt;
 use std::alloc::{AllocError, Global};
 use thiserror::Error;
-
-/// The most bytes of a text.
-const TEXT_LIMIT: usize = 4_194_304;
 
 // What a text is that is not too long.
 enum Verdict {
@@ -30,7 +27,7 @@ enum Verdict {
 
 // The line where a text ends.
 fn line_of_end(text: &[u8]) -> u32
-    requires { length text.now ≤ 4194304 }
+    requires { length text.now ≤ text_limit }
     ensures { result ≡ end_line text.now }
 {
     let feeds = text.iter().filter(|byte| **byte == b'\n').count();
@@ -39,7 +36,7 @@ fn line_of_end(text: &[u8]) -> u32
 
 // The line of the piece at an index, or that of the end of the text.
 fn line_of_index(text: &[u8], pieces: &[Piece], index: usize) -> u32
-    requires { length text.now ≤ 4194304 }
+    requires { length text.now ≤ text_limit }
     ensures { result ≡ line_of_index text.now pieces.now index }
 {
     match pieces.get(index) {
@@ -65,7 +62,7 @@ fn statements_of(alloc: Global, read: Vec<Read>) -> Result<Vec<Stmt>, AllocError
 
 // The names that the procedure among the pieces declares.
 fn names_of(alloc: Global, read: &[Read]) -> Result<Names, AllocError>
-    requires { length read.now ≤ 4194305 }
+    requires { length read.now ≤ text_limit + 1 }
     ensures { IfOk result (AreNames (procedure_pieces (trees read.now))) }
 {
     let names = Names::collect(alloc, own_pieces(read))?;
@@ -79,11 +76,11 @@ fn judge_read(
     pieces: &[Piece],
     read: Vec<Read>,
 ) -> Result<Verdict, AllocError>
-    requires small { length text.now ≤ 4194304 }
+    requires small { length text.now ≤ text_limit }
     requires cut { IsCut text.now pieces.now }
     requires lie { All (LiesIn text.now) pieces.now }
     requires read { AreRead text.now pieces.now read.items }
-    requires few { length read.items ≤ 4194305 }
+    requires few { length read.items ≤ text_limit + 1 }
     ensures { IfOk result (IsVerdict text.now) }
 {
     let names = names_of(alloc, &read)?;
@@ -102,7 +99,7 @@ fn judge_read(
 
 // What a text is.
 fn judge(alloc: Global, text: &[u8]) -> Result<Verdict, AllocError>
-    requires { length text.now ≤ 4194304 }
+    requires { length text.now ≤ text_limit }
     ensures { IfOk result (IsVerdict text.now) }
 {
     let pieces = cut(alloc, text)?;

@@ -1,6 +1,6 @@
 //! What the pieces of a text are.
 ghost use Rattle.std.specs.Prelude.{◌≤◌, length, All, IfOk};
-ghost use Rattle.stapl_lexer.specs.Pieces.{LiesIn};
+ghost use Rattle.stapl_lexer.specs.Pieces.{LiesIn, text_limit};
 ghost use Rattle.stapl_checker.specs.Reads.{IsRead, AreRead};
 
 use stapl_grammar::{ParseRefused, parse};
@@ -17,7 +17,7 @@ pub enum Read {
 
 // What a piece of a text is.
 fn read_piece(alloc: Global, text: &[u8], piece: &Piece) -> Result<Read, AllocError>
-    requires small { length text.now ≤ 4194304 }
+    requires small { length text.now ≤ text_limit }
     requires lies { LiesIn text.now piece.now }
     ensures { IfOk result (IsRead text.now piece.now) }
 {
@@ -30,7 +30,7 @@ fn read_piece(alloc: Global, text: &[u8], piece: &Piece) -> Result<Read, AllocEr
 
 /// What each piece of a text is. The only error is want of memory. The time is linear in the length of the text.
 pub fn read_pieces(alloc: Global, text: &[u8], pieces: &[Piece]) -> Result<Vec<Read>, AllocError>
-    requires small { length text.now ≤ 4194304 }
+    requires small { length text.now ≤ text_limit }
     requires lie { All (LiesIn text.now) pieces.now }
     ensures { IfOk result (λ read. AreRead text.now pieces.now read.items) }
 {

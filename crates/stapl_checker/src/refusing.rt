@@ -1,5 +1,6 @@
 //! The first piece of a text that is refused.
 ghost use Rattle.std.specs.Prelude.{◌≡◌, ◌≤◌, ◌<◌, ◌+◌, ◌^◌, ◌||◌, ◌∷◌, [], ℕ, List, true, false, Bool, not, nat_le, length, map, take, drop, Some, IfSome, slice_get};
+ghost use Rattle.stapl_lexer.specs.Pieces.{text_limit};
 ghost use Rattle.stapl_syntax.specs.Trees.{item_tree, body_tree};
 ghost use Rattle.stapl_syntax.specs.Faults.{is_end, ends, piece_limit, up_to_end, procedure_pieces, run_of_items, run_of_body, run_of, is_procedure_body, is_procedure, fits_inside, is_refused};
 ghost use Rattle.stapl_checker.specs.Reads.{read_tree};
@@ -137,7 +138,7 @@ fn is_second(run: &Name, read: &[Read]) -> bool
 
 // Whether the piece at an index behind the PROCEDURE is refused, where it is known whether ENDPROC stands before it.
 fn is_refused_here(names: &Names, ended: bool, index: usize, piece: &Read) -> bool
-    requires { index ≤ 4194304 }
+    requires { index ≤ text_limit }
     ensures { result ≡ (ended || nat_le piece_limit (2 + index) || not (fits_inside (known_in names.now index) (read_tree piece.now))) }
 {
     ended || PIECE_LIMIT <= 2 + index || !fits_inside(names, index as u32, piece)
@@ -146,7 +147,7 @@ fn is_refused_here(names: &Names, ended: bool, index: usize, piece: &Read) -> bo
 // The first piece behind the PROCEDURE that is refused, or the end of the text; none where none is.
 fn first_behind(names: &Names, behind: &[Read]) -> Option<usize>
     requires names { AreNames (up_to_end (map read_tree behind.now)) names.now }
-    requires few { length behind.now ≤ 4194305 }
+    requires few { length behind.now ≤ text_limit + 1 }
     ensures { IsFirstIndex (is_refused_at (map read_tree behind.now)) (length behind.now) result }
 {
     let mut ended = false;
@@ -166,7 +167,7 @@ fn first_behind(names: &Names, behind: &[Read]) -> Option<usize>
 /// are those of the procedure. The time is linear in the number of pieces.
 pub fn first_refused(names: &Names, read: &[Read]) -> Option<usize>
     requires names { AreNames (procedure_pieces (map read_tree read.now)) names.now }
-    requires few { length read.now ≤ 4194305 }
+    requires few { length read.now ≤ text_limit + 1 }
     ensures { IsFirstIndex (is_refused (map read_tree read.now)) (length read.now) result }
 {
     let Some(run) = run_in_front(read) else {

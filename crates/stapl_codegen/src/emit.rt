@@ -9,9 +9,9 @@ ghost use Rattle.stapl_codegen.specs.Tables.{trees, AreTables};
 use crate::tables::Tables;
 use base::ItemList;
 use stapl_code::Instr;
-use stapl_lexer::Name;
+use stapl_lexer::{BinOp, Name};
 use stapl_meaning::Text;
-use stapl_syntax::{BinOp, Body, Expr, PrintPart, Stmt};
+use stapl_syntax::{Body, Expr, PrintPart, Stmt};
 use std::alloc::{AllocError, Global};
 
 /// The number of no operator. No machine carries out a Binary with it, so it stands for what is not built.
