@@ -9,13 +9,13 @@ use Rattle.stapl_lexer.specs.declared.reason.Reason.{Reason}
 use Rattle.stapl_lexer.specs.declared.reason.Reason.TheVariants as reasons
 use Rattle.stapl_syntax.specs.Trees.{StmtTree}
 use Rattle.stapl_syntax.specs.Faults.{IsProgram, FirstFault, is_too_long}
-use Rattle.stapl_syntax.proofs.RefusalLemmas.{one_program, no_fault}
+use Rattle.stapl_checker.proofs.UniqueLemmas.{one_program, no_fault}
 use Rattle.play_tool.specs.declared.status.Status.{Status}
 use Rattle.play_tool.specs.declared.status.Status.TheVariants.{Refused, Usage}
 use Rattle.play_tool.specs.Texts.{number_line, refusal_line}
 use Rattle.play_tool.specs.Words.{IsRequest, IsUsage}
 use Rattle.play_tool.proofs.OneRequest.{one_request, no_usage}
-use Rattle.play_tool.specs.Answers.{ProgramPlays, refused, accepted, Plays, usage, plays, Answer, Answers, AnswersFront, IsPrefixOfAnswers, ProgramPlaysTo, ProgramPlaysFront, IsPrefixOfProgram, PlaysTo, PlaysFront, IsPrefixOfPlays, FilePlaysTo, FilePlaysFront, IsPrefixOfFile, GivenPlaysTo, GivenPlaysFront, GivenAnswers, GivenAnswersFront}
+use Rattle.play_tool.specs.Answers.{ProgramPlays, refused, accepted, Plays, usage, plays, Answer, Answers, AnswersFront, IsPrefixOfAnswers, ProgramPlaysTo, ProgramPlaysFront, IsPrefixOfProgram, PlaysTo, PlaysFront, IsPrefixOfPlays, FilePlaysTo, FilePlaysFront, IsPrefixOfFile, PlaysSomeBytesTo, PlaysSomeBytesFront, AnswersSomeFiles, AnswersSomeFilesFront}
 
 pub accepted_to : {turns : ℕ} {bytes action : List ℕ} {before after : Option (List ℕ)} {status : Status} (program : List StmtTree) → IsProgram bytes program →
     ProgramPlaysTo program action turns before after status → PlaysTo bytes action turns before after status
@@ -116,12 +116,12 @@ request_prefix r p = record { prefix = λ text status a. answer_prefix r p a }
 
 -- the same without a word on what the store tells
 
-pub given_to : {turns : ℕ} {action bytes : List ℕ} {before after : Option (List ℕ)} {status : Status} → PlaysTo bytes action turns before after status →
-    GivenPlaysTo action turns before after status
-given_to {bytes = bytes} p = record { bytes = bytes; plays = p }
+pub some_bytes_to : {turns : ℕ} {action bytes : List ℕ} {before after : Option (List ℕ)} {status : Status} → PlaysTo bytes action turns before after status →
+    PlaysSomeBytesTo action turns before after status
+some_bytes_to {bytes = bytes} p = record { bytes = bytes; plays = p }
 
-pub given_front : {turns : ℕ} {action bytes : List ℕ} {before after : Option (List ℕ)} → PlaysFront bytes action turns before after → GivenPlaysFront action turns before after
-given_front {bytes = bytes} p = record { bytes = bytes; plays = p }
+pub some_bytes_front : {turns : ℕ} {action bytes : List ℕ} {before after : Option (List ℕ)} → PlaysFront bytes action turns before after → PlaysSomeBytesFront action turns before after
+some_bytes_front {bytes = bytes} p = record { bytes = bytes; plays = p }
 
 -- there is a text of each length
 text_of_length : (n : ℕ) → (text : List ℕ) × (length text ≡ n)
@@ -134,30 +134,30 @@ is_longer text n e = omega arith
 long_text : (n : ℕ) → (text : List ℕ) × (n < length text)
 long_text n = let t = text_of_length (n + 1) in (t.0, is_longer t.0 n t.1)
 
-pub given_long_to : {turns : ℕ} {action : List ℕ} {before after : Option (List ℕ)} → after ≡ then_bytes before (refusal_line 0 0 reasons.TooLong) →
-    GivenPlaysTo action turns before after (Refused 0 reasons.TooLong)
-given_long_to e = let t = long_text 4194304 in given_to (long_to t.0 t.1 e)
+pub some_bytes_long_to : {turns : ℕ} {action : List ℕ} {before after : Option (List ℕ)} → after ≡ then_bytes before (refusal_line 0 0 reasons.TooLong) →
+    PlaysSomeBytesTo action turns before after (Refused 0 reasons.TooLong)
+some_bytes_long_to e = let t = long_text 4194304 in some_bytes_to (long_to t.0 t.1 e)
 
-pub given_long_front : {turns : ℕ} {action : List ℕ} {before after : Option (List ℕ)} → MovesFront before (refusal_line 0 0 reasons.TooLong) after →
-    GivenPlaysFront action turns before after
-given_long_front m = let t = long_text 4194304 in given_front (long_front t.0 t.1 m)
+pub some_bytes_long_front : {turns : ℕ} {action : List ℕ} {before after : Option (List ℕ)} → MovesFront before (refusal_line 0 0 reasons.TooLong) after →
+    PlaysSomeBytesFront action turns before after
+some_bytes_long_front m = let t = long_text 4194304 in some_bytes_front (long_front t.0 t.1 m)
 
 -- the file of a store of one
 one_file : (path bytes : List ℕ) → file_of ((path, bytes) ∷ []) path ≡ Some bytes
 one_file path bytes = rw ((bytes_eq-Decides path path).1 refl) refl
 
-pub given_usage_to : {words : List (List ℕ)} {before after : Option (List ℕ)} (n : ℕ) → IsUsage words n →
-    after ≡ then_bytes before (number_line (codes "R usage ") (pos n)) → GivenAnswers words before after (Usage n)
-given_usage_to n u e = record { files = []; answers = usage_to n u e }
+pub some_files_usage_to : {words : List (List ℕ)} {before after : Option (List ℕ)} (n : ℕ) → IsUsage words n →
+    after ≡ then_bytes before (number_line (codes "R usage ") (pos n)) → AnswersSomeFiles words before after (Usage n)
+some_files_usage_to n u e = record { files = []; answers = usage_to n u e }
 
-pub given_usage_front : {words : List (List ℕ)} {before after : Option (List ℕ)} (n : ℕ) → IsUsage words n →
-    MovesFront before (number_line (codes "R usage ") (pos n)) after → GivenAnswersFront words before after
-given_usage_front n u m = record { files = []; answers = usage_front n u m }
+pub some_files_usage_front : {words : List (List ℕ)} {before after : Option (List ℕ)} (n : ℕ) → IsUsage words n →
+    MovesFront before (number_line (codes "R usage ") (pos n)) after → AnswersSomeFilesFront words before after
+some_files_usage_front n u m = record { files = []; answers = usage_front n u m }
 
-pub given_request_to : {turns : ℕ} {words : List (List ℕ)} {before after : Option (List ℕ)} {status : Status} {path action : List ℕ} →
-    IsRequest words path action turns → GivenPlaysTo action turns before after status → GivenAnswers words before after status
-given_request_to {path = path} r p = record { files = (path, p.bytes) ∷ []; answers = request_to r (file_to (one_file path p.bytes) p.plays) }
+pub some_files_request_to : {turns : ℕ} {words : List (List ℕ)} {before after : Option (List ℕ)} {status : Status} {path action : List ℕ} →
+    IsRequest words path action turns → PlaysSomeBytesTo action turns before after status → AnswersSomeFiles words before after status
+some_files_request_to {path = path} r p = record { files = (path, p.bytes) ∷ []; answers = request_to r (file_to (one_file path p.bytes) p.plays) }
 
-pub given_request_front : {turns : ℕ} {words : List (List ℕ)} {before after : Option (List ℕ)} {path action : List ℕ} →
-    IsRequest words path action turns → GivenPlaysFront action turns before after → GivenAnswersFront words before after
-given_request_front {path = path} r p = record { files = (path, p.bytes) ∷ []; answers = request_front r (file_front (one_file path p.bytes) p.plays) }
+pub some_files_request_front : {turns : ℕ} {words : List (List ℕ)} {before after : Option (List ℕ)} {path action : List ℕ} →
+    IsRequest words path action turns → PlaysSomeBytesFront action turns before after → AnswersSomeFilesFront words before after
+some_files_request_front {path = path} r p = record { files = (path, p.bytes) ∷ []; answers = request_front r (file_front (one_file path p.bytes) p.plays) }

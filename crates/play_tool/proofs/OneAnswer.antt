@@ -3,10 +3,10 @@ use Rattle.std.proofs.Common.{◌≡◌, ℕ, pos, List, refl, sym, ap, ◌∙�
 use Rattle.tool_io.specs.Files.{file_of}
 use Rattle.stapl_lexer.specs.declared.reason.Reason.{Reason}
 use Rattle.stapl_syntax.specs.Trees.{StmtTree}
-use Rattle.stapl_syntax.proofs.RefusalLemmas.{one_first_fault, one_program, no_fault}
+use Rattle.stapl_checker.proofs.UniqueLemmas.{one_first_fault, one_program, no_fault}
 use Rattle.stapl_meaning.specs.declared.events.Ending.{Ending}
 use Rattle.stapl_meaning.specs.Scopes.{chosen_of}
-use Rattle.stapl_meaning.specs.Plays.{play, told}
+use Rattle.stapl_meaning.specs.Plays.{play, ending_of}
 use Rattle.stapl_meaning.specs.Texts.{text_of}
 use Rattle.play_tool.specs.declared.status.Status.{Status}
 use Rattle.play_tool.specs.declared.status.Status.TheVariants.{Refused, Usage}
@@ -38,9 +38,9 @@ said_of program turns chosen ending = said (text_of (play program chosen turns).
 same_play : (program : List StmtTree) (turns : ℕ) (a b : List ℕ) (e f : Ending) → a ≡ b → e ≡ f → said_of program turns a e ≡ said_of program turns b f
 same_play program turns a b e f p q = rw (p, q) refl
 
-one_ending : (program : List StmtTree) (turns : ℕ) (a b : List ℕ) (e f : Ending) → a ≡ b → told (play program a turns).outcome ≡ Some e →
-    told (play program b turns).outcome ≡ Some f → e ≡ f
-one_ending program turns a b e f p x y = some_some e f (sym x ∙ ap (λ (z : List ℕ). told (play program z turns).outcome) p ∙ y)
+one_ending : (program : List StmtTree) (turns : ℕ) (a b : List ℕ) (e f : Ending) → a ≡ b → ending_of (play program a turns).outcome ≡ Some e →
+    ending_of (play program b turns).outcome ≡ Some f → e ≡ f
+one_ending program turns a b e f p x y = some_some e f (sym x ∙ ap (λ (z : List ℕ). ending_of (play program z turns).outcome) p ∙ y)
 
 -- an accepted program gives one answer
 one_play : {program : List StmtTree} {action xs ys : List ℕ} {turns : ℕ} {s t : Status} → ProgramPlays program action turns xs s →

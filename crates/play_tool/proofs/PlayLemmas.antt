@@ -10,8 +10,8 @@ use Rattle.tool_io.specs.declared.lines.Lines.{Lines}
 use Rattle.tool_io.specs.Lines.{gathered, taken, Puts, PutsFront}
 use Rattle.tool_io.proofs.BytesLemmas.{moves_front_nothing}
 use Rattle.tool_io.proofs.PutLemmas.{put_then_front, front_with, front_written, finish_front}
-use Rattle.stapl_syntax.specs.Trees.{BodyTree, action, procedure, end_procedure, integer, assign, goto, if_then, print, exit, StmtTree}
-use Rattle.stapl_syntax.specs.Grammar.{unlabelled}
+use Rattle.stapl_syntax.specs.Trees.{BodyTree, action, end_procedure, StmtTree}
+use Rattle.stapl_syntax.specs.Built.{unlabelled, action_of, procedure_of}
 use Rattle.stapl_syntax.specs.Faults.{is_inside}
 use Rattle.stapl_syntax.specs.Shapes.{is_between, IsOneProcedure}
 use Rattle.stapl_meaning.specs.declared.events.Event.{Event}
@@ -20,7 +20,7 @@ use Rattle.stapl_meaning.specs.declared.values.Held.{Held}
 use Rattle.stapl_meaning.specs.declared.values.Held.TheVariants as held
 use Rattle.stapl_meaning.specs.Scopes.{Variable, variables_of, zeros_of, procedure_number, chosen_before, chosen_from, chosen_of}
 use Rattle.stapl_meaning.specs.Scopes as scopes
-use Rattle.stapl_meaning.specs.Plays.{Outcome, Ended, Going, Stopped, Run, play, told}
+use Rattle.stapl_meaning.specs.Plays.{Outcome, Ended, Going, Stopped, Run, play, ending_of}
 use Rattle.stapl_meaning.specs.declared.events.Ending.TheVariants.{Spent}
 use Rattle.stapl_meaning.specs.Texts.{event_line, ending_line, text_of}
 use Rattle.stapl_code.specs.declared.raw.VarDef.{VarDef}
@@ -60,15 +60,8 @@ zeros_fit program code is =
 
 passes_by : (program : List StmtTree) (body : BodyTree) (name : List ℕ) (others : Option (List ℕ)) → is_inside body ≡ true →
     chosen_before program body name others ≡ others
-passes_by program (action a procedures) name others inside = absurd cc
-passes_by program (procedure p) name others inside = refl
-passes_by program end_procedure name others inside = refl
-passes_by program (integer v) name others inside = refl
-passes_by program (assign v e) name others inside = refl
-passes_by program (goto l) name others inside = refl
-passes_by program (if_then e b) name others inside = refl
-passes_by program (print parts) name others inside = refl
-passes_by program (exit e) name others inside = refl
+passes_by program (action a text items) name others inside = absurd cc
+passes_by program _ name others inside = refl
 
 both_left : (a b : Bool) → (a && b) ≡ true → a ≡ true
 both_left true b h = refl
@@ -89,16 +82,16 @@ equals_itself : (name : List ℕ) → bytes_eq name name ≡ true
 equals_itself name = (bytes_eq-Decides name name).1 refl
 
 the_procedure : (name run : List ℕ) (rest : List StmtTree) →
-    procedure_number (unlabelled (action name (run ∷ [])) ∷ unlabelled (procedure run) ∷ rest) run ≡ 0
+    procedure_number (unlabelled (action_of name run) ∷ unlabelled (procedure_of run) ∷ rest) run ≡ 0
 the_procedure name run rest = rw (equals_itself run) refl
 
 abbrev only_action : List ℕ → List ℕ → Option (List ℕ)
 only_action own name = if bytes_eq name own then Some (0 ∷ []) else None
 
 chosen_in_order : (own run : List ℕ) (inner : List StmtTree) (last : StmtTree) (name : List ℕ) → list_all is_between inner ≡ true → last.body ≡ end_procedure →
-    chosen_of (unlabelled (action own (run ∷ [])) ∷ unlabelled (procedure run) ∷ inner ++ last ∷ []) name ≡ only_action own name
+    chosen_of (unlabelled (action_of own run) ∷ unlabelled (procedure_of run) ∷ inner ++ last ∷ []) name ≡ only_action own name
 chosen_in_order own run inner last name between is =
-    let program : List StmtTree = unlabelled (action own (run ∷ [])) ∷ unlabelled (procedure run) ∷ inner ++ last ∷ [] in
+    let program : List StmtTree = unlabelled (action_of own run) ∷ unlabelled (procedure_of run) ∷ inner ++ last ∷ [] in
     ap (λ (n : ℕ). if bytes_eq name own then Some (n ∷ []) else chosen_from program (inner ++ last ∷ []) name) (the_procedure own run (inner ++ last ∷ []))
     ∙ ap (λ (others : Option (List ℕ)). if bytes_eq name own then Some (0 ∷ []) else others) (none_inside program inner last name between is)
 
@@ -146,8 +139,8 @@ pub has_ending : (run : Run) → run.outcome ≢ Stopped → HasEnding run
 has_ending run goes = of_outcome run.outcome refl
   where
     of_outcome : (outcome : Outcome) → run.outcome ≡ outcome → HasEnding run
-    of_outcome (Ended ending) e = record { ending = ending; comes = ap told e }
-    of_outcome (Going place) e = record { ending = Spent; comes = ap told e }
+    of_outcome (Ended ending) e = record { ending = ending; comes = ap ending_of e }
+    of_outcome (Going place) e = record { ending = Spent; comes = ap ending_of e }
     of_outcome Stopped e = absurd (goes e)
 
 -- Without the action there is none of that name.
@@ -160,7 +153,7 @@ pub no_such_action_front : {program : List StmtTree} {name : List ℕ} {turns : 
 no_such_action_front none m = record { text = codes "R action\n"; status = NoAction; plays = no_action none; front = m }
 
 -- With it, what the run writes is the program's.
-plays_so : {program : List StmtTree} {name : List ℕ} {turns : ℕ} (run : Run) (ending : Ending) → IsPlayOf program name turns run → told run.outcome ≡ Some ending →
+plays_so : {program : List StmtTree} {name : List ℕ} {turns : ℕ} (run : Run) (ending : Ending) → IsPlayOf program name turns run → ending_of run.outcome ≡ Some ending →
     ProgramPlays program name turns (text_of run.events ending) (done_with ending)
 plays_so {program = program} {name = name} {turns = turns} run ending p e =
     subst (λ (events : List Event). ProgramPlays program name turns (text_of events ending) (done_with ending)) (sym p.same_events)
@@ -188,7 +181,7 @@ same_run_text {program = program} {name = name} run p f (no_action none) = absur
 same_run_text {program = program} {turns = turns} {before = before} {after = after} run p f (played chosen ending is e) =
     let same : p.chosen ≡ chosen = let a = p.is_chosen in cc in
     let events : run.events ≡ (play program chosen turns).events = p.same_events ∙ ap (λ (z : List ℕ). (play program z turns).events) same in
-    let ended : told run.outcome ≡ Some ending = p.same_ending ∙ ap (λ (z : List ℕ). told (play program z turns).outcome) same ∙ e in
+    let ended : ending_of run.outcome ≡ Some ending = p.same_ending ∙ ap (λ (z : List ℕ). ending_of (play program z turns).outcome) same ∙ e in
     subst (λ (z : List Event). MovesFront before (text_of z ending) after) events (f.front ending ended)
 
 pub run_prefix : {program : List StmtTree} {name : List ℕ} {turns : ℕ} {before after : Option (List ℕ)} (run : Run) → IsPlayOf program name turns run →
@@ -205,11 +198,11 @@ pub run_failed : {K : Type 0} {written : K → Option (List ℕ)} {a b : Lines K
     PutsRunFront written run a b
 run_failed run front = record { front = λ ending e. front_with (ending_line ending) front }
 
-one_ending : (outcome : Outcome) (x y : Ending) → told outcome ≡ Some x → told outcome ≡ Some y → x ≡ y
+one_ending : (outcome : Outcome) (x y : Ending) → ending_of outcome ≡ Some x → ending_of outcome ≡ Some y → x ≡ y
 one_ending outcome x y p q = cc
 
 -- the line of the ending failed
-pub ending_failed : {K : Type 0} {written : K → Option (List ℕ)} {a b c : Lines K} (run : Run) (ending : Ending) → told run.outcome ≡ Some ending →
+pub ending_failed : {K : Type 0} {written : K → Option (List ℕ)} {a b c : Lines K} (run : Run) (ending : Ending) → ending_of run.outcome ≡ Some ending →
     Puts written a (flat_map event_line run.events) b → PutsFront written b (ending_line ending) c → PutsRunFront written run a c
 ending_failed {written = written} {a = a} {c = c} run ending e puts front = record {
   front = λ other o.
@@ -221,7 +214,7 @@ pub front_of_puts : {K : Type 0} {written : K → Option (List ℕ)} {a b : Line
     RunFront run (taken written a) (taken written b)
 front_of_puts empty puts = record { front = λ ending e. front_written empty (puts.front ending e) }
 
-pub front_of_finish : {K : Type 0} {written : K → Option (List ℕ)} {a b c : Lines K} (run : Run) (ending : Ending) → gathered a ≡ [] → told run.outcome ≡ Some ending →
+pub front_of_finish : {K : Type 0} {written : K → Option (List ℕ)} {a b c : Lines K} (run : Run) (ending : Ending) → gathered a ≡ [] → ending_of run.outcome ≡ Some ending →
     Puts written a (text_of run.events ending) b → PutsFront written b [] c → RunFront run (taken written a) (taken written c)
 front_of_finish {written = written} {a = a} {c = c} run ending empty e puts front = record {
   front = λ other o.

@@ -5,7 +5,7 @@ use Rattle.std.proofs.lemmas.Bool.{cases_lt}
 use Rattle.std.specs.Option.{option_map}
 use Rattle.std.specs.Str.{str_to_ascii_uppercase}
 use Rattle.std.specs.Str.Parse.{digits_value}
-use Rattle.play_tool.specs.Words.{Key, Program, Action, Turns, Part, ProgramIn, ActionNamed, TurnsAtMost, key_of, NamesProgram, NamesAction, NamesTurns, Gives, word_at, IsGivenBefore, GivesNew, IsRead, AreReadBefore, AskTurns, turns_given, turns_usual, IsRequest, Lacks, IsFirstUnread, IsUsage, is_unread, is_missing}
+use Rattle.play_tool.specs.Words.{Key, Program, Action, Turns, Part, ProgramIn, ActionNamed, TurnsAtMost, key_of, NamesProgram, NamesAction, NamesTurns, GivesPart, word_at, IsGivenBefore, GivesNew, IsRead, AreReadBefore, AskTurns, turns_given, turns_usual, IsRequest, Lacks, IsFirstUnread, IsUsage, is_unread, is_missing}
 use Rattle.play_tool.specs.GivenParts.{Values, given_of, with_part, Adds, IsTaken, AddsWord, AddsNothing, one_if_some, count_of, GiveOf, AreReadUpTo, turns_or_usual, HasValues, LacksValue}
 
 -- A word gives at most one part.
@@ -44,7 +44,7 @@ action_or_turns : (word a : List ℕ) (n : ℕ) → NamesAction word a → Names
 unfolding first_byte
 action_or_turns word a n x y = let e : ◌≡◌ {A = ℕ} 97 116 = ap first_byte (sym x.key ∙ y.key) in omega arith
 
-one_part : (word : List ℕ) (a b : Part) → Gives word a → Gives word b → a ≡ b
+one_part : (word : List ℕ) (a b : Part) → GivesPart word a → GivesPart word b → a ≡ b
 one_part word (ProgramIn p) (ProgramIn q) x y = ap ProgramIn (one_path word p q x y)
 one_part word (ProgramIn p) (ActionNamed q) x y = absurd (program_or_action word p q x y)
 one_part word (ProgramIn p) (TurnsAtMost q) x y = absurd (program_or_turns word p q x y)
@@ -57,14 +57,14 @@ one_part word (TurnsAtMost p) (TurnsAtMost q) x y = ap TurnsAtMost (one_number w
 
 -- What a word adds.
 
-pub adds_part : {word : List ℕ} {old new : Values} (part : Part) → Gives word part → Adds old part new → AddsWord old word new
+pub adds_part : {word : List ℕ} {old new : Values} (part : Part) → GivesPart word part → Adds old part new → AddsWord old word new
 adds_part part gives adds = record { part = part; gives = gives; adds = adds }
 
-pub adds_taken : {word : List ℕ} {values : Values} (part : Part) → Gives word part → IsTaken values part → AddsNothing values word
+pub adds_taken : {word : List ℕ} {values : Values} (part : Part) → GivesPart word part → IsTaken values part → AddsNothing values word
 adds_taken {word = word} {values = values} part gives t = record { taken = λ other given. subst (IsTaken values) (one_part word part other gives given) t }
 
 no_part : (word : List ℕ) (values : Values) → ((path : List ℕ) → NamesProgram word path → ⊥) → ((name : List ℕ) → NamesAction word name → ⊥) →
-    ((n : ℕ) → NamesTurns word n → ⊥) → (part : Part) → Gives word part → IsTaken values part
+    ((n : ℕ) → NamesTurns word n → ⊥) → (part : Part) → GivesPart word part → IsTaken values part
 no_part word values p a t (ProgramIn path) g = absurd (p path g)
 no_part word values p a t (ActionNamed name) g = absurd (a name g)
 no_part word values p a t (TurnsAtMost n) g = absurd (t n g)
@@ -81,12 +81,12 @@ behind_the_mode words (suc place) behind read = read
 
 -- not where one of them stands before the other
 not_before : (words : List (List ℕ)) (p q : Part) (n : ℕ) (place : ℕ) → key_of p ≡ key_of q → IsGivenBefore words place p → 0 < place → IsRead words place →
-    Gives (word_at words place) q → ⊥
+    GivesPart (word_at words place) q → ⊥
 not_before words p q n place same earlier behind read gives =
     let r = behind_the_mode words place behind read in
     r.new p earlier (same ∙ ap key_of (one_part (word_at words place) q r.part gives r.gives))
 
-given_at : (words : List (List ℕ)) (p : Part) (place n : ℕ) → 0 < place → place < n → Gives (word_at words place) p → IsGivenBefore words n p
+given_at : (words : List (List ℕ)) (p : Part) (place n : ℕ) → 0 < place → place < n → GivesPart (word_at words place) p → IsGivenBefore words n p
 given_at words p place n behind before gives = record { place = place; behind = behind; before = before; gives = gives }
 
 pub one_given : (words : List (List ℕ)) (n : ℕ) (p q : Part) → AreReadBefore words n → key_of p ≡ key_of q → IsGivenBefore words n p → IsGivenBefore words n q → p ≡ q
@@ -97,7 +97,7 @@ one_given words n p q read same x y =
         | inl lt ↦ absurd (not_before words q p n x.place (sym same) (given_at words q y.place x.place y.behind lt y.gives) x.behind (read x.place x.before) x.gives)
         | inr ge ↦
             let at : y.place ≡ x.place = omega arith in
-            one_part (word_at words x.place) p q x.gives (subst (λ (k : ℕ). Gives (word_at words k) q) at y.gives)
+            one_part (word_at words x.place) p q x.gives (subst (λ (k : ℕ). GivesPart (word_at words k) q) at y.gives)
       ]
     ]
 
@@ -124,7 +124,7 @@ nothing_read words values mode p a t = record {
     none_given Turns = rw t (λ part e g. not_given part g)
 
 -- what is known of a key where another part is read
-keeps : (words : List (List ℕ)) (n : ℕ) (key : Key) (part : Part) (found : Option Part) → Gives (word_at words n) part → key_of part ≢ key →
+keeps : (words : List (List ℕ)) (n : ℕ) (key : Key) (part : Part) (found : Option Part) → GivesPart (word_at words n) part → key_of part ≢ key →
     GiveOf words n key found → GiveOf words (n + 1) key found
 keeps words n key part None gives other none = λ p e g.
     elim (cases_lt g.place n) [
@@ -132,7 +132,7 @@ keeps words n key part None gives other none = λ p e g.
       | inr ge ↦
           let w = g.before in
           let at : g.place ≡ n = omega arith in
-          other (ap key_of (one_part (word_at words n) part p gives (subst (λ (k : ℕ). Gives (word_at words k) p) at g.gives)) ∙ e)
+          other (ap key_of (one_part (word_at words n) part p gives (subst (λ (k : ℕ). GivesPart (word_at words k) p) at g.gives)) ∙ e)
     ]
 keeps words n key part (Some p) gives other found =
     let g = found.1 in let w = g.before in (found.0, given_at words p g.place (n + 1) g.behind (omega arith) g.gives)
@@ -172,12 +172,12 @@ read_more words n before here place lt =
     ]
 
 new_part : (words : List (List ℕ)) (n : ℕ) (part : Part) (values : Values) → GiveOf words n (key_of part) (given_of values (key_of part)) →
-    given_of values (key_of part) ≡ None → Gives (word_at words n) part → GivesNew words n
+    given_of values (key_of part) ≡ None → GivesPart (word_at words n) part → GivesNew words n
 new_part words n part values give free gives =
     let none : (p : Part) → key_of p ≡ key_of part → IsGivenBefore words n p → ⊥ = subst (GiveOf words n (key_of part)) free give in
     record { part = part; gives = gives; new = λ other g e. none other e g }
 
-one_part_more : (words : List (List ℕ)) (n : ℕ) (part : Part) (old new : Values) → 0 < n → AreReadUpTo words n old → Gives (word_at words n) part → Adds old part new →
+one_part_more : (words : List (List ℕ)) (n : ℕ) (part : Part) (old new : Values) → 0 < n → AreReadUpTo words n old → GivesPart (word_at words n) part → Adds old part new →
     AreReadUpTo words (n + 1) new
 one_part_more words n part old new behind r gives adds = record {
   read = read_more words n r.read (read_new words n behind (new_part words n part old (r.give (key_of part)) adds.free gives));

@@ -9,7 +9,7 @@ use Rattle.stapl_syntax.specs.Faults.{IsProgram, FirstFault}
 use Rattle.stapl_meaning.specs.declared.events.Ending.{Ending}
 use Rattle.stapl_meaning.specs.declared.events.Ending.TheVariants as endings
 use Rattle.stapl_meaning.specs.Scopes.{chosen_of}
-use Rattle.stapl_meaning.specs.Plays.{play, told}
+use Rattle.stapl_meaning.specs.Plays.{play, ending_of}
 use Rattle.stapl_meaning.specs.Texts.{text_of}
 use Rattle.play_tool.specs.declared.status.Status.{Status}
 use Rattle.play_tool.specs.declared.status.Status.TheVariants.{Done, Spent, Refused, NoAction, Usage, ReadFault, WriteFault, Memory}
@@ -25,7 +25,7 @@ done_with endings.Spent = Spent
 -- that still goes on after them is spent.
 pub data ProgramPlays (program : List StmtTree) (action : List ℕ) (turns : ℕ) : List ℕ → Status → Type 0 where
   no_action : chosen_of program action ≡ None → ProgramPlays program action turns (codes "R action\n") NoAction
-  played : (chosen : List ℕ) (ending : Ending) → chosen_of program action ≡ Some chosen → told (play program chosen turns).outcome ≡ Some ending →
+  played : (chosen : List ℕ) (ending : Ending) → chosen_of program action ≡ Some chosen → ending_of (play program chosen turns).outcome ≡ Some ending →
       ProgramPlays program action turns (text_of (play program chosen turns).events ending) (done_with ending)
 
 -- What is written for a text, and the status: it is refused at its first fault, or it is a program.
@@ -114,19 +114,19 @@ pub record IsPrefixOfFile (file : Option (List ℕ)) (action : List ℕ) (turns 
   pub prefix : (bytes : List ℕ) → file ≡ Some bytes → IsPrefixOfPlays bytes action turns before after
 
 -- The text for some bytes was written: those that the file gave.
-pub record GivenPlaysTo (action : List ℕ) (turns : ℕ) (before after : Option (List ℕ)) (status : Status) : Type 0 where
+pub record PlaysSomeBytesTo (action : List ℕ) (turns : ℕ) (before after : Option (List ℕ)) (status : Status) : Type 0 where
   pub bytes : List ℕ
   pub plays : PlaysTo bytes action turns before after status
 
-pub record GivenPlaysFront (action : List ℕ) (turns : ℕ) (before after : Option (List ℕ)) : Type 0 where
+pub record PlaysSomeBytesFront (action : List ℕ) (turns : ℕ) (before after : Option (List ℕ)) : Type 0 where
   pub bytes : List ℕ
   pub plays : PlaysFront bytes action turns before after
 
 -- The answer to the words and some files was written: to the files that the store gave, whether it tells them or not.
-pub record GivenAnswers (words : List (List ℕ)) (before after : Option (List ℕ)) (status : Status) : Type 0 where
+pub record AnswersSomeFiles (words : List (List ℕ)) (before after : Option (List ℕ)) (status : Status) : Type 0 where
   pub files : List (List ℕ × List ℕ)
   pub answers : Answers words files before after status
 
-pub record GivenAnswersFront (words : List (List ℕ)) (before after : Option (List ℕ)) : Type 0 where
+pub record AnswersSomeFilesFront (words : List (List ℕ)) (before after : Option (List ℕ)) : Type 0 where
   pub files : List (List ℕ × List ℕ)
   pub answers : AnswersFront words files before after

@@ -7,14 +7,14 @@ use Rattle.tool_io.specs.Lines.{PutsFront}
 use Rattle.stapl_syntax.specs.Trees.{StmtTree}
 use Rattle.stapl_meaning.specs.declared.events.Ending.{Ending}
 use Rattle.stapl_meaning.specs.Scopes.{chosen_of}
-use Rattle.stapl_meaning.specs.Plays.{Run, play, told}
+use Rattle.stapl_meaning.specs.Plays.{Run, play, ending_of}
 use Rattle.stapl_meaning.specs.Texts.{text_of}
 use Rattle.stapl_code.specs.declared.raw.ActionDef.{ActionDef}
 use Rattle.stapl_code.specs.declared.raw.ItemDef.{ItemDef}
-use Rattle.stapl_machine.specs.declared.turns.Trouble.TheVariants as machine_troubles
-use Rattle.stapl_machine.specs.declared.turns.Trouble as machine_trouble
-use Rattle.play_tool.specs.declared.status.Trouble.{Trouble}
-use Rattle.play_tool.specs.declared.status.Trouble.TheVariants as troubles
+use Rattle.stapl_machine.specs.declared.turns.Trouble.TheVariants as troubles
+use Rattle.stapl_machine.specs.declared.turns.Trouble.{Trouble}
+use Rattle.play_tool.specs.declared.status.NoAnswer.{NoAnswer}
+use Rattle.play_tool.specs.declared.status.NoAnswer.TheVariants as no_answers
 
 -- the procedures of items, by number
 abbrev pub procedures_in : List ItemDef → List ℕ
@@ -25,32 +25,32 @@ abbrev pub procedures_named : List ActionDef → List ℕ → Option (List ℕ)
 procedures_named [] name = None
 procedures_named (action ∷ actions) name = if bytes_eq name action.name then Some (procedures_in action.items) else procedures_named actions name
 
--- the tool's word for a trouble of the machine
-abbrev pub trouble_of : machine_trouble.Trouble → Trouble
-trouble_of machine_troubles.WriteFault = troubles.Write
-trouble_of machine_troubles.Memory = troubles.Memory
+-- why the tool gives no answer after a trouble of the machine
+abbrev pub no_answer_of : Trouble → NoAnswer
+no_answer_of troubles.WriteFault = no_answers.Write
+no_answer_of troubles.Memory = no_answers.Memory
 
 -- The run comes to an ending: it ends, or its turns are spent.
 pub record HasEnding (run : Run) : Type 0 where
   pub ending : Ending
-  pub comes : told run.outcome ≡ Some ending
+  pub comes : ending_of run.outcome ≡ Some ending
 
 -- The run ended so, and its text was written.
 pub record RunWritten (run : Run) (before after : Option (List ℕ)) (ending : Ending) : Type 0 where
-  pub ended : told run.outcome ≡ Some ending
+  pub ended : ending_of run.outcome ≡ Some ending
   pub written : after ≡ then_bytes before (text_of run.events ending)
 
 -- A front of the text of the run was written.
 pub record RunFront (run : Run) (before after : Option (List ℕ)) : Type 0 where
-  pub front : (ending : Ending) → told run.outcome ≡ Some ending → MovesFront before (text_of run.events ending) after
+  pub front : (ending : Ending) → ending_of run.outcome ≡ Some ending → MovesFront before (text_of run.events ending) after
 
 -- The same of what was put.
 pub record PutsRunFront {K : Type 0} (written : K → Option (List ℕ)) (run : Run) (old new : Lines K) : Type 0 where
-  pub front : (ending : Ending) → told run.outcome ≡ Some ending → PutsFront written old (text_of run.events ending) new
+  pub front : (ending : Ending) → ending_of run.outcome ≡ Some ending → PutsFront written old (text_of run.events ending) new
 
 -- The run has the events and the ending of the play of this action of a program.
 pub record IsPlayOf (program : List StmtTree) (action : List ℕ) (turns : ℕ) (run : Run) : Type 0 where
   pub chosen : List ℕ
   pub is_chosen : chosen_of program action ≡ Some chosen
   pub same_events : run.events ≡ (play program chosen turns).events
-  pub same_ending : told run.outcome ≡ told (play program chosen turns).outcome
+  pub same_ending : ending_of run.outcome ≡ ending_of (play program chosen turns).outcome

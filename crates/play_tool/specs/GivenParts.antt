@@ -2,7 +2,7 @@
 use Rattle.std.specs.Prelude.{◌≡◌, ℕ, ◌+◌, ◌≤◌, ◌⊎◌, List, Option, None, Some}
 use Rattle.std.specs.Option.{option_map}
 use Rattle.play_tool.specs.declared.words.Given.{Given}
-use Rattle.play_tool.specs.Words.{Key, Program, Action, Turns, Part, ProgramIn, ActionNamed, TurnsAtMost, key_of, usual_turns, Gives, IsGivenBefore, AreReadBefore}
+use Rattle.play_tool.specs.Words.{Key, Program, Action, Turns, Part, ProgramIn, ActionNamed, TurnsAtMost, key_of, usual_turns, GivesPart, IsGivenBefore, AreReadBefore}
 
 -- the values that are given, by key
 pub record Values : Type 0 where
@@ -38,12 +38,12 @@ pub record IsTaken (values : Values) (part : Part) : Type 0 where
 -- The word gives a part more, whose key was free.
 pub record AddsWord (old : Values) (word : List ℕ) (new : Values) : Type 0 where
   pub part : Part
-  pub gives : Gives word part
+  pub gives : GivesPart word part
   pub adds : Adds old part new
 
 -- The word gives no part whose key is free.
 pub record AddsNothing (values : Values) (word : List ℕ) : Type 0 where
-  pub taken : (part : Part) → Gives word part → IsTaken values part
+  pub taken : (part : Part) → GivesPart word part → IsTaken values part
 
 -- how many values are given
 abbrev pub one_if_some : {A : Type 0} → Option A → ℕ

@@ -71,10 +71,10 @@ pub record NamesTurns (word : List ℕ) (turns : ℕ) : Type 0 where
   pub number : SpellsTurns spelling turns
 
 -- the word gives this part
-abbrev pub Gives : List ℕ → Part → Type 0
-Gives word (ProgramIn path) = NamesProgram word path
-Gives word (ActionNamed name) = NamesAction word name
-Gives word (TurnsAtMost n) = NamesTurns word n
+abbrev pub GivesPart : List ℕ → Part → Type 0
+GivesPart word (ProgramIn path) = NamesProgram word path
+GivesPart word (ActionNamed name) = NamesAction word name
+GivesPart word (TurnsAtMost n) = NamesTurns word n
 
 -- the word at a place, counted from 0
 abbrev pub word_at : List (List ℕ) → ℕ → List ℕ
@@ -85,12 +85,12 @@ pub record IsGivenBefore (words : List (List ℕ)) (n : ℕ) (part : Part) : Typ
   pub place : ℕ
   pub behind : 0 < place
   pub before : place < n
-  pub gives : Gives (word_at words place) part
+  pub gives : GivesPart (word_at words place) part
 
 -- The word at this place gives a part, and no word before it gives one of the same key.
 pub record GivesNew (words : List (List ℕ)) (place : ℕ) : Type 0 where
   pub part : Part
-  pub gives : Gives (word_at words place) part
+  pub gives : GivesPart (word_at words place) part
   pub new : (other : Part) → IsGivenBefore words place other → key_of other ≢ key_of part
 
 -- The word at a place is read: the first one is the mode, and each other one gives a part whose key is new.

@@ -3,7 +3,7 @@ ghost use Rattle.std.specs.Prelude.{◌≡◌, ◌<◌, length, map, Some, None,
 ghost use Rattle.tool_io.specs.Causes.{HasRisen, NeverFalls};
 ghost use Rattle.tool_io.specs.Lines.{IsWhole, IsOverSame, SinkNeverFalls, sink_of, Puts};
 ghost use Rattle.stapl_syntax.specs.Trees.{stmt_tree};
-ghost use Rattle.stapl_meaning.specs.Plays.{told};
+ghost use Rattle.stapl_meaning.specs.Plays.{ending_of};
 ghost use Rattle.stapl_meaning.specs.Texts.{text_of};
 ghost use Rattle.stapl_code.specs.Safe.{AllBelow, AllFit};
 ghost use Rattle.stapl_codegen.specs.Accepted.{IsAccepted};
@@ -13,7 +13,7 @@ ghost use Rattle.play_tool.specs.Answers.{done_with, IsFault, ProgramPlaysTo, Pr
 ghost use Rattle.play_tool.specs.CodePlays.{procedures_in, procedures_named, HasEnding, RunWritten, RunFront, PutsRunFront};
 
 use crate::Status;
-use crate::status::Trouble;
+use crate::status::NoAnswer;
 use crate::writing::{put_ending, write_text};
 use base::Steps;
 use stapl_code::laws::never_stuck;
@@ -67,7 +67,7 @@ fn put_play<K: Sink, L: Ledger>(
     turns: u32,
     lines: &mut Lines<K>,
     blank: Blank,
-) -> Result<Ending, Trouble>
+) -> Result<Ending, NoAnswer>
     requires name { blank.name ≡ L.name }
     requires parts { blank.parts ≡ L.parts }
     requires some { 0 < L.parts }
@@ -76,11 +76,11 @@ fn put_play<K: Sink, L: Ledger>(
     requires whole { IsWhole lines.old }
     ensures same_sink { IsOverSame lines.old lines.new }
     ensures whole { OnOk result (IsWhole lines.new) }
-    ensures ended { IfOk result (λ ending. told (play_of code.now chosen.now turns).outcome ≡ Some ending) }
+    ensures ended { IfOk result (λ ending. ending_of (play_of code.now chosen.now turns).outcome ≡ Some ending) }
     ensures ok { IfOk result (λ ending. Puts K.written lines.old (text_of (play_of code.now chosen.now turns).events ending) lines.new) }
     ensures front { OnErr result (PutsRunFront K.written (play_of code.now chosen.now turns) lines.old lines.new) }
-    ensures read { IsErrOf result Trouble.Read → ⊥ }
-    ensures write { IsErrOf result Trouble.Write → HasRisen K.faults K.is_last (sink_of lines.old) (sink_of lines.new) }
+    ensures read { IsErrOf result NoAnswer.Read → ⊥ }
+    ensures write { IsErrOf result NoAnswer.Write → HasRisen K.faults K.is_last (sink_of lines.old) (sink_of lines.new) }
     ensures kept { SinkNeverFalls K.faults K.is_last lines.old lines.new }
 {
     let mut steps = Steps::<L>::none(blank);
@@ -98,7 +98,7 @@ fn write_play<K: Sink, L: Ledger>(
     turns: u32,
     out: &mut K,
     blank: Blank,
-) -> Result<Ending, Trouble>
+) -> Result<Ending, NoAnswer>
     requires name { blank.name ≡ L.name }
     requires parts { blank.parts ≡ L.parts }
     requires some { 0 < L.parts }
@@ -106,8 +106,8 @@ fn write_play<K: Sink, L: Ledger>(
     requires below { AllBelow (length code.now.procedures) chosen.now }
     ensures ok { IfOk result (RunWritten (play_of code.now chosen.now turns) (K.written out.old) (K.written out.new)) }
     ensures front { OnErr result (RunFront (play_of code.now chosen.now turns) (K.written out.old) (K.written out.new)) }
-    ensures read { IsErrOf result Trouble.Read → ⊥ }
-    ensures write { IsErrOf result Trouble.Write → HasRisen K.faults K.is_last out.old out.new }
+    ensures read { IsErrOf result NoAnswer.Read → ⊥ }
+    ensures write { IsErrOf result NoAnswer.Write → HasRisen K.faults K.is_last out.old out.new }
     ensures later { NeverFalls K.faults K.is_last out.old out.new }
 {
     let mut lines = Lines::new(out);
@@ -123,12 +123,12 @@ fn play_chosen<K: Sink>(
     chosen: &[u32],
     turns: u32,
     out: &mut K,
-) -> Result<Ending, Trouble>
+) -> Result<Ending, NoAnswer>
     requires below { AllBelow (length code.now.procedures) chosen.now }
     ensures ok { IfOk result (RunWritten (play_of code.now chosen.now turns) (K.written out.old) (K.written out.new)) }
     ensures front { OnErr result (RunFront (play_of code.now chosen.now turns) (K.written out.old) (K.written out.new)) }
-    ensures read { IsErrOf result Trouble.Read → ⊥ }
-    ensures write { IsErrOf result Trouble.Write → HasRisen K.faults K.is_last out.old out.new }
+    ensures read { IsErrOf result NoAnswer.Read → ⊥ }
+    ensures write { IsErrOf result NoAnswer.Write → HasRisen K.faults K.is_last out.old out.new }
     ensures later { NeverFalls K.faults K.is_last out.old out.new }
 {
     let mut machine = Machine::prepare(alloc, code)?;
@@ -144,14 +144,14 @@ fn play_action<K: Sink>(
     action: &ActionDef,
     turns: u32,
     out: &mut K,
-) -> Result<Ending, Trouble>
+) -> Result<Ending, NoAnswer>
     requires below { AllBelow (length code.now.procedures) (procedures_in action.now.items) }
     requires fit { AllFit code.now.variables (zeros_of_code code.now) }
-    ensures comes { IsErrOf result Trouble.Write → HasEnding (play_of code.now (procedures_in action.now.items) turns) }
+    ensures comes { IsErrOf result NoAnswer.Write → HasEnding (play_of code.now (procedures_in action.now.items) turns) }
     ensures ok { IfOk result (RunWritten (play_of code.now (procedures_in action.now.items) turns) (K.written out.old) (K.written out.new)) }
     ensures front { OnErr result (RunFront (play_of code.now (procedures_in action.now.items) turns) (K.written out.old) (K.written out.new)) }
-    ensures read { IsErrOf result Trouble.Read → ⊥ }
-    ensures write { IsErrOf result Trouble.Write → HasRisen K.faults K.is_last out.old out.new }
+    ensures read { IsErrOf result NoAnswer.Read → ⊥ }
+    ensures write { IsErrOf result NoAnswer.Write → HasRisen K.faults K.is_last out.old out.new }
     ensures later { NeverFalls K.faults K.is_last out.old out.new }
 {
     let chosen = procedures_in(alloc, action.items.as_slice())?;
@@ -177,14 +177,14 @@ pub fn play_program<K: Sink>(
     action: &Name,
     turns: u32,
     out: &mut K,
-) -> Result<Status, Trouble>
+) -> Result<Status, NoAnswer>
     requires { IsAccepted (map stmt_tree program.now) }
     ensures answered { IfOk result (λ status. IsFault status → ⊥) }
     ensures ok { IfOk result (ProgramPlaysTo (map stmt_tree program.now) action.now turns (K.written out.old) (K.written out.new)) }
-    ensures read { IsErrOf result Trouble.Read → ⊥ }
-    ensures write { IsErrOf result Trouble.Write → HasRisen K.faults K.is_last out.old out.new }
-    ensures front { IsErrOf result Trouble.Write → ProgramPlaysFront (map stmt_tree program.now) action.now turns (K.written out.old) (K.written out.new) }
-    ensures memory { IsErrOf result Trouble.Memory → IsPrefixOfProgram (map stmt_tree program.now) action.now turns (K.written out.old) (K.written out.new) }
+    ensures read { IsErrOf result NoAnswer.Read → ⊥ }
+    ensures write { IsErrOf result NoAnswer.Write → HasRisen K.faults K.is_last out.old out.new }
+    ensures front { IsErrOf result NoAnswer.Write → ProgramPlaysFront (map stmt_tree program.now) action.now turns (K.written out.old) (K.written out.new) }
+    ensures memory { IsErrOf result NoAnswer.Memory → IsPrefixOfProgram (map stmt_tree program.now) action.now turns (K.written out.old) (K.written out.new) }
     ensures later { NeverFalls K.faults K.is_last out.old out.new }
 {
     let code = generate(alloc, program)?;

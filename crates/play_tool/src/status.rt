@@ -1,11 +1,11 @@
 //! How a run of the tool ends.
 ghost use Rattle.std.specs.Prelude.{◌≡◌};
 ghost use Rattle.play_tool.specs.Codes.{exit_code_of};
-ghost use Rattle.play_tool.specs.declared.status.Trouble.TheVariants.{Write, Memory};
-ghost use Rattle.play_tool.specs.CodePlays.{trouble_of};
+ghost use Rattle.play_tool.specs.declared.status.NoAnswer.TheVariants.{Write, Memory};
+ghost use Rattle.play_tool.specs.CodePlays.{no_answer_of};
 
 use stapl_lexer::Reason;
-use stapl_machine::Trouble as MachineTrouble;
+use stapl_machine::Trouble;
 use std::alloc::AllocError;
 use thiserror::Error;
 use tool_io::Failed;
@@ -33,7 +33,7 @@ pub enum Status {
 
 /// Why a run of the tool gives no answer.
 #[derive(Clone, Copy, Debug, PartialEq, Eq, Error)]
-pub enum Trouble {
+pub enum NoAnswer {
     /// A file could not be read.
     #[error("a file could not be read")]
     Read,
@@ -45,29 +45,29 @@ pub enum Trouble {
     Memory,
 }
 
-impl From<Failed> for Trouble {
-    ghost from_gives = { λ _ trouble. trouble ≡ Write };
+impl From<Failed> for NoAnswer {
+    ghost from_gives = { λ _ no_answer. no_answer ≡ Write };
 
-    fn from(_: Failed) -> Trouble {
-        Trouble::Write
+    fn from(_: Failed) -> NoAnswer {
+        NoAnswer::Write
     }
 }
 
-impl From<AllocError> for Trouble {
-    ghost from_gives = { λ _ trouble. trouble ≡ Memory };
+impl From<AllocError> for NoAnswer {
+    ghost from_gives = { λ _ no_answer. no_answer ≡ Memory };
 
-    fn from(_: AllocError) -> Trouble {
-        Trouble::Memory
+    fn from(_: AllocError) -> NoAnswer {
+        NoAnswer::Memory
     }
 }
 
-impl From<MachineTrouble> for Trouble {
-    ghost from_gives = { λ trouble of_tool. of_tool ≡ trouble_of trouble };
+impl From<Trouble> for NoAnswer {
+    ghost from_gives = { λ trouble no_answer. no_answer ≡ no_answer_of trouble };
 
-    fn from(trouble: MachineTrouble) -> Trouble {
+    fn from(trouble: Trouble) -> NoAnswer {
         match trouble {
-            MachineTrouble::WriteFault => Trouble::Write,
-            MachineTrouble::Memory => Trouble::Memory,
+            Trouble::WriteFault => NoAnswer::Write,
+            Trouble::Memory => NoAnswer::Memory,
         }
     }
 }

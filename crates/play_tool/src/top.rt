@@ -3,11 +3,11 @@ ghost use Rattle.std.specs.Prelude.{◌≡◌, ℕ, List, map, string_bytes, IfS
 ghost use Rattle.tool_io.specs.Causes.{HasRisen, HasRisenAt, NeverFalls, NoneFalls};
 ghost use Rattle.tool_io.specs.Files.{file_of};
 ghost use Rattle.play_tool.specs.Words.{IsRequest};
-ghost use Rattle.play_tool.specs.Answers.{Answers, AnswersFront, IsPrefixOfAnswers, IsFault, PlaysTo, PlaysFront, IsPrefixOfPlays, FilePlaysTo, FilePlaysFront, IsPrefixOfFile, GivenPlaysTo, GivenPlaysFront, GivenAnswers, GivenAnswersFront};
+ghost use Rattle.play_tool.specs.Answers.{Answers, AnswersFront, IsPrefixOfAnswers, IsFault, PlaysTo, PlaysFront, IsPrefixOfPlays, FilePlaysTo, FilePlaysFront, IsPrefixOfFile, PlaysSomeBytesTo, PlaysSomeBytesFront, AnswersSomeFiles, AnswersSomeFilesFront};
 
 use crate::Status;
 use crate::playing::play_program;
-use crate::status::Trouble;
+use crate::status::NoAnswer;
 use crate::words::{Request, read_words};
 use crate::writing::{write_refusal, write_usage};
 use stapl_checker::{CheckRefused, check};
@@ -26,13 +26,13 @@ fn play_bytes<K: Sink>(
     bytes: &[u8],
     request: &Request<'_>,
     out: &mut K,
-) -> Result<Status, Trouble>
+) -> Result<Status, NoAnswer>
     ensures answered { IfOk result (λ status. IsFault status → ⊥) }
     ensures ok { IfOk result (PlaysTo bytes.now request.now.action request.now.turns (K.written out.old) (K.written out.new)) }
-    ensures read { IsErrOf result Trouble.Read → ⊥ }
-    ensures write { IsErrOf result Trouble.Write → HasRisen K.faults K.is_last out.old out.new }
-    ensures front { IsErrOf result Trouble.Write → PlaysFront bytes.now request.now.action request.now.turns (K.written out.old) (K.written out.new) }
-    ensures memory { IsErrOf result Trouble.Memory → IsPrefixOfPlays bytes.now request.now.action request.now.turns (K.written out.old) (K.written out.new) }
+    ensures read { IsErrOf result NoAnswer.Read → ⊥ }
+    ensures write { IsErrOf result NoAnswer.Write → HasRisen K.faults K.is_last out.old out.new }
+    ensures front { IsErrOf result NoAnswer.Write → PlaysFront bytes.now request.now.action request.now.turns (K.written out.old) (K.written out.new) }
+    ensures memory { IsErrOf result NoAnswer.Memory → IsPrefixOfPlays bytes.now request.now.action request.now.turns (K.written out.old) (K.written out.new) }
     ensures later { NeverFalls K.faults K.is_last out.old out.new }
 {
     match check(alloc, bytes) {
@@ -50,29 +50,29 @@ fn play_bytes<K: Sink>(
             write_refusal(out, piece, line, reason)?;
             Ok(Status::Refused(piece, reason))
         }
-        Err(CheckRefused::Memory) => Err(Trouble::Memory),
+        Err(CheckRefused::Memory) => Err(NoAnswer::Memory),
     }
 }
 
 // Plays an action of the program in a file.
-#[tactic(auto, using(crate::proofs::AnswerLemmas::file_to, crate::proofs::AnswerLemmas::file_front, crate::proofs::AnswerLemmas::file_prefix, crate::proofs::AnswerLemmas::nothing_of_file, crate::proofs::AnswerLemmas::long_to, crate::proofs::AnswerLemmas::long_front, crate::proofs::AnswerLemmas::given_to, crate::proofs::AnswerLemmas::given_front, crate::proofs::AnswerLemmas::given_long_to, crate::proofs::AnswerLemmas::given_long_front))]
+#[tactic(auto, using(crate::proofs::AnswerLemmas::file_to, crate::proofs::AnswerLemmas::file_front, crate::proofs::AnswerLemmas::file_prefix, crate::proofs::AnswerLemmas::nothing_of_file, crate::proofs::AnswerLemmas::long_to, crate::proofs::AnswerLemmas::long_front, crate::proofs::AnswerLemmas::some_bytes_to, crate::proofs::AnswerLemmas::some_bytes_front, crate::proofs::AnswerLemmas::some_bytes_long_to, crate::proofs::AnswerLemmas::some_bytes_long_front))]
 fn play_file<S: Shelf, K: Sink>(
     alloc: Global,
     request: &Request<'_>,
     shelf: &mut S,
     out: &mut K,
-) -> Result<Status, Trouble>
+) -> Result<Status, NoAnswer>
     ensures answered { IfOk result (λ status. IsFault status → ⊥) }
     ensures ok { IfOk result (λ status. IfSome (S.told shelf.old) (λ files.
         FilePlaysTo (file_of files request.now.program.now) request.now.action request.now.turns (K.written out.old) (K.written out.new) status)) }
-    ensures read { IsErrOf result Trouble.Read → HasRisenAt S.faults S.is_last request.now.program.now shelf.old shelf.new }
-    ensures nothing { IsErrOf result Trouble.Read → K.written out.new ≡ K.written out.old }
-    ensures write { IsErrOf result Trouble.Write → HasRisen K.faults K.is_last out.old out.new }
-    ensures front { IsErrOf result Trouble.Write → IfSome (S.told shelf.old) (λ files.
+    ensures read { IsErrOf result NoAnswer.Read → HasRisenAt S.faults S.is_last request.now.program.now shelf.old shelf.new }
+    ensures nothing { IsErrOf result NoAnswer.Read → K.written out.new ≡ K.written out.old }
+    ensures write { IsErrOf result NoAnswer.Write → HasRisen K.faults K.is_last out.old out.new }
+    ensures front { IsErrOf result NoAnswer.Write → IfSome (S.told shelf.old) (λ files.
         FilePlaysFront (file_of files request.now.program.now) request.now.action request.now.turns (K.written out.old) (K.written out.new)) }
-    ensures given { IfOk result (GivenPlaysTo request.now.action request.now.turns (K.written out.old) (K.written out.new)) }
-    ensures given_front { IsErrOf result Trouble.Write → GivenPlaysFront request.now.action request.now.turns (K.written out.old) (K.written out.new) }
-    ensures memory { IsErrOf result Trouble.Memory → IfSome (S.told shelf.old) (λ files.
+    ensures some_bytes { IfOk result (PlaysSomeBytesTo request.now.action request.now.turns (K.written out.old) (K.written out.new)) }
+    ensures some_bytes_front { IsErrOf result NoAnswer.Write → PlaysSomeBytesFront request.now.action request.now.turns (K.written out.old) (K.written out.new) }
+    ensures memory { IsErrOf result NoAnswer.Memory → IfSome (S.told shelf.old) (λ files.
         IsPrefixOfFile (file_of files request.now.program.now) request.now.action request.now.turns (K.written out.old) (K.written out.new)) }
     ensures keeps { S.told shelf.new ≡ S.told shelf.old }
     ensures later { NoneFalls S.faults S.is_last shelf.old shelf.new }
@@ -84,31 +84,31 @@ fn play_file<S: Shelf, K: Sink>(
             write_refusal(out, 0, 0, Reason::TooLong)?;
             Ok(Status::Refused(0, Reason::TooLong))
         }
-        Err(ReadRefused::ReadFault) => Err(Trouble::Read),
-        Err(ReadRefused::Memory) => Err(Trouble::Memory),
+        Err(ReadRefused::ReadFault) => Err(NoAnswer::Read),
+        Err(ReadRefused::Memory) => Err(NoAnswer::Memory),
     }
 }
 
 // Does what the words ask.
-#[tactic(auto, using(crate::proofs::AnswerLemmas::usage_to, crate::proofs::AnswerLemmas::usage_front, crate::proofs::AnswerLemmas::request_to, crate::proofs::AnswerLemmas::request_front, crate::proofs::AnswerLemmas::request_prefix, crate::proofs::AnswerLemmas::given_usage_to, crate::proofs::AnswerLemmas::given_usage_front, crate::proofs::AnswerLemmas::given_request_to, crate::proofs::AnswerLemmas::given_request_front))]
+#[tactic(auto, using(crate::proofs::AnswerLemmas::usage_to, crate::proofs::AnswerLemmas::usage_front, crate::proofs::AnswerLemmas::request_to, crate::proofs::AnswerLemmas::request_front, crate::proofs::AnswerLemmas::request_prefix, crate::proofs::AnswerLemmas::some_files_usage_to, crate::proofs::AnswerLemmas::some_files_usage_front, crate::proofs::AnswerLemmas::some_files_request_to, crate::proofs::AnswerLemmas::some_files_request_front))]
 fn run<S: Shelf, K: Sink>(
     alloc: Global,
     words: &[String],
     shelf: &mut S,
     out: &mut K,
-) -> Result<Status, Trouble>
+) -> Result<Status, NoAnswer>
     ensures answered { IfOk result (λ status. IsFault status → ⊥) }
     ensures ok { IfOk result (λ status. IfSome (S.told shelf.old) (λ files.
         Answers (map string_bytes words.now) files (K.written out.old) (K.written out.new) status)) }
-    ensures read { IsErrOf result Trouble.Read → (path action : List ℕ) × (turns : ℕ) × IsRequest (map string_bytes words.now) path action turns
+    ensures read { IsErrOf result NoAnswer.Read → (path action : List ℕ) × (turns : ℕ) × IsRequest (map string_bytes words.now) path action turns
         × HasRisenAt S.faults S.is_last path shelf.old shelf.new }
-    ensures nothing { IsErrOf result Trouble.Read → K.written out.new ≡ K.written out.old }
-    ensures write { IsErrOf result Trouble.Write → HasRisen K.faults K.is_last out.old out.new }
-    ensures front { IsErrOf result Trouble.Write → IfSome (S.told shelf.old) (λ files.
+    ensures nothing { IsErrOf result NoAnswer.Read → K.written out.new ≡ K.written out.old }
+    ensures write { IsErrOf result NoAnswer.Write → HasRisen K.faults K.is_last out.old out.new }
+    ensures front { IsErrOf result NoAnswer.Write → IfSome (S.told shelf.old) (λ files.
         AnswersFront (map string_bytes words.now) files (K.written out.old) (K.written out.new)) }
-    ensures given { IfOk result (GivenAnswers (map string_bytes words.now) (K.written out.old) (K.written out.new)) }
-    ensures given_front { IsErrOf result Trouble.Write → GivenAnswersFront (map string_bytes words.now) (K.written out.old) (K.written out.new) }
-    ensures memory { IsErrOf result Trouble.Memory → IfSome (S.told shelf.old) (λ files.
+    ensures some_files { IfOk result (AnswersSomeFiles (map string_bytes words.now) (K.written out.old) (K.written out.new)) }
+    ensures some_files_front { IsErrOf result NoAnswer.Write → AnswersSomeFilesFront (map string_bytes words.now) (K.written out.old) (K.written out.new) }
+    ensures memory { IsErrOf result NoAnswer.Memory → IfSome (S.told shelf.old) (λ files.
         IsPrefixOfAnswers (map string_bytes words.now) files (K.written out.old) (K.written out.new)) }
     ensures keeps { S.told shelf.new ≡ S.told shelf.old }
     ensures later { NoneFalls S.faults S.is_last shelf.old shelf.new }
@@ -146,8 +146,8 @@ pub fn run_tool<S: Shelf, K: Sink>(
         AnswersFront (map string_bytes words.now) files (K.written out.old) (K.written out.new)) }
 
     // Also of a shelf that does not tell its files: what is written is the answer to some files, or a prefix of one.
-    ensures given { (IsFault result → ⊥) → GivenAnswers (map string_bytes words.now) (K.written out.old) (K.written out.new) result }
-    ensures given_front { result ≡ Status.WriteFault → GivenAnswersFront (map string_bytes words.now) (K.written out.old) (K.written out.new) }
+    ensures some_files { (IsFault result → ⊥) → AnswersSomeFiles (map string_bytes words.now) (K.written out.old) (K.written out.new) result }
+    ensures some_files_front { result ≡ Status.WriteFault → AnswersSomeFilesFront (map string_bytes words.now) (K.written out.old) (K.written out.new) }
 
     // After want of memory a prefix of the text is written.
     ensures memory { result ≡ Status.Memory → IfSome (S.told shelf.old) (λ files.
@@ -160,8 +160,8 @@ pub fn run_tool<S: Shelf, K: Sink>(
 {
     match run(alloc, words, shelf, out) {
         Ok(status) => status,
-        Err(Trouble::Read) => Status::ReadFault,
-        Err(Trouble::Write) => Status::WriteFault,
-        Err(Trouble::Memory) => Status::Memory,
+        Err(NoAnswer::Read) => Status::ReadFault,
+        Err(NoAnswer::Write) => Status::WriteFault,
+        Err(NoAnswer::Memory) => Status::Memory,
     }
 }
