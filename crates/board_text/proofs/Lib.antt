@@ -5,3 +5,4 @@ pub mod PlainLemmas
 pub mod BoardLemmas
 pub mod ReasonLemmas
 pub mod OneAnswer
+pub mod EveryText

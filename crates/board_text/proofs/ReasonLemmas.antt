@@ -1,6 +1,6 @@
 -- The smallest reason against a line.
-use Rattle.std.proofs.Common.{◌≡◌, ◌≤◌, ℕ, List, [], ◌∷◌, refl, sym, ap, subst, ◌∙◌, Bool, true, false, Option, Some, None, IsSomeAnd, arith}
-use Rattle.std.specs.Prelude.{codes, cond, ◌&&◌}
+use Rattle.std.proofs.Common.{◌≡◌, ◌<◌, ◌≤◌, ℕ, zero, suc, List, [], ◌∷◌, refl, sym, ap, subst, ◌∙◌, Bool, true, false, Option, Some, None, IsSomeAnd, arith}
+use Rattle.std.specs.Prelude.{codes, cond, ◌&&◌, ◌==◌}
 use Rattle.std.specs.List.{Any}
 use Rattle.std.specs.Str.{bytes_eq}
 use Rattle.std.proofs.lemmas.Bool.{false≢true, and_parts}
@@ -63,3 +63,42 @@ described_is_built (key ∷ name ∷ []) d e = cc
 described_is_built (key ∷ name ∷ ir_len ∷ rest) d e =
     let plain : key ≡ codes "plain" = key_of key name ir_len (given (are_plain_words key name ir_len) _ d e) in
     ap (λ (k : List ℕ). is_unbuilt (k ∷ name ∷ ir_len ∷ rest)) plain
+
+-- a reason is told by its number
+pub reason_with : ℕ → BoardReason
+reason_with n =
+    cond (n == 0) reasons.NotYetBuilt (cond (n == 1) reasons.Form (cond (n == 2) reasons.Range (cond (n == 3) reasons.Duplicate (cond (n == 4) reasons.Misplaced (cond (n == 5) reasons.Empty (cond (n == 6) reasons.TooMany reasons.TooLong))))))
+
+pub told : (reason : BoardReason) → reason_with (reason_number reason) ≡ reason
+unfolding reason_with
+told reasons.NotYetBuilt = refl
+told reasons.Form = refl
+told reasons.Range = refl
+told reasons.Duplicate = refl
+told reasons.Misplaced = refl
+told reasons.Empty = refl
+told reasons.TooMany = refl
+told reasons.TooLong = refl
+
+pub number_with : (n : ℕ) → n < 8 → reason_number (reason_with n) ≡ n
+unfolding reason_with
+number_with zero lt = refl
+number_with (suc zero) lt = refl
+number_with (suc (suc zero)) lt = refl
+number_with (suc (suc (suc zero))) lt = refl
+number_with (suc (suc (suc (suc zero)))) lt = refl
+number_with (suc (suc (suc (suc (suc zero))))) lt = refl
+number_with (suc (suc (suc (suc (suc (suc zero)))))) lt = refl
+number_with (suc (suc (suc (suc (suc (suc (suc zero))))))) lt = refl
+number_with (suc (suc (suc (suc (suc (suc (suc (suc n)))))))) lt = absurd (omega arith)
+
+-- each number is below 8
+pub number_below : (reason : BoardReason) → reason_number reason < 8
+number_below reasons.NotYetBuilt = omega arith
+number_below reasons.Form = omega arith
+number_below reasons.Range = omega arith
+number_below reasons.Duplicate = omega arith
+number_below reasons.Misplaced = omega arith
+number_below reasons.Empty = omega arith
+number_below reasons.TooMany = omega arith
+number_below reasons.TooLong = omega arith

@@ -1,7 +1,8 @@
 -- Boards as texts: the devices that a text describes, or its first faulty line with the smallest of its reasons. The notation is this profile's.
-use Rattle.std.specs.Prelude.{◌≡◌, ◌≢◌, ◌<◌, ◌≤◌, ◌+◌, ℕ, true, false, List, [], length, take, slice_index_or, Option, None, IsSome, IsSomeAnd, All, AllPairs, ◌⊎◌, if◌then◌else◌}
-use Rattle.std.specs.List.{Any, filter_map}
+use Rattle.std.specs.Prelude.{◌≡◌, ◌<◌, ◌≤◌, ◌+◌, ◌++◌, ℕ, true, false, List, [], ◌∷◌, length, take, fold, slice_index_or, Option, Some, None, IsSome, IsSomeAnd, ◌⊎◌, if◌then◌else◌}
+use Rattle.std.specs.List.{Any}
 use Rattle.std.specs.Str.Lines.{lines}
+use Rattle.dev_card.specs.Board.{most_devices}
 use Rattle.dev_card.specs.declared.desc.Desc.{Desc}
 use Rattle.board_text.specs.declared.reason.BoardReason.{BoardReason}
 use Rattle.board_text.specs.declared.reason.BoardReason.TheVariants as reasons
@@ -9,26 +10,29 @@ use Rattle.board_text.specs.Reasons.{reason_number}
 use Rattle.board_text.specs.Lines.{words_of, is_skipped}
 use Rattle.board_text.specs.DeviceLines.{described, is_unbuilt, IsInRange}
 
--- the most bytes of a text, and the most devices of a board
+-- the most bytes of a text
 abbrev pub most_bytes : ℕ
 most_bytes = 1048576
 
-abbrev pub most_devices : ℕ
-most_devices = 16
+-- the devices with one more behind them, if there is one
+abbrev pub with_device : List Desc → Option Desc → List Desc
+with_device earlier None = earlier
+with_device earlier (Some d) = earlier ++ d ∷ []
 
--- the device that a line gives
-abbrev pub device_of : List ℕ → Option Desc
-device_of line = if is_skipped line then None else described (words_of line)
+-- The devices after one more line. A line that is skipped changes none of them; each other line puts the device that it describes behind them.
+abbrev pub devices_after : List Desc → List ℕ → List Desc
+devices_after earlier line = if is_skipped line then earlier else with_device earlier (described (words_of line))
 
--- the devices that some lines give, in their order
+-- the devices of some lines, which are read one after the other
 abbrev pub devices_of : List (List ℕ) → List Desc
-devices_of ls = filter_map device_of ls
+devices_of ls = fold devices_after [] ls
 
+-- a device of this name
 abbrev pub HasName : List ℕ → Desc → Type 0
 HasName name d = d.name ≡ name
 
--- The reasons against a line that is not skipped, behind lines that give these devices: the table of reasons. The others are not of one line,
--- or of lines that are not built yet.
+-- The table of reasons: those against a line that is not skipped, after lines that gave these devices. The other reasons are not of one line, or
+-- are of lines that are not built yet.
 abbrev pub HasReason : List Desc → List ℕ → BoardReason → Type 0
 HasReason earlier line reasons.NotYetBuilt = is_unbuilt (words_of line) ≡ true
 HasReason earlier line reasons.Form = described (words_of line) ≡ None
@@ -42,20 +46,19 @@ pub record IsSmallestReason (earlier : List Desc) (line : List ℕ) (reason : Bo
   pub holds : HasReason earlier line reason
   pub smallest : (other : BoardReason) → HasReason earlier line other → reason_number reason ≤ reason_number other
 
--- a line is skipped, or describes a device inside its limits
-abbrev pub IsGoodLine : List ℕ → Type 0
-IsGoodLine line = is_skipped line ≡ false → IsSomeAnd (described (words_of line)) IsInRange
+-- a reason holds of the line at a place, counted from 0, after those before it
+pub record HasReasonAt (ls : List (List ℕ)) (at : ℕ) (reason : BoardReason) : Type 0 where
+  pub not_skipped : is_skipped (slice_index_or ls at []) ≡ false
+  pub holds : HasReason (devices_of (take at ls)) (slice_index_or ls at []) reason
 
--- no line among these has a fault
-pub record AreFaultless (ls : List (List ℕ)) : Type 0 where
-  pub each : All IsGoodLine ls
-  pub names_apart : AllPairs (λ (a b : Desc). a.name ≢ b.name) (devices_of ls)
-  pub few : length (devices_of ls) ≤ most_devices
+-- no reason holds of any of so many lines, each after those before it
+abbrev pub AreFaultless : List (List ℕ) → ℕ → Type 0
+AreFaultless ls count = (at : ℕ) → at < count → (reason : BoardReason) → ¬ HasReasonAt ls at reason
 
 -- the text is a board of these devices
 pub record IsBoard (text : List ℕ) (devices : List Desc) : Type 0 where
   pub short : length text ≤ most_bytes
-  pub faultless : AreFaultless (lines text)
+  pub faultless : AreFaultless (lines text) (length (lines text))
   pub described : devices ≡ devices_of (lines text)
   pub some : 1 ≤ length devices
 
@@ -72,14 +75,14 @@ pub record IsFaultyLine (text : List ℕ) (line : ℕ) (reason : BoardReason) : 
   pub before : ℕ
   pub line_is : line ≡ before + 1
   pub inside : before < length (lines text)
-  pub faultless : AreFaultless (take before (lines text))
+  pub faultless : AreFaultless (lines text) before
   pub not_skipped : is_skipped (slice_index_or (lines text) before []) ≡ false
   pub reason_is : IsSmallestReason (devices_of (take before (lines text))) (slice_index_or (lines text) before []) reason
 
 -- the end comes without a device; its line is the one behind the last
 pub record IsEmptyBoard (text : List ℕ) (line : ℕ) (reason : BoardReason) : Type 0 where
   pub short : length text ≤ most_bytes
-  pub faultless : AreFaultless (lines text)
+  pub faultless : AreFaultless (lines text) (length (lines text))
   pub none : devices_of (lines text) ≡ []
   pub line_is : line ≡ length (lines text) + 1
   pub reason_is : reason ≡ reasons.Empty

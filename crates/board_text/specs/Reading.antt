@@ -1,5 +1,5 @@
 -- What the reader keeps while it reads a text from its front.
-use Rattle.std.specs.Prelude.{◌≡◌, ◌<◌, ◌≤◌, ◌^◌, ◌%◌, ◌++◌, ℕ, Bool, true, false, List, [], ◌∷◌, length, take, drop, Option, Some, None, All}
+use Rattle.std.specs.Prelude.{◌≡◌, ◌≢◌, ◌<◌, ◌≤◌, ◌^◌, ◌%◌, ◌++◌, ℕ, Bool, true, false, List, [], ◌∷◌, length, take, drop, Option, Some, None, All, AllPairs}
 use Rattle.std.specs.Option.{ForSome}
 use Rattle.std.specs.Char.{is_ascii_digit}
 use Rattle.std.specs.List.{Any, list_all}
@@ -9,11 +9,12 @@ use Rattle.stapl_lexer.specs.Names.{IsUpperName}
 use Rattle.dev_card.specs.declared.desc.Kind.TheVariants as kinds
 use Rattle.dev_card.specs.declared.desc.IdCode.{IdCode}
 use Rattle.dev_card.specs.declared.desc.Desc.{Desc}
+use Rattle.dev_card.specs.Board.{most_devices}
 use Rattle.dev_card.specs.Descriptions.{IsGood, IsOpcode}
 use Rattle.board_text.specs.declared.plain.PlainLine.{PlainLine}
 use Rattle.board_text.specs.Lines.{words_of}
 use Rattle.board_text.specs.DeviceLines.{described, IsInRange}
-use Rattle.board_text.specs.Boards.{AreFaultless, devices_of, HasName, most_devices}
+use Rattle.board_text.specs.Boards.{AreFaultless, devices_of, HasName}
 
 -- a word in front of others; where it has no byte there is no word at all
 abbrev pub word_then : List ℕ → List (List ℕ) → List (List ℕ)
@@ -61,7 +62,9 @@ pub record IsReadUpTo (text : List ℕ) (at count : ℕ) (devices : List Desc) :
   pub counted : count ≤ at
   pub inside : count ≤ length (lines text)
   pub rest : drop count (lines text) ≡ lines (drop at text)
-  pub faultless : AreFaultless (take count (lines text))
+  pub faultless : AreFaultless (lines text) count
   pub given : devices ≡ devices_of (take count (lines text))
+  pub names_apart : AllPairs (λ (a b : Desc). a.name ≢ b.name) devices
+  pub few : length devices ≤ most_devices
   pub good : All IsGood devices
   pub plain : All IsPlain devices

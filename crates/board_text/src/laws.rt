@@ -1,8 +1,14 @@
 //! Laws of the definitions.
-ghost use Rattle.std.specs.Prelude.{◌≡◌, ℕ, List};
+ghost use Rattle.std.specs.Prelude.{◌≡◌, ◌⊎◌, ℕ, List};
 ghost use Rattle.dev_card.specs.declared.desc.Desc.{Desc};
 ghost use Rattle.board_text.specs.declared.reason.BoardReason.{BoardReason};
 ghost use Rattle.board_text.specs.Boards.{IsBoard, IsFirstFault};
+
+/// Each text is a board, or has a first fault.
+pub fn every_text_is_a_board_or_has_a_fault()
+    ensures { (text : List ℕ) → ((devices : List Desc) × IsBoard text devices)
+        ⊎ ((line : ℕ) × (reason : BoardReason) × IsFirstFault text line reason) }
+{}
 
 /// A text is a board of at most one list of devices.
 pub fn one_board()

@@ -3,6 +3,7 @@ ghost use Rattle.std.specs.Prelude.{◌≡◌, ◌≢◌, ◌≤◌, ◌+◌, �
 ghost use Rattle.std.specs.List.{Any};
 ghost use Rattle.dev_card.specs.declared.desc.Desc.{Desc};
 ghost use Rattle.dev_card.specs.declared.desc.Kind.TheVariants as kinds;
+ghost use Rattle.dev_card.specs.Board.{most_devices};
 ghost use Rattle.dev_card.specs.Descriptions.{IsGood};
 ghost use Rattle.board_text.specs.declared.reason.BoardReason.{BoardReason};
 ghost use Rattle.board_text.specs.declared.reading.BoardTextRefused.TheVariants as refusals;
@@ -13,14 +14,12 @@ ghost use Rattle.board_text.specs.Reading.{IsNextDevice, LeadsTo};
 use crate::BoardReason;
 use crate::lines::{first_line, is_skipped};
 use crate::plain::{in_range, is_unbuilt, plain_line};
-use dev_card::Desc;
+use dev_card::{Desc, MOST_DEVICES};
 use stapl_lexer::Name;
 use std::alloc::Global;
 use thiserror::Error;
 
 const MOST_BYTES: usize = 1_048_576;
-
-const MOST_DEVICES: usize = 16;
 
 /// Why a text is no board.
 #[derive(Clone, Copy, Debug, PartialEq, Eq, Error)]
@@ -102,7 +101,7 @@ pub fn read_board(alloc: Global, text: &[u8]) -> Result<Vec<Desc>, BoardTextRefu
     ensures good { IfOk result (λ devices. All IsGood devices.items) }
     ensures plain { IfOk result (λ devices. All (λ (d : Desc). d.kind ≡ kinds.Plain) devices.items) }
     ensures some { IfOk result (λ devices. 1 ≤ length devices.items) }
-    ensures few { IfOk result (λ devices. length devices.items ≤ 16) }
+    ensures few { IfOk result (λ devices. length devices.items ≤ most_devices) }
     ensures names_apart { IfOk result (λ devices. AllPairs (λ (a b : Desc). a.name ≢ b.name) devices.items) }
     ensures fault { (line : ℕ) (reason : BoardReason) → result ≡ Err (refusals.At line reason) → IsFirstFault text.now line reason }
 {

@@ -1,12 +1,13 @@
 -- The rack that a board is fitted into, and the places of its devices there. Both are this profile's, and for now all devices are of kind Plain.
 use Rattle.std.specs.Prelude.{◌≡◌, ◌+◌, ℕ, List, [], ◌∷◌, replicate}
+use Rattle.dev_card.specs.Board.{most_devices}
 use Rattle.dev_card.specs.declared.desc.Kind.{Kind}
 use Rattle.dev_card.specs.declared.desc.Kind.TheVariants.{Plain}
 use Rattle.dev_card.specs.declared.desc.Desc.{Desc}
 
--- the kinds of the rack's devices: sixteen of kind Plain
+-- the kinds of the rack's devices: as many of kind Plain as a board may have
 abbrev pub IsRack : List Kind → Type 0
-IsRack kinds = kinds ≡ replicate 16 Plain
+IsRack kinds = kinds ≡ replicate most_devices Plain
 
 -- a description that some device of the rack can take
 abbrev pub IsPlain : Desc → Type 0

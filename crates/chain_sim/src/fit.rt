@@ -1,6 +1,7 @@
 //! Fitting a board into a rack.
 ghost use Rattle.std.specs.Prelude.{◌≡◌, ◌≢◌, ◌<◌, ◌≤◌, ℕ, length, map, Some, All, IfOk, OnOk, IsErrOf, IsTrue, slice_get, vec_len};
 ghost use Rattle.dev_card.specs.Descriptions.{IsGood};
+ghost use Rattle.dev_card.specs.Board.{most_devices};
 ghost use Rattle.dev_card.specs.Card.{fresh};
 ghost use Rattle.chain_sim.specs.Places.{card_at, cards_at, IsAbsent, is_chain};
 ghost use Rattle.chain_sim.specs.Rack.{IsRack, IsPlain, places_of};
@@ -32,7 +33,7 @@ fn fit_all<D: Device>(
     descs: &[Desc],
 ) -> Result<Vec<u32>, AllocError>
     requires rack { IsRack (map D.kind_of rack.old.items) }
-    requires most { length descs.now ≤ 16 }
+    requires most { length descs.now ≤ most_devices }
     requires good { All IsGood descs.now }
     requires plain { All IsPlain descs.now }
     ensures kinds { map D.kind_of rack.new.items ≡ map D.kind_of rack.old.items }
@@ -66,7 +67,7 @@ pub fn fit_board(
 ) -> Result<Vec<u32>, AllocError>
     requires rack { IsRack (map kind_of rack.old.items) }
     requires some { 1 ≤ length descs.now }
-    requires most { length descs.now ≤ 16 }
+    requires most { length descs.now ≤ most_devices }
     requires good { All IsGood descs.now }
     requires plain { All IsPlain descs.now }
     ensures kinds { map kind_of rack.new.items ≡ map kind_of rack.old.items }

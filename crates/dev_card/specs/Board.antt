@@ -1,8 +1,12 @@
 -- A board: the cards of a chain of devices, the first nearest TDO (IEEE 1149.1, serial connection: TDO of each device to TDI of the next one
 -- towards the board's TDO, TMS and TCK to all).
-use Rattle.std.specs.Prelude.{◌≡◌, Bool, List, [], ◌∷◌, map}
+use Rattle.std.specs.Prelude.{◌≡◌, ℕ, Bool, List, [], ◌∷◌, map}
 use Rattle.tap_states.specs.declared.Tap.{Tap}
 use Rattle.dev_card.specs.Card.{Card, step, tdo_of}
+
+-- the most devices of a board, which is this profile's limit
+abbrev pub most_devices : ℕ
+most_devices = 16
 
 -- the TDO of the first card, or what comes in where there is none
 abbrev pub board_tdo : List Card → Bool → Bool

@@ -6,6 +6,9 @@ use bit_list::Bits;
 use stapl_lexer::Name;
 use std::alloc::{AllocError, Global};
 
+/// The most devices of a board.
+pub const MOST_DEVICES: usize = 16;
+
 /// The kinds of device.
 #[derive(Clone, Copy, Debug, PartialEq, Eq)]
 pub enum Kind {

@@ -6,5 +6,5 @@ mod desc;
 mod device;
 pub mod laws;
 
-pub use desc::{Desc, FlashDesc, IdCode, Kind, RegDesc};
+pub use desc::{Desc, FlashDesc, IdCode, Kind, MOST_DEVICES, RegDesc};
 pub use device::{Device, FitRefused};
