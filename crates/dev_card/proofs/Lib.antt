@@ -7,3 +7,4 @@ pub mod Reaching
 pub mod ScanLines
 pub mod PaddedLines
 pub mod OneScan
+pub mod Resetting

@@ -162,6 +162,8 @@ one_scan at ir before run after p bits st a h pre post =
       front = k.left;
       back = k.right;
       whole = k.whole;
+      front_is = k.left_descriptions;
+      back_is = k.right_descriptions;
       same = λ b. padded_scan_is_same ir k.left there k.right p bits
           (pre ∙ pre_is_pad ir (descriptions_of before) (descriptions_of after) ∙ ap (pad_of ir) (sym k.left_descriptions) ∙ sym (pad_width ir k.left left_in left_sound (λ e. (b e).0)))
           (post ∙ post_is_pad ir (descriptions_of before) (descriptions_of after) ∙ ap (pad_of ir) (sym k.right_descriptions) ∙ sym (pad_width ir k.right right_in right_sound (λ e. (b e).1)));

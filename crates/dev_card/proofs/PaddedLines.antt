@@ -1,11 +1,11 @@
 -- A padded scan of a board is the scan of a run of its neighbours alone, as far as its length allows.
-use Rattle.std.proofs.Common.{◌≡◌, ◌≤◌, ◌+◌, ◌-◌, ℕ, suc, zero, Bool, true, List, [], ◌∷◌, ◌++◌, length, take, drop, replicate, refl, sym, ap, ◌∙◌, append_assoc, arith}
+use Rattle.std.proofs.Common.{◌≡◌, ◌≤◌, ◌+◌, ◌-◌, ℕ, suc, zero, Bool, true, List, [], ◌∷◌, ◌++◌, length, take, drop, replicate, refl, sym, ap, subst, ◌∙◌, append_assoc, arith}
 use Rattle.std.proofs.lemmas.List.{length-append, length-drop, length-replicate, take-append-le, drop-append-le, drop-take}
 use Rattle.std.proofs.Math.Seq.{drop-append-add, drop-append_seam, take-append_seam}
 use Rattle.dev_card.specs.Card.{Card}
 use Rattle.dev_card.specs.Line.{list_of, with_list, line_of, cut_back, shifted_out, left_in}
 use Rattle.dev_card.specs.Padding.{Paddings, program_bits, between_ones, padded}
-use Rattle.dev_card.specs.PaddedScan.{IsSameScan}
+use Rattle.dev_card.specs.PaddedScan.{AreCardsFrom, IsSameScan}
 
 -- lists alone
 zero_plus : (a : ℕ) → a ≡ 0 + a
@@ -128,9 +128,13 @@ module _ (ir : Bool) where
       ∙ ap (λ t. t ++ cut_back ir after (drop (length (line_of ir run)) (M ++ q))) (cut_front run M q (omega (arith, e)))
       ∙ ap (λ t. cut_back ir run M ++ cut_back ir after t) d2)
 
+  cut_length : (cs : List Card) (line : List Bool) → length (cut_back ir cs line) ≡ length cs
+  cut_length [] line = refl
+  cut_length (c ∷ cs) line = ap suc (cut_length cs (drop (length (list_of ir c)) line))
+
   -- long enough
   long_enough : (before run after : List Card) (p M q : List Bool) (d : ℕ) → length p ≡ length (line_of ir before) → length q ≡ length (line_of ir after) → length M ≡ length (line_of ir run) + d
-      → (left right : List Card) × (cut_back ir (before ++ (run ++ after)) (left_in (line_of ir (before ++ (run ++ after))) (p ++ (M ++ q))) ≡ left ++ (cut_back ir run (drop d M) ++ right))
+      → AreCardsFrom (length before) (cut_back ir run (drop d M)) (cut_back ir (before ++ (run ++ after)) (left_in (line_of ir (before ++ (run ++ after))) (p ++ (M ++ q))))
   unfolding shifted_bits
   long_enough before run after p M q d a b e =
       let F : List Bool = line_of ir before in
@@ -140,13 +144,15 @@ module _ (ir : Bool) where
       let left : List Card = cut_back ir before x in
       let right : List Card = cut_back ir after (drop (length R) (drop d M ++ q)) in
       let stays : left_in (line_of ir (before ++ (run ++ after))) (p ++ (M ++ q)) ≡ x = ap (λ L. left_in L (p ++ (M ++ q))) (three before run after) ∙ surplus F R B p M q a b d e in
-      let mid : drop (length F) x ≡ drop d M ++ q = middle F R B p M q a b d e in (
-        left,
-        right,
-        ap (cut_back ir (before ++ (run ++ after))) stays ∙ cut_both before (run ++ after) x
+      let mid : drop (length F) x ≡ drop d M ++ q = middle F R B p M q a b d e in
+      record {
+        front = left;
+        back = right;
+        whole = ap (cut_back ir (before ++ (run ++ after))) stays ∙ cut_both before (run ++ after) x
             ∙ ap (λ t. left ++ t) (ap (cut_back ir (run ++ after)) mid ∙ cut_both run after (drop d M ++ q)
-            ∙ ap (λ t. t ++ right) (cut_front run (drop d M) q (omega (arith, length-drop d M, e)))),
-      )
+            ∙ ap (λ t. t ++ right) (cut_front run (drop d M) q (omega (arith, length-drop d M, e))));
+        place_is = cut_length before x;
+      }
 
 pub padded_scan_is_same : (ir : Bool) (before run after : List Card) (p : Paddings) (bits : List Bool) → p.base_pre ≡ length (line_of ir before)
     → p.base_post ≡ length (line_of ir after) → IsSameScan ir before run after p bits
@@ -166,8 +172,8 @@ padded_scan_is_same ir before run after p bits a b =
     let within : length p.pre + length bits ≤ length M = omega (arith, length-append p.pre (bits ++ p.post), length-append bits p.post) in
     record {
       kept = λ h.
-          let l = long_enough ir before run after P M Q (length M - length R) nP nQ (surplus_of h) in
-          (l.0, l.1, l.2 ∙ ap (λ t. l.0 ++ (cut_back ir run t ++ l.1)) (sym (last h)));
+          subst (λ t. AreCardsFrom (length before) (cut_back ir run t) (cut_back ir (before ++ (run ++ after)) (left_in (line_of ir (before ++ (run ++ after))) (padded p bits))))
+          (sym (last h)) (long_enough ir before run after P M Q (length M - length R) nP nQ (surplus_of h));
       last = last;
       captured_same = λ h.
           data_part p.base_pre (length p.pre) (length bits) (length M) (shifted_out (line_of ir (before ++ (run ++ after))) (padded p bits)) within

@@ -27,7 +27,7 @@ tap_of_entered DrUpdate c = refl
 tap_of_entered Reset c = refl
 tap_of_entered _ c = refl
 
-step_in : (s : Tap) (c : Card) (m b : Bool) → c.tap ≡ s → (step c m b).tap ≡ next_of s m
+pub step_in : (s : Tap) (c : Card) (m b : Bool) → c.tap ≡ s → (step c m b).tap ≡ next_of s m
 step_in s c m b e = tap_of_entered (next_of c.tap m) (during c.tap b c) ∙ ap (λ t. next_of t m) e
 
 pub steps_in : (s : Tap) (cs : List Card) (m b : Bool) → AllIn s cs → AllIn (next_of s m) (board_step cs m b)

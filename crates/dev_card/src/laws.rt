@@ -1,7 +1,8 @@
 //! Laws of the definitions.
 ghost use Rattle.std.specs.Prelude.{◌≡◌, ◌≢◌, ◌<◌, ◌-◌, ◌^◌, ℕ, Bool, true, false, ◌++◌, All, List, Option, Some, length};
 ghost use Rattle.tap_states.specs.declared.Tap.{Tap};
-ghost use Rattle.tap_states.specs.declared.Tap.TheVariants.{DrShift};
+ghost use Rattle.tap_states.specs.declared.Tap.TheVariants.{DrShift, Reset};
+ghost use Rattle.tap_states.specs.Path.{five_ones};
 ghost use Rattle.tap_states.specs.Tap.{is_stable_state};
 ghost use Rattle.dev_card.specs.declared.desc.Desc.{Desc};
 ghost use Rattle.dev_card.specs.Descriptions.{IsGood, opcodes_of};
@@ -10,7 +11,7 @@ ghost use Rattle.dev_card.specs.Board.{Input, board_after, AllIn};
 ghost use Rattle.dev_card.specs.Line.{shift_state, line_of, AllShift};
 ghost use Rattle.dev_card.specs.Padding.{Paddings, base_pre_of, base_post_of};
 ghost use Rattle.dev_card.specs.PaddedScan.{IsSameScan, IsOneScan, base_of_cards};
-ghost use Rattle.dev_card.specs.Clocks.{move_inputs, at_shift, board_scanned, StaysShifting, ShiftsAsLine, ScansAsLine};
+ghost use Rattle.dev_card.specs.Clocks.{with_zero, move_inputs, at_shift, board_scanned, StaysShifting, ShiftsAsLine, ScansAsLine};
 ghost use Rattle.dev_card.specs.Sound.{IsSound, AllSound, AllBypass, register_lengths, SoundCard, card_in};
 
 /// Every opcode that a description doesn't name selects BYPASS.
@@ -98,4 +99,9 @@ pub fn length_of_the_line()
 /// The line of cards with BYPASS selected has one bit for each card.
 pub fn a_bypass_line_has_one_bit_a_card()
     ensures { (cs : List Card) → AllIn DrShift cs → AllSound cs → AllBypass cs → length (line_of false cs) ≡ length cs }
+{}
+
+/// Five clocks with TMS 1 bring every board to reset, whatever states its controllers are in.
+pub fn five_ones_reset_a_board()
+    ensures { (cs : List Card) → AllIn Reset (board_after cs (with_zero five_ones)) }
 {}

@@ -5,7 +5,7 @@ use Rattle.std.specs.Option.{option_map}
 use Rattle.dev_card.specs.Card.{Card}
 use Rattle.dev_card.specs.Board.{Clock, Input, clocks_of, board_after}
 use Rattle.dev_card.proofs.ScanLines.{after-append, clocks-append}
-use Rattle.scan_paths.specs.Cables.{input_of, IsClocked, IsUnclocked, IsClockedOrNot, HasMade, HasMadeFront}
+use Rattle.scan_paths.specs.Cables.{input_of, IsClocked, IsUnclocked, HasBrokenOff, IsClockedOrNot, HasMade, HasMadeFront}
 
 -- Of all inputs a front was clocked, and these are the rest.
 pub record IsUnderWay {C : Type 0} (board : C → Option (List Card)) (makes : C → List Clock → C → Type 0) (start now : C) (rest all : List Input) : Type 0 where
@@ -73,6 +73,18 @@ module _ {C : Type 0} (board : C → Option (List Card)) (makes : C → List Clo
     pub way_end : (start now : C) (all : List Input) → IsUnderWay board makes start now [] all → HasMade board makes start now all
     way_end start now all w = subst (λ z. HasMade board makes start now z) (sym (w.parts ∙ append-nil w.front)) w.made
 
+    broken_after : (a b c : C) (xs ys : List Input) → HasMade board makes a b xs → HasBrokenOff board makes b c ys → HasBrokenOff board makes a c (xs ++ ys)
+    broken_after a b c xs ys p q =
+        let mid : (cs : List Card) → board a ≡ Some cs → board b ≡ Some (board_after cs xs) = λ cs t. p.cards ∙ ap (λ o. option_map (λ ks. board_after ks xs) o) t in
+        record {
+          clocks = p.clocks ++ q.clocks;
+          made = both a b c p.clocks q.clocks p.made q.made;
+          went_in = map-append input_of p.clocks q.clocks ∙ ap (λ z. z ++ map input_of q.clocks) p.went_in ∙ ap (λ z. xs ++ z) q.went_in;
+          seen = λ cs t.
+              ap (λ z. z ++ q.clocks) (p.seen cs t) ∙ ap (λ z. clocks_of cs xs ++ z) (q.seen (board_after cs xs) (mid cs t)) ∙ sym (clocks-append xs ys cs);
+          cards = λ cs ks t u. q.cards (board_after cs xs) ks (mid cs t) u ∙ sym (after-append xs ys cs);
+        }
+
     -- a call that failed after some of the inputs
     pub way_failed : (start now next : C) (i : Input) (rest all : List Input) →
         IsClockedOrNot board makes now next i.tms i.tdi → IsUnderWay board makes start now (i ∷ rest) all → HasMadeFront board makes start next all
@@ -80,8 +92,11 @@ module _ {C : Type 0} (board : C → Option (List Card)) (makes : C → List Clo
       front = w.front ++ [];
       rest = i ∷ rest;
       parts = w.parts ∙ sym (append_assoc w.front [] (i ∷ rest));
-      made = made_both start now next w.front [] w.made (made_nothing now next u);
+      made = broken_after start now next w.front [] w.made u;
     }
-    way_failed start now next i rest all (inr k) w =
-        let v = way_more start now next i rest all k.0 k.1 w in
-        record { front = v.front; rest = rest; parts = v.parts; made = v.made }
+    way_failed start now next i rest all (inr k) w = record {
+      front = w.front ++ i ∷ [];
+      rest = rest;
+      parts = w.parts ∙ sym (append_assoc w.front (i ∷ []) rest);
+      made = broken_after start now next w.front (i ∷ []) w.made k;
+    }

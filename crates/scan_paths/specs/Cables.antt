@@ -48,9 +48,18 @@ pub record IsUnclocked {C : Type 0} (board : C → Option (List Card)) (makes : 
   pub made : makes old [] new
   pub cards : board new ≡ board old
 
+-- A call that failed made clocks with these inputs. If the board was told, they are its clocks; if it is told still, it is the one after them. After
+-- a failure a cable need not tell its board any more.
+pub record HasBrokenOff {C : Type 0} (board : C → Option (List Card)) (makes : C → List Clock → C → Type 0) (old new : C) (inputs : List Input) : Type 0 where
+  pub clocks : List Clock
+  pub made : makes old clocks new
+  pub went_in : map input_of clocks ≡ inputs
+  pub seen : (cs : List Card) → board old ≡ Some cs → clocks ≡ clocks_of cs inputs
+  pub cards : (cs after : List Card) → board old ≡ Some cs → board new ≡ Some after → after ≡ board_after cs inputs
+
 -- No clock was made, or this one.
 abbrev pub IsClockedOrNot : {C : Type 0} → (C → Option (List Card)) → (C → List Clock → C → Type 0) → C → C → Bool → Bool → Type 0
-IsClockedOrNot board makes old new tms tdi = IsUnclocked board makes old new ⊎ ((tdo : Bool) × IsClocked board makes old new tms tdi tdo)
+IsClockedOrNot board makes old new tms tdi = HasBrokenOff board makes old new [] ⊎ HasBrokenOff board makes old new (record { tms = tms; tdi = tdi } ∷ [])
 
 -- Clocks were made with exactly these inputs. Where the board is told, they are the board's clocks, and the board is the one after them.
 pub record HasMade {C : Type 0} (board : C → Option (List Card)) (makes : C → List Clock → C → Type 0) (old new : C) (inputs : List Input) : Type 0 where
@@ -60,12 +69,12 @@ pub record HasMade {C : Type 0} (board : C → Option (List Card)) (makes : C �
   pub seen : (cs : List Card) → board old ≡ Some cs → clocks ≡ clocks_of cs inputs
   pub cards : board new ≡ option_map (λ cs. board_after cs inputs) (board old)
 
--- Clocks were made with exactly a front of these inputs.
+-- Clocks were made with exactly a front of these inputs, and then a call failed.
 pub record HasMadeFront {C : Type 0} (board : C → Option (List Card)) (makes : C → List Clock → C → Type 0) (old new : C) (inputs : List Input) : Type 0 where
   pub front : List Input
   pub rest : List Input
   pub parts : inputs ≡ front ++ rest
-  pub made : HasMade board makes old new front
+  pub made : HasBrokenOff board makes old new front
 
 -- what holds of the board, where it is told
 abbrev pub WhereTold : Option (List Card) → (List Card → Type 0) → Type 0
