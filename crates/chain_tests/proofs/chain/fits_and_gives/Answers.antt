@@ -1,7 +1,7 @@
 use Rattle.std.proofs.Common.{◌∙◌}
 use Rattle.chain_sim.specs.Rack.{places_of}
-use Rattle.tool_tests.proofs.Fresh.{fresh_at}
-use Rattle.tool_tests.proofs.chain.fits_and_gives.Goals as goal
+use Rattle.chain_tests.proofs.Fresh.{fresh_at}
+use Rattle.chain_tests.proofs.chain.fits_and_gives.Goals as goal
 
 pub wake-woken-requires-clause-at : goal.wake-woken-requires-clause-at
 wake-woken-requires-clause-at g c =

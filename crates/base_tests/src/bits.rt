@@ -1,7 +1,6 @@
 //! Tests of lists of bits, with vectors from outside.
 use bit_list::{Bits, BitsRefused, MOST_DIGITS};
 use std::alloc::Global;
-use std::process::Abort;
 use std::test::Fail;
 
 /// Hexadecimal digits, and their bits, the lowest index on the left.
@@ -133,42 +132,48 @@ fn is_written(bits: &Bits, text: &str) -> bool {
     true
 }
 
-/// The list of these digits, of which there are few.
-fn binary(rt: &impl Abort, alloc: Global, text: &str) -> Result<Bits, BitsRefused> {
-    assert!(rt; text.len() <= MOST_DIGITS);
-    Bits::from_binary(alloc, text.as_bytes())
+/// The list of these binary digits, of which there are few.
+fn binary(alloc: Global, text: &str) -> Result<Bits, BitsRefused> {
+    let digits = text.as_bytes();
+    if digits.len() > MOST_DIGITS {
+        return Err(BitsRefused::Memory);
+    }
+    Bits::from_binary(alloc, digits)
 }
 
-/// The list of these digits, of which there are few.
-fn hex(rt: &impl Abort, alloc: Global, text: &str) -> Result<Bits, BitsRefused> {
-    assert!(rt; text.len() <= MOST_DIGITS);
-    Bits::from_hex(alloc, text.as_bytes())
+/// The list of these hexadecimal digits, of which there are few.
+fn hex(alloc: Global, text: &str) -> Result<Bits, BitsRefused> {
+    let digits = text.as_bytes();
+    if digits.len() > MOST_DIGITS {
+        return Err(BitsRefused::Memory);
+    }
+    Bits::from_hex(alloc, digits)
 }
 
 #[test]
 fn reads_digits(rt: HostRuntime) -> Result<(), Fail> {
     for (digits, bits) in HEX {
         assert!(rt;
-            is_written(&hex(&rt, rt.alloc(), digits)?, bits),
+            is_written(&hex(rt.alloc(), digits)?, bits),
             "hexadecimal {digits}"
         );
     }
     for (digits, bits) in BINARY {
         assert!(rt;
-            is_written(&binary(&rt, rt.alloc(), digits)?, bits),
+            is_written(&binary(rt.alloc(), digits)?, bits),
             "binary {digits}"
         );
     }
     for (digits, place) in NO_HEX {
         assert_eq!(rt;
-            hex(&rt, rt.alloc(), digits),
+            hex(rt.alloc(), digits),
             Err(BitsRefused::BadDigit(place)),
             "hexadecimal {digits}"
         );
     }
     for (digits, place) in NO_BINARY {
         assert_eq!(rt;
-            binary(&rt, rt.alloc(), digits),
+            binary(rt.alloc(), digits),
             Err(BitsRefused::BadDigit(place)),
             "binary {digits}"
         );
@@ -192,14 +197,14 @@ fn changes_bits(rt: HostRuntime) -> Result<(), Fail> {
 #[test]
 fn copies_ranges(rt: HostRuntime) -> Result<(), Fail> {
     for (target, at, source, low, n, wanted) in COPIES {
-        let mut bits = binary(&rt, rt.alloc(), target)?;
-        let from = binary(&rt, rt.alloc(), source)?;
+        let mut bits = binary(rt.alloc(), target)?;
+        let from = binary(rt.alloc(), source)?;
         assert!(rt; at <= bits.len() && n <= bits.len() - at);
         assert!(rt; low <= from.len() && n <= from.len() - low);
         bits.copy_range(at, &from, low, n);
         assert_eq!(rt;
             bits,
-            binary(&rt, rt.alloc(), wanted)?,
+            binary(rt.alloc(), wanted)?,
             "{n} bits of {source} into {target}"
         );
     }
@@ -209,9 +214,9 @@ fn copies_ranges(rt: HostRuntime) -> Result<(), Fail> {
 #[test]
 fn compares_under_a_mask(rt: HostRuntime) -> Result<(), Fail> {
     for (left, right, mask, n, wanted) in COMPARISONS {
-        let a = binary(&rt, rt.alloc(), left)?;
-        let b = binary(&rt, rt.alloc(), right)?;
-        let under = binary(&rt, rt.alloc(), mask)?;
+        let a = binary(rt.alloc(), left)?;
+        let b = binary(rt.alloc(), right)?;
+        let under = binary(rt.alloc(), mask)?;
         assert!(rt; n <= a.len() && n <= b.len() && n <= under.len());
         assert_eq!(rt;
             a.masked_equal(&b, &under, n),
@@ -224,7 +229,7 @@ fn compares_under_a_mask(rt: HostRuntime) -> Result<(), Fail> {
 
 #[test]
 fn converts_integers(rt: HostRuntime) -> Result<(), Fail> {
-    let bits = hex(&rt, rt.alloc(), "96C3A5F0E1")?;
+    let bits = hex(rt.alloc(), "96C3A5F0E1")?;
     assert!(rt; bits.len() == 40);
     for n in 0..33 {
         assert_eq!(rt; bits.to_int(5, n), INTEGERS[n as usize], "{n} bits");
@@ -232,17 +237,13 @@ fn converts_integers(rt: HostRuntime) -> Result<(), Fail> {
     for (value, digits) in INTEGER_BITS {
         let mut written = Bits::zeros(rt.alloc(), 32)?;
         written.set_int(value);
-        assert_eq!(rt;
-            written,
-            hex(&rt, rt.alloc(), digits)?,
-            "the bits of {value}"
-        );
+        assert_eq!(rt; written, hex(rt.alloc(), digits)?, "the bits of {value}");
         assert_eq!(rt; written.to_int(0, 32), value, "{value} and back");
     }
-    let mut longer = hex(&rt, rt.alloc(), "800000000")?;
+    let mut longer = hex(rt.alloc(), "800000000")?;
     assert!(rt; longer.len() == 36);
     longer.set_int(-1);
-    assert_eq!(rt; longer, hex(&rt, rt.alloc(), "8FFFFFFFF")?);
+    assert_eq!(rt; longer, hex(rt.alloc(), "8FFFFFFFF")?);
     assert_eq!(rt; longer.to_int(4, 32), -1_879_048_193);
     Ok(())
 }

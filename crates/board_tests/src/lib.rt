@@ -1,0 +1,5 @@
+//! Tests of boards as texts.
+#![tactic(auto)]
+
+#[cfg(test)]
+mod boards;

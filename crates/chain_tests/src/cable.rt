@@ -1,0 +1,96 @@
+//! Tests of moves and stays over a cable that fails.
+ghost use Rattle.std.specs.Prelude.{◌≡◌, ◌^◌, ◌-◌, not, None};
+ghost use Rattle.std.proofs.lemmas.Option.{none-some};
+ghost use Rattle.scan_paths.specs.Cables.{whole, whole_if};
+
+use scan_paths::{Cable, move_to, stay};
+use std::test::Fail;
+use tap_states::Tap;
+use tool_io::Failed;
+
+/// A cable that tells nothing and answers 0 for each bit. The clock with the number `failing`, counted from 1, fails.
+#[derive(Drop)]
+struct SilentCable {
+    clocks: u32,
+    failing: u32,
+    faults: u32,
+    is_broken: bool,
+}
+
+impl SilentCable {
+    fn new(failing: u32) -> SilentCable
+        ensures { ⟦<SilentCable as Cable>⟧.breakage result ≡ whole }
+    {
+        SilentCable {
+            clocks: 0,
+            failing,
+            faults: 0,
+            is_broken: false,
+        }
+    }
+}
+
+impl Cable for SilentCable {
+    ghost board = { λ _. None };
+
+    ghost made = { λ _ _ _. Unit {0} };
+
+    ghost line_faults = { λ c. c.faults };
+
+    ghost is_line_last = { λ c. c.faults ≡ 2 ^ 32 - 1 };
+
+    ghost pin_faults = { λ _. 0 };
+
+    ghost is_pin_last = { λ _. ⊥ };
+
+    ghost breakage = { λ c. whole_if (not c.is_broken) };
+
+    fn clock(&mut self, _tms: bool, _tdi: bool) -> Result<bool, Failed> {
+        self.clocks = self.clocks.saturating_add(1);
+        if self.clocks == self.failing {
+            self.faults = self.faults.saturating_add(1);
+            self.is_broken = true;
+            return Err(Failed);
+        }
+        Ok(false)
+    }
+
+    fn usec(&mut self, _n: u32) -> Result<(), Failed> {
+        Ok(())
+    }
+
+    fn hertz(&mut self, _n: u32) -> Result<(), Failed> {
+        Ok(())
+    }
+
+    ghost sound = { λ c cs told. absurd (none-some cs told) };
+
+    ghost none_made = { λ _. tt };
+
+    ghost both_made = { λ _ _ _ _ _ _ _. tt };
+}
+
+#[test]
+fn stops_at_the_clock_that_fails(rt: HostRuntime) -> Result<(), Fail> {
+    // From the state diagram of IEEE 1149.1: from DRPAUSE to IRSHIFT there are six clocks.
+    for failing in 1..8u32 {
+        let mut cable = SilentCable::new(failing);
+        let moved = move_to(&mut cable, Tap::DrPause, Tap::IrShift);
+        assert_eq!(rt;
+            moved.ok(),
+            if failing > 6 {
+                Some(Tap::IrShift)
+            } else {
+                None
+            }
+        );
+        assert_eq!(rt; cable.clocks, failing.min(6));
+    }
+    for failing in 1..8u32 {
+        let mut cable = SilentCable::new(failing);
+        let stayed = stay(&mut cable, Tap::IrPause, 5);
+        assert_eq!(rt; stayed.is_ok(), failing > 5);
+        assert_eq!(rt; cable.clocks, failing.min(5));
+    }
+    Ok(())
+}

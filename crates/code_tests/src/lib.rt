@@ -1,0 +1,7 @@
+//! Tests of codes and of the machine that runs them.
+#![tactic(auto)]
+
+#[cfg(test)]
+mod codes;
+#[cfg(test)]
+mod machines;

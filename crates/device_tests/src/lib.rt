@@ -1,0 +1,7 @@
+//! Tests of descriptions of devices, and of the devices themselves.
+#![tactic(auto)]
+
+#[cfg(test)]
+mod cards;
+#[cfg(test)]
+mod devices;

@@ -1,0 +1,5 @@
+//! Tests of stores of files and of sinks.
+#![tactic(auto)]
+
+#[cfg(test)]
+mod outside;
