@@ -17,3 +17,4 @@ pub mod ReasonSteps
 pub mod ParsingLemmas
 pub mod BodyClean
 pub mod LawLemmas
+pub mod Answered

@@ -111,7 +111,7 @@ module _ (text : List ℕ) (piece : Piece) (list : List Token) (are : AreTokens 
       by false true e f = left_out list are.good f
       by false false e f = not_in_grammar list are.good none
 
-  smallest_in_grammar : SmallestReason text piece (reason_of (symbols_of text list))
+  pub smallest_in_grammar : SmallestReason text piece (reason_of (symbols_of text list))
   smallest_in_grammar = record { holds = holds_in_grammar; least = least_in_grammar }
 
 pub parsed_because : (text : List ℕ) (piece : Piece) (tokens : List Token) (result : Result Stmt ParseRefused) → AreTokens text piece tokens → AnswersFor (seen text tokens) result → (reason : Reason) → result ≡ Err (Because reason) → SmallestReason text piece reason
@@ -139,8 +139,11 @@ module _ (text : List ℕ) (piece : Piece) (own : Reason) (smallest : IsSmallest
   least_in_tokens _ (left_out tokens good e) = let le = below_nine tokens good in omega (arith, le)
   least_in_tokens _ (not_in_grammar tokens good nothing) = let le = below_nine tokens good in omega (arith, le)
 
+pub smallest_in_tokens : (text : List ℕ) (piece : Piece) (own : Reason) → IsSmallestTokenReason text piece own → SmallestReason text piece own
+smallest_in_tokens text piece own smallest = record { holds = in_tokens smallest.holds; least = least_in_tokens text piece own smallest }
+
 pub refused_by_tokens : (text : List ℕ) (piece : Piece) (x own reason : Reason) →
     ◌≡◌ {A = Result Stmt ParseRefused} (Err (Because x)) (Err (Because reason)) → x ≡ own → IsSmallestTokenReason text piece own → SmallestReason text piece reason
 refused_by_tokens text piece x own reason e o smallest =
     let same : own ≡ reason = cc in
-    subst (SmallestReason text piece) same (record { holds = in_tokens smallest.holds; least = least_in_tokens text piece own smallest })
+    subst (SmallestReason text piece) same (smallest_in_tokens text piece own smallest)
