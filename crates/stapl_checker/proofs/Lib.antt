@@ -4,3 +4,4 @@ pub mod ReasonLemmas
 pub mod RefusingLemmas
 pub mod VerdictLemmas
 pub mod UniqueLemmas
+pub mod Answered
