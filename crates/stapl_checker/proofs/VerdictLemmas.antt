@@ -17,19 +17,14 @@ use Rattle.stapl_checker.proofs.ReadingLemmas.{read_length, are_read_as, IsReadA
 use Rattle.stapl_checker.proofs.ReasonLemmas.{refused_at, none_holds, smallest_of_end, smallest_of_statement, smallest_early, smallest_late}
 use Rattle.stapl_checker.proofs.RefusingLemmas.{tree_at}
 
-same_trees : (statements : List Stmt) → trees (map Statement statements) ≡ map Some (map stmt_tree statements)
-same_trees [] = refl
-same_trees (s ∷ statements) = ap (λ (z : List (Option StmtTree)). Some (stmt_tree s) ∷ z) (same_trees statements)
-
 -- no reason holds against the pieces that are not refused
 none_before : (text : List ℕ) (pieces : List Piece) (read : List Read) (n : ℕ) → AreRead text pieces read → ((k : ℕ) → k < n → is_refused (trees read) k ≡ false) →
     NoneBefore text pieces (trees read) n
 none_before text pieces read n are passed k lt reason has = none_holds text pieces (trees read) (are_read_as text pieces read are) refl (passed k lt) has
 
 pub program_is : (text : List ℕ) (pieces : List Piece) (read : List Read) (statements : List Stmt) → length text ≤ text_limit → IsCut text pieces →
-    AreRead text pieces read → NoneUpTo (is_refused (trees read)) (length read) → read ≡ map Statement statements → IsProgram text (map stmt_tree statements)
-program_is text pieces read statements short cut are all e =
-    let same : trees read ≡ map Some (map stmt_tree statements) = ap trees e ∙ same_trees statements in
+    AreRead text pieces read → NoneUpTo (is_refused (trees read)) (length read) → trees read ≡ map Some (map stmt_tree statements) → IsProgram text (map stmt_tree statements)
+program_is text pieces read statements short cut are all same =
     let long = read_length text pieces read are in
     record {
       short = short;
@@ -42,7 +37,7 @@ program_is text pieces read statements short cut are all e =
 
 by_limit : (text : List ℕ) (read : List (Option StmtTree)) (i : ℕ) (piece : Piece) (what : Read) → IsRead text piece what → is_refused read i ≡ true →
     SmallestReasonAt text read i (Some piece) (refused_reason i (Some what))
-by_limit text read i piece (Statement st) is refused = smallest_of_statement text read i piece (stmt_tree st) is refused
+by_limit text read i piece (Statement st) is refused = smallest_of_statement text read i piece (stmt_tree st.value) is refused
 by_limit text read i piece (Faulty reason) is refused = by (nat_le piece_limit i) refl
   where
     by : (b : Bool) → nat_le piece_limit i ≡ b → SmallestReasonAt text read i (Some piece) (if b then reasons.TooManyPieces else reason)

@@ -9,12 +9,12 @@ use Rattle.stapl_checker.specs.declared.reading.Read.TheVariants.{Statement, Fau
 
 -- the statement that a piece is, if it is one
 abbrev pub read_tree : Read → Option StmtTree
-read_tree (Statement st) = Some (stmt_tree st)
+read_tree (Statement st) = Some (stmt_tree st.value)
 read_tree (Faulty reason) = None
 
 -- what a piece is: a statement, or none for this reason
 abbrev pub IsRead : List ℕ → Piece → Read → Type 0
-IsRead text piece (Statement st) = IsPieceStatement text piece (stmt_tree st)
+IsRead text piece (Statement st) = IsPieceStatement text piece (stmt_tree st.value)
 IsRead text piece (Faulty reason) = SmallestReason text piece reason
 
 abbrev pub IsStatement : Read → Type 0

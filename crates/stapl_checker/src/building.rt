@@ -1,7 +1,6 @@
 //! Which statements are built.
 ghost use Rattle.std.specs.Prelude.{◌≡◌, map};
 ghost use Rattle.stapl_syntax.specs.Trees.{expr_tree, item_tree, part_tree, body_tree, stmt_tree};
-ghost use Rattle.stapl_syntax.specs.Statements.{is_outer};
 ghost use Rattle.stapl_syntax.specs.Built.{is_built_atom, is_built_sum, is_built_condition, is_built_print, is_built_simple, is_built_inner, is_built_list, is_built_outer, is_built};
 
 use stapl_lexer::BinOp;
@@ -89,21 +88,6 @@ fn is_built_outer(body: &Body) -> bool
         Body::Procedure(_, uses) => uses.is_none(),
         _ => false,
     }
-}
-
-/// Whether a statement stands outside procedures, and bears no label.
-pub fn is_outer(body: &Body) -> bool
-    ensures { result ≡ is_outer (body_tree body.now) }
-{
-    matches!(
-        body,
-        Body::Note(_, _)
-            | Body::Action(_, _, _)
-            | Body::Procedure(_, _)
-            | Body::Data(_)
-            | Body::EndData
-            | Body::Crc(_)
-    )
 }
 
 /// Whether a statement is built.

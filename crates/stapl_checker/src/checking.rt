@@ -1,9 +1,8 @@
 //! The check of a whole text.
-ghost use Rattle.std.specs.Prelude.{◌≡◌, ◌≤◌, ◌+◌, length, map, All, IfOk, IfErr};
+ghost use Rattle.std.specs.Prelude.{◌≡◌, ◌≤◌, ◌+◌, length, map, Some, All, IfOk, IfErr};
 ghost use Rattle.stapl_lexer.specs.Pieces.{IsCut, LiesIn, text_limit};
 ghost use Rattle.stapl_syntax.specs.Trees.{stmt_tree};
 ghost use Rattle.stapl_syntax.specs.Faults.{line_of_index, end_line, procedure_pieces, IsProgram};
-ghost use Rattle.stapl_checker.specs.declared.reading.Read.TheVariants as reads;
 ghost use Rattle.stapl_checker.specs.Reads.{AreRead, IsStatement, trees};
 ghost use Rattle.stapl_checker.specs.Tables.{AreNames};
 ghost use Rattle.stapl_checker.specs.Verdicts.{IsVerdict, IsCause};
@@ -48,12 +47,12 @@ fn line_of_index(text: &[u8], pieces: &[Piece], index: usize) -> u32
 // The statements of pieces that all have one.
 fn statements_of(alloc: Global, read: Vec<Read>) -> Result<Vec<Stmt>, AllocError>
     requires { All IsStatement read.items }
-    ensures { IfOk result (λ statements. read.items ≡ map reads.Statement statements.items) }
+    ensures { IfOk result (λ statements. trees read.items ≡ map Some (map stmt_tree statements.items)) }
 {
     let mut statements = Vec::new(alloc);
     for piece in read {
         match piece {
-            Read::Statement(statement) => statements.push(statement)?,
+            Read::Statement(statement) => statements.push(Box::into_inner(statement))?,
             Read::Faulty(_) => unreachable!(),
         }
     }

@@ -7,7 +7,7 @@ ghost use Rattle.stapl_syntax.specs.Faults.{declares_again, names_known, fits_in
 ghost use Rattle.stapl_checker.specs.Reads.{read_tree};
 ghost use Rattle.stapl_checker.specs.Tables.{found, is_below, known_in};
 
-use crate::building::{is_built, is_outer};
+use crate::building::is_built;
 use crate::names::Names;
 use crate::reading::Read;
 use stapl_lexer::Name;
@@ -103,7 +103,7 @@ fn fits(names: &Names, index: u32, statement: &Stmt) -> bool
     ensures { result ≡ fits_inside (known_in names.now index) (Some (stmt_tree statement.now)) }
 {
     is_built(statement)
-        && !is_outer(&statement.body)
+        && !statement.body.is_outer()
         && !declares_again(names, index, statement)
         && names_are_known(names, statement)
 }

@@ -11,7 +11,8 @@ use std::alloc::{AllocError, Global};
 /// What a piece is: a statement, or none for the smallest of its reasons.
 #[derive(Drop)]
 pub enum Read {
-    Statement(Stmt),
+    /// It lies behind a pointer, so that many pieces that are no statements take little memory.
+    Statement(Box<Stmt>),
     Faulty(Reason),
 }
 
@@ -22,7 +23,7 @@ fn read_piece(alloc: Global, text: &[u8], piece: &Piece) -> Result<Read, AllocEr
     ensures { IfOk result (IsRead text.now piece.now) }
 {
     match parse(alloc, text, piece) {
-        Ok(statement) => Ok(Read::Statement(statement)),
+        Ok(statement) => Ok(Read::Statement(Box::new(alloc, statement)?)),
         Err(ParseRefused::Because(reason)) => Ok(Read::Faulty(reason)),
         Err(ParseRefused::Memory) => Err(AllocError),
     }

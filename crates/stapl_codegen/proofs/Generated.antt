@@ -3,6 +3,7 @@ use Rattle.std.proofs.Common.{◌≡◌, ◌≢◌, ℕ, suc, ◌<◌, ◌≤◌
 use Rattle.std.specs.Prelude.{slice_index_or, All}
 use Rattle.std.specs.List.{list_all}
 use Rattle.std.proofs.lemmas.List.{length-replicate}
+use Rattle.stapl_lexer.specs.ReservedWords.{word_terminal}
 use Rattle.stapl_lexer.specs.Names.{IsUpperName}
 use Rattle.stapl_syntax.specs.Trees.{end_procedure, StmtTree}
 use Rattle.stapl_syntax.specs.Built.{IsBuilt, unlabelled, action_of, procedure_of}
@@ -93,6 +94,7 @@ abbrev pub some_name : List ℕ
 some_name = codes "A"
 
 free_some_name : IsFreeName some_name
+unfolding word_terminal
 free_some_name = record { spelled = record { spelled = refl; some = omega arith; short = omega arith; upper = refl }; free = refl }
 
 module _ (name run : List ℕ) (inner : List StmtTree) (last : StmtTree) (between : list_all is_between inner ≡ true) (is : last.body ≡ end_procedure)

@@ -13,7 +13,7 @@ use crate::emit::{emit_body, put};
 use crate::tables::{Tables, begins_block, block_behind};
 use stapl_code::Instr;
 use stapl_meaning::Text;
-use stapl_syntax::{Body, Stmt};
+use stapl_syntax::Stmt;
 use std::alloc::{AllocError, Global};
 
 /// Instructions whose targets are places of the program, the texts, and where the code of each place begins.
@@ -22,21 +22,6 @@ struct Draft {
     code: Vec<Instr>,
     texts: Vec<Text>,
     starts: Vec<u32>,
-}
-
-// Whether a statement stands outside procedures.
-fn is_outer(body: &Body) -> bool
-    ensures { result ≡ is_outer (body_tree body.now) }
-{
-    matches!(
-        body,
-        Body::Note(_, _)
-            | Body::Action(_, _, _)
-            | Body::Procedure(_, _)
-            | Body::Data(_)
-            | Body::EndData
-            | Body::Crc(_)
-    )
 }
 
 // A piece more.
@@ -59,7 +44,7 @@ fn emit_piece(
     ensures code { OnOk result (code.new.items ≡ code.old.items ++ piece_code (trees program.now) (λ j. j) place (stmt_tree st.now) []) }
     ensures texts { OnOk result (texts.new.items ≡ texts.old.items ++ body_texts (body_tree st.now.body)) }
 {
-    if is_outer(&st.body) {
+    if st.body.is_outer() {
         return Ok(());
     }
     put(code, Instr::Turn(place + 1))?;
@@ -72,7 +57,7 @@ fn start_at(before: usize, st: &Stmt) -> u32
     requires { before < 2 ^ 32 - 1 }
     ensures { result ≡ (if is_outer (body_tree st.now.body) then nowhere else before) }
 {
-    if is_outer(&st.body) {
+    if st.body.is_outer() {
         return u32::MAX;
     }
     before as u32

@@ -149,6 +149,27 @@ pub enum Body {
     Frequency(Option<Expr>),
 }
 
+impl Body {
+    ghost use Rattle.std.specs.Prelude.{◌≡◌};
+    ghost use Rattle.stapl_syntax.specs.Trees.{body_tree};
+    ghost use Rattle.stapl_syntax.specs.Statements.{is_outer};
+
+    /// Whether the statement stands outside procedures, or begins or ends such a block from outside. It bears no label.
+    pub fn is_outer(&self) -> bool
+        ensures { result ≡ is_outer (body_tree self.now) }
+    {
+        matches!(
+            self,
+            Body::Note(_, _)
+                | Body::Action(_, _, _)
+                | Body::Procedure(_, _)
+                | Body::Data(_)
+                | Body::EndData
+                | Body::Crc(_)
+        )
+    }
+}
+
 /// A statement.
 #[derive(Drop)]
 pub struct Stmt {
