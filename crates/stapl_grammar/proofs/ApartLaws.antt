@@ -1,21 +1,20 @@
 -- A reader can tell the parts of each statement apart.
 use Rattle.std.proofs.Common.{◌≡◌, ℤ, ◌<◌, Bool, true, false, List, [], ◌∷◌, ◌++◌, length, Option, Some, None, inl, inr, refl, ap, arith, append_assoc, length-append}
 use Rattle.std.specs.Prelude.{◌⊎◌}
-use Rattle.stapl_lexer.specs.declared.terminal.Mark.{Mark}
 use Rattle.stapl_lexer.specs.declared.terminal.Mark.TheVariants as marks
 use Rattle.stapl_lexer.specs.declared.terminal.JoinWord.{JoinWord}
 use Rattle.stapl_lexer.specs.declared.terminal.JoinWord.TheVariants as joins
 use Rattle.stapl_syntax.specs.declared.statement.ItemChoice.{ItemChoice}
 use Rattle.stapl_syntax.specs.Symbols.{Symbol}
 use Rattle.stapl_syntax.specs.Trees.{ExprTree, PartTree}
-use Rattle.stapl_syntax.specs.Expressions.{mark, right_square, dots}
-use Rattle.stapl_syntax.specs.Parts.{Part, IsPart, hz, a_name, a_signed, an_expr, a_print_part, some_states, after, maybe_hz, maybe, either, listed, after_mark, after_join, after_comma_join, is_mark, mark_number, is_join, join_number, begins_mark, begins_join, begins_state, is_state, begins_count, begins_text, begins_choice, choice_of, begins_anything, IsChoice, optional_item, recommended_item, IsSigned, unsigned, minus, IsPrintPart, of_string, of_value, of_character}
-use Rattle.stapl_syntax.specs.Productions.{comma, join, note_part, item_part, action_part, procedure_part, size_part, for_part, print_part, export_part, capture_part, compare_part, scan_part, pad_part, last_part, usec_part, first_part, frequency_part}
+use Rattle.stapl_syntax.specs.Expressions.{right_square, dots}
+use Rattle.stapl_syntax.specs.Parts.{Part, IsPart, hz, a_name, a_signed, an_expr, a_print_part, some_states, after, maybe_hz, maybe, either, listed, IsChoice, optional_item, recommended_item, IsSigned, unsigned, minus, IsPrintPart, of_string, of_value, of_character, comma, join, note_part, item_part, action_part, procedure_part, size_part, for_part, print_part, export_part, capture_part, compare_part, scan_part, pad_part, last_part, usec_part, first_part, frequency_part}
+use Rattle.stapl_grammar.specs.Looks.{after_mark, after_join, after_comma_join, is_mark, mark_number, is_join, join_number, begins_symbol, begins_state, is_state, begins_count, begins_text, begins_choice, choice_of, begins_anything}
 use Rattle.stapl_grammar.specs.Reading.{next_operator, operator_of}
 use Rattle.stapl_grammar.specs.PartReading.{behind_hz, more_states_at}
 use Rattle.stapl_grammar.specs.BodyReading.{boolean_part, integer_part, range_or_element_part, indexed_part, assign_part, units_part, wait_part}
-use Rattle.stapl_grammar.proofs.Tools.{after_mark_here, after_join_here}
 use Rattle.stapl_grammar.proofs.LeafLaws.{begins_term, some_symbol}
+use Rattle.stapl_grammar.proofs.ListLaws.{IsSign}
 use Rattle.stapl_grammar.proofs.PartLaws.{Follows, CanFollow, Shows, HasSymbols, IsApart, mark_sign, join_sign}
 
 -- ---- which parts may follow one another
@@ -25,17 +24,17 @@ before_sign : {A B : Type 0} {p : Part A} {t : Symbol} {q : Part B} → ((r : Li
 before_sign h = record { by = λ y b r m f g. rw m.1 (h (m.0 ++ r)) }
 
 -- a part that may be missing
-before_maybe : {A B : Type 0} {p : Part A} {look : List Symbol → Bool} {q : Part B} → CanFollow p q → CanFollow p (maybe look q)
-before_maybe {A} {B} {p} {look} {q} h = record { by = go }
+before_maybe : {A B : Type 0} {p : Part A} {q : Part B} → CanFollow p q → CanFollow p (maybe q)
+before_maybe {A} {B} {p} {q} h = record { by = go }
   where
-    go : (y : Option B) (b r : List Symbol) → IsPart (maybe look q) y b → Follows p r → Follows (maybe look q) r → Follows p (b ++ r)
+    go : (y : Option B) (b r : List Symbol) → IsPart (maybe q) y b → Follows p r → Follows (maybe q) r → Follows p (b ++ r)
     go None b r m f g = rw m f
     go (Some y) b r m f g = h.by y b r m f g.1
 
-before_either : {A B C : Type 0} {p : Part A} {look : List Symbol → Bool} {q : Part B} {o : Part C} → CanFollow p q → CanFollow p o → CanFollow p (either look q o)
-before_either {A} {B} {C} {p} {look} {q} {o} h k = record { by = go }
+before_either : {A B C : Type 0} {p : Part A} {q : Part B} {o : Part C} → CanFollow p q → CanFollow p o → CanFollow p (either q o)
+before_either {A} {B} {C} {p} {q} {o} h k = record { by = go }
   where
-    go : (y : B ⊎ C) (b r : List Symbol) → IsPart (either look q o) y b → Follows p r → Follows (either look q o) r → Follows p (b ++ r)
+    go : (y : B ⊎ C) (b r : List Symbol) → IsPart (either q o) y b → Follows p r → Follows (either q o) r → Follows p (b ++ r)
     go (inl y) b r m f g = h.by y b r m f g.0
     go (inr y) b r m f g = k.by y b r m f g.1
 
@@ -70,20 +69,17 @@ no_bracket = refl
 
 -- ---- what shows by its first sign
 
-shows_mark : {A : Type 0} {p : Part A} (m : Mark) → Shows (begins_mark m) true (after (mark m) p)
-shows_mark m = record { by = λ x s r i h. rw (i.1, after_mark_here m (i.0 ++ r)) refl }
-
-shows_join : {A : Type 0} {p : Part A} (w : JoinWord) → Shows (begins_join w) true (after (join w) p)
-shows_join w = record { by = λ x s r i h. rw (i.1, after_join_here w (i.0 ++ r)) refl }
+shows_symbol : {A : Type 0} {p : Part A} {t : Symbol} → IsSign t → Shows (begins_symbol t) true (after t p)
+shows_symbol {t = t} sign = record { by = λ x s r i h. rw (i.1, sign (i.0 ++ r)) refl }
 
 shows_sign : {A : Type 0} {p : Part A} {look : List Symbol → Bool} {answer : Bool} {t : Symbol} → ((r : List Symbol) → look (t ∷ r) ≡ answer) → Shows look answer (after t p)
 shows_sign h = record { by = λ x s r m n. rw m.1 (h (m.0 ++ r)) }
 
 -- a part that may be missing is told from another sign
-shows_not : {A : Type 0} {p : Part A} {look other : List Symbol → Bool} {t : Symbol} → ((r : List Symbol) → look (t ∷ r) ≡ false) → Shows look false (maybe other (after t p))
-shows_not {A} {p} {look} {other} {t} h = record { by = go }
+shows_not : {A : Type 0} {p : Part A} {look : List Symbol → Bool} {t : Symbol} → ((r : List Symbol) → look (t ∷ r) ≡ false) → Shows look false (maybe (after t p))
+shows_not {A} {p} {look} {t} h = record { by = go }
   where
-    go : (x : Option A) (s r : List Symbol) → IsPart (maybe other (after t p)) x s → look r ≡ false → look (s ++ r) ≡ false
+    go : (x : Option A) (s r : List Symbol) → IsPart (maybe (after t p)) x s → look r ≡ false → look (s ++ r) ≡ false
     go None s r m n = rw m n
     go (Some x) s r m n = rw m.1 (h (m.0 ++ r))
 
@@ -145,7 +141,7 @@ action_apart = (
 )
 
 pub procedure_apart : IsApart procedure_part
-procedure_apart = (tt, ((join_sign joins.Uses, names_apart), shows_join joins.Uses), before_any (λ r. tt))
+procedure_apart = (tt, ((join_sign joins.Uses, names_apart), shows_symbol (join_sign joins.Uses)), before_any (λ r. tt))
 
 -- ---- declarations
 
@@ -157,8 +153,8 @@ unfolding after_mark is_mark mark_number
 boolean_apart = (
   tt,
   (
-    (size_apart, ((mark_sign marks.Equals, tt), shows_mark marks.Equals), before_any (λ r. tt)),
-    ((mark_sign marks.Equals, tt), shows_mark marks.Equals),
+    (size_apart, ((mark_sign marks.Equals, tt), shows_symbol (mark_sign marks.Equals)), before_any (λ r. tt)),
+    ((mark_sign marks.Equals, tt), shows_symbol (mark_sign marks.Equals)),
     record { by = λ x s r m h. rw (m.2, m.3.1) refl },
     shows_not (λ r. refl),
   ),
@@ -170,8 +166,8 @@ unfolding after_mark is_mark mark_number
 integer_apart = (
   tt,
   (
-    (size_apart, ((mark_sign marks.Equals, signed_list_apart), shows_mark marks.Equals), before_any (λ r. tt)),
-    ((mark_sign marks.Equals, tt), shows_mark marks.Equals),
+    (size_apart, ((mark_sign marks.Equals, signed_list_apart), shows_symbol (mark_sign marks.Equals)), before_any (λ r. tt)),
+    ((mark_sign marks.Equals, tt), shows_symbol (mark_sign marks.Equals)),
     record { by = λ x s r m h. rw (m.2, m.3.1) refl },
     shows_not (λ r. refl),
   ),
@@ -185,7 +181,7 @@ unfolding after_mark is_mark mark_number
 range_or_element_apart = (
   (mark_sign marks.Dots, (tt, (mark_sign marks.RightSquare, (mark_sign marks.Equals, tt)), before_sign square_ends)),
   (mark_sign marks.RightSquare, (mark_sign marks.Equals, tt)),
-  shows_mark marks.Dots,
+  shows_symbol (mark_sign marks.Dots),
   shows_sign (λ r. refl),
 )
 
@@ -193,20 +189,20 @@ indexed_apart : IsApart indexed_part
 indexed_apart = (
   (mark_sign marks.RightSquare, (mark_sign marks.Equals, tt)),
   (tt, range_or_element_apart, before_either (before_sign dots_end) (before_sign square_ends)),
-  shows_mark marks.RightSquare,
+  shows_symbol (mark_sign marks.RightSquare),
   record { by = λ x s r m h. rw (m.2, append_assoc m.0 m.1 r, (begins_term m.0 x.0 m.3 (m.1 ++ r)).closing) refl },
 )
 
 pub assign_apart : IsApart assign_part
 unfolding after_mark is_mark mark_number
-assign_apart = ((mark_sign marks.Equals, tt), (mark_sign marks.LeftSquare, indexed_apart), shows_mark marks.Equals, shows_sign (λ r. refl))
+assign_apart = ((mark_sign marks.Equals, tt), (mark_sign marks.LeftSquare, indexed_apart), shows_symbol (mark_sign marks.Equals), shows_sign (λ r. refl))
 
 -- ---- other statements that may stand behind THEN
 
 pub for_apart : IsApart for_part
 for_apart = (
   tt,
-  (mark_sign marks.Equals, (tt, (join_sign joins.To, (tt, ((join_sign joins.Step, tt), shows_join joins.Step), before_maybe (before_sign (join_ends joins.Step)))), before_sign (join_ends joins.To))),
+  (mark_sign marks.Equals, (tt, (join_sign joins.To, (tt, ((join_sign joins.Step, tt), shows_symbol (join_sign joins.Step)), before_maybe (before_sign (join_ends joins.Step)))), before_sign (join_ends joins.To))),
   before_any (λ r. tt),
 )
 
@@ -234,10 +230,10 @@ pub scan_apart : IsApart scan_part
 scan_apart = (tt, (mark_sign marks.Comma, (tt, (capture_apart, compare_apart, compare_after_capture), before_any (λ r. tt))), before_sign comma_ends)
 
 pub pad_apart : IsApart pad_part
-pad_apart = (tt, ((mark_sign marks.Comma, tt), shows_mark marks.Comma), before_maybe (before_sign comma_ends))
+pad_apart = (tt, ((mark_sign marks.Comma, tt), shows_symbol (mark_sign marks.Comma)), before_maybe (before_sign comma_ends))
 
 last_apart : IsApart last_part
-last_apart = ((mark_sign marks.Comma, tt), shows_mark marks.Comma)
+last_apart = ((mark_sign marks.Comma, tt), shows_symbol (mark_sign marks.Comma))
 
 usec_apart : IsApart usec_part
 unfolding begins_count is_mark mark_number
@@ -255,7 +251,7 @@ unfolding after_join is_join join_number
 units_apart = (
   (join_sign joins.Cycles, (usec_apart, last_apart, last_after_usec)),
   (join_sign joins.Usec, last_apart),
-  shows_join joins.Cycles,
+  shows_symbol (join_sign joins.Cycles),
   shows_sign (λ r. refl),
 )
 

@@ -7,8 +7,7 @@ use Rattle.stapl_lexer.specs.declared.terminal.JoinWord.TheVariants as joins
 use Rattle.stapl_syntax.specs.Symbols.{Symbol, Plain, sign_of}
 use Rattle.stapl_syntax.specs.Trees.{ExprTree, ArrayTree, PartTree, ExportTree, BodyTree, note, action, procedure, data_block, end_data, crc, end_procedure, boolean, boolean_array, integer, integer_array, assign, assign_element, assign_array, assign_range, call, goto, if_then, for_loop, next, push, pop, print, export, exit, scan, stop, pad, state_list, wait_cycles, wait_usec, frequency}
 use Rattle.stapl_syntax.specs.Expressions.{left_square, right_round, right_square, operator, dots, IsExpr, IsUnary, IsPrimary, IsCell, IsTarget, IsArray, of_unary, negation, complement, negated, tighter, of_binary, of_primary, of_number, of_cell, of_scalar, of_element, of_brackets, of_abs, of_array, of_literal, of_target, of_whole, of_range, of_expr}
-use Rattle.stapl_syntax.specs.Parts.{Part, IsPart, Separated, hz, a_name, a_state, a_number, a_signed, a_bit, a_text, a_literal, a_check_word, a_choice, an_expr, an_array, a_cell, a_target, a_print_part, an_export, some_states, after, before, maybe_hz, both, maybe, either, listed, IsSigned, unsigned, minus, IsBit, zero_bit, one_bit, IsChoice, optional_item, recommended_item, IsPrintPart, of_string, of_value, of_character, IsExported, of_exported_value, of_exported_array, AreStates, one_state, more_states, more_behind_comma}
-use Rattle.stapl_syntax.specs.Productions.{equals, join, note_part, action_part, procedure_part, for_part, print_part, export_part, scan_part, pad_part, frequency_part}
+use Rattle.stapl_syntax.specs.Parts.{Part, IsPart, Separated, hz, a_name, a_state, a_number, a_signed, a_bit, a_text, a_literal, a_check_word, a_choice, an_expr, an_array, a_cell, a_target, a_print_part, an_export, some_states, after, before, maybe_hz, both, maybe, either, listed, IsSigned, unsigned, minus, IsBit, zero_bit, one_bit, IsChoice, optional_item, recommended_item, IsPrintPart, of_string, of_value, of_character, IsExported, of_exported_value, of_exported_array, AreStates, one_state, more_states, more_behind_comma, equals, join, note_part, action_part, procedure_part, for_part, print_part, export_part, scan_part, pad_part, frequency_part}
 use Rattle.stapl_syntax.specs.Statements.{IsBody, IsLabelled}
 use Rattle.stapl_syntax.specs.Reasons.{begins_statement, is_assign_sign, behind_label, is_unknown, is_left_out, holds_left_out}
 use Rattle.stapl_grammar.specs.BodyReading.{boolean_part, integer_part, assign_part, wait_part}
@@ -132,10 +131,10 @@ part_clean (before p t) apart x s m = rw m.1 (clean_append m.0 (t ∷ []) (part_
 part_clean (maybe_hz p) apart x s (inl m) = part_clean p apart x s m
 part_clean (maybe_hz p) apart x s (inr m) = rw m.1 (clean_append m.0 (hz ∷ []) (part_clean p apart x m.0 m.2) refl)
 part_clean (both p q) apart x s m = rw m.2 (clean_append m.0 m.1 (part_clean p apart.0 x.0 m.0 m.3) (part_clean q apart.1 x.1 m.1 m.4))
-part_clean (maybe look p) apart None s m = rw m refl
-part_clean (maybe look p) apart (Some x) s m = part_clean p apart.0 x s m
-part_clean (either look p q) apart (inl x) s m = part_clean p apart.0 x s m
-part_clean (either look p q) apart (inr y) s m = part_clean q apart.1 y s m
+part_clean (maybe p) apart None s m = rw m refl
+part_clean (maybe p) apart (Some x) s m = part_clean p apart.0 x s m
+part_clean (either p q) apart (inl x) s m = part_clean p apart.0 x s m
+part_clean (either p q) apart (inr y) s m = part_clean q apart.1 y s m
 part_clean (listed t p) apart xs s m = separated_clean (IsPart p) t (sign_clean t apart.0) (λ x r k. part_clean p apart.1 x r k) xs s m
 
 -- the symbols hold no word that is left out, and begin as a statement

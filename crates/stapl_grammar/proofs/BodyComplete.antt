@@ -10,9 +10,9 @@ use Rattle.stapl_syntax.specs.declared.signs.Sign.TheVariants as signs
 use Rattle.stapl_syntax.specs.Symbols.{Symbol, Plain, sign_of}
 use Rattle.stapl_syntax.specs.Trees.{ExprTree, ArrayTree, BodyTree, note, action, procedure, data_block, end_data, crc, end_procedure, boolean, boolean_array, integer, integer_array, assign, assign_element, assign_array, assign_range, call, goto, if_then, for_loop, next, push, pop, print, export, exit, scan, stop, pad, state_list, wait_cycles, wait_usec, frequency}
 use Rattle.stapl_syntax.specs.Expressions.{name, mark}
-use Rattle.stapl_syntax.specs.Parts.{IsPart, a_name, a_state, a_check_word, an_expr, a_cell, some_states, both, after_mark, after_join, is_mark, mark_number, begins_anything}
-use Rattle.stapl_syntax.specs.Productions.{join, note_part, action_part, procedure_part, for_part, print_part, export_part, scan_part, pad_part, frequency_part}
+use Rattle.stapl_syntax.specs.Parts.{IsPart, a_name, a_state, a_check_word, an_expr, a_cell, some_states, both, join, note_part, action_part, procedure_part, for_part, print_part, export_part, scan_part, pad_part, frequency_part}
 use Rattle.stapl_syntax.specs.Statements.{is_outer, is_declaration, IsBody, IsLabelled}
+use Rattle.stapl_grammar.specs.Looks.{after_mark, after_join, is_mark, mark_number, begins_anything}
 use Rattle.stapl_grammar.specs.Reading.{Reader, next_sign, name_at, name_of, next_operator, operator_of, expr}
 use Rattle.stapl_grammar.specs.PartReading.{part_at}
 use Rattle.stapl_grammar.specs.BodyReading.{mapped, outer_from, boolean_part, integer_part, inner_from, assign_part, assign_of, if_from, simple_word_from, wait_part, port_from, simple_from, simple_by, simple_in, simple_at, labelled_from, labelled_at, any_from, any_at, label_at, behind_label_at, statement_of}

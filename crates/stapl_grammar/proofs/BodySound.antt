@@ -14,9 +14,9 @@ use Rattle.stapl_syntax.specs.declared.signs.Sign.TheVariants as signs
 use Rattle.stapl_syntax.specs.Symbols.{Symbol, Plain, sign_of}
 use Rattle.stapl_syntax.specs.Trees.{ExprTree, ArrayTree, BodyTree, data_block, end_data, crc, end_procedure, call, goto, if_then, next, push, pop, print, exit, stop, state_list, frequency}
 use Rattle.stapl_syntax.specs.Expressions.{name}
-use Rattle.stapl_syntax.specs.Parts.{Part, IsPart, a_name, a_state, a_check_word, an_expr, a_cell, some_states, after, after_join}
-use Rattle.stapl_syntax.specs.Productions.{join, note_part, action_part, procedure_part, for_part, print_part, export_part, scan_part, pad_part, frequency_part}
+use Rattle.stapl_syntax.specs.Parts.{Part, IsPart, a_name, a_state, a_check_word, an_expr, a_cell, some_states, after, join, note_part, action_part, procedure_part, for_part, print_part, export_part, scan_part, pad_part, frequency_part}
 use Rattle.stapl_syntax.specs.Statements.{outer, inner, simple, if_word, port, is_outer, is_declaration, IsBody}
+use Rattle.stapl_grammar.specs.Looks.{after_join}
 use Rattle.stapl_grammar.specs.Reading.{Reader, next_sign, expr}
 use Rattle.stapl_grammar.specs.PartReading.{part_at}
 use Rattle.stapl_grammar.specs.BodyReading.{mapped, note_of, action_of, procedure_of, outer_from, boolean_part, boolean_with, boolean_of, integer_part, integer_with, integer_of, inner_from, assign_part, range_or_element_of, assign_of, for_of, export_of, if_from, simple_word_from, wait_part, scan_of, pad_of, wait_with, wait_of, port_from, simple_from, simple_by, simple_in, simple_at, labelled_from, labelled_at, any_from, any_at}

@@ -4,9 +4,9 @@ use Rattle.std.specs.Prelude.{◌⊎◌}
 use Rattle.stapl_lexer.specs.declared.terminal.Mark.TheVariants as marks
 use Rattle.stapl_syntax.specs.Symbols.{Symbol}
 use Rattle.stapl_syntax.specs.Trees.{ExprTree, ArrayTree, BodyTree}
-use Rattle.stapl_syntax.specs.Parts.{after_mark}
 use Rattle.stapl_grammar.specs.declared.refused.Refused.{Refused}
 use Rattle.stapl_grammar.specs.Given.{Gives}
+use Rattle.stapl_grammar.specs.Looks.{after_mark}
 use Rattle.stapl_grammar.specs.Reading.{expr}
 use Rattle.stapl_grammar.specs.PartReading.{part_at}
 use Rattle.stapl_grammar.specs.BodyReading.{mapped, range_or_element_of, range_or_element_part, indexed_of, indexed_part, assign_of, assign_part}

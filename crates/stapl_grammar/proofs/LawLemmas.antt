@@ -1,5 +1,5 @@
 -- The laws of the grammar.
-use Rattle.std.proofs.Common.{◌≡◌, ℕ, List, Option, true, false, sym, ap, ◌∙◌, subst}
+use Rattle.std.proofs.Common.{◌≡◌, ℕ, List, Option, true, ap, subst}
 use Rattle.stapl_lexer.specs.declared.piece.Piece.{Piece}
 use Rattle.stapl_lexer.specs.declared.reason.Reason.{Reason}
 use Rattle.stapl_lexer.specs.declared.token.Token.{Token}

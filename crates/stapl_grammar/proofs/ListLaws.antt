@@ -8,8 +8,9 @@ use Rattle.stapl_syntax.specs.Parts.{Separated}
 use Rattle.stapl_grammar.specs.declared.refused.Refused.{Refused}
 use Rattle.stapl_grammar.specs.declared.refused.Refused.TheVariants.{Memory, Syntax}
 use Rattle.stapl_grammar.specs.Given.{Fails}
+use Rattle.stapl_grammar.specs.Looks.{after_symbol}
 use Rattle.stapl_grammar.specs.Reading.{Reader}
-use Rattle.stapl_grammar.specs.PartReading.{after_symbol, with_front, more_in, more_by, listed_by}
+use Rattle.stapl_grammar.specs.PartReading.{with_front, more_in, more_by, listed_by}
 use Rattle.stapl_grammar.proofs.Tools.{by_step, some_is, choice_some, after_mark_some, after_join_some}
 use Rattle.stapl_grammar.proofs.Steps.{bind_same, choice_same, Shortens}
 use Rattle.stapl_grammar.proofs.LeafLaws.{Front}

@@ -5,11 +5,11 @@ use Rattle.stapl_lexer.specs.declared.terminal.Mark.TheVariants as marks
 use Rattle.stapl_syntax.specs.declared.signs.Sign.TheVariants as signs
 use Rattle.stapl_syntax.specs.Symbols.{Symbol, Plain}
 use Rattle.stapl_syntax.specs.Trees.{ItemTree, PartTree}
-use Rattle.stapl_syntax.specs.Parts.{a_name, a_signed, a_print_part, after_mark, is_mark, mark_number, begins_state, is_state}
-use Rattle.stapl_syntax.specs.Productions.{comma, item_part}
+use Rattle.stapl_syntax.specs.Parts.{a_name, a_signed, a_print_part, comma, item_part}
 use Rattle.stapl_grammar.specs.declared.refused.Refused.{Refused}
 use Rattle.stapl_grammar.specs.declared.refused.Refused.TheVariants.{Memory, Syntax}
 use Rattle.stapl_grammar.specs.Given.{Fails}
+use Rattle.stapl_grammar.specs.Looks.{after_mark, is_mark, mark_number, begins_state, is_state}
 use Rattle.stapl_grammar.specs.Reading.{name_at, next_sign}
 use Rattle.stapl_grammar.specs.PartReading.{part_at, signed_at, print_part_at, with_front, more_by, listed_by, state_at, state_of, more_states_at, states_at}
 use Rattle.stapl_grammar.proofs.Tools.{after_mark_some}

@@ -9,10 +9,10 @@ use Rattle.stapl_lexer.specs.declared.terminal.JoinWord.{JoinWord}
 use Rattle.stapl_syntax.specs.declared.signs.Sign.TheVariants as signs
 use Rattle.stapl_syntax.specs.Symbols.{Symbol, Plain, Text, Literal, CheckWord, sign_of}
 use Rattle.stapl_syntax.specs.Expressions.{mark, name}
-use Rattle.stapl_syntax.specs.Productions.{join}
-use Rattle.stapl_syntax.specs.Parts.{Part, IsPart, hz, a_name, a_state, a_number, a_signed, a_bit, a_text, a_literal, a_check_word, a_choice, an_expr, an_array, a_cell, a_target, a_print_part, an_export, some_states, after, before, maybe_hz, both, maybe, either, listed, after_mark}
+use Rattle.stapl_syntax.specs.Parts.{join, Part, IsPart, hz, a_name, a_state, a_number, a_signed, a_bit, a_text, a_literal, a_check_word, a_choice, an_expr, an_array, a_cell, a_target, a_print_part, an_export, some_states, after, before, maybe_hz, both, maybe, either, listed}
+use Rattle.stapl_grammar.specs.Looks.{after_mark, after_symbol, begins}
 use Rattle.stapl_grammar.specs.Reading.{next_sign, name_at, name_of, literal_at, next_operator}
-use Rattle.stapl_grammar.specs.PartReading.{after_symbol, state_at, state_of, number_at, number_of, text_at, check_word_at, more_states_at, is_hz, behind_hz, part_at}
+use Rattle.stapl_grammar.specs.PartReading.{state_at, state_of, number_at, number_of, text_at, check_word_at, more_states_at, is_hz, behind_hz, part_at}
 use Rattle.stapl_grammar.proofs.Tools.{by_step, some_is, by_test, after_mark_here, after_join_here}
 use Rattle.stapl_grammar.proofs.Steps.{Shortens}
 use Rattle.stapl_grammar.proofs.Complete.{expr_read}
@@ -100,23 +100,23 @@ part_sound (both p q) s x e =
       parts = f.parts ∙ ap (λ (l : List Symbol). f.taken ++ l) g.parts ∙ sym (append_assoc f.taken g.taken z.1);
       meant = (f.taken, g.taken, refl, f.meant, g.meant);
     })
-part_sound (maybe look p) s x e =
-    by_test (look s) _ _ x e
+part_sound (maybe p) s x e =
+    by_test (begins p s) _ _ x e
     (λ yes d.
     by_step (part_at p s) _ x d λ y y-is e1.
     let f = part_sound p s y y-is in
-    subst (Begins (maybe look p) s) (some_is (Some y.0, y.1) x e1) (record { taken = f.taken; parts = f.parts; meant = f.meant }))
-    (λ no d. subst (Begins (maybe look p) s) (some_is (None, s) x d) (record { taken = []; parts = refl; meant = refl }))
-part_sound (either look p q) s x e =
-    by_test (look s) _ _ x e
+    subst (Begins (maybe p) s) (some_is (Some y.0, y.1) x e1) (record { taken = f.taken; parts = f.parts; meant = f.meant }))
+    (λ no d. subst (Begins (maybe p) s) (some_is (None, s) x d) (record { taken = []; parts = refl; meant = refl }))
+part_sound (either p q) s x e =
+    by_test (begins p s) _ _ x e
     (λ yes d.
     by_step (part_at p s) _ x d λ y y-is e1.
     let f = part_sound p s y y-is in
-    subst (Begins (either look p q) s) (some_is (inl y.0, y.1) x e1) (record { taken = f.taken; parts = f.parts; meant = f.meant }))
+    subst (Begins (either p q) s) (some_is (inl y.0, y.1) x e1) (record { taken = f.taken; parts = f.parts; meant = f.meant }))
     (λ no d.
     by_step (part_at q s) _ x d λ y y-is e1.
     let f = part_sound q s y y-is in
-    subst (Begins (either look p q) s) (some_is (inr y.0, y.1) x e1) (record { taken = f.taken; parts = f.parts; meant = f.meant }))
+    subst (Begins (either p q) s) (some_is (inr y.0, y.1) x e1) (record { taken = f.taken; parts = f.parts; meant = f.meant }))
 part_sound (listed t p) s x e =
     let f = list_sound (IsPart p) (part_at p) t (λ r y d. part_sound p r y d) s x e in
     record { taken = f.taken; parts = f.parts; meant = f.meant }
@@ -134,8 +134,8 @@ Follows (after t p) r = Follows p r
 Follows (before p t) r = Unit {0}
 Follows (maybe_hz p) r = Follows p r × Follows p (hz ∷ r) × (behind_hz r ≡ r)
 Follows (both p q) r = Follows p r × Follows q r
-Follows (maybe look p) r = (look r ≡ false) × Follows p r
-Follows (either look p q) r = Follows p r × Follows q r × (look r ≡ false)
+Follows (maybe p) r = (begins p r ≡ false) × Follows p r
+Follows (either p q) r = Follows p r × Follows q r × (begins p r ≡ false)
 Follows (listed t p) r = Follows p r × (after_symbol t r ≡ None)
 Follows _ r = Unit {0}
 
@@ -157,8 +157,8 @@ IsApart (after t p) = IsSign t × IsApart p
 IsApart (before p t) = IsSign t × IsApart p × ((r : List Symbol) → Follows p (t ∷ r))
 IsApart (maybe_hz p) = IsApart p
 IsApart (both p q) = IsApart p × IsApart q × CanFollow p q
-IsApart (maybe look p) = IsApart p × Shows look true p
-IsApart (either look p q) = IsApart p × IsApart q × Shows look true p × Shows look false q
+IsApart (maybe p) = IsApart p × Shows (begins p) true p
+IsApart (either p q) = IsApart p × IsApart q × Shows (begins p) true p × Shows (begins p) false q
 IsApart (listed t p) = IsSign t × IsApart p × HasSymbols p × ((r : List Symbol) → Follows p (t ∷ r))
 IsApart _ = Unit {0}
 
@@ -194,10 +194,10 @@ part_complete (maybe_hz p) apart x s (inr m) r f =
     rw (m.1, append_assoc m.0 (hz ∷ []) r, part_complete p apart x m.0 m.2 (hz ∷ r) f.1) refl
 part_complete (both p q) apart x s m r f =
     rw (m.2, append_assoc m.0 m.1 r, part_complete p apart.0 x.0 m.0 m.3 (m.1 ++ r) (apart.2.by x.1 m.1 r m.4 f.0 f.1), part_complete q apart.1 x.1 m.1 m.4 r f.1)
-part_complete (maybe look p) apart None s m r f = rw (m, f.0)
-part_complete (maybe look p) apart (Some x) s m r f = rw (apart.1.by x s r m f.0, part_complete p apart.0 x s m r f.1)
-part_complete (either look p q) apart (inl x) s m r f = rw (apart.2.by x s r m f.2, part_complete p apart.0 x s m r f.0)
-part_complete (either look p q) apart (inr y) s m r f = rw (apart.3.by y s r m f.2, part_complete q apart.1 y s m r f.1)
+part_complete (maybe p) apart None s m r f = rw (m, f.0)
+part_complete (maybe p) apart (Some x) s m r f = rw (apart.1.by x s r m f.0, part_complete p apart.0 x s m r f.1)
+part_complete (either p q) apart (inl x) s m r f = rw (apart.2.by x s r m f.2, part_complete p apart.0 x s m r f.0)
+part_complete (either p q) apart (inr y) s m r f = rw (apart.3.by y s r m f.2, part_complete q apart.1 y s m r f.1)
 part_complete (listed t p) apart x s m r f =
     list_complete (IsPart p) (part_at p) t (part_shortens p apart.2) apart.0 (Follows p) (λ y a b k h. part_complete p apart.1 y a k b h) apart.3 x s r m f.0 f.1
 

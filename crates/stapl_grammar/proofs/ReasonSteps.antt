@@ -4,8 +4,8 @@ use Rattle.stapl_lexer.specs.declared.terminal.Mark.TheVariants as marks
 use Rattle.stapl_syntax.specs.declared.signs.Sign.{Sign}
 use Rattle.stapl_syntax.specs.declared.signs.Sign.TheVariants as signs
 use Rattle.stapl_syntax.specs.Symbols.{Symbol, Plain, sign_of}
-use Rattle.stapl_syntax.specs.Parts.{after_mark, is_mark, mark_number}
 use Rattle.stapl_syntax.specs.Reasons.{begins_statement, behind_label, is_unknown, is_left_out, holds_left_out}
+use Rattle.stapl_grammar.specs.Looks.{after_mark, is_mark, mark_number}
 use Rattle.stapl_grammar.specs.Reading.{next_sign, name_at, name_of}
 use Rattle.stapl_grammar.specs.BodyReading.{label_at}
 

@@ -12,8 +12,8 @@ use Rattle.stapl_lexer.specs.declared.terminal.JoinWord.TheVariants.{Capture, Co
 use Rattle.stapl_syntax.specs.declared.signs.Sign.TheVariants as signs
 use Rattle.stapl_syntax.specs.Symbols.{Symbol, Plain, sign_of}
 use Rattle.stapl_syntax.specs.Expressions.{level_of, operator, mark}
-use Rattle.stapl_syntax.specs.Productions.{join}
-use Rattle.stapl_syntax.specs.Parts.{is_mark, mark_number, after_mark, is_join, join_number, after_join}
+use Rattle.stapl_syntax.specs.Parts.{join}
+use Rattle.stapl_grammar.specs.Looks.{is_mark, mark_number, after_mark, is_join, join_number, after_join}
 use Rattle.stapl_grammar.specs.Reading.{◌>>=◌, operator_of, next_operator}
 
 -- what a step gave, where the whole gave something

@@ -19,8 +19,8 @@ use Rattle.stapl_syntax.specs.declared.signs.Sign.TheVariants as signs
 use Rattle.stapl_syntax.specs.Symbols.{Symbol}
 use Rattle.stapl_syntax.specs.Trees.{ExprTree, ArrayTree, ItemTree, ExportTree, CompareTree, BodyTree, note, action, procedure, data_block, end_data, crc, end_procedure, boolean, boolean_array, integer, integer_array, assign, assign_element, assign_array, assign_range, call, goto, if_then, for_loop, next, push, pop, print, export, exit, scan, stop, pad, state_list, wait_cycles, wait_usec, frequency}
 use Rattle.stapl_syntax.specs.Expressions.{left_square, right_square, dots}
-use Rattle.stapl_syntax.specs.Parts.{Part, a_name, a_state, a_check_word, an_expr, an_array, a_cell, some_states, after, both, either, begins_mark, begins_join, begins_anything, after_mark, after_join}
-use Rattle.stapl_syntax.specs.Productions.{equals, join, note_part, action_part, procedure_part, size_part, bit_part, bits_part, signed_part, signed_list_part, for_part, print_part, export_part, scan_part, pad_part, last_part, usec_part, first_part, frequency_part}
+use Rattle.stapl_syntax.specs.Parts.{Part, a_name, a_state, a_check_word, an_expr, an_array, a_cell, some_states, after, both, either, equals, join, note_part, action_part, procedure_part, size_part, bit_part, bits_part, signed_part, signed_list_part, for_part, print_part, export_part, scan_part, pad_part, last_part, usec_part, first_part, frequency_part}
+use Rattle.stapl_grammar.specs.Looks.{begins_anything, after_mark, after_join}
 use Rattle.stapl_grammar.specs.Reading.{◌>>=◌, Reader, next_sign, name_at, expr}
 use Rattle.stapl_grammar.specs.PartReading.{part_at}
 
@@ -51,11 +51,11 @@ outer_from outer_words.Crc s = mapped crc (part_at a_check_word s)
 
 -- BOOLEAN name, and then "[" number "]" ["=" literal] | ["=" bit]
 abbrev pub boolean_part : Part (List ℕ × ((ℤ × Option (List Bool)) ⊎ Option Bool))
-boolean_part = both a_name (either (begins_mark marks.LeftSquare) (both size_part bits_part) bit_part)
+boolean_part = both a_name (either (both size_part bits_part) bit_part)
 
 -- INTEGER name, and then "[" number "]" ["=" signed {"," signed}] | ["=" signed]
 abbrev pub integer_part : Part (List ℕ × ((ℤ × Option (List ℤ)) ⊎ Option ℤ))
-integer_part = both a_name (either (begins_mark marks.LeftSquare) (both size_part signed_list_part) signed_part)
+integer_part = both a_name (either (both size_part signed_list_part) signed_part)
 
 abbrev pub boolean_with : List ℕ → ((ℤ × Option (List Bool)) ⊎ Option Bool) → BodyTree
 boolean_with v (inl x) = boolean_array v x.0 x.1
@@ -81,18 +81,17 @@ inner_from inner_words.Integer s = mapped integer_of (part_at integer_part s)
 -- Behind a name, its bracket and an expression: ".." expr "]" "=" array | "]" "=" expr
 abbrev pub range_or_element_part : Part ((ExprTree × ArrayTree) ⊎ ExprTree)
 range_or_element_part =
-    either (begins_mark marks.Dots)
-    (after dots (both an_expr (after right_square (after equals an_array))))
+    either (after dots (both an_expr (after right_square (after equals an_array))))
     (after right_square (after equals an_expr))
 
 -- Behind a name and its bracket: "]" "=" array | expr ".." expr "]" "=" array | expr "]" "=" expr
 abbrev pub indexed_part : Part (ArrayTree ⊎ (ExprTree × ((ExprTree × ArrayTree) ⊎ ExprTree)))
 indexed_part =
-    either (begins_mark marks.RightSquare) (after right_square (after equals an_array)) (both an_expr range_or_element_part)
+    either (after right_square (after equals an_array)) (both an_expr range_or_element_part)
 
 -- Behind a name: "=" expr, or one of those behind "["
 abbrev pub assign_part : Part (ExprTree ⊎ (ArrayTree ⊎ (ExprTree × ((ExprTree × ArrayTree) ⊎ ExprTree))))
-assign_part = either (begins_mark marks.Equals) (after equals an_expr) (after left_square indexed_part)
+assign_part = either (after equals an_expr) (after left_square indexed_part)
 
 abbrev pub range_or_element_of : List ℕ → ExprTree → ((ExprTree × ArrayTree) ⊎ ExprTree) → BodyTree
 range_or_element_of v first (inl x) = assign_range v first x.0 x.1
@@ -139,7 +138,7 @@ simple_word_from simple_words.Exit s = mapped exit (part_at an_expr s)
 -- CYCLES ["," expr USEC] ["," state] | USEC ["," state]
 abbrev pub units_part : Part ((Option ExprTree × Option ℕ) ⊎ Option ℕ)
 units_part =
-    either (begins_join joins.Cycles) (after (join joins.Cycles) (both usec_part last_part)) (after (join joins.Usec) last_part)
+    either (after (join joins.Cycles) (both usec_part last_part)) (after (join joins.Usec) last_part)
 
 -- WAIT [state ","] expr, and then one of the units
 abbrev pub wait_part : Part (Option ℕ × (ExprTree × ((Option ExprTree × Option ℕ) ⊎ Option ℕ)))

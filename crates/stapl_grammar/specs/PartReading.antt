@@ -12,20 +12,11 @@ use Rattle.stapl_syntax.specs.declared.signs.Sign.TheVariants as signs
 use Rattle.stapl_syntax.specs.declared.statement.ItemChoice.{ItemChoice}
 use Rattle.stapl_syntax.specs.Symbols.{Symbol, Plain, Text, CheckWord, sign_of}
 use Rattle.stapl_syntax.specs.Trees.{ExprTree, ArrayTree, PartTree, string, value, character, ExportTree, exported_value, exported_array}
-use Rattle.stapl_syntax.specs.Parts.{Part, a_name, a_state, a_number, a_signed, a_bit, a_text, a_literal, a_check_word, a_choice, an_expr, an_array, a_cell, a_target, a_print_part, an_export, some_states, after, before, maybe_hz, both, maybe, either, listed, after_mark, after_join, begins_text, choice_of}
+use Rattle.stapl_syntax.specs.Parts.{Part, a_name, a_state, a_number, a_signed, a_bit, a_text, a_literal, a_check_word, a_choice, an_expr, an_array, a_cell, a_target, a_print_part, an_export, some_states, after, before, maybe_hz, both, maybe, either, listed}
 use Rattle.stapl_grammar.specs.declared.refused.Refused.{Refused}
 use Rattle.stapl_grammar.specs.Given.{Fails}
+use Rattle.stapl_grammar.specs.Looks.{after_symbol, begins, begins_text, choice_of}
 use Rattle.stapl_grammar.specs.Reading.{◌>>=◌, Reader, next_sign, name_at, literal_at, named_by, target_by, array_by, bracketed_by, expr}
-
--- the symbols behind a mark or a word that they begin with
-abbrev pub after_sign : Sign → List Symbol → Option (List Symbol)
-after_sign (signs.Mark m) s = after_mark m s
-after_sign (signs.Join w) s = after_join w s
-after_sign _ s = None
-
-abbrev pub after_symbol : Symbol → List Symbol → Option (List Symbol)
-after_symbol (Plain sign) s = after_sign sign s
-after_symbol _ s = None
 
 unfoldable pub state_of : Sign → Option ℕ
 state_of (signs.State k) = Some k
@@ -184,8 +175,9 @@ part_at (both p q) s = do
   x ← part_at p s
   y ← part_at q x.1
   Some ((x.0, y.0), y.1)
-part_at (maybe look p) s = if look s then (part_at p s >>= λ x. Some (Some x.0, x.1)) else Some (None, s)
-part_at (either look p q) s = if look s then (part_at p s >>= λ x. Some (inl x.0, x.1)) else (part_at q s >>= λ x. Some (inr x.0, x.1))
+part_at (maybe p) s = if begins p s then (part_at p s >>= λ x. Some (Some x.0, x.1)) else Some (None, s)
+part_at (either p q) s =
+    if begins p s then (part_at p s >>= λ x. Some (inl x.0, x.1)) else (part_at q s >>= λ x. Some (inr x.0, x.1))
 part_at (listed t p) s = listed_by (part_at p) t s
 
 -- What a step through states gave: the next state, nothing where the states end, or an error where a comma stands and no state behind it.

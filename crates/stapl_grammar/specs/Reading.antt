@@ -14,7 +14,7 @@ use Rattle.stapl_syntax.specs.declared.signs.Sign.TheVariants as signs
 use Rattle.stapl_syntax.specs.Symbols.{Symbol, Literal, sign_of}
 use Rattle.stapl_syntax.specs.Trees.{ExprTree, ArrayTree, number, scalar, element, unary, binary, abs, int, literal, whole, range, of_int}
 use Rattle.stapl_syntax.specs.Expressions.{level_of}
-use Rattle.stapl_syntax.specs.Parts.{after_mark}
+use Rattle.stapl_grammar.specs.Looks.{after_mark}
 
 infixl 10 ◌>>=◌
 abbrev pub ◌>>=◌ : {A B : Type 0} → Option A → (A → Option B) → Option B

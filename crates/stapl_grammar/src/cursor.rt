@@ -37,9 +37,9 @@ impl<'a> Cursor<'a> {
     ghost use Rattle.std.specs.Prelude.{◌≡◌, ◌<◌, ◌≤◌, All, length, [], ◌∷◌, IfSome, IfNone, OnOk, OnSome, MatchBool, Some, None, is_some};
     ghost use Rattle.std.specs.Bool.{OnTrue};
     ghost use Rattle.stapl_lexer.specs.PieceTokens.{LiesBetween};
-    ghost use Rattle.stapl_syntax.specs.Parts.{after_mark, after_join, after_comma_join, begins_text, begins_state, begins_count, begins_choice, begins_anything};
     ghost use Rattle.stapl_syntax.specs.Reasons.{is_assign_sign, first_sign};
     ghost use Rattle.stapl_grammar.specs.Given.{Gives};
+    ghost use Rattle.stapl_grammar.specs.Looks.{after_mark, after_join, after_comma_join, begins_text, begins_state, begins_count, begins_choice, begins_anything};
     ghost use Rattle.stapl_grammar.specs.Reading.{next_sign, next_operator, name_at, literal_at};
     ghost use Rattle.stapl_grammar.specs.PartReading.{text_at, check_word_at, after_minus, after_character, behind_hz};
     ghost use Rattle.stapl_grammar.specs.Seen.{seen, first_seen};
@@ -85,7 +85,7 @@ impl<'a> Cursor<'a> {
     }
 
     // Steps past the first token, where it is this mark.
-    #[tactic(auto, unfolding(crate::specs::Seen::seen, stapl_syntax::specs::Parts::after_mark))]
+    #[tactic(auto, unfolding(crate::specs::Seen::seen, crate::specs::Looks::after_mark))]
     pub(crate) fn take_mark(&mut self, mark: Mark) -> bool
         ensures read { MatchBool result (after_mark mark self.old ≡ Some self.new) ((after_mark mark self.old ≡ None) × (self.new ≡ self.old)) }
         ensures shorter { OnTrue result (length self.new < length self.old) }
@@ -100,7 +100,7 @@ impl<'a> Cursor<'a> {
     }
 
     // Steps past the first token, where it is this word.
-    #[tactic(auto, unfolding(crate::specs::Seen::seen, stapl_syntax::specs::Parts::after_join))]
+    #[tactic(auto, unfolding(crate::specs::Seen::seen, crate::specs::Looks::after_join))]
     pub(crate) fn take_join(&mut self, word: JoinWord) -> bool
         ensures read { MatchBool result (after_join word self.old ≡ Some self.new) ((after_join word self.old ≡ None) × (self.new ≡ self.old)) }
         ensures shorter { OnTrue result (length self.new < length self.old) }
@@ -161,7 +161,7 @@ impl<'a> Cursor<'a> {
     }
 
     // Steps past a comma and this word, where they stand first.
-    #[tactic(auto, unfolding(stapl_syntax::specs::Parts::after_comma_join))]
+    #[tactic(auto, unfolding(crate::specs::Looks::after_comma_join))]
     pub(crate) fn take_comma_join(&mut self, word: JoinWord) -> bool
         ensures read { MatchBool result (after_comma_join word self.old ≡ Some self.new) ((after_comma_join word self.old ≡ None) × (self.new ≡ self.old)) }
     {
@@ -187,7 +187,7 @@ impl<'a> Cursor<'a> {
     }
 
     // Whether a state stands first.
-    #[tactic(auto, unfolding(crate::specs::Seen::seen, stapl_syntax::specs::Parts::begins_state))]
+    #[tactic(auto, unfolding(crate::specs::Seen::seen, crate::specs::Looks::begins_state))]
     pub(crate) fn begins_state(&self) -> bool
         ensures { result ≡ begins_state self.now }
     {
@@ -198,7 +198,7 @@ impl<'a> Cursor<'a> {
     }
 
     // Whether a comma stands first, and no state behind it.
-    #[tactic(auto, unfolding(stapl_syntax::specs::Parts::after_mark, stapl_syntax::specs::Parts::begins_count))]
+    #[tactic(auto, unfolding(crate::specs::Looks::after_mark, crate::specs::Looks::begins_count))]
     pub(crate) fn begins_count(&self) -> bool
         ensures { result ≡ begins_count self.now }
     {
@@ -207,7 +207,7 @@ impl<'a> Cursor<'a> {
     }
 
     // Whether OPTIONAL or RECOMMENDED stands first.
-    #[tactic(auto, unfolding(crate::specs::Seen::seen, stapl_syntax::specs::Parts::begins_choice))]
+    #[tactic(auto, unfolding(crate::specs::Seen::seen, crate::specs::Looks::begins_choice))]
     pub(crate) fn begins_choice(&self) -> bool
         ensures { result ≡ begins_choice self.now }
     {
@@ -279,7 +279,7 @@ impl<'a> Cursor<'a> {
     }
 
     // Whether a string stands first.
-    #[tactic(auto, unfolding(crate::specs::Seen::seen, crate::specs::Seen::seen_as, stapl_syntax::specs::Parts::begins_text))]
+    #[tactic(auto, unfolding(crate::specs::Seen::seen, crate::specs::Seen::seen_as, crate::specs::Looks::begins_text))]
     pub(crate) fn begins_text(&self) -> bool
         ensures { result ≡ begins_text self.now }
     {

@@ -10,7 +10,7 @@ use std::alloc::Global;
 impl<'a> Cursor<'a> {
     ghost use Rattle.std.specs.Prelude.{◌≡◌};
     ghost use Rattle.stapl_syntax.specs.Trees.{body_tree};
-    ghost use Rattle.stapl_syntax.specs.Productions.{bit_part, bits_part, signed_part, signed_list_part};
+    ghost use Rattle.stapl_syntax.specs.Parts.{bit_part, bits_part, signed_part, signed_list_part};
     ghost use Rattle.stapl_grammar.specs.Given.{Gives};
     ghost use Rattle.stapl_grammar.specs.PartReading.{part_at};
     ghost use Rattle.stapl_grammar.specs.BodyReading.{mapped, boolean_of, boolean_part, integer_of, integer_part, inner_from};

@@ -9,7 +9,7 @@ use std::alloc::Global;
 impl<'a> Cursor<'a> {
     ghost use Rattle.std.specs.Prelude.{◌≡◌, ◌<◌, length, OnOk, map};
     ghost use Rattle.stapl_syntax.specs.Trees.{item_tree, part_tree};
-    ghost use Rattle.stapl_syntax.specs.Productions.{comma, item_part};
+    ghost use Rattle.stapl_syntax.specs.Parts.{comma, item_part};
     ghost use Rattle.stapl_grammar.specs.Given.{Gives};
     ghost use Rattle.stapl_grammar.specs.Reading.{name_at};
     ghost use Rattle.stapl_grammar.specs.PartReading.{part_at, signed_at, print_part_at, listed_by, states_at, StepsOn};

@@ -1,8 +1,8 @@
 //! Single signs.
 ghost use Rattle.std.specs.Prelude.{◌≡◌, ◌<◌};
 ghost use Rattle.stapl_syntax.specs.Expressions.{level_of};
-ghost use Rattle.stapl_syntax.specs.Parts.{mark_number, join_number, is_mark, is_join, is_state, choice_of};
 ghost use Rattle.stapl_syntax.specs.Reasons.{is_left_out, is_assign_sign};
+ghost use Rattle.stapl_grammar.specs.Looks.{mark_number, join_number, is_mark, is_join, is_state, choice_of};
 ghost use Rattle.stapl_grammar.specs.Reading.{operator_of, unary_of};
 ghost use Rattle.stapl_grammar.specs.PartReading.{is_minus, is_character, is_hz};
 
@@ -54,7 +54,7 @@ pub(crate) fn unary_of(sign: Sign) -> Option<UnOp>
 }
 
 // The place of a mark among the marks.
-#[tactic(auto, unfolding(stapl_syntax::specs::Parts::mark_number))]
+#[tactic(auto, unfolding(crate::specs::Looks::mark_number))]
 fn mark_number(mark: Mark) -> u8
     ensures { result ≡ mark_number mark }
 {
@@ -73,7 +73,7 @@ fn mark_number(mark: Mark) -> u8
 }
 
 // The place of a word inside statements among those words.
-#[tactic(auto, unfolding(stapl_syntax::specs::Parts::join_number))]
+#[tactic(auto, unfolding(crate::specs::Looks::join_number))]
 fn join_number(word: JoinWord) -> u8
     ensures { result ≡ join_number word }
 {
@@ -92,7 +92,7 @@ fn join_number(word: JoinWord) -> u8
 }
 
 // Whether a sign is this mark.
-#[tactic(auto, unfolding(stapl_syntax::specs::Parts::is_mark))]
+#[tactic(auto, unfolding(crate::specs::Looks::is_mark))]
 pub(crate) fn is_mark(sign: Sign, mark: Mark) -> bool
     ensures { result ≡ is_mark sign mark }
 {
@@ -103,7 +103,7 @@ pub(crate) fn is_mark(sign: Sign, mark: Mark) -> bool
 }
 
 // Whether a sign is this word.
-#[tactic(auto, unfolding(stapl_syntax::specs::Parts::is_join))]
+#[tactic(auto, unfolding(crate::specs::Looks::is_join))]
 pub(crate) fn is_join(sign: Sign, word: JoinWord) -> bool
     ensures { result ≡ is_join sign word }
 {
@@ -130,7 +130,7 @@ pub(crate) fn is_character(sign: Sign) -> bool
 }
 
 // Whether a sign is a state.
-#[tactic(auto, unfolding(stapl_syntax::specs::Parts::is_state))]
+#[tactic(auto, unfolding(crate::specs::Looks::is_state))]
 pub(crate) fn is_state(sign: Sign) -> bool
     ensures { result ≡ is_state sign }
 {
@@ -149,7 +149,7 @@ pub(crate) fn is_hz(sign: Sign) -> bool
 }
 
 // The choice of an item that a sign is.
-#[tactic(auto, unfolding(stapl_syntax::specs::Parts::choice_of))]
+#[tactic(auto, unfolding(crate::specs::Looks::choice_of))]
 pub(crate) fn choice_of(sign: Sign) -> Option<ItemChoice>
     ensures { result ≡ choice_of sign }
 {

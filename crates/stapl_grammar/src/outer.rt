@@ -9,8 +9,7 @@ use std::alloc::Global;
 impl<'a> Cursor<'a> {
     ghost use Rattle.std.specs.Prelude.{◌≡◌};
     ghost use Rattle.stapl_syntax.specs.Trees.{body_tree};
-    ghost use Rattle.stapl_syntax.specs.Productions.{note_part, action_part, procedure_part, uses_part};
-    ghost use Rattle.stapl_syntax.specs.Parts.{maybe, a_text, begins_text};
+    ghost use Rattle.stapl_syntax.specs.Parts.{note_part, action_part, procedure_part, uses_part, maybe, a_text};
     ghost use Rattle.stapl_grammar.specs.Given.{Gives};
     ghost use Rattle.stapl_grammar.specs.PartReading.{part_at};
     ghost use Rattle.stapl_grammar.specs.BodyReading.{mapped, note_of, action_of, procedure_of, outer_from};
@@ -28,7 +27,7 @@ impl<'a> Cursor<'a> {
     // [string]
     #[tactic(auto, unfolding(crate::specs::PartReading::part_at))]
     fn optional_text(&mut self, alloc: Global) -> Result<Option<ItemList<u8>>, Refused>
-        ensures { Gives (λ text. (text, self.new)) result (part_at (maybe begins_text a_text) self.old) }
+        ensures { Gives (λ text. (text, self.new)) result (part_at (maybe a_text) self.old) }
     {
         if !self.begins_text() {
             return Ok(None);

@@ -9,13 +9,13 @@ impl<'a> Cursor<'a> {
     ghost use Rattle.std.specs.Prelude.{◌≡◌};
     ghost use Rattle.std.specs.Option.{option_map};
     ghost use Rattle.stapl_syntax.specs.Trees.{expr_tree, array_tree, compare_tree, body_tree, frequency};
-    ghost use Rattle.stapl_syntax.specs.Productions.{capture_part, compared_part, compare_part, scan_part, pad_part, last_part, usec_part, first_part, frequency_part};
+    ghost use Rattle.stapl_syntax.specs.Parts.{capture_part, compared_part, compare_part, scan_part, pad_part, last_part, usec_part, first_part, frequency_part};
     ghost use Rattle.stapl_grammar.specs.Given.{Gives};
     ghost use Rattle.stapl_grammar.specs.PartReading.{part_at};
     ghost use Rattle.stapl_grammar.specs.BodyReading.{mapped, scan_of, pad_of, wait_of, wait_part, port_from};
 
     // ["," CAPTURE target]
-    #[tactic(auto, unfolding(crate::specs::PartReading::part_at, stapl_syntax::specs::Parts::after_comma_join))]
+    #[tactic(auto, unfolding(crate::specs::PartReading::part_at, crate::specs::Looks::after_comma_join))]
     fn capture(&mut self, alloc: Global) -> Result<Option<ArrayExpr>, Refused>
         ensures { Gives (λ a. (option_map array_tree a, self.new)) result (part_at capture_part self.old) }
     {
@@ -44,7 +44,7 @@ impl<'a> Cursor<'a> {
     }
 
     // ["," COMPARE array "," array "," cell]
-    #[tactic(auto, unfolding(crate::specs::PartReading::part_at, stapl_syntax::specs::Parts::after_comma_join))]
+    #[tactic(auto, unfolding(crate::specs::PartReading::part_at, crate::specs::Looks::after_comma_join))]
     fn compare(&mut self, alloc: Global) -> Result<Option<Compare>, Refused>
         ensures { Gives (λ c. (option_map compare_tree c, self.new)) result (part_at compare_part self.old) }
     {

@@ -9,7 +9,7 @@ impl<'a> Cursor<'a> {
     ghost use Rattle.std.specs.Prelude.{◌≡◌, ◌<◌, length};
     ghost use Rattle.std.specs.Option.{option_map};
     ghost use Rattle.stapl_syntax.specs.Trees.{expr_tree, body_tree, print};
-    ghost use Rattle.stapl_syntax.specs.Productions.{step_part, for_part, print_part, export_part};
+    ghost use Rattle.stapl_syntax.specs.Parts.{step_part, for_part, print_part, export_part};
     ghost use Rattle.stapl_grammar.specs.Given.{Gives};
     ghost use Rattle.stapl_grammar.specs.PartReading.{part_at};
     ghost use Rattle.stapl_grammar.specs.BodyReading.{mapped, range_or_element_of, range_or_element_part, indexed_of, indexed_part, assign_of, assign_part, for_of, export_of, simple_word_from, if_from, simple_from, simple_at};

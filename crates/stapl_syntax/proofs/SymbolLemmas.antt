@@ -21,8 +21,7 @@ use Rattle.stapl_syntax.specs.declared.signs.Sign.TheVariants as signs
 use Rattle.stapl_syntax.specs.Symbols.{Symbol, Plain, Text, terminal_sign, word_sign, mark_sign, symbol_as, symbols_of}
 use Rattle.stapl_syntax.specs.Expressions.{name}
 use Rattle.stapl_syntax.specs.Trees.{PartTree, BodyTree, action, procedure, if_then, print, StmtTree}
-use Rattle.stapl_syntax.specs.Parts.{IsPart, Separated, IsPrintPart, of_string, of_value, of_character, a_print_part}
-use Rattle.stapl_syntax.specs.Productions.{comma, join}
+use Rattle.stapl_syntax.specs.Parts.{IsPart, Separated, IsPrintPart, of_string, of_value, of_character, a_print_part, comma, join}
 use Rattle.stapl_syntax.specs.Statements.{IsBody, IsLabelled}
 use Rattle.stapl_syntax.specs.Faults.{AreReadAs, IsProgram}
 use Rattle.stapl_syntax.specs.Shapes.{HasFreeName, IsShortPart, PrintsShortStrings}
@@ -116,8 +115,7 @@ sound_lexemes : (text : List ℕ) (first : Option Bool) (at limit : ℕ) (lexeme
 sound_lexemes text first at limit [] has = tt
 sound_lexemes text first at limit (l ∷ ls) has =
     let own : length (token_bytes text l.token) ≤ length text =
-    omega (arith, length-take (l.token.end - l.token.start) (drop l.token.start text), length-drop l.token.start text) in
-    (
+    omega (arith, length-take (l.token.end - l.token.start) (drop l.token.start text), length-drop l.token.start text) in (
       sound_as (length text) l.token.kind l.token.value l.token.terminal (token_bytes text l.token) has.0.terminal own,
       sound_lexemes text (first_word first l.token.kind (token_bytes text l.token)) l.token.end limit ls has.1,
     )

@@ -2,7 +2,6 @@ pub mod Trees
 pub mod Symbols
 pub mod Expressions
 pub mod Parts
-pub mod Productions
 pub mod Statements
 pub mod Reasons
 pub mod Built

@@ -1,5 +1,5 @@
 use Rattle.stapl_syntax.specs.Trees.{item_tree}
-use Rattle.stapl_syntax.specs.Productions.{comma, item_part}
+use Rattle.stapl_syntax.specs.Parts.{comma, item_part}
 use Rattle.stapl_grammar.specs.PartReading.{part_at}
 use Rattle.stapl_grammar.proofs.ListLaws.{list_kept}
 use Rattle.stapl_grammar.proofs.ListSteps.{item_short}

@@ -1,6 +1,6 @@
 use Rattle.std.proofs.Common.{◌≡◌, length, map}
 use Rattle.stapl_syntax.specs.Trees.{item_tree}
-use Rattle.stapl_syntax.specs.Productions.{comma, item_part}
+use Rattle.stapl_syntax.specs.Parts.{comma, item_part}
 use Rattle.stapl_grammar.specs.PartReading.{part_at, with_front, more_by, listed_by}
 use Rattle.stapl_grammar.proofs.cursor.Cursor.items.Given as goal
 

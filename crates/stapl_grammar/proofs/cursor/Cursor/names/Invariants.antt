@@ -1,5 +1,5 @@
 use Rattle.std.proofs.Common.{◌≡◌, length}
-use Rattle.stapl_syntax.specs.Productions.{comma}
+use Rattle.stapl_syntax.specs.Parts.{comma}
 use Rattle.stapl_grammar.specs.Reading.{name_at}
 use Rattle.stapl_grammar.specs.PartReading.{with_front, more_by, listed_by}
 use Rattle.stapl_grammar.proofs.cursor.Cursor.names.Given as goal

@@ -1,5 +1,5 @@
 use Rattle.stapl_syntax.specs.Trees.{part_tree}
-use Rattle.stapl_syntax.specs.Productions.{comma}
+use Rattle.stapl_syntax.specs.Parts.{comma}
 use Rattle.stapl_grammar.specs.PartReading.{print_part_at}
 use Rattle.stapl_grammar.proofs.ListLaws.{list_kept}
 use Rattle.stapl_grammar.proofs.ListSteps.{part_short}

@@ -1,6 +1,6 @@
 use Rattle.std.proofs.Common.{◌≡◌, length, map}
 use Rattle.stapl_syntax.specs.Trees.{part_tree}
-use Rattle.stapl_syntax.specs.Productions.{comma}
+use Rattle.stapl_syntax.specs.Parts.{comma}
 use Rattle.stapl_grammar.specs.PartReading.{print_part_at, with_front, more_by, listed_by}
 use Rattle.stapl_grammar.proofs.cursor.Cursor.print_parts.Given as goal
 

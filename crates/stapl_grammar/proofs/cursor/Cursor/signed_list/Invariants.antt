@@ -1,5 +1,5 @@
 use Rattle.std.proofs.Common.{◌≡◌, length}
-use Rattle.stapl_syntax.specs.Productions.{comma}
+use Rattle.stapl_syntax.specs.Parts.{comma}
 use Rattle.stapl_grammar.specs.PartReading.{signed_at, with_front, more_by, listed_by}
 use Rattle.stapl_grammar.proofs.cursor.Cursor.signed_list.Given as goal
 
