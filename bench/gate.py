@@ -137,7 +137,7 @@ def time_tests(folder, crate):
         if checked:
             watch.look()
             now = watch.total(lambda it, kind, _: it == crate and kind == "tests")
-            name = re.split(r"[+]", checked[1])[0]
+            name = re.sub(r"\+(run|Fn\w*::call\w*)$", "", checked[1])
             if spent[0] is not None:
                 found[name] = found.get(name, 0) + now - spent[0]
             spent[0] = now
