@@ -4,9 +4,10 @@
     python3 bench/gate.py             the whole gate
     python3 bench/gate.py NAME..      these crates and those that they stand on
 
-It runs `rt ci --anew` over a copy of the repository, which proves all from nothing, and reads the processor time of each process that
-proves, five times a second. Then it checks the tests once more, one crate after the other, for the time of each by name. It prints two
-tables in Markdown: one row a crate, in minutes, and the ten dearest edits and tests, in seconds. The status is that of the gate.
+It runs `rt ci --anew` over a copy of the repository, which proves all from nothing, and reads the processor time of
+each process that proves, five times a second. Then it checks the tests once more, one crate after the other, for the
+time of each by name. It prints two tables in Markdown: one row a crate, in minutes, and the ten dearest edits and
+tests, in seconds. The status is that of the gate.
 """
 import glob
 import os
@@ -53,7 +54,7 @@ def crates_with_tests(names):
 
 
 def work_of(pid):
-    """What a process of rattle proves: the crate, the kind of work, and the edit's name if there is one. Nothing of another process."""
+    """What a process of rattle proves: the crate, the kind of work, and the edit's name, if any. Else nothing."""
     words = read(f"/proc/{pid}/cmdline").split("\0")
     if os.path.basename(words[0]) != "rattle" or "--crate-name" not in words:
         return None
@@ -100,9 +101,9 @@ class Watch:
 
 
 def watched(words, folder, each_line):
-    """Runs a command in a session of its own, with a call for each line that it writes. Gives its status and its Watch."""
-    how = {"cwd": folder, "stdin": subprocess.DEVNULL, "stdout": subprocess.PIPE, "stderr": subprocess.STDOUT, "start_new_session": True}
-    with subprocess.Popen(words, universal_newlines=True, errors="replace", **how) as ran:
+    """Runs a command in a session of its own, with a call for each line that it writes. Gives its status and Watch."""
+    how = {"stdin": subprocess.DEVNULL, "stdout": subprocess.PIPE, "stderr": subprocess.STDOUT, "errors": "replace"}
+    with subprocess.Popen(words, cwd=folder, start_new_session=True, **how) as ran:
         watch = Watch(ran.pid)
         thread = threading.Thread(target=watch.run)
         thread.start()
@@ -148,7 +149,8 @@ def time_tests(folder, crate):
 
 def print_crates(watch, total):
     crates = sorted({crate for crate, _, _ in watch.work.values()})
-    cost = {crate: [watch.total(lambda it, of, _: (it, of) == (crate, kind)) / 60 for kind in KINDS] for crate in crates}
+    minutes = lambda crate, kind: watch.total(lambda it, of, _: (it, of) == (crate, kind)) / 60
+    cost = {crate: [minutes(crate, kind) for kind in KINDS] for crate in crates}
     print("| Crate | Proof | Edits | Tests | All |\n|---|---|---|---|---|")
     for crate in sorted(crates, key=lambda it: -sum(cost[it])):
         print(f"| {crate} | {' | '.join(f'{it:.1f}' for it in [*cost[crate], sum(cost[crate])])} |")
@@ -158,11 +160,11 @@ def print_crates(watch, total):
 
 
 def print_dearest(edits, tests):
-    print(f"\n| Dearest edits | Seconds | Dearest tests | Seconds |\n|---|---|---|---|")
+    print("\n| Dearest edits | Seconds | Dearest tests | Seconds |\n|---|---|---|---|")
     columns = [sorted(it.items(), key=lambda pair: -pair[1])[:DEAREST] for it in (edits, tests)]
     for at in range(max(map(len, columns), default=0)):
         cells = [it[at] if at < len(it) else ("", "") for it in columns]
-        print("| " + " | ".join(f"{name} | {seconds if name == '' else round(seconds)}" for name, seconds in cells) + " |")
+        print("| " + " | ".join(f"{name} | {seconds and round(seconds)}" for name, seconds in cells) + " |")
 
 
 def main(*names):
@@ -175,7 +177,7 @@ def main(*names):
         tests = {name: it for crate in crates_with_tests(names) for name, it in time_tests(folder, crate).items()}
     named = {(crate, name) for crate, _, name in watch.work.values() if name}
     edits = {f"{crate}/{name}": watch.total(lambda it, _, edit: (it, edit) == (crate, name)) for crate, name in named}
-    print(f"{len(os.sched_getaffinity(0))} processors, {took / 60:.0f} minutes of wall time, {total / 60:.0f} minutes of processor time.\n")
+    print(f"{len(os.sched_getaffinity(0))} processors: {took / 60:.0f} minutes, {total / 60:.0f} of processor time.\n")
     print_crates(watch, total)
     print_dearest(edits, tests)
     return status
