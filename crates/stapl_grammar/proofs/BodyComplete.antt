@@ -11,7 +11,7 @@ use Rattle.stapl_syntax.specs.Symbols.{Symbol, Plain, sign_of}
 use Rattle.stapl_syntax.specs.Trees.{ExprTree, ArrayTree, BodyTree, note, action, procedure, data_block, end_data, crc, end_procedure, boolean, boolean_array, integer, integer_array, assign, assign_element, assign_array, assign_range, call, goto, if_then, for_loop, next, push, pop, print, export, exit, scan, stop, pad, state_list, wait_cycles, wait_usec, frequency}
 use Rattle.stapl_syntax.specs.Expressions.{name, mark}
 use Rattle.stapl_syntax.specs.Parts.{IsPart, a_name, a_state, a_check_word, an_expr, a_cell, some_states, both, join, note_part, action_part, procedure_part, for_part, print_part, export_part, scan_part, pad_part, frequency_part}
-use Rattle.stapl_syntax.specs.Statements.{is_outer, is_declaration, IsBody, IsLabelled}
+use Rattle.stapl_syntax.specs.Statements.{is_outer, is_unconditional, IsBody, IsLabelled}
 use Rattle.stapl_grammar.specs.Looks.{after_mark, after_join, is_mark, mark_number, begins_anything}
 use Rattle.stapl_grammar.specs.Reading.{Reader, next_sign, name_at, name_of, next_operator, operator_of, expr}
 use Rattle.stapl_grammar.specs.PartReading.{part_at}
@@ -85,7 +85,7 @@ assigned v y s m =
     let shape : s ≡ name v ∷ m.1 = rw (m.2, m.3) refl in
     simple_at_is s ∙ ap (λ (l : List Symbol). simple_by simple_at l) shape ∙ ap (mapped (assign_of v)) (part_whole assign_part assign_apart y m.1 m.4 assign_end)
 
-body_complete : (b : BodyTree) (s : List Symbol) → IsBody s b → IsReadAs (is_outer b) (is_declaration b) b s
+body_complete : (b : BodyTree) (s : List Symbol) → IsBody s b → IsReadAs (is_outer b) (is_unconditional b) b s
 unfolding next_sign any_from outer_from labelled_from inner_from simple_from if_from simple_word_from port_from
 body_complete (note key text) s m = rw (m.1, part_whole note_part note_apart (key, text) m.0 m.2 (tt, tt)) refl
 body_complete (action v text items) s m = rw (m.1, part_whole action_part action_apart (v, (text, items)) m.0 m.2 action_end) refl
@@ -152,7 +152,7 @@ no_label _ x e = refl
 
 -- a statement begins with no label
 pub body_label : (b : BodyTree) (s : List Symbol) → IsBody s b → label_at s ≡ (None, s)
-body_label b s m = no_label s (b, []) (read_any (is_outer b) (is_declaration b) b s (body_complete b s m))
+body_label b s m = no_label s (b, []) (read_any (is_outer b) (is_unconditional b) b s (body_complete b s m))
 
 -- what a label is
 LabelShape : Option (List ℕ) → List Symbol → List Symbol → Type 0
@@ -201,11 +201,11 @@ statement_sound s label b e =
 pub statement_complete : (s : List Symbol) (label : Option (List ℕ)) (b : BodyTree) → IsLabelled s label b → statement_of s ≡ Some (label, b)
 unfolding statement_of behind_label_at label_at name_at name_of next_sign after_mark is_mark mark_number
 statement_complete s None b m =
-    let read = read_any (is_outer b) (is_declaration b) b s (body_complete b s m) in
+    let read = read_any (is_outer b) (is_unconditional b) b s (body_complete b s m) in
     let none = no_label s (b, []) read in
     rw (none, read) refl
 statement_complete s (Some v) b m =
-    let read : labelled_at m.0 ≡ Some (b, []) = read_inside (is_declaration b) b m.0 (rw m.2 at (body_complete b m.0 m.3)) in
+    let read : labelled_at m.0 ≡ Some (b, []) = read_inside (is_unconditional b) b m.0 (rw m.2 at (body_complete b m.0 m.3)) in
     rw (m.1, read) refl
 
 -- the symbols are one statement at most

@@ -15,7 +15,7 @@ use Rattle.stapl_syntax.specs.Symbols.{Symbol, Plain, sign_of}
 use Rattle.stapl_syntax.specs.Trees.{ExprTree, ArrayTree, BodyTree, data_block, end_data, crc, end_procedure, call, goto, if_then, next, push, pop, print, exit, stop, state_list, frequency}
 use Rattle.stapl_syntax.specs.Expressions.{name}
 use Rattle.stapl_syntax.specs.Parts.{Part, IsPart, a_name, a_state, a_check_word, an_expr, a_cell, some_states, after, join, note_part, action_part, procedure_part, for_part, print_part, export_part, scan_part, pad_part, frequency_part}
-use Rattle.stapl_syntax.specs.Statements.{outer, inner, simple, if_word, port, is_outer, is_declaration, IsBody}
+use Rattle.stapl_syntax.specs.Statements.{outer, inner, simple, if_word, port, is_outer, is_unconditional, IsBody}
 use Rattle.stapl_grammar.specs.Looks.{after_join}
 use Rattle.stapl_grammar.specs.Reading.{Reader, next_sign, expr}
 use Rattle.stapl_grammar.specs.PartReading.{part_at}
@@ -38,7 +38,7 @@ abbrev pub IsInside : BodyTree → Type 0
 IsInside b = is_outer b ≡ false
 
 abbrev pub IsSimple : BodyTree → Type 0
-IsSimple b = (is_outer b ≡ false) × (is_declaration b ≡ false)
+IsSimple b = (is_outer b ≡ false) × (is_unconditional b ≡ false)
 
 -- a symbol and a part
 form_sound : {A : Type 0} (K : BodyTree → Type 0) (t : Symbol) (p : Part A) (g : A → BodyTree) → ((y : A) (a : List Symbol) → IsPart (after t p) y a → IsBody a (g y)) → ((y : A) → K (g y)) → (s : List Symbol) (x : BodyTree × List Symbol) → mapped g (part_at p s) ≡ Some x → BodyFront K (t ∷ s) x

@@ -44,14 +44,14 @@ is_outer end_data = true
 is_outer (crc n) = true
 is_outer _ = false
 
--- ENDPROC or a declaration
-abbrev pub is_declaration : BodyTree → Bool
-is_declaration end_procedure = true
-is_declaration (boolean v start) = true
-is_declaration (boolean_array v n bits) = true
-is_declaration (integer v start) = true
-is_declaration (integer_array v n start) = true
-is_declaration _ = false
+-- ENDPROC or a declaration, which may not stand after THEN
+abbrev pub is_unconditional : BodyTree → Bool
+is_unconditional end_procedure = true
+is_unconditional (boolean v start) = true
+is_unconditional (boolean_array v n bits) = true
+is_unconditional (integer v start) = true
+is_unconditional (integer_array v n start) = true
+is_unconditional _ = false
 
 -- The symbols are the statement: one case for each production.
 abbrev pub IsBody : List Symbol → BodyTree → Type 0
@@ -81,7 +81,7 @@ IsBody s (goto v) = IsPart (after (simple simple_words.Goto) a_name) v s
 -- IF expr THEN and a statement that is neither outer nor a declaration
 IsBody s (if_then e b) =
     (c : List Symbol) × (r : List Symbol) × (s ≡ if_word ∷ (c ++ (join joins.Then ∷ r)))
-    × IsExpr 10 c e × (is_outer b ≡ false) × (is_declaration b ≡ false) × IsBody r b
+    × IsExpr 10 c e × (is_outer b ≡ false) × (is_unconditional b ≡ false) × IsBody r b
 IsBody s (for_loop v a b c) = IsPart (after (simple simple_words.For) for_part) (v, (a, (b, c))) s
 IsBody s (next v) = IsPart (after (simple simple_words.Next) a_name) v s
 IsBody s (push e) = IsPart (after (simple simple_words.Push) an_expr) e s
