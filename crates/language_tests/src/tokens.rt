@@ -1,6 +1,8 @@
 //! The tokens of pieces, and check words.
 
-use stapl_lexer::{LexRefused, Token, TokenKind, crc_of, cut, tokens};
+use stapl_lexer::{
+    LexRefused, Name, Token, TokenKind, capped_digits, crc_of, cut, literal_digits, tokens,
+};
 use std::alloc::Global;
 use std::process::Abort;
 use std::test::Fail;
@@ -50,6 +52,39 @@ fn reads_tokens(rt: HostRuntime) -> Result<(), Fail> {
             assert_eq!(rt; found, *want, "at {text:?}");
         }
     }
+    Ok(())
+}
+
+// What tokens hold: names that are free, what stands between quotes, digits, and their value.
+#[test]
+fn reads_what_tokens_hold(rt: HostRuntime) -> Result<(), Fail> {
+    let names: [(&str, Option<&str>); 3] = [("q_1", Some("Q_1")), ("crc", None), ("1a", None)];
+    for (spelling, want) in names {
+        let name = Name::read_free(spelling.as_bytes());
+        let found = name.as_ref().map(|name| name.bytes());
+        assert_eq!(rt; found, want.map(|want| want.as_bytes()), "at {spelling:?}");
+    }
+    for (text, want) in [("\"a;'b\"", "a;'b"), ("\"\"", "")] {
+        assert!(rt; !text.is_empty() && text.len() < 100);
+        let token = Token {
+            kind: TokenKind::Text,
+            start: 0,
+            end: text.len() as u32,
+            value: 0,
+            terminal: None,
+        };
+        assert_eq!(rt; token.inside(text.as_bytes()), want.as_bytes(), "at {text:?}");
+    }
+    let literals = [
+        (TokenKind::Binary, " 1 0 '0\n 1", "101"),
+        (TokenKind::Hex4, "9 '@\n06E", "906E"),
+    ];
+    for (kind, own, want) in literals {
+        let found = literal_digits(rt.alloc(), kind, own.as_bytes())?;
+        assert_eq!(rt; found.as_slice(), want.as_bytes(), "at {own:?}");
+    }
+    assert_eq!(rt; capped_digits(b"0042", 100), 42);
+    assert_eq!(rt; capped_digits(b"1000", 100), 100);
     Ok(())
 }
 

@@ -1,14 +1,10 @@
 -- A statement that is built and whose names are declared names variables that there are, and its expressions are of their kinds.
 use Rattle.std.proofs.Common.{◌≡◌, ℕ, ◌<◌, ◌≤◌, Bool, true, false, ◌&&◌, List, [], ◌∷◌, None, length, arith, refl}
+use Rattle.std.proofs.lemmas.Bool.{and_parts}
 use Rattle.stapl_lexer.specs.declared.terminal.BinOp.TheVariants.{Add, Less}
 use Rattle.stapl_syntax.specs.Trees.{ExprTree, number, scalar, binary, PartTree, string, value, character, BodyTree, end_procedure, integer, assign, goto, if_then, print, exit}
 use Rattle.stapl_syntax.specs.Built.{IsAtom, is_number, is_scalar, IsSum, is_atom, is_sum, IsSimple, is_assign, is_goto, is_print_string, is_print_value, is_exit, IsInner, is_end_procedure, is_integer, is_if, is_simple}
 use Rattle.stapl_syntax.specs.Declarations.{expr_names, names_variables, names_labels}
-
-pub both_hold : (a b : Bool) → (a && b) ≡ true → (a ≡ true) × (b ≡ true)
-both_hold true true e = (refl, refl)
-both_hold true false e = absurd cc
-both_hold false b e = absurd cc
 
 -- where a name stands for the variable of a number, there are so many variables, and some labels are known
 module _ (variable : List ℕ → ℕ) (count : ℕ) (Leads : List ℕ → Type 0) where
@@ -49,17 +45,17 @@ module _ (variable : List ℕ → ℕ) (count : ℕ) (Leads : List ℕ → Type 
     sum_good : (x : ExprTree) → IsSum x → expr_names declares x ≡ true → IsInteger x
     sum_good _ (is_atom x atom) named = atom_good x atom named
     sum_good _ (is_sum x y left right) named =
-        let both = both_hold (expr_names declares x) (expr_names declares y) named in
+        let both = and_parts (expr_names declares x) (expr_names declares y) named in
         (atom_good x left both.0, atom_good y right both.1)
 
     simple_good : (body : BodyTree) → IsSimple body → names_variables declares body ≡ true → names_labels bears body ≡ true → IsGood body
     simple_good _ (is_assign name x sum) named labelled =
-        let both = both_hold (declares name) (expr_names declares x) named in
+        let both = and_parts (declares name) (expr_names declares x) named in
         (there name both.0, sum_good x sum both.1)
     simple_good _ (is_goto label) named labelled = leads label labelled
     simple_good _ (is_print_string bytes) named labelled = (omega arith, tt)
     simple_good _ (is_print_value x atom) named labelled =
-        let both = both_hold (expr_names declares x) true named in
+        let both = and_parts (expr_names declares x) true named in
         (omega arith, (atom_good x atom both.0, tt))
     simple_good _ (is_exit x atom) named labelled = atom_good x atom named
 
@@ -67,7 +63,7 @@ module _ (variable : List ℕ → ℕ) (count : ℕ) (Leads : List ℕ → Type 
     inner_good _ is_end_procedure named labelled = tt
     inner_good _ (is_integer name) named labelled = tt
     inner_good _ (is_if x y body left right simple) named labelled =
-        let both = both_hold (expr_names declares (binary Less x y)) (names_variables declares body) named in
-        let sides = both_hold (expr_names declares x) (expr_names declares y) both.0 in
+        let both = and_parts (expr_names declares (binary Less x y)) (names_variables declares body) named in
+        let sides = and_parts (expr_names declares x) (expr_names declares y) both.0 in
         ((atom_good x left sides.0, atom_good y right sides.1), simple_good body simple both.1 labelled)
     inner_good _ (is_simple body simple) named labelled = simple_good body simple named labelled

@@ -3,7 +3,7 @@ use Rattle.std.proofs.Common.{◌≡◌, ℕ, suc, ◌+◌, Bool, true, false, c
 use Rattle.std.specs.Map.{lookup}
 use Rattle.std.specs.Str.{bytes_eq}
 use Rattle.std.proofs.lemmas.Slice.Eq.{bytes_eq-Decides}
-use Rattle.std.proofs.lemmas.Bool.{eqb-true}
+use Rattle.std.proofs.lemmas.Bool.{eqb-true, and_parts}
 use Rattle.stapl_syntax.specs.Trees.{BodyTree, integer, StmtTree}
 use Rattle.stapl_meaning.specs.Scopes.{block_after, Variable, variables_from, variables_of, number_of, label_from, is_name}
 use Rattle.stapl_codegen.specs.declared.tables.Key.{Key}
@@ -14,17 +14,13 @@ use Rattle.stapl_codegen.proofs.Firsts.{found_first}
 abbrev key_at : ℕ → List ℕ → Key
 key_at block name = record { block = block; name = name }
 
-both_true : (a b : Bool) → (a && b) ≡ true → (a ≡ true) × (b ≡ true)
-both_true true true e = (refl, refl)
-both_true true false e = absurd cc
-both_true false b e = absurd cc
 
 name_same : (a b : List ℕ) → bytes_eq a b ≡ true → a ≡ b
 name_same a b e = (bytes_eq-Decides a b).0 e
 
 key_same : (a b : Key) → key_eq a b ≡ true → a ≡ b
 key_same a b e =
-    let both = both_true (nat_eq a.block b.block) (bytes_eq a.name b.name) e in
+    let both = and_parts (nat_eq a.block b.block) (bytes_eq a.name b.name) e in
     ap (λ n. key_at n a.name) (eqb-true a.block b.block both.0) ∙ ap (key_at b.block) (name_same a.name b.name both.1)
 
 variable_here : (block b n : ℕ) (name declared : List ℕ) (vs : List Variable) (rest : List (Key × ℕ)) →

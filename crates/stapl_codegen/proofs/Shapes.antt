@@ -2,6 +2,7 @@
 use Rattle.std.proofs.Common.{◌≡◌, ℕ, zero, suc, ◌+◌, ◌<◌, Bool, true, false, cond, not, ◌&&◌, ◌||◌, List, [], ◌∷◌, ◌++◌, length, take, drop, nat_eq, Option, Some, None, arith, refl, sym, ap, subst, ◌∙◌}
 use Rattle.std.specs.List.{list_all, list_any}
 use Rattle.std.specs.Str.{bytes_eq}
+use Rattle.std.proofs.lemmas.Bool.{and_parts}
 use Rattle.stapl_syntax.specs.Trees.{BodyTree, procedure, end_procedure, integer, StmtTree}
 use Rattle.stapl_syntax.specs.Statements.{is_outer}
 use Rattle.stapl_syntax.specs.Built.{IsSimple, is_assign, is_goto, is_print_string, is_print_value, is_exit, IsInner, is_end_procedure, is_integer, is_if, is_simple, IsBuilt, is_action, is_procedure, is_inner, is_labelled, unlabelled, action_of, procedure_of}
@@ -9,7 +10,6 @@ use Rattle.stapl_syntax.specs.Declarations.{body_declares, is_label}
 use Rattle.stapl_syntax.specs.Faults.{is_inside, is_end}
 use Rattle.stapl_syntax.specs.Shapes.{declares_variable_in, bears_label, is_between}
 use Rattle.stapl_meaning.specs.Scopes.{begins_block, blocks_in, block_at, variables_from, variables_of, number_of, label_from, is_name}
-use Rattle.stapl_codegen.proofs.Good.{both_hold}
 use Rattle.stapl_codegen.proofs.WellPlaced.{IsBetween}
 
 pub not_true : (b : Bool) → not b ≡ true → b ≡ false
@@ -31,8 +31,8 @@ inner_begins_none _ e = refl
 pub are_inner : (inner : List StmtTree) (last : StmtTree) → list_all is_between inner ≡ true → last.body ≡ end_procedure → AreInner (inner ++ last ∷ [])
 are_inner [] last between is = (ap is_inside is, tt)
 are_inner (st ∷ rest) last between is =
-    let both = both_hold (is_between st) (list_all is_between rest) between in
-    ((both_hold (is_inside st.body) (not (is_end st.body)) both.0).0, are_inner rest last both.1 is)
+    let both = and_parts (is_between st) (list_all is_between rest) between in
+    ((and_parts (is_inside st.body) (not (is_end st.body)) both.0).0, are_inner rest last both.1 is)
 
 pub inner_at : (k : ℕ) (sts : List StmtTree) (st : StmtTree) (rest : List StmtTree) → AreInner sts → drop k sts ≡ st ∷ rest → is_inside st.body ≡ true
 inner_at zero [] st rest are e = absurd cc

@@ -4,7 +4,7 @@ use Rattle.std.specs.Prelude.{slice_get, slice_index_or, slice_range, All, nat_l
 use Rattle.std.specs.List.{list_all, list_any}
 use Rattle.std.proofs.lemmas.List.{take_all}
 use Rattle.std.proofs.Math.Dec.{leb-zero}
-use Rattle.std.proofs.lemmas.Bool.{lt-ltb}
+use Rattle.std.proofs.lemmas.Bool.{lt-ltb, and_parts}
 use Rattle.stapl_syntax.specs.Trees.{end_procedure, StmtTree}
 use Rattle.stapl_syntax.specs.Statements.{is_outer}
 use Rattle.stapl_syntax.specs.Built.{IsBuilt}
@@ -23,7 +23,7 @@ use Rattle.stapl_code.specs.Ranges.{IsInstr}
 use Rattle.stapl_code.specs.Valid.{is_turn, is_last, is_target, rest_break, first_of, next_entry, procedures_break, entry_break, prologue_break, first_break}
 use Rattle.stapl_codegen.specs.Emit.{texts_of, body_code, first_text, pieces_code, program_code, start_of, entries_from, program_entries}
 use Rattle.stapl_codegen.proofs.Heads.{head_of, get_head, drop_tail}
-use Rattle.stapl_codegen.proofs.Good.{IsGood, inner_good, both_hold}
+use Rattle.stapl_codegen.proofs.Good.{IsGood, inner_good}
 use Rattle.stapl_codegen.proofs.WellKinded.{Fine, Follows, fine_step}
 use Rattle.stapl_codegen.proofs.WellPlaced.{IsBetween, body_last, body_fine, turn_stands}
 use Rattle.stapl_codegen.proofs.Shapes.{AreInner, not_true, inner_not_outer, inner_begins_none, inner_at, inner_between, inner_of, whole, variable_there, LeadsInside, label_there}
@@ -44,12 +44,12 @@ all_at P k xs x rest all e = let at = at_place k xs x x rest e in subst P at.1 (
 
 passes_at : {A : Type 0} (test : A → Bool) (k : ℕ) (xs : List A) (x : A) (rest : List A) → list_all test xs ≡ true → drop k xs ≡ x ∷ rest → test x ≡ true
 passes_at test zero [] x rest all e = absurd cc
-passes_at test zero (y ∷ ys) x rest all e = let same : y ≡ x = cc in ap test (sym same) ∙ (both_hold (test y) (list_all test ys) all).0
+passes_at test zero (y ∷ ys) x rest all e = let same : y ≡ x = cc in ap test (sym same) ∙ (and_parts (test y) (list_all test ys) all).0
 passes_at test (suc k) [] x rest all e = absurd cc
-passes_at test (suc k) (y ∷ ys) x rest all e = passes_at test k ys x rest (both_hold (test y) (list_all test ys) all).1 e
+passes_at test (suc k) (y ∷ ys) x rest all e = passes_at test k ys x rest (and_parts (test y) (list_all test ys) all).1 e
 
 not_end_of : (st : StmtTree) → is_between st ≡ true → is_end st.body ≡ false
-not_end_of st between = not_true (is_end st.body) (both_hold (is_inside st.body) (not (is_end st.body)) between).1
+not_end_of st between = not_true (is_end st.body) (and_parts (is_inside st.body) (not (is_end st.body)) between).1
 
 -- a place below the length is that of an element
 pub record Stands {A : Type 0} (k : ℕ) (xs : List A) : Type 0 where
@@ -104,7 +104,7 @@ module _ (name run : List ℕ) (own : List StmtTree) (are : AreInner own) (built
       IsGood (λ x. number_of (block_at program (suc (suc k))) x (variables_of program)) (length variables) (LeadsInside name run own are k) st.body
   good_at k st rest e =
       let inner = inner_of st (all_at IsBuilt k own st rest built e) (inner_at k own st rest are e) in
-      let names = both_hold (names_variables (λ x. list_any (declares_variable_in x) own) st.body) (names_labels (λ x. list_any (bears_label x) own) st.body)
+      let names = and_parts (names_variables (λ x. list_any (declares_variable_in x) own) st.body) (names_labels (λ x. list_any (bears_label x) own) st.body)
       (passes_at (names_declared own) k own st rest named e) in
       inner_good (λ x. number_of (block_at program (suc (suc k))) x (variables_of program)) (length variables) (LeadsInside name run own are k)
       (λ x. list_any (declares_variable_in x) own) (λ x. list_any (bears_label x) own)
@@ -160,13 +160,13 @@ module _ (name run : List ℕ) (own : List StmtTree) (are : AreInner own) (built
       (must : Bool) → Fine variables code all_integers must [] (From (suc (suc k)) (front ++ last ∷ []))
   pieces_fine [] last k e between is must = last_fine k last e is must
   pieces_fine (st ∷ []) last k e between is must =
-      let not_end = not_end_of st (both_hold (is_between st) true between).0 in
+      let not_end = not_end_of st (and_parts (is_between st) true between).0 in
       piece_fine k st last [] e not_end
       (λ m. let same : suc (suc (suc k)) ≡ suc (suc k) + 1 = omega arith in
       subst (λ (p : ℕ). Fine variables code all_integers m [] (From p (last ∷ []))) same (last_fine (suc k) last (drop_tail k own ∙ ap (drop 1) e) is m))
       must
   pieces_fine (st ∷ next ∷ rest) last k e between is must =
-      let both = both_hold (is_between st) (list_all is_between (next ∷ rest)) between in
+      let both = and_parts (is_between st) (list_all is_between (next ∷ rest)) between in
       piece_fine k st next (rest ++ last ∷ []) e (not_end_of st both.0)
       (λ m. let same : suc (suc (suc k)) ≡ suc (suc k) + 1 = omega arith in
       subst (λ (p : ℕ). Fine variables code all_integers m [] (From p (next ∷ rest ++ last ∷ []))) same
