@@ -1,5 +1,5 @@
 -- A statement that is built and whose names are declared names variables that there are, and its expressions are of their kinds.
-use Rattle.std.proofs.Common.{◌≡◌, ℕ, ◌<◌, ◌≤◌, Bool, true, false, ◌&&◌, List, [], ◌∷◌, None, length, arith, refl}
+use Rattle.std.proofs.Common.{◌≡◌, ℕ, ◌<◌, ◌≤◌, Bool, true, List, [], ◌∷◌, None, length, arith}
 use Rattle.std.proofs.lemmas.Bool.{and_parts}
 use Rattle.stapl_lexer.specs.declared.terminal.BinOp.TheVariants.{Add, Less}
 use Rattle.stapl_syntax.specs.Trees.{ExprTree, number, scalar, binary, PartTree, string, value, character, BodyTree, end_procedure, integer, assign, goto, if_then, print, exit}

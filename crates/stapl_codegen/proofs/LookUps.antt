@@ -14,7 +14,6 @@ use Rattle.stapl_codegen.proofs.Firsts.{found_first}
 abbrev key_at : ℕ → List ℕ → Key
 key_at block name = record { block = block; name = name }
 
-
 name_same : (a b : List ℕ) → bytes_eq a b ≡ true → a ≡ b
 name_same a b e = (bytes_eq-Decides a b).0 e
 
