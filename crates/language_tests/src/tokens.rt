@@ -73,7 +73,11 @@ fn reads_what_tokens_hold(rt: HostRuntime) -> Result<(), Fail> {
             value: 0,
             terminal: None,
         };
-        assert_eq!(rt; token.inside(text.as_bytes()), want.as_bytes(), "at {text:?}");
+        assert_eq!(rt;
+            token.inside(text.as_bytes()),
+            want.as_bytes(),
+            "at {text:?}"
+        );
     }
     let literals = [
         (TokenKind::Binary, " 1 0 '0\n 1", "101"),
