@@ -5,6 +5,7 @@ use Rattle.std.proofs.lemmas.Slice.Eq.{bytes_eq-Decides}
 use Rattle.tool_io.specs.Bytes.{then_bytes, MovesFront}
 use Rattle.tool_io.specs.Files.{file_of}
 use Rattle.tool_io.proofs.BytesLemmas.{moves_front_nothing}
+use Rattle.stapl_lexer.specs.Pieces.{text_limit}
 use Rattle.stapl_lexer.specs.declared.reason.Reason.{Reason}
 use Rattle.stapl_lexer.specs.declared.reason.Reason.TheVariants as reasons
 use Rattle.stapl_syntax.specs.Trees.{StmtTree}
@@ -43,11 +44,11 @@ pub file_front : {turns : ℕ} {file before after : Option (List ℕ)} {action b
 file_front {bytes = bytes} held p = record { bytes = bytes; held = held; plays = p }
 
 -- a file that is too long
-pub long_to : {turns : ℕ} {before after : Option (List ℕ)} {action : List ℕ} (bytes : List ℕ) → 4194304 < length bytes →
+pub long_to : {turns : ℕ} {before after : Option (List ℕ)} {action : List ℕ} (bytes : List ℕ) → text_limit < length bytes →
     after ≡ then_bytes before (refusal_line 0 0 reasons.TooLong) → PlaysTo bytes action turns before after (Refused 0 reasons.TooLong)
 long_to bytes long e = refused_to 0 0 reasons.TooLong (is_too_long long) e
 
-pub long_front : {turns : ℕ} {before after : Option (List ℕ)} {action : List ℕ} (bytes : List ℕ) → 4194304 < length bytes →
+pub long_front : {turns : ℕ} {before after : Option (List ℕ)} {action : List ℕ} (bytes : List ℕ) → text_limit < length bytes →
     MovesFront before (refusal_line 0 0 reasons.TooLong) after → PlaysFront bytes action turns before after
 long_front bytes long m = refused_front 0 0 reasons.TooLong (is_too_long long) m
 
@@ -136,11 +137,11 @@ long_text n = let t = text_of_length (n + 1) in (t.0, is_longer t.0 n t.1)
 
 pub some_bytes_long_to : {turns : ℕ} {action : List ℕ} {before after : Option (List ℕ)} → after ≡ then_bytes before (refusal_line 0 0 reasons.TooLong) →
     PlaysSomeBytesTo action turns before after (Refused 0 reasons.TooLong)
-some_bytes_long_to e = let t = long_text 4194304 in some_bytes_to (long_to t.0 t.1 e)
+some_bytes_long_to e = let t = long_text text_limit in some_bytes_to (long_to t.0 t.1 e)
 
 pub some_bytes_long_front : {turns : ℕ} {action : List ℕ} {before after : Option (List ℕ)} → MovesFront before (refusal_line 0 0 reasons.TooLong) after →
     PlaysSomeBytesFront action turns before after
-some_bytes_long_front m = let t = long_text 4194304 in some_bytes_front (long_front t.0 t.1 m)
+some_bytes_long_front m = let t = long_text text_limit in some_bytes_front (long_front t.0 t.1 m)
 
 -- the file of a store of one
 one_file : (path bytes : List ℕ) → file_of ((path, bytes) ∷ []) path ≡ Some bytes

@@ -12,12 +12,9 @@ use crate::words::{Request, read_words};
 use crate::writing::{write_refusal, write_usage};
 use stapl_checker::{CheckRefused, check};
 use stapl_codegen::laws::programs_are_accepted;
-use stapl_lexer::Reason;
+use stapl_lexer::{Reason, TEXT_LIMIT};
 use std::alloc::Global;
 use tool_io::{ReadRefused, Shelf, Sink, read_whole};
-
-/// The most bytes of a program text.
-const TEXT_LIMIT: u32 = 4_194_304;
 
 // Plays what the words ask of the program that some bytes are.
 #[tactic(auto, using(crate::proofs::AnswerLemmas::accepted_to, crate::proofs::AnswerLemmas::accepted_front, crate::proofs::AnswerLemmas::accepted_prefix, crate::proofs::AnswerLemmas::refused_to, crate::proofs::AnswerLemmas::refused_front, crate::proofs::AnswerLemmas::nothing_of_plays))]
@@ -78,7 +75,7 @@ fn play_file<S: Shelf, K: Sink>(
     ensures later { NoneFalls S.faults S.is_last shelf.old shelf.new }
     ensures out_later { NeverFalls K.faults K.is_last out.old out.new }
 {
-    match read_whole(alloc, shelf, request.program, TEXT_LIMIT) {
+    match read_whole(alloc, shelf, request.program, TEXT_LIMIT as u32) {
         Ok(bytes) => play_bytes(alloc, &bytes, request, out),
         Err(ReadRefused::TooLong) => {
             write_refusal(out, 0, 0, Reason::TooLong)?;

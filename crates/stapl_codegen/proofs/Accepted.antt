@@ -2,6 +2,7 @@
 use Rattle.std.proofs.Common.{ℕ, ◌≤◌, List, [], ◌∷◌, ◌++◌, length, arith, subst}
 use Rattle.std.specs.Prelude.{All}
 use Rattle.std.proofs.lemmas.List.Elements.{All-nil, All-cons, All-head, All-tail, All-append}
+use Rattle.stapl_lexer.specs.Pieces.{text_limit}
 use Rattle.stapl_syntax.specs.Trees.{PartTree, string, value, character, BodyTree, if_then, print, StmtTree}
 use Rattle.stapl_syntax.specs.Built.{IsBuilt, unlabelled, action_of, procedure_of}
 use Rattle.stapl_syntax.specs.Faults.{IsProgram}
@@ -32,7 +33,7 @@ module _ (n : ℕ) where
       let P : StmtTree → Type 0 = λ st. PrintsShortStrings n st.body in
       All-append IsShort (body_texts st.body) (texts_of rest) (short_body st.body (All-head P st rest short)) (short_texts rest (All-tail P st rest short))
 
-weaker : (n : ℕ) (texts : List (List ℕ)) → n ≤ 4194304 → All (λ text. length text ≤ n) texts → All (λ text. length text ≤ 4194304) texts
+weaker : (n : ℕ) (texts : List (List ℕ)) → n ≤ text_limit → All (λ text. length text ≤ n) texts → All (λ text. length text ≤ text_limit) texts
 weaker n texts few all = λ k d below. let short = all k d below in omega arith
 
 pub accepted : (text : List ℕ) (program : List StmtTree) → IsProgram text program → IsOneProcedure program → All IsBuilt program →

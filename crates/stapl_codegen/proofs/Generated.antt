@@ -3,10 +3,12 @@ use Rattle.std.proofs.Common.{◌≡◌, ◌≢◌, ℕ, suc, ◌<◌, ◌≤◌
 use Rattle.std.specs.Prelude.{slice_index_or, All}
 use Rattle.std.specs.List.{list_all}
 use Rattle.std.proofs.lemmas.List.{length-replicate}
+use Rattle.stapl_lexer.specs.Pieces.{text_limit}
 use Rattle.stapl_lexer.specs.ReservedWords.{word_terminal}
 use Rattle.stapl_lexer.specs.Names.{IsUpperName}
 use Rattle.stapl_syntax.specs.Trees.{end_procedure, StmtTree}
 use Rattle.stapl_syntax.specs.Built.{IsBuilt, unlabelled, action_of, procedure_of}
+use Rattle.stapl_syntax.specs.Faults.{piece_limit}
 use Rattle.stapl_syntax.specs.Shapes.{is_between, names_declared, IsOneProcedure}
 use Rattle.stapl_meaning.specs.Scopes.{variables_of, zeros_of}
 use Rattle.stapl_code.specs.declared.raw.VarDef.{VarDef}
@@ -124,7 +126,7 @@ module _ (name run : List ℕ) (inner : List StmtTree) (last : StmtTree) (betwee
   closed : IsClosed program
   closed = ((λ e f. absurd cc), ((λ e f. absurd cc), closed_own inner last are is))
 
-  pub good : (lists : CodeLists) (entry : ℕ) → AreMade program lists name run entry → IsFreeName name → IsFreeName run → length program ≤ 100000 → All (λ text. length text ≤ 4194304) (texts_of program) → AreGood program lists
+  pub good : (lists : CodeLists) (entry : ℕ) → AreMade program lists name run entry → IsFreeName name → IsFreeName run → length program ≤ piece_limit → All (λ text. length text ≤ text_limit) (texts_of program) → AreGood program lists
   good lists entry made free_name free_run few short =
       let first = begins inner last in
       let entries : program_entries program ≡ 0 ∷ [] = entries_are name run own are built_own named defs many (all_integers count) first.st first.rest first.is in
@@ -149,7 +151,7 @@ module _ (name run : List ℕ) (inner : List StmtTree) (last : StmtTree) (betwee
         };
         in_range = record {
           variables = subst AreVariables (sym made.variables) (integers_are count (omega (arith, few_defs, few)));
-          texts = subst (All (λ text. length text ≤ 4194304)) (sym made.texts) short;
+          texts = subst (All (λ text. length text ≤ text_limit)) (sym made.texts) short;
           procedures = subst AreProcedures (sym procedures) (one_procedure run free_run);
           actions = subst (AreActions (length lists.procedures)) (sym made.actions) (one_action name free_name (length lists.procedures) (omega (arith, ap length procedures)));
           instrs = subst (λ (c : List Instr). All (IsInstr (length lists.variables) (length lists.texts)) c) (sym made.instrs)
@@ -172,7 +174,7 @@ module _ (name run : List ℕ) (inner : List StmtTree) (last : StmtTree) (betwee
     instrs = program_code program;
   }
 
-  pub some_code : length program ≤ 100000 → All (λ text. length text ≤ 4194304) (texts_of program) →
+  pub some_code : length program ≤ piece_limit → All (λ text. length text ≤ text_limit) (texts_of program) →
       Stands program (0 ∷ []) (texts_of program) (program_code program) (zeros_of program) × IsInRange some_lists × IsValid some_lists
   some_code few short =
       let first = begins inner last in
@@ -201,14 +203,14 @@ parts shape = unlabelled (action_of shape.name shape.run) ∷ unlabelled (proced
 pub all_good : (program : List StmtTree) → IsAccepted program → (lists : CodeLists) (name run : List ℕ) (entry : ℕ) → first_action program ≡ Some name → second_procedure program ≡ Some run →
     IsUpperName name → IsUpperName run → AreMade program lists name run entry → AreGood program lists
 all_good program accepted lists name run entry first second upper_name upper_run made =
-    subst (λ (p : List StmtTree). All IsBuilt p → first_action p ≡ Some name → second_procedure p ≡ Some run → AreMade p lists name run entry → length p ≤ 100000 → All (λ text. length text ≤ 4194304) (texts_of p) → AreGood p lists)
+    subst (λ (p : List StmtTree). All IsBuilt p → first_action p ≡ Some name → second_procedure p ≡ Some run → AreMade p lists name run entry → length p ≤ piece_limit → All (λ text. length text ≤ text_limit) (texts_of p) → AreGood p lists)
     (sym shape.order) at_parts accepted.built first second made shape.few accepted.texts
   where
     shape : IsOneProcedure program
     shape = accepted.shape
 
     at_parts : All IsBuilt (parts shape) → first_action (parts shape) ≡ Some name → second_procedure (parts shape) ≡ Some run → AreMade (parts shape) lists name run entry →
-        length (parts shape) ≤ 100000 → All (λ text. length text ≤ 4194304) (texts_of (parts shape)) → AreGood (parts shape) lists
+        length (parts shape) ≤ piece_limit → All (λ text. length text ≤ text_limit) (texts_of (parts shape)) → AreGood (parts shape) lists
     at_parts built first second made few short =
         let same_name : shape.name ≡ name = cc in
         let same_run : shape.run ≡ run = cc in

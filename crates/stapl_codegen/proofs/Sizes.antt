@@ -5,6 +5,7 @@ use Rattle.std.proofs.lemmas.List.Elements.{All-head, All-tail, All-take}
 use Rattle.std.proofs.lemmas.List.{length-take}
 use Rattle.stapl_syntax.specs.Trees.{ExprTree, BodyTree, StmtTree}
 use Rattle.stapl_syntax.specs.Statements.{is_outer}
+use Rattle.stapl_syntax.specs.Faults.{piece_limit}
 use Rattle.stapl_syntax.specs.Built.{IsAtom, is_number, is_scalar, IsSum, is_atom, is_sum, IsSimple, is_assign, is_goto, is_print_string, is_print_value, is_exit, IsInner, is_end_procedure, is_integer, is_if, is_simple, IsBuilt, is_action, is_procedure, is_inner, is_labelled}
 use Rattle.stapl_meaning.specs.Scopes.{Scope, scope_at}
 use Rattle.stapl_code.specs.declared.instr.Instr.{Instr}
@@ -72,7 +73,7 @@ module _ (program : List StmtTree) (place : ℕ → ℕ) where
       omega (arith, one, more)
 
 -- and a program at most 900,000
-pub code_size : (program : List StmtTree) → All IsBuilt program → length program ≤ 100000 → length (program_code program) ≤ 900000
+pub code_size : (program : List StmtTree) → All IsBuilt program → length program ≤ piece_limit → length (program_code program) ≤ 900000
 code_size program built few = let all = pieces_size program (start_of program) 0 program built in omega (arith, all, few)
 
 simple_texts : (b : BodyTree) → IsSimple b → length (body_texts b) ≤ 1
@@ -103,7 +104,7 @@ texts_size (st ∷ rest) built =
     omega (arith, one, more, length-append (body_texts st.body) (texts_of rest))
 
 -- the texts of the pieces so far, and those of one more
-pub texts_so_far : (program : List StmtTree) (i : ℕ) (st : StmtTree) (texts : List (List ℕ)) → All IsBuilt program → length program ≤ 100000 → drop i program ≡ st ∷ drop (i + 1) program →
+pub texts_so_far : (program : List StmtTree) (i : ℕ) (st : StmtTree) (texts : List (List ℕ)) → All IsBuilt program → length program ≤ piece_limit → drop i program ≡ st ∷ drop (i + 1) program →
     texts ≡ texts_of (take i program) → length texts + length (body_texts st.body) < 2 ^ 32
 texts_so_far program i st texts built few is so_far =
     let sizes = texts_size (take (i + 1) program) (All-take IsBuilt (i + 1) program built) in

@@ -3,8 +3,10 @@ use Rattle.std.proofs.Common.{◌≡◌, ◌≢◌, ℕ, zero, suc, ◌+◌, ◌
 use Rattle.std.specs.Prelude.{All}
 use Rattle.std.specs.List.{list_all}
 use Rattle.std.proofs.lemmas.List.{take_all}
+use Rattle.stapl_lexer.specs.Pieces.{text_limit}
 use Rattle.stapl_syntax.specs.Trees.{end_procedure, StmtTree}
 use Rattle.stapl_syntax.specs.Built.{IsBuilt, unlabelled, action_of, procedure_of}
+use Rattle.stapl_syntax.specs.Faults.{piece_limit}
 use Rattle.stapl_syntax.specs.Shapes.{is_between, names_declared, IsOneProcedure}
 use Rattle.stapl_meaning.specs.States.{State, Turned, Leads, Over, NoTurn}
 use Rattle.stapl_meaning.specs.Scopes.{Variable, blocks_in, zero_of, zeros_of, variables_of}
@@ -68,7 +70,7 @@ module _ (never : NeverStuck) (name run : List ℕ) (inner : List StmtTree) (las
   abbrev lists : CodeLists
   lists = some_lists name run inner last between is built named
 
-  never_stops : length program ≤ 100000 → All (λ text. length text ≤ 4194304) (texts_of program) → (chosen : List ℕ) → AllBelow (blocks_in program) chosen → (n : ℕ) →
+  never_stops : length program ≤ piece_limit → All (λ text. length text ≤ text_limit) (texts_of program) → (chosen : List ℕ) → AllBelow (blocks_in program) chosen → (n : ℕ) →
       (play program chosen n).outcome ≢ Stopped
   never_stops few short chosen below n =
       let code = some_code name run inner last between is built named few short in
@@ -80,13 +82,13 @@ module _ (never : NeverStuck) (name run : List ℕ) (inner : List StmtTree) (las
 pub programs_not_stuck : NeverStuck → ProgramsAreNotStuck
 programs_not_stuck never program accepted chosen below =
     all_not_stuck program chosen
-    (subst (λ (p : List StmtTree). All IsBuilt p → length p ≤ 100000 → All (λ text. length text ≤ 4194304) (texts_of p) → AllBelow (blocks_in p) chosen → (n : ℕ) → (play p chosen n).outcome ≢ Stopped)
+    (subst (λ (p : List StmtTree). All IsBuilt p → length p ≤ piece_limit → All (λ text. length text ≤ text_limit) (texts_of p) → AllBelow (blocks_in p) chosen → (n : ℕ) → (play p chosen n).outcome ≢ Stopped)
     (sym accepted.shape.order) at_parts accepted.built accepted.shape.few accepted.texts below)
   where
     shape : IsOneProcedure program
     shape = accepted.shape
 
-    at_parts : All IsBuilt (parts shape) → length (parts shape) ≤ 100000 → All (λ text. length text ≤ 4194304) (texts_of (parts shape)) → AllBelow (blocks_in (parts shape)) chosen → (n : ℕ) →
+    at_parts : All IsBuilt (parts shape) → length (parts shape) ≤ piece_limit → All (λ text. length text ≤ text_limit) (texts_of (parts shape)) → AllBelow (blocks_in (parts shape)) chosen → (n : ℕ) →
         (play (parts shape) chosen n).outcome ≢ Stopped
     at_parts built few short below n =
         never_stops never shape.name shape.run shape.inner shape.last shape.between shape.last_is built shape.names.named few short chosen below n

@@ -9,7 +9,7 @@ use Rattle.stapl_syntax.specs.Trees.{end_procedure, StmtTree}
 use Rattle.stapl_syntax.specs.Statements.{is_outer}
 use Rattle.stapl_syntax.specs.Built.{IsBuilt}
 use Rattle.stapl_syntax.specs.Declarations.{names_variables, names_labels}
-use Rattle.stapl_syntax.specs.Faults.{is_inside, is_end}
+use Rattle.stapl_syntax.specs.Faults.{piece_limit, is_inside, is_end}
 use Rattle.stapl_syntax.specs.Shapes.{declares_variable_in, bears_label, names_declared, is_between}
 use Rattle.stapl_meaning.specs.Scopes.{scope_at, block_at, number_of, label_from, variables_of}
 use Rattle.stapl_code.specs.declared.instr.Instr.{Instr}
@@ -228,7 +228,7 @@ module _ (name run : List ℕ) (own : List StmtTree) (are : AreInner own) (built
       ∙ entries
 
   -- each instruction of the pieces from a place on is in its range
-  pieces_range : (sts : List StmtTree) (k : ℕ) → drop k own ≡ sts → length program ≤ 100000 →
+  pieces_range : (sts : List StmtTree) (k : ℕ) → drop k own ≡ sts → length program ≤ piece_limit →
       InRange (length variables) (length (texts_of program)) (From (suc (suc k)) sts)
   pieces_range [] k e few = tt
   pieces_range (st ∷ rest) k e few =
@@ -243,5 +243,5 @@ module _ (name run : List ℕ) (own : List StmtTree) (are : AreInner own) (built
             (good_at k st rest e) texts behind,
       )
 
-  pub code_range : length program ≤ 100000 → All (IsInstr (length variables) (length (texts_of program))) code
+  pub code_range : length program ≤ piece_limit → All (IsInstr (length variables) (length (texts_of program))) code
   code_range few = each_all (IsInstr (length variables) (length (texts_of program))) code (pieces_range own 0 refl few)

@@ -1,5 +1,6 @@
 -- What the compiler asks of a program, and what each text that is a program has.
 use Rattle.std.specs.Prelude.{◌≡◌, ◌≤◌, false, List, length, All}
+use Rattle.stapl_lexer.specs.Pieces.{text_limit}
 use Rattle.stapl_lexer.specs.ReservedWords.{is_reserved_word}
 use Rattle.stapl_syntax.specs.Trees.{StmtTree}
 use Rattle.stapl_syntax.specs.Built.{IsBuilt}
@@ -13,4 +14,4 @@ pub record IsAccepted (program : List StmtTree) : Type 0 where
   pub shape : IsOneProcedure program
   pub free_action : is_reserved_word shape.name ≡ false
   pub free_procedure : is_reserved_word shape.run ≡ false
-  pub texts : All (λ text. length text ≤ 4194304) (texts_of program)
+  pub texts : All (λ text. length text ≤ text_limit) (texts_of program)

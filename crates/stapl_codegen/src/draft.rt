@@ -3,6 +3,7 @@ ghost use Rattle.std.specs.Prelude.{◌≡◌, All, [], ◌∷◌, ◌++◌, ◌
 ghost use Rattle.stapl_syntax.specs.Trees.{body_tree, stmt_tree};
 ghost use Rattle.stapl_syntax.specs.Statements.{is_outer};
 ghost use Rattle.stapl_syntax.specs.Built.{IsBuilt};
+ghost use Rattle.stapl_syntax.specs.Faults.{piece_limit};
 ghost use Rattle.stapl_meaning.specs.Scopes.{block_at};
 ghost use Rattle.stapl_code.specs.Machine.{nowhere};
 ghost use Rattle.stapl_codegen.specs.Emit.{first_text, body_texts, texts_of, piece_code, pieces_code, program_code, program_entries, entries_from, start_of, retarget};
@@ -66,7 +67,7 @@ fn start_at(before: usize, st: &Stmt) -> u32
 fn draft_program(alloc: Global, program: &[Stmt], tables: &Tables) -> Result<Draft, AllocError>
     requires tables { AreTables (trees program.now) tables.now }
     requires built { All IsBuilt (trees program.now) }
-    requires few { length program.now ≤ 100000 }
+    requires few { length program.now ≤ piece_limit }
     ensures code { IfOk result (λ d. d.code.items ≡ pieces_code (trees program.now) (λ j. j) 0 (trees program.now)) }
     ensures texts { IfOk result (λ d. d.texts.items ≡ texts_of (trees program.now)) }
     ensures starts { IfOk result (λ d. AreStarts (trees program.now) d.starts.items) }
@@ -178,7 +179,7 @@ pub(crate) fn write_program(
 ) -> Result<Written, AllocError>
     requires tables { AreTables (trees program.now) tables.now }
     requires built { All IsBuilt (trees program.now) }
-    requires few { length program.now ≤ 100000 }
+    requires few { length program.now ≤ piece_limit }
     ensures code { IfOk result (λ w. w.code.items ≡ program_code (trees program.now)) }
     ensures texts { IfOk result (λ w. w.texts.items ≡ texts_of (trees program.now)) }
     ensures entries { IfOk result (λ w. w.entries.items ≡ program_entries (trees program.now)) }

@@ -2,6 +2,7 @@
 ghost use Rattle.std.specs.Prelude.{◌≡◌, ◌≤◌, ◌%◌, false, IfOk, OnErr, Err, All, length};
 ghost use Rattle.std.specs.Str.Parse.{digits_value};
 ghost use Rattle.bit_list.specs.Digits.{IsDigit, bits_of_binary, bits_of_hex};
+ghost use Rattle.stapl_lexer.specs.Pieces.{text_limit};
 ghost use Rattle.stapl_lexer.specs.PieceTokens.{digits_in};
 ghost use Rattle.stapl_lexer.specs.declared.token.TokenKind.TheVariants as kinds;
 ghost use Rattle.stapl_syntax.specs.Symbols.{check_number};
@@ -26,7 +27,7 @@ fn number_of(digits: &[u8]) -> u16
 
 // The bits of a literal of binary digits, which has these bytes behind its mark.
 pub(crate) fn binary_bits(alloc: Global, own: &[u8]) -> Result<Bits, Refused>
-    requires { length own.now ≤ 4194304 }
+    requires { length own.now ≤ text_limit }
     ensures bits { IfOk result (λ bits. bits ≡ bits_of_binary (digits_in kinds.Binary false own.now)) }
     ensures memory { OnErr result (result ≡ Err Refused.Memory) }
 {
@@ -40,7 +41,7 @@ pub(crate) fn binary_bits(alloc: Global, own: &[u8]) -> Result<Bits, Refused>
 
 // The bits of a literal of hexadecimal digits, which has these bytes behind its mark.
 pub(crate) fn hexadecimal_bits(alloc: Global, own: &[u8]) -> Result<Bits, Refused>
-    requires { length own.now ≤ 4194304 }
+    requires { length own.now ≤ text_limit }
     ensures bits { IfOk result (λ bits. bits ≡ bits_of_hex (digits_in kinds.Hexadecimal false own.now)) }
     ensures memory { OnErr result (result ≡ Err Refused.Memory) }
 {

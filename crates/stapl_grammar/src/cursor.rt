@@ -22,6 +22,7 @@ pub(crate) struct Cursor<'a> {
 
 impl<'a> Model for Cursor<'a> {
     ghost use Rattle.std.specs.Prelude.{List, All, length, ◌≤◌};
+    ghost use Rattle.stapl_lexer.specs.Pieces.{text_limit};
     ghost use Rattle.stapl_lexer.specs.PieceTokens.{LiesBetween};
     ghost use Rattle.stapl_syntax.specs.Symbols.{Symbol};
     ghost use Rattle.stapl_grammar.specs.Seen.{seen};
@@ -30,12 +31,13 @@ impl<'a> Model for Cursor<'a> {
 
     ghost view = { λ c. seen c.text.now c.rest.now };
 
-    ghost invariant = { λ c. (All (LiesBetween 0 (length c.text.now)) c.rest.now) × (length c.text.now ≤ 4194304) };
+    ghost invariant = { λ c. (All (LiesBetween 0 (length c.text.now)) c.rest.now) × (length c.text.now ≤ text_limit) };
 }
 
 impl<'a> Cursor<'a> {
     ghost use Rattle.std.specs.Prelude.{◌≡◌, ◌<◌, ◌≤◌, All, length, [], ◌∷◌, IfSome, IfNone, OnOk, OnSome, MatchBool, Some, None, is_some};
     ghost use Rattle.std.specs.Bool.{OnTrue};
+    ghost use Rattle.stapl_lexer.specs.Pieces.{text_limit};
     ghost use Rattle.stapl_lexer.specs.PieceTokens.{LiesBetween};
     ghost use Rattle.stapl_syntax.specs.Reasons.{is_assign_sign, first_sign};
     ghost use Rattle.stapl_grammar.specs.Given.{Gives};
@@ -47,7 +49,7 @@ impl<'a> Cursor<'a> {
     // All of these tokens of a text.
     pub(crate) fn new(text: &'a [u8], rest: &'a [Token]) -> Cursor<'a>
         requires lie { All (LiesBetween 0 (length text.now)) rest.now }
-        requires small { length text.now ≤ 4194304 }
+        requires small { length text.now ≤ text_limit }
         ensures { result ≡ seen text.now rest.now }
     {
         Cursor { text, rest }

@@ -1,7 +1,7 @@
 //! The statement that a piece of a text is.
 ghost use Rattle.std.specs.Prelude.{◌≡◌, ◌≤◌, length, All, IfOk, Err};
 ghost use Rattle.stapl_lexer.specs.declared.reason.Reason.{Reason};
-ghost use Rattle.stapl_lexer.specs.Pieces.{LiesIn};
+ghost use Rattle.stapl_lexer.specs.Pieces.{LiesIn, text_limit};
 ghost use Rattle.stapl_lexer.specs.PieceTokens.{LiesBetween};
 ghost use Rattle.stapl_syntax.specs.Trees.{stmt_tree};
 ghost use Rattle.stapl_syntax.specs.Statements.{IsPieceStatement};
@@ -32,7 +32,7 @@ pub enum ParseRefused {
 #[tactic(auto, using(crate::proofs::ParsingLemmas::read_none, crate::proofs::ParsingLemmas::read_some))]
 fn parse_tokens(alloc: Global, text: &[u8], tokens: &[Token]) -> Result<Stmt, ParseRefused>
     requires lie { All (LiesBetween 0 (length text.now)) tokens.now }
-    requires small { length text.now ≤ 4194304 }
+    requires small { length text.now ≤ text_limit }
     ensures { AnswersFor (seen text.now tokens.now) result }
 {
     let cursor = Cursor::new(text, tokens);
@@ -51,7 +51,7 @@ fn parse_tokens(alloc: Global, text: &[u8], tokens: &[Token]) -> Result<Stmt, Pa
 /// the grammar. Otherwise the error `Because` has the smallest of the piece's reasons from `Unterminated` to `Syntax`. `Memory` is want of
 /// memory. Each token is read a fixed number of times, and calls nest only as deep as the depth rule of pieces allows.
 pub fn parse(alloc: Global, text: &[u8], piece: &Piece) -> Result<Stmt, ParseRefused>
-    requires small { length text.now ≤ 4194304 }
+    requires small { length text.now ≤ text_limit }
     requires lies { LiesIn text.now piece.now }
     ensures ok { IfOk result (λ statement. IsPieceStatement text.now piece.now (stmt_tree statement)) }
     ensures because { (reason : Reason) → result ≡ Err (refusals.Because reason) → SmallestReason text.now piece.now reason }
