@@ -19,19 +19,22 @@ def processor_time():
 class Bench:
     """A command line with --runs and --processor, and a text in a file of its own that ./zanutero plays."""
 
-    def __init__(self, description):
+    def __init__(self, description, **more):
+        """The words in more are asked for, too, each with what --help says of it."""
         parser = argparse.ArgumentParser(description=description)
+        for name, told in more.items():
+            parser.add_argument(name, help=told)
         parser.add_argument("--runs", type=int, default=5, help="runs of each play (5)")
         parser.add_argument("--processor", action="store_true", help="measure processor time in place of wall time")
-        words = parser.parse_args()
-        self.runs = words.runs
-        self.clock = processor_time if words.processor else time.perf_counter
+        self.words = parser.parse_args()
+        self.runs = self.words.runs
+        self.clock = processor_time if self.words.processor else time.perf_counter
 
     def __enter__(self):
         self.folder = tempfile.TemporaryDirectory()
         self.path = pathlib.Path(self.folder.name) / "text.stp"
         self.path.write_bytes(b"")
-        self.shortest(4, 1)  # builds the program where that is needed
+        self.shortest(4, 1)  # builds the program if that is needed
         self.start = self.shortest(4, 3 * self.runs)
         print(f"An empty text: {self.start:.4f} s. The seconds below are above that.\n")
         return self
@@ -39,18 +42,19 @@ class Bench:
     def __exit__(self, *error):
         self.folder.cleanup()
 
+    def play(self, code, *more, top=TOP):
+        """The time of a play of the text by the program of a checkout, which ends with this code."""
+        begun = self.clock()
+        words = [top / "zanutero", "play", f"program={self.path}", "action=A", *more]
+        done = subprocess.run(words, stdout=subprocess.DEVNULL)
+        took = self.clock() - begun
+        if done.returncode != code:
+            sys.exit(f"exit code {done.returncode} in place of {code}")
+        return took
+
     def shortest(self, code, runs, *more):
         """The shortest time of so many plays of the text, which end with this code."""
-        best = float("inf")
-        for _ in range(runs):
-            begun = self.clock()
-            done = subprocess.run(
-                [TOP / "zanutero", "play", f"program={self.path}", "action=A", *more], stdout=subprocess.DEVNULL
-            )
-            best = min(best, self.clock() - begun)
-            if done.returncode != code:
-                sys.exit(f"exit code {done.returncode} in place of {code}")
-        return best
+        return min(self.play(code, *more) for _ in range(runs))
 
     def seconds(self, text, code, *more):
         """The shortest time of a play of this text, above that of an empty one."""

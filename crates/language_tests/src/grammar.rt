@@ -89,7 +89,7 @@ fn bits_of(alloc: Global, array: &ArrayExpr) -> Result<String, AllocError> {
 // What a literal, a list or a check word holds.
 fn held(alloc: Global, body: &Body) -> Result<String, AllocError> {
     match body {
-        Body::Scan(_, _, source, _, _) => bits_of(alloc, source),
+        Body::Scan(scan) => bits_of(alloc, &scan.source),
         Body::IntegerArray(_, size, Some(values)) => {
             format!(in alloc; "{size}: {:?}", values.as_slice())
         }

@@ -49,7 +49,7 @@ fn statements_of(alloc: Global, read: Vec<Read>) -> Result<Vec<Stmt>, AllocError
     requires { All IsStatement read.items }
     ensures { IfOk result (λ statements. trees read.items ≡ map Some (map stmt_tree statements.items)) }
 {
-    let mut statements = Vec::new(alloc);
+    let mut statements = Vec::with_capacity(alloc, read.len())?;
     for piece in read {
         match piece {
             Read::Statement(statement) => statements.push(Box::into_inner(statement))?,

@@ -35,7 +35,7 @@ pub fn read_pieces(alloc: Global, text: &[u8], pieces: &[Piece]) -> Result<Vec<R
     requires lie { All (LiesIn text.now) pieces.now }
     ensures { IfOk result (λ read. AreRead text.now pieces.now read.items) }
 {
-    let mut read = Vec::new(alloc);
+    let mut read = Vec::with_capacity(alloc, pieces.len())?;
     for piece in pieces {
         let one = read_piece(alloc, text, piece)?;
         read.push(one)?;

@@ -84,7 +84,8 @@ impl<'a> Cursor<'a> {
     pub(crate) fn print_parts(&mut self, alloc: Global) -> Result<ItemList<PrintPart>, Refused>
         ensures { Gives (λ parts. (map part_tree parts, self.new)) result (listed_by print_part_at comma self.old) }
     {
-        let mut parts = Vec::new(alloc);
+        // Most PRINTs have one part, for which a vector that grows by itself takes room for four.
+        let mut parts = Vec::with_capacity(alloc, 1)?;
         let first = self.print_part(alloc)?;
         parts.push(first)?;
         'parts: while self.take_mark(Mark::Comma) {

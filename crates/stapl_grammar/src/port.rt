@@ -2,7 +2,7 @@
 use crate::cursor::Cursor;
 use crate::refused::Refused;
 use stapl_lexer::{JoinWord, Mark, Padding, PortWord, Register};
-use stapl_syntax::{ArrayExpr, Body, Compare, Expr};
+use stapl_syntax::{ArrayExpr, Body, Compare, Expr, Scan};
 use std::alloc::Global;
 
 impl<'a> Cursor<'a> {
@@ -60,12 +60,19 @@ impl<'a> Cursor<'a> {
     fn scan(&mut self, alloc: Global, register: Register) -> Result<Body, Refused>
         ensures { Gives (λ b. (body_tree b, self.new)) result (mapped (scan_of register) (part_at scan_part self.old)) }
     {
-        let count = self.expr(alloc)?;
+        let length = self.expr(alloc)?;
         self.expect_mark(Mark::Comma)?;
         let source = self.array(alloc)?;
         let target = self.capture(alloc)?;
         let compare = self.compare(alloc)?;
-        Ok(Body::Scan(register, count, source, target, compare))
+        let scan = Scan {
+            register,
+            length,
+            source,
+            target,
+            compare,
+        };
+        Ok(Body::Scan(Box::new(alloc, scan)?))
     }
 
     // (PREDR | POSTDR | PREIR | POSTIR) expr ["," array]
@@ -75,10 +82,10 @@ impl<'a> Cursor<'a> {
     {
         let count = self.expr(alloc)?;
         if !self.take_mark(Mark::Comma) {
-            return Ok(Body::Pad(padding, count, None));
+            return Ok(Body::Pad(padding, Box::new(alloc, count)?, None));
         }
         let bits = self.array(alloc)?;
-        Ok(Body::Pad(padding, count, Some(bits)))
+        Ok(Body::Pad(padding, Box::new(alloc, count)?, Some(bits)))
     }
 
     // [state ","]
@@ -130,7 +137,7 @@ impl<'a> Cursor<'a> {
         if self.take_join(JoinWord::Cycles) {
             let usec = self.usec(alloc)?;
             let last = self.last_state()?;
-            return Ok(Body::WaitCycles(first, count, usec, last));
+            return Ok(Body::WaitCycles(first, Box::new(alloc, count)?, usec, last));
         }
         self.expect_join(JoinWord::Usec)?;
         let last = self.last_state()?;

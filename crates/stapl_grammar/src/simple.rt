@@ -24,12 +24,12 @@ impl<'a> Cursor<'a> {
             self.expect_mark(Mark::RightSquare)?;
             self.expect_mark(Mark::Equals)?;
             let array = self.array(alloc)?;
-            return Ok(Body::AssignRange(v, first, low, array));
+            return Ok(Body::AssignRange(v, Box::new(alloc, first)?, Box::new(alloc, low)?, array));
         }
         self.expect_mark(Mark::RightSquare)?;
         self.expect_mark(Mark::Equals)?;
         let value = self.expr(alloc)?;
-        Ok(Body::AssignElement(v, first, value))
+        Ok(Body::AssignElement(v, Box::new(alloc, first)?, value))
     }
 
     // Behind a name and its bracket: "]" "=" array | expr ".." expr "]" "=" array | expr "]" "=" expr
@@ -82,7 +82,7 @@ impl<'a> Cursor<'a> {
         self.expect_join(JoinWord::To)?;
         let to = self.expr(alloc)?;
         let step = self.step(alloc)?;
-        Ok(Body::For(name, from, to, step))
+        Ok(Body::For(name, Box::new(alloc, from)?, Box::new(alloc, to)?, step))
     }
 
     // EXPORT string "," (expr | array)

@@ -1,5 +1,6 @@
 -- Statements as trees: what is kept of them, without where it lies in memory (JESD71, statements).
 use Rattle.std.specs.Prelude.{ℕ, ℤ, List, Option, Bool, map}
+use Rattle.std.specs.Box.{box_value}
 use Rattle.std.specs.Option.{option_map}
 use Rattle.stapl_lexer.specs.declared.terminal.BinOp.{BinOp}
 use Rattle.stapl_syntax.specs.declared.signs.UnOp.{UnOp}
@@ -16,6 +17,7 @@ use Rattle.stapl_syntax.specs.declared.statement.PrintPart.TheVariants as parts
 use Rattle.stapl_syntax.specs.declared.statement.Exported.{Exported}
 use Rattle.stapl_syntax.specs.declared.statement.Exported.TheVariants as exported
 use Rattle.stapl_syntax.specs.declared.statement.Compare.{Compare}
+use Rattle.stapl_syntax.specs.declared.statement.Scan.{Scan}
 use Rattle.stapl_syntax.specs.declared.statement.Body.{Body}
 use Rattle.stapl_syntax.specs.declared.statement.Body.TheVariants as bodies
 use Rattle.stapl_syntax.specs.declared.statement.Stmt.{Stmt}
@@ -128,6 +130,9 @@ export_tree (exported.Array a) = exported_array (array_tree a)
 abbrev pub compare_tree : Compare → CompareTree
 compare_tree c = (array_tree c.expected, (array_tree c.mask, expr_tree c.cell))
 
+abbrev pub scan_tree : Scan → BodyTree
+scan_tree s = scan s.register (expr_tree s.length) (array_tree s.source) (option_map array_tree s.target) (option_map compare_tree s.compare)
+
 abbrev pub body_tree : Body → BodyTree
 body_tree (bodies.Note key text) = note key text
 body_tree (bodies.Action v text items) = action v text (map item_tree items)
@@ -141,24 +146,24 @@ body_tree (bodies.BooleanArray v n bits) = boolean_array v n bits
 body_tree (bodies.Integer v start) = integer v start
 body_tree (bodies.IntegerArray v n values) = integer_array v n values
 body_tree (bodies.Assign v e) = assign v (expr_tree e)
-body_tree (bodies.AssignElement v i e) = assign_element v (expr_tree i) (expr_tree e)
+body_tree (bodies.AssignElement v i e) = assign_element v (expr_tree (box_value i)) (expr_tree e)
 body_tree (bodies.AssignArray v a) = assign_array v (array_tree a)
-body_tree (bodies.AssignRange v h l a) = assign_range v (expr_tree h) (expr_tree l) (array_tree a)
+body_tree (bodies.AssignRange v h l a) = assign_range v (expr_tree (box_value h)) (expr_tree (box_value l)) (array_tree a)
 body_tree (bodies.Call v) = call v
 body_tree (bodies.Goto v) = goto v
 body_tree (bodies.If' e p b) = if_then (expr_tree e) (body_tree b)
-body_tree (bodies.For v a b c) = for_loop v (expr_tree a) (expr_tree b) (option_map expr_tree c)
+body_tree (bodies.For v a b c) = for_loop v (expr_tree (box_value a)) (expr_tree (box_value b)) (option_map expr_tree c)
 body_tree (bodies.Next v) = next v
 body_tree (bodies.Push e) = push (expr_tree e)
 body_tree (bodies.Pop e) = pop (expr_tree e)
 body_tree (bodies.Print list) = print (map part_tree list)
 body_tree (bodies.Export key x) = export key (export_tree x)
 body_tree (bodies.Exit e) = exit (expr_tree e)
-body_tree (bodies.Scan k e a t c) = scan k (expr_tree e) (array_tree a) (option_map array_tree t) (option_map compare_tree c)
+body_tree (bodies.Scan s) = scan_tree (box_value s)
 body_tree (bodies.Stop k state) = stop k state
-body_tree (bodies.Pad k e a) = pad k (expr_tree e) (option_map array_tree a)
+body_tree (bodies.Pad k e a) = pad k (expr_tree (box_value e)) (option_map array_tree a)
 body_tree (bodies.State states) = state_list states
-body_tree (bodies.WaitCycles k e u l) = wait_cycles k (expr_tree e) (option_map expr_tree u) l
+body_tree (bodies.WaitCycles k e u l) = wait_cycles k (expr_tree (box_value e)) (option_map expr_tree u) l
 body_tree (bodies.WaitUsec k e l) = wait_usec k (expr_tree e) l
 body_tree (bodies.Frequency e) = frequency (option_map expr_tree e)
 

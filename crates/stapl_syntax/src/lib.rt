@@ -6,4 +6,6 @@ mod signs;
 mod statement;
 
 pub use signs::{Sign, UnOp};
-pub use statement::{ArrayExpr, Body, Compare, Exported, Expr, Item, ItemChoice, PrintPart, Stmt};
+pub use statement::{
+    ArrayExpr, Body, Compare, Exported, Expr, Item, ItemChoice, PrintPart, Scan, Stmt,
+};

@@ -79,8 +79,21 @@ pub struct Compare {
     pub cell: Expr,
 }
 
+/// A scan (JESD71, DRSCAN and IRSCAN).
+#[derive(Drop)]
+pub struct Scan {
+    pub register: Register,
+    /// How many bits are shifted.
+    pub length: Expr,
+    /// What is shifted in.
+    pub source: ArrayExpr,
+    /// Where what comes out goes.
+    pub target: Option<ArrayExpr>,
+    pub compare: Option<Compare>,
+}
+
 /// A statement without its label (JESD71, statements). The fields stand in the written order. A string is kept by the bytes between its
-/// quotes, a state by its number.
+/// quotes, a state by its number. What is seldom and large lies behind a pointer, so that the other statements take little memory.
 #[derive(Drop)]
 pub enum Body {
     /// NOTE: key and text.
@@ -108,11 +121,11 @@ pub enum Body {
     /// An assignment to a scalar.
     Assign(Name, Expr),
     /// An assignment to an element.
-    AssignElement(Name, Expr, Expr),
+    AssignElement(Name, Box<Expr>, Expr),
     /// An assignment to a whole array.
     AssignArray(Name, ArrayExpr),
     /// An assignment to a range of an array.
-    AssignRange(Name, Expr, Expr, ArrayExpr),
+    AssignRange(Name, Box<Expr>, Box<Expr>, ArrayExpr),
     /// CALL.
     Call(Name),
     /// GOTO.
@@ -120,7 +133,7 @@ pub enum Body {
     /// IF .. THEN.
     If(Expr, Box<Body>),
     /// FOR: its variable, the first and the last value, and the step.
-    For(Name, Expr, Expr, Option<Expr>),
+    For(Name, Box<Expr>, Box<Expr>, Option<Expr>),
     /// NEXT.
     Next(Name),
     /// PUSH.
@@ -133,16 +146,16 @@ pub enum Body {
     Export(ItemList<u8>, Exported),
     /// EXIT.
     Exit(Expr),
-    /// DRSCAN, IRSCAN: the length, what is shifted in, where what comes out goes, and what it is compared with.
-    Scan(Register, Expr, ArrayExpr, Option<ArrayExpr>, Option<Compare>),
+    /// DRSCAN, IRSCAN.
+    Scan(Box<Scan>),
     /// DRSTOP, IRSTOP.
     Stop(Register, u8),
     /// PREDR, POSTDR, PREIR, POSTIR: the length, and the bits.
-    Pad(Padding, Expr, Option<ArrayExpr>),
+    Pad(Padding, Box<Expr>, Option<ArrayExpr>),
     /// STATE: the states to go through.
     State(ItemList<u8>),
     /// WAIT for cycles, and for a time: where to wait, how many cycles, how many microseconds, and where to go then.
-    WaitCycles(Option<u8>, Expr, Option<Expr>, Option<u8>),
+    WaitCycles(Option<u8>, Box<Expr>, Option<Expr>, Option<u8>),
     /// WAIT for a time alone: where to wait, how many microseconds, and where to go then.
     WaitUsec(Option<u8>, Expr, Option<u8>),
     /// FREQUENCY.
