@@ -1,5 +1,5 @@
 -- From what the loops find to what the text is.
-use Rattle.std.proofs.Common.{◌≡◌, ◌≤◌, ◌<◌, ◌+◌, ℕ, Bool, true, false, List, [], ◌∷◌, length, refl, sym, ap, ◌∙◌, Option, None, Some, map, get_or, nat_le, if◌then◌else◌, All, arith, subst, ◌⊎◌, inl, inr}
+use Rattle.std.proofs.Common.{◌≡◌, ◌≤◌, ◌<◌, ◌+◌, ℕ, Bool, true, false, List, length, refl, sym, Option, None, Some, map, get_or, nat_le, if◌then◌else◌, All, arith, subst, ◌⊎◌, inl, inr}
 use Rattle.std.specs.Prelude.{slice_get}
 use Rattle.std.proofs.lemmas.Bool.Decides.{nat_tests}
 use Rattle.stapl_lexer.specs.declared.piece.Piece.{Piece}

@@ -7,7 +7,7 @@ use Rattle.stapl_lexer.specs.PieceFaults.{IsSmallestTokenReason, AreTokens}
 use Rattle.stapl_lexer.proofs.Answered as lexer
 use Rattle.stapl_syntax.specs.Symbols.{symbols_of}
 use Rattle.stapl_syntax.specs.Trees.{BodyTree, StmtTree}
-use Rattle.stapl_syntax.specs.Statements.{Means, IsPieceStatement}
+use Rattle.stapl_syntax.specs.Statements.{IsPieceStatement}
 use Rattle.stapl_syntax.specs.Reasons.{SmallestReason}
 use Rattle.stapl_grammar.specs.BodyReading.{statement_of}
 use Rattle.stapl_grammar.proofs.BodyComplete.{statement_sound, statement_complete}

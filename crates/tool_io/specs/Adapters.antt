@@ -1,6 +1,6 @@
 -- The adapters over the files and the output of a system. Through the traits they tell nothing but their faults; what they stand on
 -- is told as far as std's reader or writer tells it. The rules are the tool's own.
-use Rattle.std.specs.Prelude.{ℕ, List, Option, None, IsSome}
+use Rattle.std.specs.Prelude.{ℕ, List, Option, IsSome}
 use Rattle.std.specs.Option.{option_and_then}
 use Rattle.tool_io.specs.declared.std_edge.FileShelf.{FileShelf}
 use Rattle.tool_io.specs.Causes.{IsSaturated}
