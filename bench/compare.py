@@ -1,8 +1,9 @@
 #!/usr/bin/env python3
 """Compares how long this program and that of another checkout take for the same texts.
 
-The texts are those of 4 MiB of read_and_cut.py and those of 100,000 pieces of pieces.py. They are played for no turn, by
-one program after the other, so both meet the same machine. The shortest time of each counts, less that of an empty text.
+The texts are those of 4 MiB of read_and_cut.py and those of 100,000 pieces of pieces.py. They are played for no turn,
+by one program after the other, so both meet the same machine. The shortest time of each counts, less that of an empty
+text.
 """
 import pathlib
 

@@ -1,8 +1,8 @@
 #!/usr/bin/env python3
 """Times reading and compiling programs of 25,000 to 100,000 pieces.
 
-Each program is played for no turn, so the time is that of reading, checking and compiling it. The shortest time of some plays
-counts, less that of an empty text. Where the time is linear in the pieces, the ratios are near 2.
+Each program is played for no turn, so the time is that of reading, checking and compiling it. The shortest time of some
+plays counts, less that of an empty text. If the time is linear in the pieces, the ratios are near 2.
 """
 import measure
 

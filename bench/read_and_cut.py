@@ -1,9 +1,9 @@
 #!/usr/bin/env python3
 """Times reading, cutting and playing on generated texts of 1, 2 and 4 MiB.
 
-Each kind of text is made in exactly these sizes and played by ./zanutero some times; the shortest time counts. From it the
-time for an empty text is taken away, which is what starting costs. Where the time is linear in the bytes, the last two columns
-are near 2.
+Each kind of text is made in exactly these sizes and played by ./zanutero some times; the shortest time counts. From it
+the time for an empty text is taken away, which is what starting costs. If the time is linear in the bytes, the last two
+columns are near 2.
 """
 import measure
 

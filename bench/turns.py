@@ -1,8 +1,9 @@
 #!/usr/bin/env python3
 """Times plays of 1 to 10 million turns.
 
-An endless loop counts and prints nothing, and is spent after the turns that the words give. The shortest time of some plays
-counts, less that of an empty text. Where the time is linear in the turns, the ratios are those of the numbers of turns.
+An endless loop counts and prints nothing, and is spent after the turns that the words give. The shortest time of some
+plays counts, less that of an empty text. If the time is linear in the turns, the ratios are those of the numbers of
+turns.
 """
 import measure
 
