@@ -83,6 +83,7 @@ module _ {C : Type 0} (board : C → Option (List Card)) (makes : C → List Clo
           seen = λ cs t.
               ap (λ z. z ++ q.clocks) (p.seen cs t) ∙ ap (λ z. clocks_of cs xs ++ z) (q.seen (board_after cs xs) (mid cs t)) ∙ sym (clocks-append xs ys cs);
           cards = λ cs ks t u. q.cards (board_after cs xs) ks (mid cs t) u ∙ sym (after-append xs ys cs);
+          untold = λ t. q.untold (p.cards ∙ ap (λ o. option_map (λ ks. board_after ks xs) o) t);
         }
 
     -- a call that failed after some of the inputs

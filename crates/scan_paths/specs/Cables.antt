@@ -1,6 +1,6 @@
 -- What a call does to a cable: the clocks that were made, the board that the cable tells, its counts of faults, and what is broken of it. A cable
 -- that tells its board is clocked as the board is (IEEE 1149.1, test access port); counts and breakages are this profile's.
-use Rattle.std.specs.Prelude.{◌≡◌, ◌+◌, ◌++◌, ◌⊎◌, ℕ, Bool, true, false, List, [], ◌∷◌, map, Option, Some}
+use Rattle.std.specs.Prelude.{◌≡◌, ◌+◌, ◌++◌, ◌⊎◌, ℕ, Bool, true, false, List, [], ◌∷◌, map, Option, None, Some}
 use Rattle.std.specs.Option.{option_map}
 use Rattle.tool_io.specs.Causes.{CountKept, CountRose}
 use Rattle.dev_card.specs.Card.{Card}
@@ -48,14 +48,16 @@ pub record IsUnclocked {C : Type 0} (board : C → Option (List Card)) (makes : 
   pub made : makes old [] new
   pub cards : board new ≡ board old
 
--- A call that failed made clocks with these inputs. If the board was told, they are its clocks; if it is told still, it is the one after them. After
--- a failure a cable need not tell its board any more.
+-- A call that failed made clocks with these inputs. If the board was told, they are its clocks; if it is told still, it
+-- is the one after them. After a failure a cable need not tell its board any more, but one that told nothing tells
+-- nothing.
 pub record HasBrokenOff {C : Type 0} (board : C → Option (List Card)) (makes : C → List Clock → C → Type 0) (old new : C) (inputs : List Input) : Type 0 where
   pub clocks : List Clock
   pub made : makes old clocks new
   pub went_in : map input_of clocks ≡ inputs
   pub seen : (cs : List Card) → board old ≡ Some cs → clocks ≡ clocks_of cs inputs
   pub cards : (cs after : List Card) → board old ≡ Some cs → board new ≡ Some after → after ≡ board_after cs inputs
+  pub untold : board old ≡ None → board new ≡ None
 
 -- No clock was made, or this one.
 abbrev pub IsClockedOrNot : {C : Type 0} → (C → Option (List Card)) → (C → List Clock → C → Type 0) → C → C → Bool → Bool → Type 0

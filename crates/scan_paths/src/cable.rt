@@ -7,12 +7,13 @@ ghost use Rattle.scan_paths.specs.Cables.{Breakage, whole, line, pins, HasPartCa
 
 use tool_io::Failed;
 
-/// A cable to a chain of devices (IEEE 1149.1, test access port): TCK and TMS to all, TDI to the last device, TDO from the first.
+/// A cable to a chain of devices (IEEE 1149.1, test access port): TCK and TMS to all, TDI to the last device, TDO from
+/// the first.
 ///
-/// A cable tells the cards of its board to contracts, as a simulated chain does, or tells nothing, as one to real devices; either way it stays
-/// so, but after a clock that failed it need not tell any more. Told cards are sound. It has two counts of faults, one of the line to the devices
-/// and one of the lines in which its clocks are written, where it writes any; neither ever falls. A call that fails leaves it broken, and no call
-/// may be made on a broken cable.
+/// A cable tells the cards of its board to contracts, as a simulated chain does, or tells nothing, as one to real
+/// devices. Either way it stays so, but after a clock that failed it need not tell any more. Told cards are sound. It
+/// has two counts of faults, one of the line to the devices and one of the lines in which its clocks are written, if it
+/// writes any; neither ever falls. A call that fails leaves it broken, and no call may be made on a broken cable.
 pub trait Cable {
     /// The cards of the board, the first nearest TDO, where the cable tells them.
     ghost board: { Self → Option (List Card) };
@@ -37,8 +38,8 @@ pub trait Cable {
 
     /// One clock with these values at TMS and TDI. It answers TDO, as it is before the clock.
     ///
-    /// `Failed` only where the count of the part that is broken then rose, or stands at its last value. If the board was told before and is told
-    /// then, it is as it was before the clock or as it is after it.
+    /// `Failed` only if the count of the part that is broken then rose, or stands at its last value. If the board was
+    /// told before and is told then, it is as it was before the clock or as it is after it.
     fn clock(&mut self, tms: bool, tdi: bool) -> Result<bool, Failed>
         requires { breakage self.old ≡ whole }
         ensures clocked { IfOk result (λ tdo. IsClocked board made self.old self.new tms tdi tdo) }
@@ -48,7 +49,8 @@ pub trait Cable {
         ensures line { HasPartCause line line_faults is_line_last breakage self.old self.new }
         ensures pins { HasPartCause pins pin_faults is_pin_last breakage self.old self.new };
 
-    /// Waits for n microseconds, without a clock: a told board stays as it is, whatever the answer. `Failed` has the cause that it has at `clock`.
+    /// Waits for n microseconds, without a clock: a told board stays as it is, whatever the answer. `Failed` has the
+    /// cause that it has at `clock`.
     fn usec(&mut self, n: u32) -> Result<(), Failed>
         requires { breakage self.old ≡ whole }
         ensures unclocked { IsUnclocked board made self.old self.new }
@@ -57,8 +59,8 @@ pub trait Cable {
         ensures line { HasPartCause line line_faults is_line_last breakage self.old self.new }
         ensures pins { HasPartCause pins pin_faults is_pin_last breakage self.old self.new };
 
-    /// Sets the frequency of the clocks that follow to n hertz, without a clock: a told board stays as it is, whatever the answer. `Failed` has the
-    /// cause that it has at `clock`.
+    /// Sets the frequency of the clocks that follow to n hertz, without a clock: a told board stays as it is, whatever
+    /// the answer. `Failed` has the cause that it has at `clock`.
     fn hertz(&mut self, n: u32) -> Result<(), Failed>
         requires { breakage self.old ≡ whole }
         ensures unclocked { IsUnclocked board made self.old self.new }

@@ -29,10 +29,12 @@ fn send<C: Cable>(cable: &mut C, bits: u32, n: u32) -> Result<(), Failed>
     Ok(())
 }
 
-/// Moves all controllers from one state to another by the path between the two, with TDI 0, and answers the state that they are in then.
+/// Moves all controllers from one state to another by the path between the two, with TDI 0, and answers the state that
+/// they are in then.
 ///
-/// The cable is not broken, and where it tells its board, each controller is in the state `at`. `Failed` only where the cable's count of faults
-/// rose, or stands at its last value; then the clocks that were made are those of a front of the path, and nothing is promised of the state.
+/// The cable is not broken, and where it tells its board, each controller is in the state `at`. `Failed` only where the
+/// cable's count of faults rose, or stands at its last value; then the clocks that were made are those of a front of
+/// the path, and nothing is promised of the state.
 pub fn move_to<C: Cable>(cable: &mut C, at: Tap, to: Tap) -> Result<Tap, Failed>
     requires whole { C.breakage cable.old ≡ whole }
     requires at { WhereTold (C.board cable.old) (AllIn at) }
@@ -44,17 +46,20 @@ pub fn move_to<C: Cable>(cable: &mut C, at: Tap, to: Tap) -> Result<Tap, Failed>
     ensures broken { OnErr result (C.breakage cable.new ≢ whole) }
     ensures line { HasPartCause line C.line_faults C.is_line_last C.breakage cable.old cable.new }
     ensures pins { HasPartCause pins C.pin_faults C.is_pin_last C.breakage cable.old cable.new }
-    ensures cause { HasCause (cable_faults C.line_faults C.pin_faults) (IsCableLast C.is_line_last C.is_pin_last) cable.old cable.new result }
+    ensures cause { HasCause (cable_faults C.line_faults C.pin_faults)
+        (IsCableLast C.is_line_last C.is_pin_last) cable.old cable.new result }
 {
     let path = Tap::path(at, to);
     send(cable, path.bits, path.len)?;
     Ok(to)
 }
 
-/// Makes n clocks in a stable state, in which all controllers stay: with TMS 1 in the reset state and with 0 in the others, and with TDI 0.
+/// Makes n clocks in a stable state, in which all controllers stay: with TMS 1 in the reset state and with 0 in the
+/// others, and with TDI 0.
 ///
-/// The cable is not broken, and where it tells its board, each controller is in the state `at`. `Failed` only where the cable's count of faults
-/// rose, or stands at its last value; then fewer clocks may have been made, and nothing is promised of the state.
+/// The cable is not broken, and where it tells its board, each controller is in the state `at`. `Failed` only where the
+/// cable's count of faults rose, or stands at its last value; then fewer clocks may have been made, and nothing is
+/// promised of the state.
 pub fn stay<C: Cable>(cable: &mut C, at: Tap, n: u32) -> Result<(), Failed>
     requires whole { C.breakage cable.old ≡ whole }
     requires at { WhereTold (C.board cable.old) (AllIn at) }
@@ -66,7 +71,8 @@ pub fn stay<C: Cable>(cable: &mut C, at: Tap, n: u32) -> Result<(), Failed>
     ensures broken { OnErr result (C.breakage cable.new ≢ whole) }
     ensures line { HasPartCause line C.line_faults C.is_line_last C.breakage cable.old cable.new }
     ensures pins { HasPartCause pins C.pin_faults C.is_pin_last C.breakage cable.old cable.new }
-    ensures cause { HasCause (cable_faults C.line_faults C.pin_faults) (IsCableLast C.is_line_last C.is_pin_last) cable.old cable.new result }
+    ensures cause { HasCause (cable_faults C.line_faults C.pin_faults)
+        (IsCableLast C.is_line_last C.is_pin_last) cable.old cable.new result }
 {
     let tms = tms_at_rest(at);
     for _turn in 0..n {
