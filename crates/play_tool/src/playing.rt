@@ -30,7 +30,8 @@ use tool_io::{Lines, Sink};
 
 // The action of a name.
 fn find_action<'a>(actions: &'a [ActionDef], name: &Name) -> Option<&'a ActionDef>
-    ensures some { IfSome result (λ action. procedures_named actions.now name.now ≡ Some (procedures_in action.now.items)) }
+    ensures some { IfSome result (λ action.
+        procedures_named actions.now name.now ≡ Some (procedures_in action.now.items)) }
     ensures none { IfNone result (procedures_named actions.now name.now ≡ None) }
 {
     for action in actions {
@@ -77,10 +78,12 @@ fn put_play<K: Sink, L: Ledger>(
     ensures same_sink { IsOverSame lines.old lines.new }
     ensures whole { OnOk result (IsWhole lines.new) }
     ensures ended { IfOk result (λ ending. ending_of (play_of code.now chosen.now turns).outcome ≡ Some ending) }
-    ensures ok { IfOk result (λ ending. Puts K.written lines.old (text_of (play_of code.now chosen.now turns).events ending) lines.new) }
+    ensures ok { IfOk result (λ ending.
+        Puts K.written lines.old (text_of (play_of code.now chosen.now turns).events ending) lines.new) }
     ensures front { OnErr result (PutsRunFront K.written (play_of code.now chosen.now turns) lines.old lines.new) }
     ensures read { IsErrOf result NoAnswer.Read → ⊥ }
-    ensures write { IsErrOf result NoAnswer.Write → HasRisen K.faults K.is_last (sink_of lines.old) (sink_of lines.new) }
+    ensures write { IsErrOf result NoAnswer.Write →
+        HasRisen K.faults K.is_last (sink_of lines.old) (sink_of lines.new) }
     ensures kept { SinkNeverFalls K.faults K.is_last lines.old lines.new }
 {
     let mut steps = Steps::<L>::none(blank);
@@ -105,7 +108,8 @@ fn write_play<K: Sink, L: Ledger>(
     requires prepared { IsPrepared code.now machine.old }
     requires below { AllBelow (length code.now.procedures) chosen.now }
     ensures ok { IfOk result (RunWritten (play_of code.now chosen.now turns) (K.written out.old) (K.written out.new)) }
-    ensures front { OnErr result (RunFront (play_of code.now chosen.now turns) (K.written out.old) (K.written out.new)) }
+    ensures front { OnErr result (RunFront (play_of code.now chosen.now turns) (K.written out.old)
+        (K.written out.new)) }
     ensures read { IsErrOf result NoAnswer.Read → ⊥ }
     ensures write { IsErrOf result NoAnswer.Write → HasRisen K.faults K.is_last out.old out.new }
     ensures later { NeverFalls K.faults K.is_last out.old out.new }
@@ -126,7 +130,8 @@ fn play_chosen<K: Sink>(
 ) -> Result<Ending, NoAnswer>
     requires below { AllBelow (length code.now.procedures) chosen.now }
     ensures ok { IfOk result (RunWritten (play_of code.now chosen.now turns) (K.written out.old) (K.written out.new)) }
-    ensures front { OnErr result (RunFront (play_of code.now chosen.now turns) (K.written out.old) (K.written out.new)) }
+    ensures front { OnErr result (RunFront (play_of code.now chosen.now turns) (K.written out.old)
+        (K.written out.new)) }
     ensures read { IsErrOf result NoAnswer.Read → ⊥ }
     ensures write { IsErrOf result NoAnswer.Write → HasRisen K.faults K.is_last out.old out.new }
     ensures later { NeverFalls K.faults K.is_last out.old out.new }
@@ -147,9 +152,12 @@ fn play_action<K: Sink>(
 ) -> Result<Ending, NoAnswer>
     requires below { AllBelow (length code.now.procedures) (procedures_in action.now.items) }
     requires fit { AllFit code.now.variables (zeros_of_code code.now) }
-    ensures comes { IsErrOf result NoAnswer.Write → HasEnding (play_of code.now (procedures_in action.now.items) turns) }
-    ensures ok { IfOk result (RunWritten (play_of code.now (procedures_in action.now.items) turns) (K.written out.old) (K.written out.new)) }
-    ensures front { OnErr result (RunFront (play_of code.now (procedures_in action.now.items) turns) (K.written out.old) (K.written out.new)) }
+    ensures comes { IsErrOf result NoAnswer.Write →
+        HasEnding (play_of code.now (procedures_in action.now.items) turns) }
+    ensures ok { IfOk result (RunWritten (play_of code.now (procedures_in action.now.items) turns) (K.written out.old)
+        (K.written out.new)) }
+    ensures front { OnErr result (RunFront (play_of code.now (procedures_in action.now.items) turns) (K.written out.old)
+        (K.written out.new)) }
     ensures read { IsErrOf result NoAnswer.Read → ⊥ }
     ensures write { IsErrOf result NoAnswer.Write → HasRisen K.faults K.is_last out.old out.new }
     ensures later { NeverFalls K.faults K.is_last out.old out.new }
@@ -180,11 +188,14 @@ pub fn play_program<K: Sink>(
 ) -> Result<Status, NoAnswer>
     requires { IsAccepted (map stmt_tree program.now) }
     ensures answered { IfOk result (λ status. IsFault status → ⊥) }
-    ensures ok { IfOk result (ProgramPlaysTo (map stmt_tree program.now) action.now turns (K.written out.old) (K.written out.new)) }
+    ensures ok { IfOk result (ProgramPlaysTo (map stmt_tree program.now) action.now turns (K.written out.old)
+        (K.written out.new)) }
     ensures read { IsErrOf result NoAnswer.Read → ⊥ }
     ensures write { IsErrOf result NoAnswer.Write → HasRisen K.faults K.is_last out.old out.new }
-    ensures front { IsErrOf result NoAnswer.Write → ProgramPlaysFront (map stmt_tree program.now) action.now turns (K.written out.old) (K.written out.new) }
-    ensures memory { IsErrOf result NoAnswer.Memory → IsPrefixOfProgram (map stmt_tree program.now) action.now turns (K.written out.old) (K.written out.new) }
+    ensures front { IsErrOf result NoAnswer.Write →
+        ProgramPlaysFront (map stmt_tree program.now) action.now turns (K.written out.old) (K.written out.new) }
+    ensures memory { IsErrOf result NoAnswer.Memory →
+        IsPrefixOfProgram (map stmt_tree program.now) action.now turns (K.written out.old) (K.written out.new) }
     ensures later { NeverFalls K.faults K.is_last out.old out.new }
 {
     let code = generate(alloc, program)?;

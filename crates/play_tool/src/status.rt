@@ -17,7 +17,8 @@ pub enum Status {
     Done(i32),
     /// The play still goes on after the turns that it was given.
     Spent,
-    /// The program is refused: the piece, counted from 1, of its first fault, or 0 where the text is too long, and the reason.
+    /// The program is refused: the piece, counted from 1, of its first fault, or 0 where the text is too long, and the
+    /// reason.
     Refused(u32, Reason),
     /// The program has no action of the name that the words give.
     NoAction,

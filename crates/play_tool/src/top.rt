@@ -25,11 +25,14 @@ fn play_bytes<K: Sink>(
     out: &mut K,
 ) -> Result<Status, NoAnswer>
     ensures answered { IfOk result (λ status. IsFault status → ⊥) }
-    ensures ok { IfOk result (PlaysTo bytes.now request.now.action request.now.turns (K.written out.old) (K.written out.new)) }
+    ensures ok { IfOk result (PlaysTo bytes.now request.now.action request.now.turns (K.written out.old)
+        (K.written out.new)) }
     ensures read { IsErrOf result NoAnswer.Read → ⊥ }
     ensures write { IsErrOf result NoAnswer.Write → HasRisen K.faults K.is_last out.old out.new }
-    ensures front { IsErrOf result NoAnswer.Write → PlaysFront bytes.now request.now.action request.now.turns (K.written out.old) (K.written out.new) }
-    ensures memory { IsErrOf result NoAnswer.Memory → IsPrefixOfPlays bytes.now request.now.action request.now.turns (K.written out.old) (K.written out.new) }
+    ensures front { IsErrOf result NoAnswer.Write →
+        PlaysFront bytes.now request.now.action request.now.turns (K.written out.old) (K.written out.new) }
+    ensures memory { IsErrOf result NoAnswer.Memory →
+        IsPrefixOfPlays bytes.now request.now.action request.now.turns (K.written out.old) (K.written out.new) }
     ensures later { NeverFalls K.faults K.is_last out.old out.new }
 {
     match check(alloc, bytes) {
@@ -62,13 +65,16 @@ fn play_file<S: Shelf, K: Sink>(
     ensures answered { IfOk result (λ status. IsFault status → ⊥) }
     ensures ok { IfOk result (λ status. IfSome (S.told shelf.old) (λ files.
         FilePlaysTo (file_of files request.now.program.now) request.now.action request.now.turns (K.written out.old) (K.written out.new) status)) }
-    ensures read { IsErrOf result NoAnswer.Read → HasRisenAt S.faults S.is_last request.now.program.now shelf.old shelf.new }
+    ensures read { IsErrOf result NoAnswer.Read →
+        HasRisenAt S.faults S.is_last request.now.program.now shelf.old shelf.new }
     ensures nothing { IsErrOf result NoAnswer.Read → K.written out.new ≡ K.written out.old }
     ensures write { IsErrOf result NoAnswer.Write → HasRisen K.faults K.is_last out.old out.new }
     ensures front { IsErrOf result NoAnswer.Write → IfSome (S.told shelf.old) (λ files.
         FilePlaysFront (file_of files request.now.program.now) request.now.action request.now.turns (K.written out.old) (K.written out.new)) }
-    ensures some_bytes { IfOk result (PlaysSomeBytesTo request.now.action request.now.turns (K.written out.old) (K.written out.new)) }
-    ensures some_bytes_front { IsErrOf result NoAnswer.Write → PlaysSomeBytesFront request.now.action request.now.turns (K.written out.old) (K.written out.new) }
+    ensures some_bytes { IfOk result (PlaysSomeBytesTo request.now.action request.now.turns (K.written out.old)
+        (K.written out.new)) }
+    ensures some_bytes_front { IsErrOf result NoAnswer.Write →
+        PlaysSomeBytesFront request.now.action request.now.turns (K.written out.old) (K.written out.new) }
     ensures memory { IsErrOf result NoAnswer.Memory → IfSome (S.told shelf.old) (λ files.
         IsPrefixOfFile (file_of files request.now.program.now) request.now.action request.now.turns (K.written out.old) (K.written out.new)) }
     ensures keeps { S.told shelf.new ≡ S.told shelf.old }
@@ -97,14 +103,17 @@ fn run<S: Shelf, K: Sink>(
     ensures answered { IfOk result (λ status. IsFault status → ⊥) }
     ensures ok { IfOk result (λ status. IfSome (S.told shelf.old) (λ files.
         Answers (map string_bytes words.now) files (K.written out.old) (K.written out.new) status)) }
-    ensures read { IsErrOf result NoAnswer.Read → (path action : List ℕ) × (turns : ℕ) × IsRequest (map string_bytes words.now) path action turns
+    ensures read { IsErrOf result NoAnswer.Read →
+        (path action : List ℕ) × (turns : ℕ) × IsRequest (map string_bytes words.now) path action turns
         × HasRisenAt S.faults S.is_last path shelf.old shelf.new }
     ensures nothing { IsErrOf result NoAnswer.Read → K.written out.new ≡ K.written out.old }
     ensures write { IsErrOf result NoAnswer.Write → HasRisen K.faults K.is_last out.old out.new }
     ensures front { IsErrOf result NoAnswer.Write → IfSome (S.told shelf.old) (λ files.
         AnswersFront (map string_bytes words.now) files (K.written out.old) (K.written out.new)) }
-    ensures some_files { IfOk result (AnswersSomeFiles (map string_bytes words.now) (K.written out.old) (K.written out.new)) }
-    ensures some_files_front { IsErrOf result NoAnswer.Write → AnswersSomeFilesFront (map string_bytes words.now) (K.written out.old) (K.written out.new) }
+    ensures some_files { IfOk result (AnswersSomeFiles (map string_bytes words.now) (K.written out.old)
+        (K.written out.new)) }
+    ensures some_files_front { IsErrOf result NoAnswer.Write →
+        AnswersSomeFilesFront (map string_bytes words.now) (K.written out.old) (K.written out.new) }
     ensures memory { IsErrOf result NoAnswer.Memory → IfSome (S.told shelf.old) (λ files.
         IsPrefixOfAnswers (map string_bytes words.now) files (K.written out.old) (K.written out.new)) }
     ensures keeps { S.told shelf.new ≡ S.told shelf.old }
@@ -120,8 +129,8 @@ fn run<S: Shelf, K: Sink>(
     }
 }
 
-/// Does what the words ask: `play`, and behind it in any order `program=` with a path, `action=` with a name, and perhaps `turns=` with the
-/// most turns that the play may take. What the tool says goes to the sink.
+/// Does what the words ask: `play`, and behind it in any order `program=` with a path, `action=` with a name, and
+/// perhaps `turns=` with the most turns that the play may take. What the tool says goes to the sink.
 pub fn run_tool<S: Shelf, K: Sink>(
     alloc: Global,
     words: &[String],
@@ -133,7 +142,8 @@ pub fn run_tool<S: Shelf, K: Sink>(
         Answers (map string_bytes words.now) files (K.written out.old) (K.written out.new) result) }
 
     // A read fault comes only where the count of the file that the words name rose, and then nothing is written.
-    ensures read { result ≡ Status.ReadFault → (path action : List ℕ) × (turns : ℕ) × IsRequest (map string_bytes words.now) path action turns
+    ensures read { result ≡ Status.ReadFault →
+        (path action : List ℕ) × (turns : ℕ) × IsRequest (map string_bytes words.now) path action turns
         × HasRisenAt S.faults S.is_last path shelf.old shelf.new }
     ensures nothing { result ≡ Status.ReadFault → K.written out.new ≡ K.written out.old }
 
@@ -143,8 +153,10 @@ pub fn run_tool<S: Shelf, K: Sink>(
         AnswersFront (map string_bytes words.now) files (K.written out.old) (K.written out.new)) }
 
     // Also of a shelf that does not tell its files: what is written is the answer to some files, or a prefix of one.
-    ensures some_files { (IsFault result → ⊥) → AnswersSomeFiles (map string_bytes words.now) (K.written out.old) (K.written out.new) result }
-    ensures some_files_front { result ≡ Status.WriteFault → AnswersSomeFilesFront (map string_bytes words.now) (K.written out.old) (K.written out.new) }
+    ensures some_files { (IsFault result → ⊥) →
+        AnswersSomeFiles (map string_bytes words.now) (K.written out.old) (K.written out.new) result }
+    ensures some_files_front { result ≡ Status.WriteFault →
+        AnswersSomeFilesFront (map string_bytes words.now) (K.written out.old) (K.written out.new) }
 
     // After want of memory a prefix of the text is written.
     ensures memory { result ≡ Status.Memory → IfSome (S.told shelf.old) (λ files.

@@ -107,7 +107,8 @@ impl<'a> Given<'a> {
 
     // The request that the values make; `None` where a needed one is missing.
     fn request(&self) -> Option<Request<'a>>
-        ensures some { IfSome result (λ request. HasValues (values_of self.now) request.program.now request.action request.turns) }
+        ensures some { IfSome result (λ request.
+            HasValues (values_of self.now) request.program.now request.action request.turns) }
         ensures none { IfNone result (LacksValue (values_of self.now)) }
     {
         let Some(program) = self.program else {
@@ -216,7 +217,8 @@ fn begins_with_mode(words: &[String]) -> bool
 fn read_parts(words: &[String]) -> Result<Given<'_>, usize>
     requires some { 0 < length words.now }
     requires mode { word_at (map string_bytes words.now) 0 ≡ codes "play" }
-    ensures read { IfOk result (λ given. AreReadUpTo (map string_bytes words.now) (length words.now) (values_of given)) }
+    ensures read { IfOk result (λ given.
+        AreReadUpTo (map string_bytes words.now) (length words.now) (values_of given)) }
     ensures unread { IfErr result (IsFirstUnread (map string_bytes words.now)) }
     ensures few { IfErr result (λ place. place ≤ 4) }
 {
@@ -230,10 +232,11 @@ fn read_parts(words: &[String]) -> Result<Given<'_>, usize>
     Ok(given)
 }
 
-/// What the words ask; or, in `Err`, the first word that is not read, or the number of words plus 1 where all are read and the mode or a
-/// needed key is missing. Words count from 1.
+/// What the words ask; or, in `Err`, the first word that is not read, or the number of words plus 1 where all are read
+/// and the mode or a needed key is missing. Words count from 1.
 pub fn read_words(words: &[String]) -> Result<Request<'_>, u32>
-    ensures request { IfOk result (λ request. IsRequest (map string_bytes words.now) request.program.now request.action request.turns) }
+    ensures request { IfOk result (λ request.
+        IsRequest (map string_bytes words.now) request.program.now request.action request.turns) }
     ensures usage { IfErr result (IsUsage (map string_bytes words.now)) }
 {
     if !begins_with_mode(words) {

@@ -155,8 +155,10 @@ pub fn write_refusal<K: Sink>(
 /// Writes the line of words that are refused and nothing else.
 #[tactic(auto, using(tool_io::proofs::PutLemmas::front_written, tool_io::proofs::PutLemmas::finish_front))]
 pub fn write_usage<K: Sink>(out: &mut K, word: u32) -> Result<(), Failed>
-    ensures ok { OnOk result (K.written out.new ≡ then_bytes (K.written out.old) (number_line (codes "R usage ") (pos word))) }
-    ensures front { OnErr result (MovesFront (K.written out.old) (number_line (codes "R usage ") (pos word)) (K.written out.new)) }
+    ensures ok { OnOk result (K.written out.new
+        ≡ then_bytes (K.written out.old) (number_line (codes "R usage ") (pos word))) }
+    ensures front { OnErr result (MovesFront (K.written out.old) (number_line (codes "R usage ") (pos word))
+        (K.written out.new)) }
     ensures cause { HasCause K.faults K.is_last out.old out.new result }
 {
     let mut lines = Lines::new(out);

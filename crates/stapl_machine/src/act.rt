@@ -86,8 +86,10 @@ pub fn entry(procedures: &[ProcDef], procedure: u32) -> u32
 
 // Joins the text of a Print.
 fn print(code: &CodeLists, list: &[PrintPart], work: &mut Workspace) -> Result<Moved, Stop>
-    ensures prints { IfOk result (λ moved. (here : ℕ) (chosen : List ℕ) → step_of code.now here (instrs.Print list.now) chosen work.old ≡ stepped code.now chosen moved work.new) }
-    ensures wrong { IfErr result (λ stop. IfWrong stop ((here : ℕ) (chosen : List ℕ) → step_of code.now here (instrs.Print list.now) chosen work.old ≡ machine.Wrong)) }
+    ensures prints { IfOk result (λ moved. (here : ℕ) (chosen : List ℕ) →
+        step_of code.now here (instrs.Print list.now) chosen work.old ≡ stepped code.now chosen moved work.new) }
+    ensures wrong { IfErr result (λ stop. IfWrong stop ((here : ℕ) (chosen : List ℕ) →
+        step_of code.now here (instrs.Print list.now) chosen work.old ≡ machine.Wrong)) }
 {
     match take_operands(list, &mut work.operands, &mut work.values) {
         Ok(()) => {}
@@ -106,8 +108,10 @@ fn print(code: &CodeLists, list: &[PrintPart], work: &mut Workspace) -> Result<M
 
 /// Carries out an instruction that stands at a place.
 pub fn act(code: &CodeLists, here: u32, instr: &Instr, work: &mut Workspace) -> Result<Moved, Stop>
-    ensures steps { IfOk result (λ moved. (chosen : List ℕ) → step_of code.now here instr.now chosen work.old ≡ stepped code.now chosen moved work.new) }
-    ensures wrong { IfErr result (λ stop. IfWrong stop ((chosen : List ℕ) → step_of code.now here instr.now chosen work.old ≡ machine.Wrong)) }
+    ensures steps { IfOk result (λ moved. (chosen : List ℕ) →
+        step_of code.now here instr.now chosen work.old ≡ stepped code.now chosen moved work.new) }
+    ensures wrong { IfErr result (λ stop. IfWrong stop ((chosen : List ℕ) →
+        step_of code.now here instr.now chosen work.old ≡ machine.Wrong)) }
 {
     match instr {
         Instr::Turn(_) => Ok(Moved::To(here)),

@@ -75,7 +75,8 @@ fn write(held: &mut Held, value: Value) -> bool
 
 /// Writes a value into a scalar variable of its kind, and answers whether there is one.
 pub fn store(variables: &mut Vec<Held>, n: u32, value: Value) -> bool
-    ensures { scalar_written variables.old.items n (slice_get variables.old.items n) value ≡ written result variables.new.items }
+    ensures { scalar_written variables.old.items n (slice_get variables.old.items n) value
+        ≡ written result variables.new.items }
 {
     if n as usize >= variables.len() {
         return false;

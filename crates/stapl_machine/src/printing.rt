@@ -18,8 +18,11 @@ fn take_operand(
     operands: &mut Stack<Value>,
     values: &mut Stack<Value>,
 ) -> Result<(), Stop>
-    ensures taken { OnOk result ((rest : List PrintPart) → taken_onto (operand_count (part ∷ rest)) values.old operands.old ≡ taken_onto (operand_count rest) values.new operands.new) }
-    ensures wrong { IfErr result (λ stop. IfWrong stop ((rest : List PrintPart) → taken_onto (operand_count (part ∷ rest)) values.old operands.old ≡ None)) }
+    ensures taken { OnOk result ((rest : List PrintPart) →
+        taken_onto (operand_count (part ∷ rest)) values.old operands.old
+        ≡ taken_onto (operand_count rest) values.new operands.new) }
+    ensures wrong { IfErr result (λ stop. IfWrong stop ((rest : List PrintPart) →
+        taken_onto (operand_count (part ∷ rest)) values.old operands.old ≡ None)) }
 {
     match part {
         PrintPart::Text(_) => Ok(()),
@@ -74,8 +77,11 @@ fn join_part(
     values: &mut Stack<Value>,
     text: &mut Vec<u8>,
 ) -> Result<(), Stop>
-    ensures joined { OnOk result ((entries : List ℕ) (rest : List PrintPart) → with_front text.old.items (parts_text entries texts.now (part ∷ rest) values.old) ≡ with_front text.new.items (parts_text entries texts.now rest values.new)) }
-    ensures wrong { IfErr result (λ stop. IfWrong stop ((entries : List ℕ) (rest : List PrintPart) → parts_text entries texts.now (part ∷ rest) values.old ≡ Stuck)) }
+    ensures joined { OnOk result ((entries : List ℕ) (rest : List PrintPart) →
+        with_front text.old.items (parts_text entries texts.now (part ∷ rest) values.old)
+        ≡ with_front text.new.items (parts_text entries texts.now rest values.new)) }
+    ensures wrong { IfErr result (λ stop. IfWrong stop ((entries : List ℕ) (rest : List PrintPart) →
+        parts_text entries texts.now (part ∷ rest) values.old ≡ Stuck)) }
 {
     match part {
         PrintPart::Text(n) => match texts.get(n as usize) {
@@ -102,8 +108,10 @@ pub fn join(
     values: &mut Stack<Value>,
     text: &mut Vec<u8>,
 ) -> Result<(), Stop>
-    ensures joined { OnOk result ((entries : List ℕ) → parts_text entries texts.now list.now values.old ≡ Known text.new.items) }
-    ensures wrong { IfErr result (λ stop. IfWrong stop ((entries : List ℕ) → parts_text entries texts.now list.now values.old ≡ Stuck)) }
+    ensures joined { OnOk result ((entries : List ℕ) →
+        parts_text entries texts.now list.now values.old ≡ Known text.new.items) }
+    ensures wrong { IfErr result (λ stop. IfWrong stop ((entries : List ℕ) →
+        parts_text entries texts.now list.now values.old ≡ Stuck)) }
 {
     text.clear();
     for part in list {

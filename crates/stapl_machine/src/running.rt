@@ -46,10 +46,12 @@ impl Machine {
         })
     }
 
-    /// Runs the prologue of the code, and then at most so many turns of the chosen procedures, which are told by their numbers. It puts the lines of the
-    /// events, and answers how the run ended: with `Spent` where it still goes on after these turns. Each instruction is one step.
+    /// Runs the prologue of the code, and then at most so many turns of the chosen procedures, which are told by their
+    /// numbers. It puts the lines of the events, and answers how the run ended: with `Spent` where it still goes on
+    /// after these turns. Each instruction is one step.
     ///
-    /// `WriteFault` comes only where the count of faults of the sink rose, or stands at its last value, and `Memory` only for want of memory.
+    /// `WriteFault` comes only where the count of faults of the sink rose, or stands at its last value, and `Memory`
+    /// only for want of memory.
     pub fn run<K: Sink, L: Ledger>(
         &mut self,
         code: &Code,
@@ -64,14 +66,17 @@ impl Machine {
         ensures same_sink { IsOverSame out.old out.new }
         ensures whole { OnOk result (IsWhole out.new) }
         ensures ended { IfOk result (λ ending. ending_of (play_of code.now chosen.now turns).outcome ≡ Some ending) }
-        ensures put { OnOk result (Puts K.written out.old (flat_map event_line (play_of code.now chosen.now turns).events) out.new) }
+        ensures put { OnOk result (Puts K.written out.old (flat_map event_line
+            (play_of code.now chosen.now turns).events) out.new) }
         ensures variables { OnOk result ((play_of code.now chosen.now turns).state.variables ≡ variables_in self.new) }
-        ensures front { OnErr result (PutsFront K.written out.old (flat_map event_line (play_of code.now chosen.now turns).events) out.new) }
+        ensures front { OnErr result (PutsFront K.written out.old (flat_map event_line
+            (play_of code.now chosen.now turns).events) out.new) }
         ensures ticks { OnOk result (steps.new ≡ steps.old + play_ticks_of code.now chosen.now turns) }
         ensures most { OnErr result (steps.new ≤ steps.old + play_ticks_of code.now chosen.now turns) }
         ensures bounded { steps.new ≤ steps.old + (turns + 1) * length code.now.instrs }
         ensures kept { SinkNeverFalls K.faults K.is_last out.old out.new }
-        ensures fault { IfErr result (λ trouble. IfFault trouble (HasRisen K.faults K.is_last (sink_of out.old) (sink_of out.new))) }
+        ensures fault { IfErr result (λ trouble.
+            IfFault trouble (HasRisen K.faults K.is_last (sink_of out.old) (sink_of out.new))) }
     {
         never_stuck();
         plays_are_bounded();

@@ -14,7 +14,8 @@ use stapl_meaning::Ending;
 use std::sync::ledger::Ledger;
 use tool_io::{Lines, Sink};
 
-// At most so many turns from a place on, and how the run stands then. There is no ending where it met what no valid code meets.
+// At most so many turns from a place on, and how the run stands then. There is no ending where it met what no valid
+// code meets.
 fn run_turns<K: Sink, L: Ledger>(
     code: &CodeLists,
     chosen: &[u32],
@@ -31,11 +32,18 @@ fn run_turns<K: Sink, L: Ledger>(
     requires whole { IsWhole out.old }
     ensures same_sink { IsOverSame out.old out.new }
     ensures whole { OnOk result (IsWhole out.new) }
-    ensures runs { IfOk result (λ ending. RunsTo K.written (run_of code.now turns start (state_from chosen.now next.old work.old)) out.old ending out.new) }
-    ensures variables { IfOk result (λ ending. LeavesVariables (run_of code.now turns start (state_from chosen.now next.old work.old)) ending work.new.variables.items) }
-    ensures front { OnErr result (RunsFront K.written (run_of code.now turns start (state_from chosen.now next.old work.old)) out.old out.new) }
-    ensures ticks { OnOk result (steps.new ≡ steps.old + run_ticks_of code.now turns start (state_from chosen.now next.old work.old)) }
-    ensures most { OnErr result (steps.new ≤ steps.old + run_ticks_of code.now turns start (state_from chosen.now next.old work.old)) }
+    ensures runs { IfOk result (λ ending.
+        RunsTo K.written (run_of code.now turns start
+        (state_from chosen.now next.old work.old)) out.old ending out.new) }
+    ensures variables { IfOk result (λ ending.
+        LeavesVariables (run_of code.now turns start
+        (state_from chosen.now next.old work.old)) ending work.new.variables.items) }
+    ensures front { OnErr result (RunsFront K.written (run_of code.now turns start
+        (state_from chosen.now next.old work.old)) out.old out.new) }
+    ensures ticks { OnOk result (steps.new
+        ≡ steps.old + run_ticks_of code.now turns start (state_from chosen.now next.old work.old)) }
+    ensures most { OnErr result (steps.new ≤ steps.old + run_ticks_of code.now turns start
+        (state_from chosen.now next.old work.old)) }
     ensures kept { SinkNeverFalls K.faults K.is_last out.old out.new }
     ensures fault { IfErr result (λ e. IfFault e (HasRisen K.faults K.is_last (sink_of out.old) (sink_of out.new))) }
 {
@@ -67,11 +75,18 @@ fn run_chosen<K: Sink, L: Ledger>(
     requires whole { IsWhole out.old }
     ensures same_sink { IsOverSame out.old out.new }
     ensures whole { OnOk result (IsWhole out.new) }
-    ensures runs { IfOk result (λ ending. (s : State) → RunsTo K.written (chosen_run code.now turns (state_from chosen.now next.old work.old) s) out.old ending out.new) }
-    ensures variables { IfOk result (λ ending. (s : State) → LeavesVariables (chosen_run code.now turns (state_from chosen.now next.old work.old) s) ending work.new.variables.items) }
-    ensures front { OnErr result ((s : State) → RunsFront K.written (chosen_run code.now turns (state_from chosen.now next.old work.old) s) out.old out.new) }
-    ensures ticks { OnOk result (steps.new ≡ steps.old + chosen_ticks code.now turns (state_from chosen.now next.old work.old)) }
-    ensures most { OnErr result (steps.new ≤ steps.old + chosen_ticks code.now turns (state_from chosen.now next.old work.old)) }
+    ensures runs { IfOk result (λ ending. (s : State) →
+        RunsTo K.written (chosen_run code.now turns
+        (state_from chosen.now next.old work.old) s) out.old ending out.new) }
+    ensures variables { IfOk result (λ ending. (s : State) →
+        LeavesVariables (chosen_run code.now turns
+        (state_from chosen.now next.old work.old) s) ending work.new.variables.items) }
+    ensures front { OnErr result ((s : State) →
+        RunsFront K.written (chosen_run code.now turns (state_from chosen.now next.old work.old) s) out.old out.new) }
+    ensures ticks { OnOk result (steps.new
+        ≡ steps.old + chosen_ticks code.now turns (state_from chosen.now next.old work.old)) }
+    ensures most { OnErr result (steps.new ≤ steps.old + chosen_ticks code.now turns
+        (state_from chosen.now next.old work.old)) }
     ensures kept { SinkNeverFalls K.faults K.is_last out.old out.new }
     ensures fault { IfErr result (λ e. IfFault e (HasRisen K.faults K.is_last (sink_of out.old) (sink_of out.new))) }
 {
@@ -99,11 +114,18 @@ fn run_behind<K: Sink, L: Ledger>(
     requires whole { IsWhole out.old }
     ensures same_sink { IsOverSame out.old out.new }
     ensures whole { OnOk result (IsWhole out.new) }
-    ensures runs { IfOk result (λ ending. (s : State) → RunsTo K.written (begun_run code.now turns (ended_so code.now chosen.now end work.old) s) out.old ending out.new) }
-    ensures variables { IfOk result (λ ending. (s : State) → LeavesVariables (begun_run code.now turns (ended_so code.now chosen.now end work.old) s) ending work.new.variables.items) }
-    ensures front { OnErr result ((s : State) → RunsFront K.written (begun_run code.now turns (ended_so code.now chosen.now end work.old) s) out.old out.new) }
-    ensures ticks { OnOk result (steps.new ≡ steps.old + begun_ticks code.now turns (ended_so code.now chosen.now end work.old)) }
-    ensures most { OnErr result (steps.new ≤ steps.old + begun_ticks code.now turns (ended_so code.now chosen.now end work.old)) }
+    ensures runs { IfOk result (λ ending. (s : State) →
+        RunsTo K.written (begun_run code.now turns
+        (ended_so code.now chosen.now end work.old) s) out.old ending out.new) }
+    ensures variables { IfOk result (λ ending. (s : State) →
+        LeavesVariables (begun_run code.now turns
+        (ended_so code.now chosen.now end work.old) s) ending work.new.variables.items) }
+    ensures front { OnErr result ((s : State) →
+        RunsFront K.written (begun_run code.now turns (ended_so code.now chosen.now end work.old) s) out.old out.new) }
+    ensures ticks { OnOk result (steps.new
+        ≡ steps.old + begun_ticks code.now turns (ended_so code.now chosen.now end work.old)) }
+    ensures most { OnErr result (steps.new ≤ steps.old + begun_ticks code.now turns
+        (ended_so code.now chosen.now end work.old)) }
     ensures kept { SinkNeverFalls K.faults K.is_last out.old out.new }
     ensures fault { IfErr result (λ e. IfFault e (HasRisen K.faults K.is_last (sink_of out.old) (sink_of out.new))) }
 {
@@ -117,8 +139,8 @@ fn run_behind<K: Sink, L: Ledger>(
     }
 }
 
-/// The prologue of a code and at most so many turns of the chosen procedures, and how the play stands then. There is no ending where it met what no
-/// valid code meets.
+/// The prologue of a code and at most so many turns of the chosen procedures, and how the play stands then. There is no
+/// ending where it met what no valid code meets.
 pub fn play<K: Sink, L: Ledger>(
     code: &CodeLists,
     chosen: &[u32],
@@ -132,11 +154,16 @@ pub fn play<K: Sink, L: Ledger>(
     requires whole { IsWhole out.old }
     ensures same_sink { IsOverSame out.old out.new }
     ensures whole { OnOk result (IsWhole out.new) }
-    ensures runs { IfOk result (λ ending. RunsTo K.written (play_from code.now chosen.now work.old.variables.items turns) out.old ending out.new) }
-    ensures variables { IfOk result (λ ending. LeavesVariables (play_from code.now chosen.now work.old.variables.items turns) ending work.new.variables.items) }
-    ensures front { OnErr result (RunsFront K.written (play_from code.now chosen.now work.old.variables.items turns) out.old out.new) }
-    ensures ticks { OnOk result (steps.new ≡ steps.old + play_ticks_from code.now chosen.now work.old.variables.items turns) }
-    ensures most { OnErr result (steps.new ≤ steps.old + play_ticks_from code.now chosen.now work.old.variables.items turns) }
+    ensures runs { IfOk result (λ ending.
+        RunsTo K.written (play_from code.now chosen.now work.old.variables.items turns) out.old ending out.new) }
+    ensures variables { IfOk result (λ ending.
+        LeavesVariables (play_from code.now chosen.now work.old.variables.items turns) ending work.new.variables.items) }
+    ensures front { OnErr result (RunsFront K.written
+        (play_from code.now chosen.now work.old.variables.items turns) out.old out.new) }
+    ensures ticks { OnOk result (steps.new
+        ≡ steps.old + play_ticks_from code.now chosen.now work.old.variables.items turns) }
+    ensures most { OnErr result
+        (steps.new ≤ steps.old + play_ticks_from code.now chosen.now work.old.variables.items turns) }
     ensures kept { SinkNeverFalls K.faults K.is_last out.old out.new }
     ensures fault { IfErr result (λ e. IfFault e (HasRisen K.faults K.is_last (sink_of out.old) (sink_of out.new))) }
 {

@@ -53,8 +53,10 @@ pub enum Went {
 fn end_of(moved: Moved, work: &Workspace) -> TurnEnd
     requires on { moved ≢ Moved.On }
     requires printed { moved ≢ Moved.Printed }
-    ensures ends { (code : CodeLists) (chosen : List ℕ) (go : List Value → State → Turned) → continues (stepped code chosen moved work.now) go ≡ ended_so code chosen result work.now }
-    ensures ticks { (code : CodeLists) (chosen : List ℕ) (go : List Value → State → ℕ) → ticks_behind (stepped code chosen moved work.now) go ≡ 0 }
+    ensures ends { (code : CodeLists) (chosen : List ℕ) (go : List Value → State → Turned) →
+        continues (stepped code chosen moved work.now) go ≡ ended_so code chosen result work.now }
+    ensures ticks { (code : CodeLists) (chosen : List ℕ) (go : List Value → State → ℕ) →
+        ticks_behind (stepped code chosen moved work.now) go ≡ 0 }
     ensures clean { IsClean result work.now }
 {
     if work.operands.len() != 0 {
@@ -107,10 +109,15 @@ fn carry_out<K: Sink, L: Ledger>(
     requires whole { IsWhole out.old }
     ensures same_sink { IsOverSame out.old out.new }
     ensures whole { OnOk result (IsWhole out.new) }
-    ensures does { IfOk result (λ end. (chosen : List ℕ) → Does K.written (rest_of code.now i chosen work.old) out.old (behind_it code.now i chosen end work.new) out.new) }
-    ensures front { OnErr result ((chosen : List ℕ) → DoesFront K.written (rest_of code.now i chosen work.old) out.old out.new) }
+    ensures does { IfOk result (λ end. (chosen : List ℕ) →
+        Does K.written (rest_of code.now i chosen work.old) out.old
+        (behind_it code.now i chosen end work.new) out.new) }
+    ensures front { OnErr result ((chosen : List ℕ) →
+        DoesFront K.written (rest_of code.now i chosen work.old) out.old out.new) }
     ensures clean { IfOk result (λ end. IsCleanBehind end work.new) }
-    ensures ticks { IfOk result (λ end. (chosen : List ℕ) → steps.new + ticks_behind_it code.now i chosen end work.new ≡ steps.old + ticks_from code.now i chosen work.old) }
+    ensures ticks { IfOk result (λ end. (chosen : List ℕ) →
+        steps.new + ticks_behind_it code.now i chosen end work.new
+        ≡ steps.old + ticks_from code.now i chosen work.old) }
     ensures most { OnErr result ((chosen : List ℕ) → steps.new ≤ steps.old + ticks_from code.now i chosen work.old) }
     ensures kept { SinkNeverFalls K.faults K.is_last out.old out.new }
     ensures fault { IfErr result (λ e. IfFault e (HasRisen K.faults K.is_last (sink_of out.old) (sink_of out.new))) }
@@ -143,8 +150,11 @@ pub fn rest_of_turn<K: Sink, L: Ledger>(
     requires whole { IsWhole out.old }
     ensures same_sink { IsOverSame out.old out.new }
     ensures whole { OnOk result (IsWhole out.new) }
-    ensures does { IfOk result (λ end. (chosen : List ℕ) → Does K.written (rest_of code.now from chosen work.old) out.old (ended_so code.now chosen end work.new) out.new) }
-    ensures front { OnErr result ((chosen : List ℕ) → DoesFront K.written (rest_of code.now from chosen work.old) out.old out.new) }
+    ensures does { IfOk result (λ end. (chosen : List ℕ) →
+        Does K.written (rest_of code.now from chosen work.old) out.old
+        (ended_so code.now chosen end work.new) out.new) }
+    ensures front { OnErr result ((chosen : List ℕ) →
+        DoesFront K.written (rest_of code.now from chosen work.old) out.old out.new) }
     ensures clean { IfOk result (λ end. IsClean end work.new) }
     ensures ticks { OnOk result ((chosen : List ℕ) → steps.new ≡ steps.old + ticks_from code.now from chosen work.old) }
     ensures most { OnErr result ((chosen : List ℕ) → steps.new ≤ steps.old + ticks_from code.now from chosen work.old) }
@@ -184,11 +194,16 @@ fn turn<K: Sink, L: Ledger>(
     requires whole { IsWhole out.old }
     ensures same_sink { IsOverSame out.old out.new }
     ensures whole { OnOk result (IsWhole out.new) }
-    ensures does { IfOk result (λ end. (chosen : List ℕ) → Does K.written (turn_at code.now place (state_of chosen work.old)) out.old (ended_so code.now chosen end work.new) out.new) }
-    ensures front { OnErr result ((chosen : List ℕ) → DoesFront K.written (turn_at code.now place (state_of chosen work.old)) out.old out.new) }
+    ensures does { IfOk result (λ end. (chosen : List ℕ) →
+        Does K.written (turn_at code.now place (state_of chosen work.old)) out.old
+        (ended_so code.now chosen end work.new) out.new) }
+    ensures front { OnErr result ((chosen : List ℕ) →
+        DoesFront K.written (turn_at code.now place (state_of chosen work.old)) out.old out.new) }
     ensures clean { IfOk result (λ end. IsClean end work.new) }
-    ensures ticks { OnOk result ((chosen : List ℕ) → steps.new ≡ steps.old + ticks_at code.now place (state_of chosen work.old)) }
-    ensures most { OnErr result ((chosen : List ℕ) → steps.new ≤ steps.old + ticks_at code.now place (state_of chosen work.old)) }
+    ensures ticks { OnOk result ((chosen : List ℕ) →
+        steps.new ≡ steps.old + ticks_at code.now place (state_of chosen work.old)) }
+    ensures most { OnErr result ((chosen : List ℕ) →
+        steps.new ≤ steps.old + ticks_at code.now place (state_of chosen work.old)) }
     ensures kept { SinkNeverFalls K.faults K.is_last out.old out.new }
     ensures fault { IfErr result (λ e. IfFault e (HasRisen K.faults K.is_last (sink_of out.old) (sink_of out.new))) }
 {
@@ -205,7 +220,9 @@ fn turn<K: Sink, L: Ledger>(
 /// The place where the next chosen procedure begins.
 pub fn next_place(code: &CodeLists, chosen: &[u32], next: &mut usize) -> Option<u32>
     requires { next.old ≤ length chosen.now }
-    ensures begun { (work : Workspace) → next_chosen (entry_of (entries_of code.now.procedures)) (state_from chosen.now next.old work) (drop next.old chosen.now) ≡ Began result (state_from chosen.now next.new work) }
+    ensures begun { (work : Workspace) →
+        next_chosen (entry_of (entries_of code.now.procedures)) (state_from chosen.now next.old work)
+        (drop next.old chosen.now) ≡ Began result (state_from chosen.now next.new work) }
     ensures within { next.new ≤ length chosen.now }
 {
     if *next >= chosen.len() {
@@ -219,7 +236,8 @@ pub fn next_place(code: &CodeLists, chosen: &[u32], next: &mut usize) -> Option<
 /// Where a turn went that ended so, with the next chosen procedure begun where its own is over.
 pub fn begin_next(code: &CodeLists, chosen: &[u32], next: &mut usize, end: TurnEnd) -> Went
     requires { next.old ≤ length chosen.now }
-    ensures goes { (work : Workspace) → ended_so code.now (drop next.old chosen.now) end work ≡ led_to result (state_from chosen.now next.new work) }
+    ensures goes { (work : Workspace) →
+        ended_so code.now (drop next.old chosen.now) end work ≡ led_to result (state_from chosen.now next.new work) }
     ensures within { next.new ≤ length chosen.now }
     ensures clean { (work : Workspace) → IsClean end work → IsCleanOn result work }
 {
@@ -250,12 +268,17 @@ pub fn turn_on<K: Sink, L: Ledger>(
     requires whole { IsWhole out.old }
     ensures same_sink { IsOverSame out.old out.new }
     ensures whole { OnOk result (IsWhole out.new) }
-    ensures does { IfOk result (λ went. Does K.written (turn_at code.now place (state_from chosen.now next.old work.old)) out.old (led_to went (state_from chosen.now next.new work.new)) out.new) }
-    ensures front { OnErr result (DoesFront K.written (turn_at code.now place (state_from chosen.now next.old work.old)) out.old out.new) }
+    ensures does { IfOk result (λ went.
+        Does K.written (turn_at code.now place (state_from chosen.now next.old work.old)) out.old (led_to went
+        (state_from chosen.now next.new work.new)) out.new) }
+    ensures front { OnErr result (DoesFront K.written (turn_at code.now place
+        (state_from chosen.now next.old work.old)) out.old out.new) }
     ensures clean { IfOk result (λ went. IsCleanOn went work.new) }
     ensures inside { next.new ≤ length chosen.now }
-    ensures ticks { OnOk result (steps.new ≡ steps.old + ticks_at code.now place (state_from chosen.now next.old work.old)) }
-    ensures most { OnErr result (steps.new ≤ steps.old + ticks_at code.now place (state_from chosen.now next.old work.old)) }
+    ensures ticks { OnOk result (steps.new
+        ≡ steps.old + ticks_at code.now place (state_from chosen.now next.old work.old)) }
+    ensures most { OnErr result (steps.new ≤ steps.old + ticks_at code.now place
+        (state_from chosen.now next.old work.old)) }
     ensures kept { SinkNeverFalls K.faults K.is_last out.old out.new }
     ensures fault { IfErr result (λ e. IfFault e (HasRisen K.faults K.is_last (sink_of out.old) (sink_of out.new))) }
 {
