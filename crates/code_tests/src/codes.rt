@@ -64,10 +64,14 @@ fn instr_of(alloc: Global, op: Op) -> Result<Instr, Fail> {
 }
 
 // The action A of one procedure.
-fn action(alloc: Global, procedure: u32, flag: u8) -> Result<ActionDef, Fail> {
+fn action(alloc: Global) -> Result<ActionDef, Fail> {
+    let item = ItemDef {
+        procedure: 0,
+        flag: 0,
+    };
     Ok(ActionDef {
         name: Name::read(b"A").ok_or("no name")?,
-        items: ItemList::of(vec![in alloc; ItemDef { procedure, flag }]?),
+        items: ItemList::of(vec![in alloc; item]?),
     })
 }
 
@@ -101,7 +105,7 @@ pub fn lists(
         variables: ItemList::of(defs),
         texts: ItemList::of(vec![in alloc; ItemList::of(b"A".to_vec(alloc)?)]?),
         procedures: ItemList::of(procedures),
-        actions: ItemList::of(vec![in alloc; action(alloc, 0, 0)?]?),
+        actions: ItemList::of(vec![in alloc; action(alloc)?]?),
         instrs: ItemList::of(instrs),
     })
 }
@@ -423,72 +427,6 @@ fn tests_the_sizes_of_variables(rt: HostRuntime) -> Result<(), Fail> {
     for (row, (variables, fits)) in table.iter().enumerate() {
         let code = lists(rt.alloc(), variables, &[0], &[Turn(3), EndProc])?;
         assert_eq!(rt; code.is_in_range(), *fits, "row {row}");
-    }
-    Ok(())
-}
-
-// Entries, and actions by the procedure of their item and its flag.
-#[test]
-fn tests_the_ranges_of_procedures_and_actions(rt: HostRuntime) -> Result<(), Fail> {
-    let entries: [(&[u32], bool); 5] = [
-        (&[], false),
-        (&[7], true),
-        (&[0, 2, u32::MAX], true),
-        (&[2, 2], false),
-        (&[2, 0], false),
-    ];
-    for (row, (entries, fits)) in entries.iter().enumerate() {
-        let code = lists(rt.alloc(), &VARIABLES, entries, &[])?;
-        assert_eq!(rt; code.is_in_range(), *fits, "row {row}");
-    }
-    let items: [(u32, u8, bool); 4] = [(0, 2, true), (1, 0, true), (2, 0, false), (0, 3, false)];
-    for (procedure, flag, fits) in items {
-        let mut code = lists(rt.alloc(), &VARIABLES, &[0, 1], &[])?;
-        code.actions = ItemList::of(vec![in rt.alloc(); action(rt.alloc(), procedure, flag)?]?);
-        assert_eq!(rt;
-            code.is_in_range(),
-            fits,
-            "procedure {procedure}, flag {flag}"
-        );
-    }
-    let mut code = lists(rt.alloc(), &VARIABLES, &[0], &[])?;
-    code.actions = ItemList::of(Vec::new(rt.alloc()));
-    assert!(rt; !code.is_in_range());
-    let twice = vec![in rt.alloc(); action(rt.alloc(), 0, 0)?, action(rt.alloc(), 0, 1)?]?;
-    code.actions = ItemList::of(twice);
-    assert!(rt; !code.is_in_range());
-    let named = ActionDef {
-        name: Name::read(b"EXIT").ok_or("no name")?,
-        items: ItemList::of(vec![in rt.alloc();
-            ItemDef {
-                procedure: 0,
-                flag: 0
-            },
-        ]?),
-    };
-    code.actions = ItemList::of(vec![in rt.alloc(); named]?);
-    assert!(rt; !code.is_in_range());
-    Ok(())
-}
-
-// Procedures of one name, and names that are reserved.
-#[test]
-fn tests_the_names_of_procedures(rt: HostRuntime) -> Result<(), Fail> {
-    let table: [(&str, &str, bool); 4] = [
-        ("P", "Q", true),
-        ("P", "p", false),
-        ("RESET", "Q", false),
-        ("P", "UNTIL", true),
-    ];
-    for (first, second, fits) in table {
-        let mut code = lists(rt.alloc(), &VARIABLES, &[0], &[])?;
-        let mut procedures = Vec::new(rt.alloc());
-        let name = Name::read(first.as_bytes()).ok_or("no name")?;
-        procedures.push(ProcDef { name, entry: 0 })?;
-        let name = Name::read(second.as_bytes()).ok_or("no name")?;
-        procedures.push(ProcDef { name, entry: 1 })?;
-        code.procedures = ItemList::of(procedures);
-        assert_eq!(rt; code.is_in_range(), fits, "{first} and {second}");
     }
     Ok(())
 }
