@@ -8,7 +8,7 @@ use Rattle.stapl_lexer.specs.ReservedWords.{word_terminal}
 use Rattle.stapl_lexer.specs.Names.{IsUpperName}
 use Rattle.stapl_syntax.specs.Trees.{end_procedure, StmtTree}
 use Rattle.stapl_syntax.specs.Built.{IsBuilt, unlabelled, action_of, procedure_of}
-use Rattle.stapl_syntax.specs.Faults.{piece_limit}
+use Rattle.stapl_syntax.specs.Programs.{piece_limit}
 use Rattle.stapl_syntax.specs.Shapes.{is_between, names_declared, IsOneProcedure}
 use Rattle.stapl_meaning.specs.Scopes.{variables_of, zeros_of}
 use Rattle.stapl_code.specs.declared.raw.VarDef.{VarDef}

@@ -7,7 +7,7 @@ use Rattle.stapl_syntax.specs.Trees.{BodyTree, procedure, end_procedure, integer
 use Rattle.stapl_syntax.specs.Statements.{is_outer}
 use Rattle.stapl_syntax.specs.Built.{IsSimple, is_assign, is_goto, is_print_string, is_print_value, is_exit, IsInner, is_end_procedure, is_integer, is_if, is_simple, IsBuilt, is_action, is_procedure, is_inner, is_labelled, unlabelled, action_of, procedure_of}
 use Rattle.stapl_syntax.specs.Declarations.{body_declares, is_label}
-use Rattle.stapl_syntax.specs.Faults.{is_inside, is_end}
+use Rattle.stapl_syntax.specs.Unbuilt.{is_inside, is_end}
 use Rattle.stapl_syntax.specs.Shapes.{declares_variable_in, bears_label, is_between}
 use Rattle.stapl_meaning.specs.Scopes.{begins_block, blocks_in, block_at, variables_from, variables_of, number_of, label_from, is_name}
 use Rattle.stapl_codegen.proofs.WellPlaced.{IsBetween}

@@ -5,7 +5,7 @@ use Rattle.std.proofs.lemmas.List.Elements.{All-head, All-tail, All-take}
 use Rattle.std.proofs.lemmas.List.{length-take}
 use Rattle.stapl_syntax.specs.Trees.{ExprTree, BodyTree, StmtTree}
 use Rattle.stapl_syntax.specs.Statements.{is_outer}
-use Rattle.stapl_syntax.specs.Faults.{piece_limit}
+use Rattle.stapl_syntax.specs.Programs.{piece_limit}
 use Rattle.stapl_syntax.specs.Built.{IsAtom, is_number, is_scalar, IsSum, is_atom, is_sum, IsSimple, is_assign, is_goto, is_print_string, is_print_value, is_exit, IsInner, is_end_procedure, is_integer, is_if, is_simple, IsBuilt, is_action, is_procedure, is_inner, is_labelled}
 use Rattle.stapl_meaning.specs.Scopes.{Scope, scope_at}
 use Rattle.stapl_code.specs.declared.instr.Instr.{Instr}

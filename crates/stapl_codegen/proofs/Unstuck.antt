@@ -6,7 +6,7 @@ use Rattle.std.proofs.lemmas.List.{take_all}
 use Rattle.stapl_lexer.specs.Pieces.{text_limit}
 use Rattle.stapl_syntax.specs.Trees.{end_procedure, StmtTree}
 use Rattle.stapl_syntax.specs.Built.{IsBuilt, unlabelled, action_of, procedure_of}
-use Rattle.stapl_syntax.specs.Faults.{piece_limit}
+use Rattle.stapl_syntax.specs.Programs.{piece_limit}
 use Rattle.stapl_syntax.specs.Shapes.{is_between, names_declared, IsOneProcedure}
 use Rattle.stapl_meaning.specs.States.{State, Turned, Leads, Over, NoTurn}
 use Rattle.stapl_meaning.specs.Scopes.{Variable, blocks_in, zero_of, zeros_of, variables_of}

@@ -9,7 +9,8 @@ use Rattle.stapl_syntax.specs.Trees.{end_procedure, StmtTree}
 use Rattle.stapl_syntax.specs.Statements.{is_outer}
 use Rattle.stapl_syntax.specs.Built.{IsBuilt}
 use Rattle.stapl_syntax.specs.Declarations.{names_variables, names_labels}
-use Rattle.stapl_syntax.specs.Faults.{piece_limit, is_inside, is_end}
+use Rattle.stapl_syntax.specs.Programs.{piece_limit}
+use Rattle.stapl_syntax.specs.Unbuilt.{is_inside, is_end}
 use Rattle.stapl_syntax.specs.Shapes.{declares_variable_in, bears_label, names_declared, is_between}
 use Rattle.stapl_meaning.specs.Scopes.{scope_at, block_at, number_of, label_from, variables_of}
 use Rattle.stapl_code.specs.declared.instr.Instr.{Instr}

@@ -1,4 +1,4 @@
--- What the compiler asks of a program, and what each text that is a program has.
+-- What the compiler asks of a program, and what each built program has.
 use Rattle.std.specs.Prelude.{◌≡◌, ◌≤◌, false, List, length, All}
 use Rattle.stapl_lexer.specs.Pieces.{text_limit}
 use Rattle.stapl_lexer.specs.ReservedWords.{is_reserved_word}

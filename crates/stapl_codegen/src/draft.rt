@@ -3,7 +3,7 @@ ghost use Rattle.std.specs.Prelude.{◌≡◌, All, [], ◌∷◌, ◌++◌, ◌
 ghost use Rattle.stapl_syntax.specs.Trees.{body_tree, stmt_tree};
 ghost use Rattle.stapl_syntax.specs.Statements.{is_outer};
 ghost use Rattle.stapl_syntax.specs.Built.{IsBuilt};
-ghost use Rattle.stapl_syntax.specs.Faults.{piece_limit};
+ghost use Rattle.stapl_syntax.specs.Programs.{piece_limit};
 ghost use Rattle.stapl_meaning.specs.Scopes.{block_at};
 ghost use Rattle.stapl_code.specs.Machine.{nowhere};
 ghost use Rattle.stapl_codegen.specs.Emit.{first_text, body_texts, texts_of, piece_code, pieces_code, program_code, program_entries, entries_from, start_of, retarget};

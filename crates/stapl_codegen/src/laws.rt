@@ -1,7 +1,7 @@
 //! Laws of the definitions.
 ghost use Rattle.std.specs.Prelude.{ℕ, List};
 ghost use Rattle.stapl_syntax.specs.Trees.{StmtTree};
-ghost use Rattle.stapl_syntax.specs.Faults.{IsProgram};
+ghost use Rattle.stapl_syntax.specs.Unbuilt.{IsBuiltProgram};
 ghost use Rattle.stapl_codegen.specs.Accepted.{IsAccepted};
 ghost use Rattle.stapl_codegen.specs.Correct.{CodeStands};
 ghost use Rattle.stapl_codegen.specs.Unstuck.{ProgramsAreNotStuck};
@@ -17,9 +17,9 @@ pub fn code_stands()
     ensures { CodeStands }
 {}
 
-/// The compiler takes each text that is a program.
+/// The compiler takes each built program.
 pub fn programs_are_accepted()
-    ensures { (text : List ℕ) (program : List StmtTree) → IsProgram text program → IsAccepted program }
+    ensures { (text : List ℕ) (program : List StmtTree) → IsBuiltProgram text program → IsAccepted program }
 {
     a_program_is_one_procedure();
     programs_are_built();

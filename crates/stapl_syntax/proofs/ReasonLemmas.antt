@@ -6,7 +6,7 @@ use Rattle.stapl_lexer.specs.Reasons.{reason_number}
 use Rattle.stapl_lexer.proofs.ReasonLemmas.{same_number}
 use Rattle.stapl_syntax.specs.Trees.{StmtTree}
 use Rattle.stapl_syntax.specs.Reasons.{SmallestReason}
-use Rattle.stapl_syntax.specs.Faults.{SmallestReasonAt}
+use Rattle.stapl_syntax.specs.Programs.{SmallestReasonAt}
 
 pub one_smallest_reason : {text : List ℕ} {piece : Piece} {r s : Reason} → SmallestReason text piece r → SmallestReason text piece s → r ≡ s
 one_smallest_reason {r = r} {s = s} a b =

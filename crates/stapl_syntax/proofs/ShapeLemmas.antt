@@ -1,4 +1,4 @@
--- A program is an action and one procedure, whose names are declared.
+-- A built program is an action and one procedure, whose names are declared.
 use Rattle.std.proofs.Common.{◌≡◌, ◌≤◌, ◌<◌, ◌+◌, ℕ, zero, suc, Bool, true, false, not, ◌&&◌, ◌||◌, if◌then◌else◌, nat_le, List, [], ◌∷◌, ◌++◌, length, refl, sym, ap, ◌∙◌, Option, None, Some, is_some, map, take, slice_get, arith, subst, count_by}
 use Rattle.std.specs.List.{list_all, list_any}
 use Rattle.std.specs.Prelude.{All}
@@ -10,13 +10,13 @@ use Rattle.std.proofs.lemmas.List.Sums.{sum_by-cons}
 use Rattle.std.proofs.lemmas.Option.{slice_get_past}
 use Rattle.std.proofs.lemmas.Slice.Eq.{bytes_eq-Decides}
 use Rattle.stapl_lexer.specs.declared.piece.Piece.{Piece}
-use Rattle.stapl_lexer.specs.declared.reason.Reason.TheVariants as reasons
 use Rattle.stapl_syntax.specs.Trees.{ItemTree, BodyTree, action, procedure, end_procedure, integer, StmtTree}
 use Rattle.stapl_syntax.specs.Symbols.{Symbol}
-use Rattle.stapl_syntax.specs.Statements.{IsLabelled, IsPieceStatement}
+use Rattle.stapl_syntax.specs.Statements.{IsLabelled}
 use Rattle.stapl_syntax.specs.Built.{is_built, unlabelled, action_of, procedure_of, IsBuilt, is_action, is_procedure}
 use Rattle.stapl_syntax.specs.Declarations.{body_declares, is_label, declares_variable, declares_label, names_variables, names_labels, known_at, variable_passes, label_passes}
-use Rattle.stapl_syntax.specs.Faults.{piece_limit, is_end, ends, is_inside, up_to_end, run_of_items, run_of_body, is_procedure_body, is_procedure as is_the_procedure, declares_again, names_known, fits_inside, is_refused_inside, is_refused, AreReadAs, HasReasonAt, ends_early, not_built, IsProgram}
+use Rattle.stapl_syntax.specs.Programs.{piece_limit, AreReadAs}
+use Rattle.stapl_syntax.specs.Unbuilt.{is_end, ends, is_inside, up_to_end, run_of_items, run_of_body, is_procedure_body, is_procedure as is_the_procedure, declares_again, names_known, fits_inside, is_unbuilt_inside, IsBuiltProgram}
 use Rattle.stapl_syntax.proofs.BuiltLemmas.{built_inside}
 use Rattle.stapl_syntax.specs.Shapes.{declares_variable_in, bears_label, names_declared, is_between, NamesAreDeclared, IsOneProcedure}
 
@@ -181,11 +181,11 @@ record Fits (own : List StmtTree) (i : ℕ) (st : StmtTree) : Type 0 where
   again : declares_again (known_at (up_to_end (map Some own)) i) st ≡ false
   named : names_known (known_at (up_to_end (map Some own)) i) st ≡ true
 
-fits : (own : List StmtTree) (i : ℕ) (st : StmtTree) → slice_get own i ≡ Some st → is_refused_inside (up_to_end (map Some own)) i (slice_get (map Some own) i) ≡ false → Fits own i st
+fits : (own : List StmtTree) (i : ℕ) (st : StmtTree) → slice_get own i ≡ Some st → is_unbuilt_inside (up_to_end (map Some own)) i (slice_get (map Some own) i) ≡ false → Fits own i st
 fits own i st e h =
     let pieces = up_to_end (map Some own) in
     let known = known_at pieces i in
-    let no : is_refused_inside pieces i (Some (Some st)) ≡ false = sym (ap (is_refused_inside pieces i) (slice_mapped Some own i st e)) ∙ h in
+    let no : is_unbuilt_inside pieces i (Some (Some st)) ≡ false = sym (ap (is_unbuilt_inside pieces i) (slice_mapped Some own i st e)) ∙ h in
     let front = or_left (list_any ends (take i pieces) || nat_le piece_limit (2 + i)) (not (fits_inside known (Some st))) no in
     let stands = not_false (fits_inside known (Some st)) (or_right (list_any ends (take i pieces) || nat_le piece_limit (2 + i)) (not (fits_inside known (Some st))) no) in
     let both = and_parts (is_built st && is_inside st.body && not (declares_again known st)) (names_known known st) stands in
@@ -244,12 +244,6 @@ few_of : (n : ℕ) → ((i : ℕ) → i < n → nat_le piece_limit (2 + i) ≡ f
 few_of zero h = omega arith
 few_of (suc n) h = let last = h n (omega arith) in grind (arith, nat_tests, last)
 
-read_length : (text : List ℕ) (pieces : List Piece) (read : List (Option StmtTree)) → AreReadAs text pieces read → length read ≡ length pieces
-read_length text [] [] a = refl
-read_length text [] (r ∷ read) a = absurd a
-read_length text (p ∷ pieces) [] a = absurd a
-read_length text (p ∷ pieces) (r ∷ read) a = let h = read_length text pieces read a.1 in cc
-
 -- a place at which a statement stands
 there : (xs : List StmtTree) (i : ℕ) (st : StmtTree) → slice_get xs i ≡ Some st → i ≤ length xs
 there [] i st at = absurd (none_some i st at)
@@ -260,14 +254,14 @@ there (x ∷ xs) zero st at = omega arith
 there (x ∷ xs) (suc i) st at = let h = there xs i st at in omega arith
 
 -- the statements behind the first two
-behind : (rest : List StmtTree) → ((i : ℕ) → i ≤ length rest → is_refused_inside (up_to_end (map Some rest)) i (slice_get (map Some rest) i) ≡ false) →
+behind : (rest : List StmtTree) → ((i : ℕ) → i ≤ length rest → is_unbuilt_inside (up_to_end (map Some rest)) i (slice_get (map Some rest) i) ≡ false) →
     (first second : StmtTree) (name run : List ℕ) → first ≡ unlabelled (action_of name run) → second ≡ unlabelled (procedure_of run) → IsOneProcedure (first ∷ second ∷ rest)
 behind rest sound first second name run e f =
     let long : length (map Some rest) ≡ length rest = length-map rest Some in
     let each : (i : ℕ) (st : StmtTree) → slice_get rest i ≡ Some st → i ≤ length rest → Fits rest i st = λ i st at le. fits rest i st at (sound i le) in
     let ended : list_any ends (up_to_end (map Some rest)) ≡ true =
     not_false (list_any ends (up_to_end (map Some rest)))
-    (sym (ap (is_refused_inside (up_to_end (map Some rest)) (length rest)) (slice_get_past (map Some rest) (length rest) (omega arith))) ∙ sound (length rest) (omega arith)) in
+    (sym (ap (is_unbuilt_inside (up_to_end (map Some rest)) (length rest)) (slice_get_past (map Some rest) (length rest) (omega arith))) ∙ sound (length rest) (omega arith)) in
     let once = ends_once rest (λ i lt. front i lt (slice_there rest i lt)) ended in
     let names : NamesAreDeclared rest = declared_once rest once.whole (λ i st at. each i st at (there rest i st at)) in
     let inside : list_all (λ (st : StmtTree). is_inside st.body) rest ≡ true = all_from_each (λ (st : StmtTree). is_inside st.body) rest (λ i st at. (each i st at (there rest i st at)).inside) in
@@ -316,70 +310,37 @@ second_back : (first : BodyTree) (second : StmtTree) (run : List ℕ) → run_of
 second_back first second run e h =
     procedure_back run second.body (not_false (is_procedure_body run second.body) (sym (ap (λ (z : Option (List ℕ)). not (is_the_procedure z (Some (Some second)))) e) ∙ h))
 
--- the statement of a piece of a program
-statement_at : (text : List ℕ) (pieces : List Piece) (statements : List StmtTree) (i : ℕ) (piece : Piece) → AreReadAs text pieces (map Some statements) →
-    slice_get pieces i ≡ Some piece → (st : StmtTree) × IsPieceStatement text piece st
-statement_at text [] statements i piece are e = absurd (none_some e)
-  where
-    none_some : slice_get [] i ≡ Some piece → ⊥
-    none_some k = cc
-statement_at text (p ∷ pieces) [] i piece are e = absurd are
-statement_at text (p ∷ pieces) (st ∷ statements) zero piece are e =
-    let same : p ≡ piece = cc in (st, subst (λ (q : Piece). IsPieceStatement text q st) same are.0)
-statement_at text (p ∷ pieces) (st ∷ statements) (suc i) piece are e = statement_at text pieces statements i piece are.1 e
-
--- no piece of a program is refused, nor is its end
-refusal : (text : List ℕ) (statements : List StmtTree) (i : ℕ) (at : Option Piece) → ((piece : Piece) → at ≡ Some piece → (st : StmtTree) × IsPieceStatement text piece st) →
-    is_refused (map Some statements) i ≡ true → HasReasonAt text (map Some statements) i at reasons.NotYetBuilt
-refusal text statements i None stands e = ends_early e
-refusal text statements i (Some piece) stands e = let st = stands piece refl in not_built piece st.0 st.1 e
-
-pub not_refused : (text : List ℕ) (statements : List StmtTree) (program : IsProgram text statements) (i : ℕ) → i < length program.pieces + 1 →
-    is_refused (map Some statements) i ≡ false
-not_refused text statements program i lt = by (is_refused (map Some statements) i) refl
-  where
-    by : (b : Bool) → is_refused (map Some statements) i ≡ b → is_refused (map Some statements) i ≡ false
-    by false e = e
-    by true e =
-        absurd (program.sound i lt reasons.NotYetBuilt
-        (refusal text statements i (slice_get program.pieces i) (λ piece at. statement_at text program.pieces statements i piece program.read at) e))
-
-pub one_procedure : (text : List ℕ) (statements : List StmtTree) → IsProgram text statements → IsOneProcedure statements
-one_procedure text [] program = let no = not_refused text _ program 0 (omega arith) in absurd cc
-one_procedure text (first ∷ []) program =
-    let long = read_length text program.pieces (map Some (first ∷ [])) program.read in
-    let no = not_refused text _ program 1 (omega arith) in
+pub one_procedure : (text : List ℕ) (statements : List StmtTree) → IsBuiltProgram text statements → IsOneProcedure statements
+one_procedure text [] is = let no = is.built 0 (omega arith) in absurd cc
+one_procedure text (first ∷ []) is =
+    let no = is.built 1 (omega arith) in
     absurd (clash (is_the_procedure (run_of_body first.body) None) (not_false (is_the_procedure (run_of_body first.body) None) no) (no_piece (run_of_body first.body)))
-one_procedure text (first ∷ second ∷ rest) program =
-    let long = read_length text program.pieces (map Some (first ∷ second ∷ rest)) program.read in
-    let mapped = length-map rest Some in
-    let labels = no_labels text program.pieces first second (map Some rest) program.read in
-    let run = run_back first.body (not_false (is_some (run_of_body first.body)) (not_refused text _ program 0 (omega arith))) in
-    let named : second.body ≡ procedure_of run.1 = second_back first.body second run.1 (ap run_of_body run.2) (not_refused text _ program 1 (omega arith)) in
-    behind rest (λ i le. not_refused text _ program (suc (suc i)) (omega arith)) first second run.0 run.1
+one_procedure text (first ∷ second ∷ rest) is =
+    let labels = no_labels text is.program.pieces first second (map Some rest) is.program.read in
+    let run = run_back first.body (not_false (is_some (run_of_body first.body)) (is.built 0 (omega arith))) in
+    let named : second.body ≡ procedure_of run.1 = second_back first.body second run.1 (ap run_of_body run.2) (is.built 1 (omega arith)) in
+    behind rest (λ i le. is.built (suc (suc i)) (omega arith)) first second run.0 run.1
     (bare first (action_of run.0 run.1) (labels.0 (ap is_inside run.2)) run.2) (bare second (procedure_of run.1) (labels.1 (ap is_inside named)) named)
 
--- each statement of a program is built
+-- each statement of a built program has a shape that is built
 each_built : (own : List StmtTree) → ((i : ℕ) (st : StmtTree) → slice_get own i ≡ Some st → IsBuilt st) → All IsBuilt own
 each_built [] each = All-nil IsBuilt
 each_built (st ∷ own) each = All-cons IsBuilt st own (each 0 st refl) (each_built own (λ i s e. each (suc i) s e))
 
-pub all_built : (text : List ℕ) (statements : List StmtTree) → IsProgram text statements → All IsBuilt statements
-all_built text [] program = All-nil IsBuilt
-all_built text (first ∷ []) program = absurd (too_short (one_procedure text (first ∷ []) program))
+pub all_built : (text : List ℕ) (statements : List StmtTree) → IsBuiltProgram text statements → All IsBuilt statements
+all_built text [] is = All-nil IsBuilt
+all_built text (first ∷ []) is = absurd (too_short (one_procedure text (first ∷ []) is))
   where
     too_short : IsOneProcedure (first ∷ []) → ⊥
     too_short shape = let order = shape.order in cc
-all_built text (first ∷ second ∷ rest) program =
-    let shape = one_procedure text (first ∷ second ∷ rest) program in
+all_built text (first ∷ second ∷ rest) is =
+    let shape = one_procedure text (first ∷ second ∷ rest) is in
     let order = shape.order in
     let one : unlabelled (action_of shape.name shape.run) ≡ first = cc in
     let two : unlabelled (procedure_of shape.run) ≡ second = cc in
-    let long = read_length text program.pieces (map Some (first ∷ second ∷ rest)) program.read in
-    let mapped = length-map rest Some in
     All-cons IsBuilt first (second ∷ rest) (subst IsBuilt one (is_action shape.name shape.run))
     (All-cons IsBuilt second rest (subst IsBuilt two (is_procedure shape.run))
     (each_built rest (λ i st e.
     let below = there rest i st e in
-    let fit = fits rest i st e (not_refused text (first ∷ second ∷ rest) program (suc (suc i)) (omega arith)) in
+    let fit = fits rest i st e (is.built (suc (suc i)) (omega arith)) in
     built_inside st fit.built fit.inside)))

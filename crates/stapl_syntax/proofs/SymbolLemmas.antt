@@ -23,7 +23,7 @@ use Rattle.stapl_syntax.specs.Expressions.{name}
 use Rattle.stapl_syntax.specs.Trees.{PartTree, BodyTree, action, procedure, if_then, print, StmtTree}
 use Rattle.stapl_syntax.specs.Parts.{IsPart, Separated, IsPrintPart, of_string, of_value, of_character, a_print_part, comma, join}
 use Rattle.stapl_syntax.specs.Statements.{IsBody, IsLabelled}
-use Rattle.stapl_syntax.specs.Faults.{AreReadAs, IsProgram}
+use Rattle.stapl_syntax.specs.Programs.{AreReadAs, IsProgram}
 use Rattle.stapl_syntax.specs.Shapes.{HasFreeName, IsShortPart, PrintsShortStrings}
 
 -- ---- names

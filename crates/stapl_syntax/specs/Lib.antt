@@ -6,5 +6,10 @@ pub mod Statements
 pub mod Reasons
 pub mod Built
 pub mod Declarations
-pub mod Faults
+pub mod Names
+pub mod Kinds
+pub mod Mentions
+pub mod Rules
+pub mod Programs
+pub mod Unbuilt
 pub mod Shapes

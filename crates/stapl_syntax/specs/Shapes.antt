@@ -1,11 +1,13 @@
--- What a program looks like (JESD71, program structure). That texts have this shape where none of their pieces is refused is a law.
+-- What a program looks like if all of it is built (JESD71, program structure). That each such program has this shape is
+-- a law.
 use Rattle.std.specs.Prelude.{◌≡◌, ℕ, ◌≤◌, List, [], ◌∷◌, ◌++◌, Bool, true, false, ◌&&◌, not, length, count_by, All}
 use Rattle.std.specs.List.{list_all, list_any}
 use Rattle.stapl_lexer.specs.ReservedWords.{is_reserved_word}
 use Rattle.stapl_syntax.specs.Trees.{PartTree, string, BodyTree, action, procedure, end_procedure, if_then, print, StmtTree}
 use Rattle.stapl_syntax.specs.Built.{unlabelled, action_of, procedure_of}
 use Rattle.stapl_syntax.specs.Declarations.{body_declares, is_label, names_variables, names_labels}
-use Rattle.stapl_syntax.specs.Faults.{piece_limit, is_end, is_inside}
+use Rattle.stapl_syntax.specs.Programs.{piece_limit}
+use Rattle.stapl_syntax.specs.Unbuilt.{is_end, is_inside}
 
 -- a statement declares the variable of this name, or bears the label of this name
 abbrev pub declares_variable_in : List ℕ → StmtTree → Bool

@@ -10,28 +10,33 @@ ghost use Rattle.stapl_syntax.specs.Symbols.{word_sign};
 ghost use Rattle.stapl_syntax.specs.Trees.{StmtTree};
 ghost use Rattle.stapl_syntax.specs.Reasons.{SmallestReason};
 ghost use Rattle.stapl_syntax.specs.Built.{IsBuilt};
-ghost use Rattle.stapl_syntax.specs.Faults.{IsProgram};
+ghost use Rattle.stapl_syntax.specs.Programs.{IsProgram};
+ghost use Rattle.stapl_syntax.specs.Unbuilt.{IsBuiltProgram};
 ghost use Rattle.stapl_syntax.specs.Shapes.{IsOneProcedure, HasFreeName, PrintsShortStrings};
 
-/// The statements of a program are an action, the one procedure that it names, and the statements of that up to its ENDPROC. Each variable
-/// and each label that one of them names is declared among them exactly once.
+/// The statements of a built program are an action, the one procedure that it names, and the statements of that up to
+/// its ENDPROC. Each variable and each label that one of them names is declared among them exactly once.
 pub fn a_program_is_one_procedure()
-    ensures { (text : List ℕ) (statements : List StmtTree) → IsProgram text statements → IsOneProcedure statements }
+    ensures { (text : List ℕ) (statements : List StmtTree) →
+        IsBuiltProgram text statements → IsOneProcedure statements }
 {}
 
-/// Each statement of a program is built.
+/// Each statement of a built program has one of the shapes that are built.
 pub fn programs_are_built()
-    ensures { (text : List ℕ) (statements : List StmtTree) → IsProgram text statements → All IsBuilt statements }
+    ensures { (text : List ℕ) (statements : List StmtTree) →
+        IsBuiltProgram text statements → All IsBuilt statements }
 {}
 
 /// The name of an ACTION or a PROCEDURE of a program is no reserved word.
 pub fn names_of_blocks_are_free()
-    ensures { (text : List ℕ) (statements : List StmtTree) → IsProgram text statements → All (λ st. HasFreeName st.body) statements }
+    ensures { (text : List ℕ) (statements : List StmtTree) →
+        IsProgram text statements → All (λ st. HasFreeName st.body) statements }
 {}
 
 /// A string that a program prints is no longer than the text of the program.
 pub fn texts_of_prints_are_short()
-    ensures { (text : List ℕ) (statements : List StmtTree) → IsProgram text statements → All (λ st. PrintsShortStrings (length text) st.body) statements }
+    ensures { (text : List ℕ) (statements : List StmtTree) →
+        IsProgram text statements → All (λ st. PrintsShortStrings (length text) st.body) statements }
 {}
 
 /// A piece has at most one smallest reason.

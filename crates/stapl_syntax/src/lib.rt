@@ -2,9 +2,11 @@
 #![tactic(auto)]
 
 pub mod laws;
+mod names;
 mod signs;
 mod statement;
 
+pub use names::{Block, Declaration, Found, Key, Kind, VarKind, Variable};
 pub use signs::{Sign, UnOp};
 pub use statement::{
     ArrayExpr, Body, Compare, Exported, Expr, Item, ItemChoice, PrintPart, Scan, Stmt,

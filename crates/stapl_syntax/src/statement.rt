@@ -1,5 +1,6 @@
 //! Statements as trees, as they are kept (JESD71, statements). Contracts speak of them by `stmt_tree` and the other functions of
 //! `specs/Trees`.
+use crate::names::{Declaration, VarKind};
 use crate::signs::UnOp;
 use base::ItemList;
 use bit_list::Bits;
@@ -166,6 +167,7 @@ impl Body {
     ghost use Rattle.std.specs.Prelude.{◌≡◌};
     ghost use Rattle.stapl_syntax.specs.Trees.{body_tree};
     ghost use Rattle.stapl_syntax.specs.Statements.{is_outer};
+    ghost use Rattle.stapl_syntax.specs.Names.{declaration};
 
     /// Whether the statement stands outside procedures, or begins or ends such a block from outside. It bears no label.
     pub fn is_outer(&self) -> bool
@@ -180,6 +182,20 @@ impl Body {
                 | Body::EndData
                 | Body::Crc(_)
         )
+    }
+
+    /// What the statement says of the variable that it declares; `None` if it is no declaration.
+    pub fn declaration(&self) -> Option<Declaration>
+        ensures { result ≡ declaration (body_tree self.now) }
+    {
+        let (name, kind, size) = match self {
+            Body::Boolean(name, _) => (*name, VarKind::Boolean, 1),
+            Body::BooleanArray(name, size, _) => (*name, VarKind::BooleanArray, *size),
+            Body::Integer(name, _) => (*name, VarKind::Integer, 1),
+            Body::IntegerArray(name, size, _) => (*name, VarKind::IntegerArray, *size),
+            _ => return None,
+        };
+        Some(Declaration { name, kind, size })
     }
 }
 
