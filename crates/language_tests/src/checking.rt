@@ -22,6 +22,9 @@ fn accepts_a_program_and_names_a_first_fault(rt: HostRuntime) -> Result<(), Fail
         line: 2,
         reason: Reason::UnknownStatement,
     };
-    assert_eq!(rt; outcome(rt.alloc(), b"ACTION A=P;\nFOO;"), (0, Some(fault)));
+    assert_eq!(rt;
+        outcome(rt.alloc(), b"ACTION A=P;\nFOO;PROCEDURE P;ENDPROC;"),
+        (0, Some(fault))
+    );
     Ok(())
 }

@@ -6,6 +6,8 @@ mod checking;
 #[cfg(test)]
 mod grammar;
 #[cfg(test)]
+mod names;
+#[cfg(test)]
 mod pieces;
 #[cfg(test)]
 mod tokens;

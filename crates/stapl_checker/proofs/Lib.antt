@@ -1,7 +1,14 @@
 pub mod TableLemmas
+pub mod UnbuiltLemmas
+pub mod Judged
+pub mod TextLemmas
+pub mod Earlier
 pub mod ReadingLemmas
-pub mod ReasonLemmas
-pub mod RefusingLemmas
-pub mod VerdictLemmas
+pub mod MentionLemmas
+pub mod StopLemmas
+pub mod ScopeLemmas
+pub mod CourseLemmas
+pub mod FaultLemmas
+pub mod MappedLists
 pub mod UniqueLemmas
 pub mod Answered

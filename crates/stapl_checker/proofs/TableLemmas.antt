@@ -7,12 +7,12 @@ use Rattle.std.proofs.lemmas.Slice.Eq.{bytes_eq-Decides}
 use Rattle.std.proofs.lemmas.List.{take_more, map-append, length-map, length-take-le, take_all}
 use Rattle.indexmap.specs.IndexMap.{IndexMap, get, insert_entry}
 use Rattle.indexmap.proofs.CallerLemmas.{insert_entry-new}
-use Rattle.stapl_checker.specs.declared.reading.Read.{Read}
+use Rattle.stapl_syntax.specs.declared.statement.Stmt.{Stmt}
 use Rattle.stapl_syntax.specs.Trees.{StmtTree}
 use Rattle.stapl_syntax.specs.Declarations.{declares_variable, declares_label, known_at}
-use Rattle.stapl_checker.specs.declared.names.Names.{Names}
+use Rattle.stapl_checker.specs.declared.own_names.OwnNames.{OwnNames}
 use Rattle.stapl_checker.specs.Reads.{read_tree, trees}
-use Rattle.stapl_checker.specs.Tables.{Entries, found, held_or, held_behind, is_below, Puts, PutsPiece, AreNames, known_in}
+use Rattle.stapl_checker.specs.OwnNames.{Entries, found, held_or, held_behind, is_below, Puts, PutsPiece, AreNames, known_in}
 
 is_none : {A : Type 0} (o : Option A) → is_some o ≡ false → o ≡ None
 is_none None h = refl
@@ -91,7 +91,7 @@ place_is test xs all y i old new e len was is =
     is ∙ ap (λ (z : Option ℕ). held_behind z (test y) i) was ∙ ap (held_behind (position_from test 0 xs) (test y)) at
     ∙ sym (place_more test 0 xs y) ∙ ap (position_from test 0) (sym e)
 
-names_more : (xs all : List (Option StmtTree)) (y : Option StmtTree) (i : ℕ) (old new : Names) → all ≡ xs ++ y ∷ [] → i ≡ length xs →
+names_more : (xs all : List (Option StmtTree)) (y : Option StmtTree) (i : ℕ) (old new : OwnNames) → all ≡ xs ++ y ∷ [] → i ≡ length xs →
     AreNames xs old → PutsPiece i y old new → AreNames all new
 names_more xs all y i old new e len are puts = record {
   variables = λ name. place_is (declares_variable name) xs all y i (found old.variables.entries name) (found new.variables.entries name) e len (are.variables name) (puts.variables name);
@@ -99,16 +99,16 @@ names_more xs all y i old new e len are puts = record {
 }
 
 -- a piece more
-pub one_more : (own : List Read) (i : ℕ) (piece d : Read) (old new : Names) → i < length own → piece ≡ get_or own i d →
+pub one_more : (own : List Stmt) (i : ℕ) (piece d : Stmt) (old new : OwnNames) → i < length own → piece ≡ get_or own i d →
     AreNames (trees (take i own)) old → PutsPiece i (read_tree piece) old new → AreNames (trees (take (i + 1) own)) new
 one_more own i piece d old new below is are puts =
     names_more (trees (take i own)) (trees (take (i + 1) own)) (read_tree piece) i old new
     (ap trees (take_more own i d below) ∙ map-append (read_tree) (take i own) (get_or own i d ∷ [])
-    ∙ ap (λ (z : Read). trees (take i own) ++ read_tree z ∷ []) (sym is))
+    ∙ ap (λ (z : Stmt). trees (take i own) ++ read_tree z ∷ []) (sym is))
     (let a = length-map (take i own) (read_tree) in let b = length-take-le i own (omega arith) in omega arith) are puts
 
-pub no_more : (own : List Read) (i : ℕ) (names : Names) → length own ≤ i → AreNames (trees (take i own)) names → AreNames (trees own) names
-no_more own i names past are = subst (λ (z : List Read). AreNames (trees z) names) (take_all i own past) are
+pub no_more : (own : List Stmt) (i : ℕ) (names : OwnNames) → length own ≤ i → AreNames (trees (take i own)) names → AreNames (trees own) names
+no_more own i names past are = subst (λ (z : List Stmt). AreNames (trees z) names) (take_all i own past) are
 
 -- what the tables tell is what the pieces declare
 any_place : {A : Type 0} (test : A → Bool) (n : ℕ) (xs : List A) → is_some (position_from test n xs) ≡ list_any test xs
@@ -141,7 +141,7 @@ below_place test n (suc i) (x ∷ xs) = by (below_place test (n + 1) i xs) (test
 earlier_place : {A : Type 0} (test : A → Bool) (i : ℕ) (xs : List A) → is_below i (position_from test 0 xs) ≡ list_any test (take i xs)
 earlier_place test i xs = let e : i ≡ 0 + i = omega arith in ap (λ (z : ℕ). is_below z (position_from test 0 xs)) e ∙ below_place test 0 i xs
 
-pub known_same : (own : List (Option StmtTree)) (names : Names) (i : ℕ) → AreNames own names → known_in names i ≡ known_at own i
+pub known_same : (own : List (Option StmtTree)) (names : OwnNames) (i : ℕ) → AreNames own names → known_in names i ≡ known_at own i
 known_same own names i are = λ j. record {
   variable = λ name. (ap is_some (are.variables name) ∙ any_place (declares_variable name) 0 own) j;
   label = λ name. (ap is_some (are.labels name) ∙ any_place (declares_label name) 0 own) j;

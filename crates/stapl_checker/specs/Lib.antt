@@ -1,3 +1,13 @@
 pub mod Reads
-pub mod Tables
+pub mod OwnNames
 pub mod Verdicts
+pub mod Judgements
+pub mod Earlier
+pub mod Readings
+pub mod Scopes
+pub mod Counts
+pub mod Places
+pub mod Mentioned
+pub mod Courses
+pub mod Firsts
+pub mod Answers

@@ -1,16 +1,9 @@
--- What the checker's loops find.
-use Rattle.std.specs.Prelude.{◌≡◌, ℕ, ◌<◌, ◌≤◌, List, Bool, true, false, Option, None, Some, length, map, take, slice_get, nat_le, if◌then◌else◌}
+-- What the search for a piece that is not built finds.
+use Rattle.std.specs.Prelude.{◌≡◌, ℕ, ◌<◌, ◌≤◌, List, Bool, true, false, Option, None, Some, length, map, take, slice_get}
 use Rattle.std.specs.List.{list_any}
-use Rattle.stapl_syntax.specs.Trees.{StmtTree, stmt_tree}
-use Rattle.stapl_lexer.specs.declared.reason.Reason.{Reason}
-use Rattle.stapl_lexer.specs.declared.reason.Reason.TheVariants as reasons
-use Rattle.stapl_syntax.specs.Faults.{piece_limit, ends, up_to_end, is_refused_inside, IsProgram, FirstFault}
-use Rattle.stapl_checker.specs.declared.reading.Read.{Read}
-use Rattle.stapl_checker.specs.declared.reading.Read.TheVariants.{Faulty}
-use Rattle.stapl_checker.specs.declared.checking.CheckRefused.{CheckRefused}
-use Rattle.stapl_checker.specs.declared.checking.CheckRefused.TheVariants as refusals
-use Rattle.stapl_checker.specs.declared.checking.Verdict.{Verdict}
-use Rattle.stapl_checker.specs.declared.checking.Verdict.TheVariants as verdicts
+use Rattle.stapl_syntax.specs.Trees.{StmtTree}
+use Rattle.stapl_syntax.specs.Unbuilt.{ends, up_to_end, is_unbuilt_inside, is_unbuilt, IsBuiltProgram, IsUnbuiltAt}
+use Rattle.stapl_checker.specs.declared.unbuilt.Unbuilt.{Unbuilt}
 
 -- the first index that passes the test
 pub record IsFirstAt (test : ℕ → Bool) (limit i : ℕ) : Type 0 where
@@ -27,27 +20,21 @@ abbrev pub IsFirstIndex : (ℕ → Bool) → ℕ → Option ℕ → Type 0
 IsFirstIndex test limit None = NoneUpTo test limit
 IsFirstIndex test limit (Some i) = IsFirstAt test limit i
 
--- the piece with this index is refused, where these are the pieces behind the PROCEDURE
-abbrev pub is_refused_at : List (Option StmtTree) → ℕ → Bool
-is_refused_at behind i = is_refused_inside (up_to_end behind) i (slice_get behind i)
+-- the piece with this index is not built, where these are the pieces behind the PROCEDURE
+abbrev pub is_unbuilt_at : List (Option StmtTree) → ℕ → Bool
+is_unbuilt_at behind i = is_unbuilt_inside (up_to_end behind) i (slice_get behind i)
 
--- the reason that is named of what stands at an index, if it is refused
-abbrev pub refused_reason : ℕ → Option Read → Reason
-refused_reason i (Some (Faulty reason)) = if nat_le piece_limit i then reasons.TooManyPieces else reason
-refused_reason i _ = reasons.NotYetBuilt
-
--- what the checker finds of a text that is not too long
-abbrev pub IsVerdict : List ℕ → Verdict → Type 0
-IsVerdict text (verdicts.Program statements) = IsProgram text (map stmt_tree statements.items)
-IsVerdict text (verdicts.Fault piece line reason) = FirstFault text piece line reason
-
--- The first pieces behind the PROCEDURE are read: none of them is refused, and it is known whether ENDPROC is among them.
-pub record NoneRefusedUpTo (behind : List (Option StmtTree)) (i : ℕ) (ended : Bool) : Type 0 where
+-- The first pieces behind the PROCEDURE are read: all of them are built, and it is known whether ENDPROC is among them.
+pub record AllBuiltUpTo (behind : List (Option StmtTree)) (i : ℕ) (ended : Bool) : Type 0 where
   pub within : i ≤ length behind
   pub ended_is : ended ≡ list_any ends (take i behind)
-  pub before : (k : ℕ) → k < i → is_refused_at behind k ≡ false
+  pub before : (k : ℕ) → k < i → is_unbuilt_at behind k ≡ false
 
--- What a refusal says of a text: it is its first fault, or there was no memory.
-abbrev pub IsCause : List ℕ → CheckRefused → Type 0
-IsCause text (refusals.Refused piece line reason) = FirstFault text piece line reason
-IsCause text refusals.Memory = Unit {0}
+-- the index of the first piece of a program that is not built, if one is not
+abbrev pub IsFirstIndexOf : List StmtTree → Option ℕ → Type 0
+IsFirstIndexOf statements first = IsFirstIndex (is_unbuilt (map Some statements)) (length statements) first
+
+-- the first piece of a program that is not built; none if the program is built
+abbrev pub IsFirstUnbuilt : List ℕ → List StmtTree → Option Unbuilt → Type 0
+IsFirstUnbuilt text statements None = IsBuiltProgram text statements
+IsFirstUnbuilt text statements (Some place) = IsUnbuiltAt text statements place.piece place.line

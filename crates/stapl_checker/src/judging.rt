@@ -1,119 +1,66 @@
-//! Which piece of a procedure is refused.
-ghost use Rattle.std.specs.Prelude.{◌≡◌, ◌≤◌, ◌<◌, ◌+◌, ℕ, List, true, false, Bool, length, map, take, is_some, IfSome, IfNone, slice_get};
-ghost use Rattle.std.specs.List.{list_all};
-ghost use Rattle.stapl_syntax.specs.Trees.{expr_tree, part_tree, body_tree, stmt_tree};
-ghost use Rattle.stapl_syntax.specs.Declarations.{expr_names, part_names, names_variables, names_labels, variable_passes, label_passes};
-ghost use Rattle.stapl_syntax.specs.Faults.{declares_again, names_known, fits_inside};
-ghost use Rattle.stapl_checker.specs.Reads.{read_tree};
-ghost use Rattle.stapl_checker.specs.Tables.{found, is_below, known_in};
+//! Which rule a statement breaks.
+ghost use Rattle.std.specs.Prelude.{◌≡◌, ◌<◌, ◌+◌, ◌^◌};
+ghost use Rattle.stapl_syntax.specs.Trees.{body_tree, stmt_tree};
+ghost use Rattle.stapl_checker.specs.Scopes.{IsInside, known_of};
+ghost use Rattle.stapl_checker.specs.Counts.{totals_of};
+ghost use Rattle.stapl_checker.specs.Courses.{facts_in};
+ghost use Rattle.stapl_checker.specs.Judgements.{operands_broken, rule_broken};
 
-use crate::building::is_built;
-use crate::names::Names;
-use crate::reading::Read;
-use stapl_lexer::Name;
-use stapl_syntax::{Body, Expr, PrintPart, Stmt};
+use crate::course::Course;
+use crate::kinds::is_well_kinded;
+use crate::mentions::name_faults;
+use crate::repeats::declares_again;
+use crate::scope::Scope;
+use crate::sizes::{Totals, passes_a_limit};
+use crate::stops::stops_unstable;
+use stapl_lexer::Reason;
+use stapl_names::Names;
+use stapl_syntax::{Body, Stmt};
 
-// Whether each variable of an expression is declared.
-fn expr_is_known(names: &Names, expr: &Expr) -> bool
-    ensures { result ≡ expr_names (λ name. is_some (found names.now.variables.entries name)) (expr_tree expr.now) }
+// Which of the last three rules a statement breaks: the kinds of its operands, where it stops, how many elements it
+// declares.
+fn broken_operands(scope: &Scope, before: Totals, body: &Body) -> Option<Reason>
+    requires booleans { before.booleans + 2 ^ 31 < 2 ^ 64 }
+    requires integers { before.integers + 2 ^ 31 < 2 ^ 64 }
+    ensures { result ≡ operands_broken (known_of scope.now) (totals_of before) (body_tree body.now) }
 {
-    match expr {
-        Expr::Scalar(name) => names.has_variable(name),
-        Expr::Binary(_, left, right) => expr_is_known(names, left) && expr_is_known(names, right),
-        _ => true,
+    if !is_well_kinded(scope, body) {
+        return Some(Reason::TypeMismatch);
     }
-}
-
-fn part_is_known(names: &Names, part: &PrintPart) -> bool
-    ensures { result ≡ part_names (λ name. is_some (found names.now.variables.entries name)) (part_tree part.now) }
-{
-    match part {
-        PrintPart::Value(expr) => expr_is_known(names, expr),
-        _ => true,
+    if stops_unstable(body) {
+        return Some(Reason::NotStable);
     }
-}
-
-fn parts_are_known(names: &Names, parts: &[PrintPart]) -> bool
-    ensures { result ≡ list_all (λ part. part_names (λ name. is_some (found names.now.variables.entries name)) (part_tree part)) parts.now }
-{
-    parts.iter().all(|part| part_is_known(names, part))
-}
-
-// Whether each variable that a statement names is declared.
-#[tactic(auto, using(crate::proofs::TableLemmas::all_mapped))]
-fn variables_are_known(names: &Names, body: &Body) -> bool
-    ensures { result ≡ names_variables (λ name. is_some (found names.now.variables.entries name)) (body_tree body.now) }
-{
-    match body {
-        Body::Assign(name, expr) => names.has_variable(name) && expr_is_known(names, expr),
-        Body::If(condition, body) => expr_is_known(names, condition)
-            && variables_are_known(names, body),
-        Body::Print(parts) => parts_are_known(names, parts.as_slice()),
-        Body::Exit(code) => expr_is_known(names, code),
-        _ => true,
+    if passes_a_limit(before, body) {
+        return Some(Reason::SizeLimit);
     }
+    None
 }
 
-// Whether each label that a statement jumps to is declared.
-fn labels_are_known(names: &Names, body: &Body) -> bool
-    ensures { result ≡ names_labels (λ name. is_some (found names.now.labels.entries name)) (body_tree body.now) }
+/// The smallest reason against the statement of the piece with this number, by what stood before it.
+pub(crate) fn broken_rule(
+    names: &Names,
+    course: Course,
+    number: u32,
+    statement: &Stmt,
+) -> Option<Reason>
+    requires within { IsInside names.now course.inside }
+    requires booleans { course.before.booleans + 2 ^ 31 < 2 ^ 64 }
+    requires integers { course.before.integers + 2 ^ 31 < 2 ^ 64 }
+    ensures { result ≡ rule_broken (facts_in names.now course number) (stmt_tree statement.now) }
 {
-    match body {
-        Body::Goto(label) => names.has_label(label),
-        Body::If(_, body) => labels_are_known(names, body),
-        _ => true,
+    let scope = Scope::new(names, course.inside);
+    if !course.place.may_stand(&statement.label, &statement.body) {
+        return Some(Reason::Order);
     }
-}
-
-// Whether an earlier piece declares the variable that a statement declares.
-fn variable_is_again(names: &Names, index: u32, body: &Body) -> bool
-    ensures { result ≡ variable_passes (λ name. is_below index (found names.now.variables.entries name)) (body_tree body.now) }
-{
-    match body {
-        Body::Integer(name, _) => names.has_earlier_variable(name, index),
-        _ => false,
+    if declares_again(&scope, number, statement) {
+        return Some(Reason::Duplicate);
     }
-}
-
-// Whether an earlier piece declares the label.
-fn label_is_again(names: &Names, index: u32, label: &Option<Name>) -> bool
-    ensures { result ≡ label_passes (λ name. is_below index (found names.now.labels.entries name)) label.now }
-{
-    match label {
-        Some(name) => names.has_earlier_label(name, index),
-        None => false,
+    let faults = name_faults(&scope, &statement.body);
+    if faults.undefined {
+        return Some(Reason::Undefined);
     }
-}
-
-fn declares_again(names: &Names, index: u32, statement: &Stmt) -> bool
-    ensures { result ≡ declares_again (known_in names.now index) (stmt_tree statement.now) }
-{
-    variable_is_again(names, index, &statement.body)
-        || label_is_again(names, index, &statement.label)
-}
-
-fn names_are_known(names: &Names, statement: &Stmt) -> bool
-    ensures { result ≡ names_known (known_in names.now 0) (stmt_tree statement.now) }
-{
-    variables_are_known(names, &statement.body) && labels_are_known(names, &statement.body)
-}
-
-/// Whether a statement may stand at an index of a procedure that declares these names.
-fn fits(names: &Names, index: u32, statement: &Stmt) -> bool
-    ensures { result ≡ fits_inside (known_in names.now index) (Some (stmt_tree statement.now)) }
-{
-    is_built(statement)
-        && !statement.body.is_outer()
-        && !declares_again(names, index, statement)
-        && names_are_known(names, statement)
-}
-
-/// Whether a piece may stand at an index of a procedure that declares these names.
-pub fn fits_inside(names: &Names, index: u32, piece: &Read) -> bool
-    ensures { result ≡ fits_inside (known_in names.now index) (read_tree piece.now) }
-{
-    match piece {
-        Read::Statement(statement) => fits(names, index, statement),
-        Read::Faulty(_) => false,
+    if faults.hidden {
+        return Some(Reason::NotVisible);
     }
+    broken_operands(&scope, course.before, &statement.body)
 }

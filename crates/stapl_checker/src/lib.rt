@@ -3,11 +3,23 @@
 
 mod building;
 mod checking;
+mod course;
+mod faults;
+mod fitting;
 mod judging;
+mod kinds;
 pub mod laws;
-mod names;
+mod lines;
+mod mentions;
+mod order;
+mod own_names;
 mod reading;
-mod reasons;
-mod refusing;
+mod repeats;
+mod scope;
+mod sizes;
+mod stops;
+mod unbuilt;
+mod way;
 
 pub use checking::{CheckRefused, check};
+pub use unbuilt::{Unbuilt, first_unbuilt};

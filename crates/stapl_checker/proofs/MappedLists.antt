@@ -1,0 +1,13 @@
+-- Tests of the items of lists that were mapped or joined.
+use Rattle.std.proofs.Common.{◌≡◌, Bool, List, [], ◌∷◌, map, ◌||◌, refl, ap}
+use Rattle.std.specs.List.{list_any}
+pub use Rattle.std.proofs.lemmas.List.Folds.{list_all-map, list_any-append}
+
+pub any_mapped : {A B : Type 0} (test : B → Bool) (f : A → B) (xs : List A) →
+    list_any test (map f xs) ≡ list_any (λ x. test (f x)) xs
+any_mapped test f [] = refl
+any_mapped test f (x ∷ xs) = ap (λ (z : Bool). test (f x) || z) (any_mapped test f xs)
+
+pub ruleset mapped_lists = (list_all-map, any_mapped)
+
+pub ruleset joined_lists = (list_any-append)

@@ -1,0 +1,10 @@
+use Rattle.std.proofs.Common.{take, map}
+use Rattle.stapl_syntax.specs.Trees.{stmt_tree}
+use Rattle.stapl_checker.specs.Courses.{NoneBroken, IsCourse, numbered_trees}
+use Rattle.stapl_checker.proofs.way.walk.Given as goal
+
+abbrev pub invariant-loop-i : goal.invariant-loop-i
+invariant-loop-i l = record {
+  none : NoneBroken l.names (map stmt_tree l.statements) l.i;
+  course : IsCourse l.names (numbered_trees (take l.i (map stmt_tree l.statements))) l.i l.course;
+}
