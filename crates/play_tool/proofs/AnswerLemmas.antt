@@ -1,128 +1,141 @@
--- On answers, from what the layers below ensure.
-use Rattle.std.proofs.Common.{◌≡◌, ◌<◌, ℕ, pos, List, [], ◌∷◌, length, codes, Option, Some, refl, sym, ◌∙◌, subst, replicate, arith, ◌+◌}
+-- On answers: which relation holds the answers of which.
+use Rattle.std.proofs.Common.{◌≡◌, ◌<◌, ℕ, pos, List, [], ◌∷◌, length, codes, Option, None, Some, Result, Ok, Err, IfOk, IfSome, IsSomeAnd, refl, sym, ap, ◌∙◌, subst, replicate, arith, ◌+◌, Bool, true, false, map}
 use Rattle.std.proofs.lemmas.List.{length-replicate}
 use Rattle.std.proofs.lemmas.Slice.Eq.{bytes_eq-Decides}
+use Rattle.std.specs.Prelude.{is_some}
 use Rattle.tool_io.specs.Bytes.{then_bytes, MovesFront}
 use Rattle.tool_io.specs.Files.{file_of}
-use Rattle.tool_io.proofs.BytesLemmas.{moves_front_nothing}
 use Rattle.stapl_lexer.specs.Pieces.{text_limit}
 use Rattle.stapl_lexer.specs.declared.reason.Reason.{Reason}
 use Rattle.stapl_lexer.specs.declared.reason.Reason.TheVariants as reasons
 use Rattle.stapl_syntax.specs.Trees.{StmtTree}
-use Rattle.stapl_syntax.specs.Faults.{IsProgram, FirstFault, is_too_long}
+use Rattle.stapl_syntax.specs.Programs.{IsProgram, FirstFault, is_too_long}
+use Rattle.stapl_syntax.specs.Unbuilt.{is_unbuilt, IsUnbuiltAt, IsBuiltProgram}
 use Rattle.stapl_checker.proofs.UniqueLemmas.{one_program, no_fault}
+use Rattle.play_tool.specs.declared.mode.Mode.{Mode}
+use Rattle.play_tool.specs.declared.mode.Mode.TheVariants as modes
+use Rattle.play_tool.specs.declared.words.Request.{Request}
 use Rattle.play_tool.specs.declared.status.Status.{Status}
 use Rattle.play_tool.specs.declared.status.Status.TheVariants.{Refused, Usage}
 use Rattle.play_tool.specs.Texts.{number_line, refusal_line}
-use Rattle.play_tool.specs.Words.{IsRequest, IsUsage}
+use Rattle.play_tool.specs.declared.mode.WordKey.{WordKey}
+use Rattle.play_tool.specs.declared.mode.WordKey.TheVariants.{Program, Action}
+use Rattle.play_tool.specs.Words.{needs, has_key, HasNeeded, IsUsage}
+use Rattle.play_tool.specs.Written.{Wrote, WroteFront}
+use Rattle.play_tool.specs.Answers.{Plays, PlaysText, unbuilt, built, Work, TextAnswer, refused, accepted, FileAnswer, NamesFile, Answer, usage, asked, SomeTextAnswer, SomeFilesAnswer}
 use Rattle.play_tool.proofs.OneRequest.{one_request, no_usage}
-use Rattle.play_tool.specs.Answers.{ProgramPlays, refused, accepted, Plays, usage, plays, Answer, Answers, AnswersFront, IsPrefixOfAnswers, ProgramPlaysTo, ProgramPlaysFront, IsPrefixOfProgram, PlaysTo, PlaysFront, IsPrefixOfPlays, FilePlaysTo, FilePlaysFront, IsPrefixOfFile, PlaysSomeBytesTo, PlaysSomeBytesFront, AnswersSomeFiles, AnswersSomeFilesFront}
-
-pub accepted_to : {turns : ℕ} {bytes action : List ℕ} {before after : Option (List ℕ)} {status : Status} (program : List StmtTree) → IsProgram bytes program →
-    ProgramPlaysTo program action turns before after status → PlaysTo bytes action turns before after status
-accepted_to {status = status} program is p = record { text = p.text; plays = accepted program p.text status is p.plays; written = p.written }
-
-pub accepted_front : {turns : ℕ} {bytes action : List ℕ} {before after : Option (List ℕ)} (program : List StmtTree) → IsProgram bytes program →
-    ProgramPlaysFront program action turns before after → PlaysFront bytes action turns before after
-accepted_front program is p = record { text = p.text; status = p.status; plays = accepted program p.text p.status is p.plays; front = p.front }
-
-pub refused_to : {turns : ℕ} {bytes action : List ℕ} {before after : Option (List ℕ)} (piece line : ℕ) (reason : Reason) → FirstFault bytes piece line reason →
-    after ≡ then_bytes before (refusal_line piece line reason) → PlaysTo bytes action turns before after (Refused piece reason)
-refused_to piece line reason fault e = record { text = refusal_line piece line reason; plays = refused piece line reason fault; written = e }
-
-pub refused_front : {turns : ℕ} {bytes action : List ℕ} {before after : Option (List ℕ)} (piece line : ℕ) (reason : Reason) → FirstFault bytes piece line reason →
-    MovesFront before (refusal_line piece line reason) after → PlaysFront bytes action turns before after
-refused_front piece line reason fault m =
-    record { text = refusal_line piece line reason; status = Refused piece reason; plays = refused piece line reason fault; front = m }
-
-pub file_to : {turns : ℕ} {file before after : Option (List ℕ)} {action : List ℕ} {status : Status} {bytes : List ℕ} → file ≡ Some bytes →
-    PlaysTo bytes action turns before after status → FilePlaysTo file action turns before after status
-file_to {bytes = bytes} held p = record { bytes = bytes; held = held; plays = p }
-
-pub file_front : {turns : ℕ} {file before after : Option (List ℕ)} {action bytes : List ℕ} → file ≡ Some bytes →
-    PlaysFront bytes action turns before after → FilePlaysFront file action turns before after
-file_front {bytes = bytes} held p = record { bytes = bytes; held = held; plays = p }
-
--- a file that is too long
-pub long_to : {turns : ℕ} {before after : Option (List ℕ)} {action : List ℕ} (bytes : List ℕ) → text_limit < length bytes →
-    after ≡ then_bytes before (refusal_line 0 0 reasons.TooLong) → PlaysTo bytes action turns before after (Refused 0 reasons.TooLong)
-long_to bytes long e = refused_to 0 0 reasons.TooLong (is_too_long long) e
-
-pub long_front : {turns : ℕ} {before after : Option (List ℕ)} {action : List ℕ} (bytes : List ℕ) → text_limit < length bytes →
-    MovesFront before (refusal_line 0 0 reasons.TooLong) after → PlaysFront bytes action turns before after
-long_front bytes long m = refused_front 0 0 reasons.TooLong (is_too_long long) m
-
-pub usage_to : {words : List (List ℕ)} {files : List (List ℕ × List ℕ)} {before after : Option (List ℕ)} (n : ℕ) → IsUsage words n →
-    after ≡ then_bytes before (number_line (codes "R usage ") (pos n)) → Answers words files before after (Usage n)
-usage_to n u e = record { text = number_line (codes "R usage ") (pos n); answer = usage n u; written = e }
-
-pub usage_front : {words : List (List ℕ)} {files : List (List ℕ × List ℕ)} {before after : Option (List ℕ)} (n : ℕ) → IsUsage words n →
-    MovesFront before (number_line (codes "R usage ") (pos n)) after → AnswersFront words files before after
-usage_front n u m = record { text = number_line (codes "R usage ") (pos n); status = Usage n; answer = usage n u; front = m }
-
-pub request_to : {turns : ℕ} {words : List (List ℕ)} {files : List (List ℕ × List ℕ)} {before after : Option (List ℕ)} {status : Status} {path action : List ℕ} →
-    IsRequest words path action turns → FilePlaysTo (file_of files path) action turns before after status → Answers words files before after status
-request_to {turns = turns} {status = status} {path = path} {action = action} r p =
-    record { text = p.plays.text; answer = plays path action turns p.bytes p.plays.text status r p.held p.plays.plays; written = p.plays.written }
-
-pub request_front : {turns : ℕ} {words : List (List ℕ)} {files : List (List ℕ × List ℕ)} {before after : Option (List ℕ)} {path action : List ℕ} →
-    IsRequest words path action turns → FilePlaysFront (file_of files path) action turns before after → AnswersFront words files before after
-request_front {turns = turns} {path = path} {action = action} r p =
-    record { text = p.plays.text; status = p.plays.status; answer = plays path action turns p.bytes p.plays.text p.plays.status r p.held p.plays.plays; front = p.plays.front }
-
--- where nothing is written, that is a prefix of each text
-pub nothing_of_program : {program : List StmtTree} {action : List ℕ} {turns : ℕ} {before after : Option (List ℕ)} → after ≡ before →
-    IsPrefixOfProgram program action turns before after
-nothing_of_program {before = before} e = record { prefix = λ text status p. rw e (moves_front_nothing before text) }
-
-pub nothing_of_plays : {bytes action : List ℕ} {turns : ℕ} {before after : Option (List ℕ)} → after ≡ before → IsPrefixOfPlays bytes action turns before after
-nothing_of_plays {before = before} e = record { prefix = λ text status p. rw e (moves_front_nothing before text) }
-
-pub nothing_of_file : {file : Option (List ℕ)} {action : List ℕ} {turns : ℕ} {before after : Option (List ℕ)} → after ≡ before →
-    IsPrefixOfFile file action turns before after
-nothing_of_file e = record { prefix = λ bytes held. nothing_of_plays e }
-
--- A prefix of each text of a program is one of each text of its bytes, and so on up to the answers.
-program_prefix : {bytes action text : List ℕ} {turns : ℕ} {before after : Option (List ℕ)} {status : Status} (program : List StmtTree) → IsProgram bytes program →
-    IsPrefixOfProgram program action turns before after → Plays bytes action turns text status → MovesFront before text after
-program_prefix program is p (refused piece line reason fault) = absurd (no_fault program is fault)
-program_prefix {bytes = bytes} {action = action} {turns = turns} program is p (accepted other text status other_is given) =
-    p.prefix text status (subst (λ (z : List StmtTree). ProgramPlays z action turns text status) (one_program bytes other program other_is is) given)
-
-pub accepted_prefix : {bytes action : List ℕ} {turns : ℕ} {before after : Option (List ℕ)} (program : List StmtTree) → IsProgram bytes program →
-    IsPrefixOfProgram program action turns before after → IsPrefixOfPlays bytes action turns before after
-accepted_prefix program is p = record { prefix = λ text status given. program_prefix program is p given }
+use Rattle.play_tool.proofs.WrittenLemmas.{IsWithin, wrote_text, wrote_front}
 
 some_back : {A : Type 0} (x y : A) → Some x ≡ Some y → x ≡ y
 some_back x y e = cc
 
-pub file_prefix : {file before after : Option (List ℕ)} {action bytes : List ℕ} {turns : ℕ} → file ≡ Some bytes →
-    IsPrefixOfPlays bytes action turns before after → IsPrefixOfFile file action turns before after
-file_prefix {before = before} {after = after} {action = action} {bytes = bytes} {turns = turns} held p =
-    record { prefix = λ other other_held. subst (λ (z : List ℕ). IsPrefixOfPlays z action turns before after) (some_back bytes other (sym held ∙ other_held)) p }
+pub on_ok : {T E : Type 0} {P Q : T → Type 0} (r : Result T E) → ((x : T) → P x → Q x) → IfOk r P → IfOk r Q
+on_ok (Ok x) f p = f x p
+on_ok (Err e) f p = tt
 
-answer_prefix : {words : List (List ℕ)} {files : List (List ℕ × List ℕ)} {before after : Option (List ℕ)} {path action text : List ℕ} {turns : ℕ} {status : Status} →
-    IsRequest words path action turns → IsPrefixOfFile (file_of files path) action turns before after → Answer words files text status → MovesFront before text after
-answer_prefix r p (usage n u) = absurd (no_usage r u)
-answer_prefix {files = files} {before = before} {after = after} {path = path} {action = action} {turns = turns} r p (plays path2 action2 turns2 bytes text status r2 held given2) =
-    let same = one_request r2 r in
-    let given : Plays bytes action turns text status =
-    subst (λ (z : List ℕ). Plays bytes z turns text status) same.1
-    (subst (λ (z : ℕ). Plays bytes action2 z text status) same.2 given2) in
-    (p.prefix bytes (subst (λ (z : List ℕ). file_of files z ≡ Some bytes) same.0 held)).prefix text status given
+pub on_some : {T : Type 0} {P Q : T → Type 0} (o : Option T) → ((x : T) → P x → Q x) → IfSome o P → IfSome o Q
+on_some None f p = tt
+on_some (Some x) f p = f x p
 
-pub request_prefix : {words : List (List ℕ)} {files : List (List ℕ × List ℕ)} {before after : Option (List ℕ)} {path action : List ℕ} {turns : ℕ} →
-    IsRequest words path action turns → IsPrefixOfFile (file_of files path) action turns before after → IsPrefixOfAnswers words files before after
-request_prefix r p = record { prefix = λ text status a. answer_prefix r p a }
+-- What a request needs, it has.
 
--- the same without a word on what the store tells
+has_needed : (request : Request) (mode : Mode) → HasNeeded request → request.mode ≡ mode → (key : WordKey) → needs mode key ≡ true → has_key request key ≡ true
+has_needed request mode has e key needed = has.has key (ap (λ (m : Mode). needs m key) e ∙ needed)
 
-pub some_bytes_to : {turns : ℕ} {action bytes : List ℕ} {before after : Option (List ℕ)} {status : Status} → PlaysTo bytes action turns before after status →
-    PlaysSomeBytesTo action turns before after status
-some_bytes_to {bytes = bytes} p = record { bytes = bytes; plays = p }
+pub has_action : (request : Request) → HasNeeded request → request.mode ≡ modes.Play → request.action ≡ None → ⊥
+has_action request has e none =
+    let some : is_some request.action ≡ true = has_needed request modes.Play has e Action refl in
+    let same : is_some request.action ≡ false = ap (λ (a : Option (List ℕ)). is_some a) none in cc
 
-pub some_bytes_front : {turns : ℕ} {action bytes : List ℕ} {before after : Option (List ℕ)} → PlaysFront bytes action turns before after → PlaysSomeBytesFront action turns before after
-some_bytes_front {bytes = bytes} p = record { bytes = bytes; plays = p }
+program_needed : (mode : Mode) → needs mode Program ≡ true
+program_needed modes.Play = refl
+program_needed modes.Check = refl
+program_needed modes.List = refl
+
+pub has_program : (request : Request) → HasNeeded request → request.program ≡ None → ⊥
+has_program request has none =
+    let some : is_some request.program ≡ true = has_needed request request.mode has refl Program (program_needed request.mode) in
+    let same : is_some request.program ≡ false = ap (λ (a : Option (List ℕ)). is_some a) none in cc
+
+-- The play that is asked of a program that is built is that of the action that is named.
+
+pub plays_asked : (request : Request) (bytes : List ℕ) (program : List StmtTree) {action : List ℕ} → request.action ≡ Some action → IsBuiltProgram bytes program →
+    IsWithin (Plays program action request.turns) (PlaysText request bytes program)
+plays_asked request bytes program {action = action} a is = record {
+  to = λ text status p. built text status is (record { action = action; asked = a; plays = p });
+}
+
+pub clash : {A : Type 0} (b : Bool) → b ≡ true → b ≡ false → A
+clash true e f = absurd cc
+clash false e f = absurd cc
+
+asked_play : {request : Request} {bytes : List ℕ} {program : List StmtTree} {action text : List ℕ} {status : Status} → request.action ≡ Some action → IsBuiltProgram bytes program →
+    PlaysText request bytes program text status → Plays program action request.turns text status
+asked_play {program = program} a is (unbuilt piece line at) = clash (is_unbuilt (map Some program) at.index) at.here (is.built at.index at.within)
+asked_play {request = request} {program = program} {action = action} a is (built text status own p) =
+    subst (λ (z : List ℕ). Plays program z request.turns text status) (some_back p.action action (sym p.asked ∙ a)) p.plays
+
+pub asked_plays : (request : Request) (bytes : List ℕ) (program : List StmtTree) {action : List ℕ} → request.action ≡ Some action → IsBuiltProgram bytes program →
+    IsWithin (PlaysText request bytes program) (Plays program action request.turns)
+asked_plays request bytes program a is = record { to = λ text status p. asked_play a is p }
+
+-- A piece is not built.
+
+pub unbuilt_wrote : {request : Request} {bytes : List ℕ} {program : List StmtTree} {before after : Option (List ℕ)} (piece line : ℕ) → IsUnbuiltAt bytes program piece line →
+    after ≡ then_bytes before (refusal_line piece line reasons.NotYetBuilt) → Wrote (PlaysText request bytes program) before after (Refused piece reasons.NotYetBuilt)
+unbuilt_wrote piece line at e = wrote_text (refusal_line piece line reasons.NotYetBuilt) (unbuilt piece line at) e
+
+pub unbuilt_front : {request : Request} {bytes : List ℕ} {program : List StmtTree} {before after : Option (List ℕ)} (piece line : ℕ) → IsUnbuiltAt bytes program piece line →
+    MovesFront before (refusal_line piece line reasons.NotYetBuilt) after → WroteFront (PlaysText request bytes program) before after
+unbuilt_front piece line at m = wrote_front (refusal_line piece line reasons.NotYetBuilt) (Refused piece reasons.NotYetBuilt) (unbuilt piece line at) m
+
+-- The answer for a text that is a program is the work on it.
+
+pub work_answers : (request : Request) (bytes : List ℕ) (program : List StmtTree) → IsProgram bytes program →
+    IsWithin (Work request bytes program request.mode) (TextAnswer request bytes)
+work_answers request bytes program is = record { to = λ text status w. accepted program text status is w }
+
+answer_works : {request : Request} {bytes text : List ℕ} {status : Status} (program : List StmtTree) → IsProgram bytes program →
+    TextAnswer request bytes text status → Work request bytes program request.mode text status
+answer_works program is (refused piece line reason fault) = absurd (no_fault program is fault)
+answer_works {request = request} {bytes = bytes} program is (accepted other text status other_is w) =
+    subst (λ (z : List StmtTree). Work request bytes z request.mode text status) (one_program bytes other program other_is is) w
+
+pub answers_work : (request : Request) (bytes : List ℕ) (program : List StmtTree) → IsProgram bytes program →
+    IsWithin (TextAnswer request bytes) (Work request bytes program request.mode)
+answers_work request bytes program is = record { to = λ text status a. answer_works program is a }
+
+-- A text is refused.
+
+pub refused_wrote : {request : Request} {bytes : List ℕ} {before after : Option (List ℕ)} (piece line : ℕ) (reason : Reason) → FirstFault bytes piece line reason →
+    after ≡ then_bytes before (refusal_line piece line reason) → Wrote (TextAnswer request bytes) before after (Refused piece reason)
+refused_wrote piece line reason fault e = wrote_text (refusal_line piece line reason) (refused piece line reason fault) e
+
+pub refused_front : {request : Request} {bytes : List ℕ} {before after : Option (List ℕ)} (piece line : ℕ) (reason : Reason) → FirstFault bytes piece line reason →
+    MovesFront before (refusal_line piece line reason) after → WroteFront (TextAnswer request bytes) before after
+refused_front piece line reason fault m = wrote_front (refusal_line piece line reason) (Refused piece reason) (refused piece line reason fault) m
+
+-- The answer to the words is that for the file that they name.
+
+pub file_words : {words : List (List ℕ)} {files : List (List ℕ × List ℕ)} {request : Request} {path : List ℕ} → NamesFile words request path →
+    IsWithin (FileAnswer request (file_of files path)) (Answer words files)
+file_words {request = request} {path = path} names = record { to = λ text status a. asked request path text status names a }
+
+words_answer : {words : List (List ℕ)} {files : List (List ℕ × List ℕ)} {request : Request} {path text : List ℕ} {status : Status} → NamesFile words request path →
+    Answer words files text status → FileAnswer request (file_of files path) text status
+words_answer names (usage n u) = absurd (no_usage names.asks u)
+words_answer {files = files} {request = request} {path = path} names (asked other other_path text status other_names a) =
+    let same : other ≡ request = one_request other_names.asks names.asks in
+    let paths : other_path ≡ path =
+    some_back other_path path (sym other_names.program ∙ ap (λ (r : Request). r.program) same ∙ names.program) in
+    subst (λ (r : Request). FileAnswer r (file_of files path) text status) same
+    (subst (λ (p : List ℕ). FileAnswer other (file_of files p) text status) paths a)
+
+pub words_file : {words : List (List ℕ)} {files : List (List ℕ × List ℕ)} {request : Request} {path : List ℕ} → NamesFile words request path →
+    IsWithin (Answer words files) (FileAnswer request (file_of files path))
+words_file names = record { to = λ text status a. words_answer names a }
+
+-- A text is too long.
 
 -- there is a text of each length
 text_of_length : (n : ℕ) → (text : List ℕ) × (length text ≡ n)
@@ -135,30 +148,49 @@ is_longer text n e = omega arith
 long_text : (n : ℕ) → (text : List ℕ) × (n < length text)
 long_text n = let t = text_of_length (n + 1) in (t.0, is_longer t.0 n t.1)
 
-pub some_bytes_long_to : {turns : ℕ} {action : List ℕ} {before after : Option (List ℕ)} → after ≡ then_bytes before (refusal_line 0 0 reasons.TooLong) →
-    PlaysSomeBytesTo action turns before after (Refused 0 reasons.TooLong)
-some_bytes_long_to e = let t = long_text text_limit in some_bytes_to (long_to t.0 t.1 e)
+long_answer : {request : Request} {bytes : List ℕ} → text_limit < length bytes →
+    TextAnswer request bytes (refusal_line 0 0 reasons.TooLong) (Refused 0 reasons.TooLong)
+long_answer long = refused 0 0 reasons.TooLong (is_too_long long)
 
-pub some_bytes_long_front : {turns : ℕ} {action : List ℕ} {before after : Option (List ℕ)} → MovesFront before (refusal_line 0 0 reasons.TooLong) after →
-    PlaysSomeBytesFront action turns before after
-some_bytes_long_front m = let t = long_text text_limit in some_bytes_front (long_front t.0 t.1 m)
+pub long_file : (request : Request) (file : Option (List ℕ)) → IsSomeAnd file (λ bytes. text_limit < length bytes) →
+    FileAnswer request file (refusal_line 0 0 reasons.TooLong) (Refused 0 reasons.TooLong)
+long_file request None long = absurd long
+long_file request (Some bytes) long = record { bytes = bytes; held = refl; answer = long_answer long }
+
+pub some_long_answer : (request : Request) → SomeTextAnswer request (refusal_line 0 0 reasons.TooLong) (Refused 0 reasons.TooLong)
+some_long_answer request = let t = long_text text_limit in record { bytes = t.0; answer = long_answer t.1 }
+
+-- The same without a word on what the store tells.
 
 -- the file of a store of one
 one_file : (path bytes : List ℕ) → file_of ((path, bytes) ∷ []) path ≡ Some bytes
 one_file path bytes = rw ((bytes_eq-Decides path path).1 refl) refl
 
-pub some_files_usage_to : {words : List (List ℕ)} {before after : Option (List ℕ)} (n : ℕ) → IsUsage words n →
-    after ≡ then_bytes before (number_line (codes "R usage ") (pos n)) → AnswersSomeFiles words before after (Usage n)
-some_files_usage_to n u e = record { files = []; answers = usage_to n u e }
+pub some_words : {words : List (List ℕ)} {request : Request} {path : List ℕ} → NamesFile words request path → IsWithin (SomeTextAnswer request) (SomeFilesAnswer words)
+some_words {request = request} {path = path} names = record {
+  to = λ text status a. record {
+    files = (path, a.bytes) ∷ [];
+    answer = asked request path text status names (record { bytes = a.bytes; held = one_file path a.bytes; answer = a.answer });
+  };
+}
 
-pub some_files_usage_front : {words : List (List ℕ)} {before after : Option (List ℕ)} (n : ℕ) → IsUsage words n →
-    MovesFront before (number_line (codes "R usage ") (pos n)) after → AnswersSomeFilesFront words before after
-some_files_usage_front n u m = record { files = []; answers = usage_front n u m }
+-- Words are refused.
 
-pub some_files_request_to : {turns : ℕ} {words : List (List ℕ)} {before after : Option (List ℕ)} {status : Status} {path action : List ℕ} →
-    IsRequest words path action turns → PlaysSomeBytesTo action turns before after status → AnswersSomeFiles words before after status
-some_files_request_to {path = path} r p = record { files = (path, p.bytes) ∷ []; answers = request_to r (file_to (one_file path p.bytes) p.plays) }
+pub usage_wrote : {words : List (List ℕ)} {files : List (List ℕ × List ℕ)} {before after : Option (List ℕ)} (n : ℕ) → IsUsage words n →
+    after ≡ then_bytes before (number_line (codes "R usage ") (pos n)) → Wrote (Answer words files) before after (Usage n)
+usage_wrote n u e = wrote_text (number_line (codes "R usage ") (pos n)) (usage n u) e
 
-pub some_files_request_front : {turns : ℕ} {words : List (List ℕ)} {before after : Option (List ℕ)} {path action : List ℕ} →
-    IsRequest words path action turns → PlaysSomeBytesFront action turns before after → AnswersSomeFilesFront words before after
-some_files_request_front {path = path} r p = record { files = (path, p.bytes) ∷ []; answers = request_front r (file_front (one_file path p.bytes) p.plays) }
+pub usage_front : {words : List (List ℕ)} {files : List (List ℕ × List ℕ)} {before after : Option (List ℕ)} (n : ℕ) → IsUsage words n →
+    MovesFront before (number_line (codes "R usage ") (pos n)) after → WroteFront (Answer words files) before after
+usage_front n u m = wrote_front (number_line (codes "R usage ") (pos n)) (Usage n) (usage n u) m
+
+some_usage : {words : List (List ℕ)} (n : ℕ) → IsUsage words n → SomeFilesAnswer words (number_line (codes "R usage ") (pos n)) (Usage n)
+some_usage n u = record { files = []; answer = usage n u }
+
+pub some_usage_wrote : {words : List (List ℕ)} {before after : Option (List ℕ)} (n : ℕ) → IsUsage words n →
+    after ≡ then_bytes before (number_line (codes "R usage ") (pos n)) → Wrote (SomeFilesAnswer words) before after (Usage n)
+some_usage_wrote n u e = wrote_text (number_line (codes "R usage ") (pos n)) (some_usage n u) e
+
+pub some_usage_front : {words : List (List ℕ)} {before after : Option (List ℕ)} (n : ℕ) → IsUsage words n →
+    MovesFront before (number_line (codes "R usage ") (pos n)) after → WroteFront (SomeFilesAnswer words) before after
+some_usage_front n u m = wrote_front (number_line (codes "R usage ") (pos n)) (Usage n) (some_usage n u) m

@@ -1,6 +1,9 @@
 pub mod NumberLemmas
 pub mod WordLemmas
 pub mod OneRequest
+pub mod WrittenLemmas
 pub mod PlayLemmas
+pub mod CheckLemmas
+pub mod ListLemmas
 pub mod AnswerLemmas
 pub mod OneAnswer

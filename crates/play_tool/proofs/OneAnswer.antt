@@ -1,6 +1,10 @@
 -- The words and the files have at most one answer.
-use Rattle.std.proofs.Common.{◌≡◌, ℕ, pos, List, refl, sym, ap, ◌∙◌, subst, None, Some, codes}
-use Rattle.tool_io.specs.Files.{file_of}
+use Rattle.std.proofs.Common.{◌≡◌, ◌<◌, ◌≤◌, ◌+◌, ℕ, pos, Bool, true, false, List, refl, sym, ap, ◌∙◌, subst, Option, None, Some, codes, map, arith, ◌⊎◌, inl, inr}
+use Rattle.std.proofs.lemmas.Bool.{cases_lt}
+use Rattle.stapl_lexer.specs.declared.reason.Reason.TheVariants as reasons
+use Rattle.stapl_lexer.proofs.PieceLemmas.{cut_one_way}
+use Rattle.stapl_syntax.specs.Programs.{line_of_index}
+use Rattle.stapl_syntax.specs.Unbuilt.{is_unbuilt, IsUnbuiltAt}
 use Rattle.stapl_lexer.specs.declared.reason.Reason.{Reason}
 use Rattle.stapl_syntax.specs.Trees.{StmtTree}
 use Rattle.stapl_checker.proofs.UniqueLemmas.{one_first_fault, one_program, no_fault}
@@ -8,11 +12,19 @@ use Rattle.stapl_meaning.specs.declared.events.Ending.{Ending}
 use Rattle.stapl_meaning.specs.Scopes.{chosen_of}
 use Rattle.stapl_meaning.specs.Plays.{play, ending_of}
 use Rattle.stapl_meaning.specs.Texts.{text_of}
+use Rattle.play_tool.specs.declared.checking.CheckWords.{CheckWords}
+use Rattle.play_tool.specs.declared.mode.Mode.{Mode}
+use Rattle.play_tool.specs.declared.mode.Mode.TheVariants as modes
+use Rattle.play_tool.specs.declared.words.Request.{Request}
 use Rattle.play_tool.specs.declared.status.Status.{Status}
-use Rattle.play_tool.specs.declared.status.Status.TheVariants.{Refused, Usage}
+use Rattle.play_tool.specs.declared.status.Status.TheVariants.{Done, Refused, Usage}
+use Rattle.play_tool.specs.Checks.{check_text, Checks, checked}
+use Rattle.play_tool.specs.Listings.{Lists, listed}
 use Rattle.play_tool.specs.Texts.{number_line, refusal_line}
-use Rattle.play_tool.specs.Answers.{done_with, ProgramPlays, no_action, played, Plays, refused, accepted, Answer, usage, plays}
-use Rattle.play_tool.proofs.OneRequest.{one_request, one_usage, no_usage}
+use Rattle.play_tool.specs.Answers.{PlaysText, unbuilt, built, done_with, Plays, no_action, played, PlaysAsked, Work, TextAnswer, refused, accepted, FileAnswer, Answer, usage, asked}
+use Rattle.play_tool.proofs.AnswerLemmas.{words_file, clash}
+use Rattle.play_tool.proofs.CheckLemmas.{one_word}
+use Rattle.play_tool.proofs.OneRequest.{one_usage, no_usage}
 
 -- a text and a status
 pub record Said : Type 0 where
@@ -43,8 +55,8 @@ one_ending : (program : List StmtTree) (turns : ℕ) (a b : List ℕ) (e f : End
 one_ending program turns a b e f p x y = some_some e f (sym x ∙ ap (λ (z : List ℕ). ending_of (play program z turns).outcome) p ∙ y)
 
 -- an accepted program gives one answer
-one_play : {program : List StmtTree} {action xs ys : List ℕ} {turns : ℕ} {s t : Status} → ProgramPlays program action turns xs s →
-    ProgramPlays program action turns ys t → said xs s ≡ said ys t
+one_play : {program : List StmtTree} {action xs ys : List ℕ} {turns : ℕ} {s t : Status} → Plays program action turns xs s →
+    Plays program action turns ys t → said xs s ≡ said ys t
 one_play (no_action e) (no_action f) = refl
 one_play {program = program} {action = action} (no_action e) (played chosen ending f g) = absurd (no_action_played program action chosen e f)
 one_play {program = program} {action = action} (played chosen ending f g) (no_action e) = absurd (no_action_played program action chosen e f)
@@ -52,32 +64,81 @@ one_play {program = program} {turns = turns} (played chosen a f g) (played other
     let same = some_some chosen other (sym f ∙ h) in
     same_play program turns chosen other a b same (one_ending program turns chosen other a b same g k)
 
+-- a request names one action at most
+one_asked : {program : List StmtTree} {request : Request} {xs ys : List ℕ} {s t : Status} → PlaysAsked program request xs s → PlaysAsked program request ys t →
+    said xs s ≡ said ys t
+one_asked {program = program} {request = request} {ys = ys} {t = t} a b =
+    one_play a.plays (subst (λ (z : List ℕ). Plays program z request.turns ys t) (some_some b.action a.action (sym b.asked ∙ a.asked)) b.plays)
+
+-- the first piece that is not built is one
+same_index : (test : ℕ → Bool) (i j : ℕ) → test i ≡ true → test j ≡ true → ((k : ℕ) → k < i → test k ≡ false) → ((k : ℕ) → k < j → test k ≡ false) → i ≡ j
+same_index test i j a b before also = by (cases_lt i j) (cases_lt j i)
+  where
+    by : (i < j) ⊎ (j ≤ i) → (j < i) ⊎ (i ≤ j) → i ≡ j
+    by (inl l) m = clash (test i) a (also i l)
+    by (inr l) (inl m) = clash (test j) b (before j m)
+    by (inr l) (inr m) = omega arith
+
+same_unbuilt : (p l q m : ℕ) → p ≡ q → l ≡ m → said (refusal_line p l reasons.NotYetBuilt) (Refused p reasons.NotYetBuilt) ≡ said (refusal_line q m reasons.NotYetBuilt) (Refused q reasons.NotYetBuilt)
+same_unbuilt p l q m a b = rw (a, b) refl
+
+one_unbuilt : {bytes : List ℕ} {program : List StmtTree} {p l q m : ℕ} → IsUnbuiltAt bytes program p l → IsUnbuiltAt bytes program q m → (p ≡ q) × (l ≡ m)
+one_unbuilt {bytes = bytes} {program = program} a b =
+    let index = same_index (is_unbuilt (map Some program)) a.index b.index a.here b.here a.before b.before in
+    let pieces = cut_one_way bytes a.pieces b.pieces a.cut b.cut in (
+      a.piece_is ∙ ap (λ (i : ℕ). i + 1) index ∙ sym b.piece_is,
+      a.line_is ∙ (λ j. line_of_index bytes (pieces j) (index j)) ∙ sym b.line_is,
+    )
+
+-- a program is built or it is not
+one_played : {request : Request} {bytes : List ℕ} {program : List StmtTree} {xs ys : List ℕ} {s t : Status} → PlaysText request bytes program xs s →
+    PlaysText request bytes program ys t → said xs s ≡ said ys t
+one_played (unbuilt p l a) (unbuilt q m b) = let e = one_unbuilt a b in same_unbuilt p l q m e.0 e.1
+one_played {program = program} (unbuilt p l a) (built text status is b) = clash (is_unbuilt (map Some program) a.index) a.here (is.built a.index a.within)
+one_played {program = program} (built text status is a) (unbuilt p l b) = clash (is_unbuilt (map Some program) b.index) b.here (is.built b.index b.within)
+one_played (built text status is a) (built other also_status also b) = one_asked a b
+
+same_check : (program : List StmtTree) (a b : Option CheckWords) → a ≡ b → said (check_text program a) (Done (pos 0)) ≡ said (check_text program b) (Done (pos 0))
+same_check program a b e = rw e refl
+
+one_check : {bytes : List ℕ} {program : List StmtTree} {xs ys : List ℕ} {s t : Status} → Checks bytes program xs s → Checks bytes program ys t → said xs s ≡ said ys t
+one_check {program = program} (checked a x) (checked b y) = same_check program a b (one_word x y)
+
+one_list : {program : List StmtTree} {xs ys : List ℕ} {s t : Status} → Lists program xs s → Lists program ys t → said xs s ≡ said ys t
+one_list listed listed = refl
+
+-- each mode says one thing of a program
+one_work : (request : Request) (bytes : List ℕ) (program : List StmtTree) (xs ys : List ℕ) (s t : Status) (mode : Mode) → Work request bytes program mode xs s →
+    Work request bytes program mode ys t → said xs s ≡ said ys t
+one_work request bytes program xs ys s t modes.Play a b = one_played a b
+one_work request bytes program xs ys s t modes.Check a b = one_check a b
+one_work request bytes program xs ys s t modes.List a b = one_list a b
+
 same_refusal : (p l q m : ℕ) (r s : Reason) → p ≡ q → l ≡ m → r ≡ s → said (refusal_line p l r) (Refused p r) ≡ said (refusal_line q m s) (Refused q s)
 same_refusal p l q m r s a b c = rw (a, b, c) refl
 
 -- the bytes of a program give one answer
-one_text : {bytes action xs ys : List ℕ} {turns : ℕ} {s t : Status} → Plays bytes action turns xs s → Plays bytes action turns ys t → said xs s ≡ said ys t
+one_text : {request : Request} {bytes xs ys : List ℕ} {s t : Status} → TextAnswer request bytes xs s → TextAnswer request bytes ys t → said xs s ≡ said ys t
 one_text {bytes = bytes} (refused p l r f) (refused q m s g) =
     let e = one_first_fault bytes p l q m r s f g in same_refusal p l q m r s e.0 e.1 e.2
-one_text (refused p l r f) (accepted program text status is pl) = absurd (no_fault program is f)
-one_text (accepted program text status is pl) (refused p l r f) = absurd (no_fault program is f)
-one_text {bytes = bytes} {action = action} {turns = turns} (accepted program text status is pl) (accepted other text' status' is' pl') =
-    one_play pl (subst (λ (z : List StmtTree). ProgramPlays z action turns text' status') (sym (one_program bytes program other is is')) pl')
+one_text (refused p l r f) (accepted program text status is w) = absurd (no_fault program is f)
+one_text (accepted program text status is w) (refused p l r f) = absurd (no_fault program is f)
+one_text {request = request} {bytes = bytes} (accepted program text status is w) (accepted other text' status' is' w') =
+    one_work request bytes program text text' status status' request.mode w (subst (λ (z : List StmtTree). Work request bytes z request.mode text' status') (sym (one_program bytes program other is is')) w')
 
 same_line : (n m : ℕ) → n ≡ m → said (number_line (codes "R usage ") (pos n)) (Usage n) ≡ said (number_line (codes "R usage ") (pos m)) (Usage m)
 same_line n m e = rw e refl
 
+one_file : {request : Request} {file : Option (List ℕ)} {xs ys : List ℕ} {s t : Status} → FileAnswer request file xs s → FileAnswer request file ys t → said xs s ≡ said ys t
+one_file {request = request} {ys = ys} {t = t} a b =
+    one_text a.answer (subst (λ (z : List ℕ). TextAnswer request z ys t) (some_some b.bytes a.bytes (sym b.held ∙ a.held)) b.answer)
+
 -- there is one answer
 one_said : {words : List (List ℕ)} {files : List (List ℕ × List ℕ)} {xs ys : List ℕ} {s t : Status} → Answer words files xs s → Answer words files ys t → said xs s ≡ said ys t
 one_said (usage n u) (usage m v) = same_line n m (one_usage u v)
-one_said (usage n u) (plays path action turns bytes text status r held p) = absurd (no_usage r u)
-one_said (plays path action turns bytes text status r held p) (usage n u) = absurd (no_usage r u)
-one_said {files = files} (plays path action turns bytes text status r held p) (plays path2 action2 turns2 bytes2 text2 status2 r2 held2 p2) =
-    let m = one_request r2 r in
-    let same : bytes2 ≡ bytes = some_some bytes2 bytes (sym held2 ∙ ap (file_of files) m.0 ∙ held) in
-    one_text p
-    (subst (λ (z : List ℕ). Plays bytes z turns text2 status2) m.1
-    (subst (λ (z : ℕ). Plays bytes action2 z text2 status2) m.2 (subst (λ (z : List ℕ). Plays z action2 turns2 text2 status2) same p2)))
+one_said (usage n u) (asked request path text status names a) = absurd (no_usage names.asks u)
+one_said (asked request path text status names a) (usage n u) = absurd (no_usage names.asks u)
+one_said (asked request path text status names a) (asked other path2 text2 status2 names2 b) = one_file a ((words_file names).to text2 status2 (asked other path2 text2 status2 names2 b))
 
 pub one_answer_lem : (words : List (List ℕ)) (files : List (List ℕ × List ℕ)) (xs ys : List ℕ) (s t : Status) → Answer words files xs s → Answer words files ys t → (xs ≡ ys) × (s ≡ t)
 one_answer_lem words files xs ys s t a b = let e = one_said a b in (ap (λ (z : Said). z.text) e, ap (λ (z : Said). z.status) e)

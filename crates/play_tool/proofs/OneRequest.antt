@@ -1,14 +1,34 @@
 -- Words make at most one request, or have one first fault, and not both.
-use Rattle.std.proofs.Common.{◌≡◌, ℕ, List, length, refl, arith, true, inl, inr}
+use Rattle.std.proofs.Common.{◌≡◌, ℕ, List, [], length, refl, ap, ◌∙◌, arith, subst, true, Option, None, Some, inl, inr}
 use Rattle.std.proofs.lemmas.Bool.{cases_lt}
-use Rattle.play_tool.specs.Words.{Key, Program, Action, Turns, is_needed, Part, ProgramIn, ActionNamed, TurnsAtMost, key_of, IsGiven, AskTurns, turns_given, turns_usual, AreRead, IsRequest, IsUsage, is_unread, is_missing}
-use Rattle.play_tool.proofs.WordLemmas.{one_given}
+use Rattle.std.specs.Prelude.{is_some}
+use Rattle.std.specs.Option.{option_map}
+use Rattle.play_tool.specs.declared.mode.Mode.{Mode}
+use Rattle.play_tool.specs.declared.mode.Mode.TheVariants as modes
+use Rattle.play_tool.specs.declared.mode.WordKey.{WordKey}
+use Rattle.play_tool.specs.declared.mode.WordKey.TheVariants.{Program, Action, Turns}
+use Rattle.play_tool.specs.declared.words.Request.{Request}
+use Rattle.play_tool.specs.Words.{HasMode, needs, Part, ProgramIn, ActionNamed, TurnsAtMost, key_of, IsGiven, GiveOf, IsKeyGiven, AskTurns, turns_given, turns_usual, AreRead, IsRequest, Lack, lack_mode, lack_key, IsUsage, is_unread, is_missing}
+use Rattle.play_tool.proofs.WordLemmas.{one_mode, one_given}
 
-one_path : (words : List (List ℕ)) (a b : List ℕ) → AreRead words → IsGiven words (ProgramIn a) → IsGiven words (ProgramIn b) → a ≡ b
-one_path words a b read x y = let e = one_given words (length words) (ProgramIn a) (ProgramIn b) read refl x y in cc
+one_of : (words : List (List ℕ)) (key : WordKey) (a b : Option Part) → AreRead words → GiveOf words (length words) key a → GiveOf words (length words) key b → a ≡ b
+one_of words key None None read x y = refl
+one_of words key None (Some q) read x y = absurd (x q y.0 y.1)
+one_of words key (Some p) None read x y = absurd (y p x.0 x.1)
+one_of words key (Some p) (Some q) read x y =
+    let same : key_of p ≡ key_of q = let e = x.0 in let f = y.0 in cc in ap Some (one_given words (length words) p q read same x.1 y.1)
 
-one_action : (words : List (List ℕ)) (a b : List ℕ) → AreRead words → IsGiven words (ActionNamed a) → IsGiven words (ActionNamed b) → a ≡ b
-one_action words a b read x y = let e = one_given words (length words) (ActionNamed a) (ActionNamed b) read refl x y in cc
+same_program : (a b : Option (List ℕ)) → option_map ProgramIn a ≡ option_map ProgramIn b → a ≡ b
+same_program None None e = refl
+same_program None (Some q) e = absurd cc
+same_program (Some p) None e = absurd cc
+same_program (Some p) (Some q) e = cc
+
+same_action : (a b : Option (List ℕ)) → option_map ActionNamed a ≡ option_map ActionNamed b → a ≡ b
+same_action None None e = refl
+same_action None (Some q) e = absurd cc
+same_action (Some p) None e = absurd cc
+same_action (Some p) (Some q) e = cc
 
 one_count : (words : List (List ℕ)) (a b : ℕ) → AreRead words → IsGiven words (TurnsAtMost a) → IsGiven words (TurnsAtMost b) → a ≡ b
 one_count words a b read x y = let e = one_given words (length words) (TurnsAtMost a) (TurnsAtMost b) read refl x y in cc
@@ -19,12 +39,16 @@ one_number read (turns_given a x) (turns_usual none) = absurd (none a x)
 one_number read (turns_usual none) (turns_given b y) = absurd (none b y)
 one_number read (turns_usual none) (turns_usual other) = refl
 
-pub one_request : {words : List (List ℕ)} {a b c d : List ℕ} {m n : ℕ} → IsRequest words a b m → IsRequest words c d n → (a ≡ c) × (b ≡ d) × (m ≡ n)
-one_request {words = words} {a = a} {b = b} {c = c} {d = d} x y = (
-  one_path words a c x.read x.program y.program,
-  one_action words b d x.read x.action_named y.action_named,
-  one_number x.read x.turns_asked y.turns_asked,
-)
+same_parts : {m k : Mode} {p q n o : Option (List ℕ)} {t u : ℕ} → m ≡ k → p ≡ q → n ≡ o → t ≡ u →
+    ◌≡◌ {A = Request} (record { mode = m; program = p; action = n; turns = t }) (record { mode = k; program = q; action = o; turns = u })
+same_parts e f g h = cc
+
+pub one_request : {words : List (List ℕ)} {a b : Request} → IsRequest words a → IsRequest words b → a ≡ b
+one_request {words = words} {a = a} {b = b} x y =
+    same_parts (one_mode words a.mode b.mode x.mode y.mode)
+    (same_program a.program b.program (one_of words Program _ _ x.read x.program y.program))
+    (same_action a.action b.action (one_of words Action _ _ x.read x.action_named y.action_named))
+    (one_number x.read x.turns_asked y.turns_asked)
 
 pub one_usage : {words : List (List ℕ)} {n m : ℕ} → IsUsage words n → IsUsage words m → n ≡ m
 one_usage (is_unread i f) (is_unread j g) =
@@ -32,16 +56,39 @@ one_usage (is_unread i f) (is_unread j g) =
       | inl lt ↦ absurd (f.unread (g.before i lt))
       | inr le ↦ elim (cases_lt j i) [ inl lt ↦ absurd (g.unread (f.before j lt)) | inr ge ↦ omega arith ]
     ]
-one_usage (is_unread i f) (is_missing read lacks) = absurd (f.unread (read i f.within))
-one_usage (is_missing read lacks) (is_unread i f) = absurd (f.unread (read i f.within))
-one_usage (is_missing read lacks) (is_missing read2 lacks2) = refl
+one_usage (is_unread i f) (is_missing read lack) = absurd (f.unread (read i f.within))
+one_usage (is_missing read lack) (is_unread i f) = absurd (f.unread (read i f.within))
+one_usage (is_missing read lack) (is_missing read2 lack2) = refl
 
-needed_is_given : {words : List (List ℕ)} {path action : List ℕ} {turns : ℕ} (key : Key) → IsRequest words path action turns → is_needed key ≡ true →
-    ((part : Part) → key_of part ≡ key → IsGiven words part → ⊥) → ⊥
-needed_is_given {path = path} Program r needed none = none (ProgramIn path) refl r.program
-needed_is_given {action = action} Action r needed none = none (ActionNamed action) refl r.action_named
-needed_is_given Turns r needed none = cc
+no_word : (mode : Mode) → HasMode [] mode → ⊥
+no_word modes.Play e = cc
+no_word modes.Check e = cc
+no_word modes.List e = cc
 
-pub no_usage : {words : List (List ℕ)} {path action : List ℕ} {turns n : ℕ} → IsRequest words path action turns → IsUsage words n → ⊥
+-- a request that has a key of its words was given it
+key_given : (words : List (List ℕ)) (key : WordKey) (found : Option Part) → GiveOf words (length words) key found → is_some found ≡ true → IsKeyGiven words key
+key_given words key None give e = absurd cc
+key_given words key (Some part) give e = record { part = part; of_key = give.0; given = give.1 }
+
+some_mapped : {A B : Type 0} (f : A → B) (found : Option A) → is_some found ≡ true → is_some (option_map f found) ≡ true
+some_mapped f None e = e
+some_mapped f (Some x) e = refl
+
+turns_not_needed : (mode : Mode) → needs mode Turns ≡ true → ⊥
+turns_not_needed modes.Play e = cc
+turns_not_needed modes.Check e = cc
+turns_not_needed modes.List e = cc
+
+needed_given : (words : List (List ℕ)) (request : Request) (key : WordKey) → IsRequest words request → needs request.mode key ≡ true → IsKeyGiven words key
+needed_given words request Program r e = key_given words Program (option_map ProgramIn request.program) r.program (some_mapped ProgramIn request.program (r.needed.has Program e))
+needed_given words request Action r e = key_given words Action (option_map ActionNamed request.action) r.action_named (some_mapped ActionNamed request.action (r.needed.has Action e))
+needed_given words request Turns r e = absurd (turns_not_needed request.mode e)
+
+no_lack : {words : List (List ℕ)} {request : Request} → IsRequest words request → Lack words → ⊥
+no_lack {request = request} r (lack_mode e) = let none = subst (λ (ws : List (List ℕ)). HasMode ws request.mode) e r.mode in no_word request.mode none
+no_lack {words = words} {request = request} r (lack_key mode key has needed missing) =
+    missing (needed_given words request key r (ap (λ (m : Mode). needs m key) (one_mode words request.mode mode r.mode has) ∙ needed))
+
+pub no_usage : {words : List (List ℕ)} {request : Request} {n : ℕ} → IsRequest words request → IsUsage words n → ⊥
 no_usage r (is_unread i f) = f.unread (r.read i f.within)
-no_usage r (is_missing read lacks) = needed_is_given lacks.key r lacks.needed lacks.absent
+no_usage r (is_missing read lack) = no_lack r lack

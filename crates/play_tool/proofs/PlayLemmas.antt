@@ -12,7 +12,7 @@ use Rattle.tool_io.proofs.BytesLemmas.{moves_front_nothing}
 use Rattle.tool_io.proofs.PutLemmas.{put_then_front, front_with, front_written, finish_front}
 use Rattle.stapl_syntax.specs.Trees.{BodyTree, action, end_procedure, StmtTree}
 use Rattle.stapl_syntax.specs.Built.{unlabelled, action_of, procedure_of}
-use Rattle.stapl_syntax.specs.Faults.{is_inside}
+use Rattle.stapl_syntax.specs.Unbuilt.{is_inside}
 use Rattle.stapl_syntax.specs.Shapes.{is_between, IsOneProcedure}
 use Rattle.stapl_meaning.specs.declared.events.Event.{Event}
 use Rattle.stapl_meaning.specs.declared.events.Ending.{Ending}
@@ -33,7 +33,8 @@ use Rattle.stapl_machine.specs.Zeros.{zero_of, zeros_of_code}
 use Rattle.stapl_machine.specs.Machines.{play_of}
 use Rattle.play_tool.specs.declared.status.Status.{Status}
 use Rattle.play_tool.specs.declared.status.Status.TheVariants.{NoAction}
-use Rattle.play_tool.specs.Answers.{done_with, ProgramPlays, no_action, played, ProgramPlaysTo, ProgramPlaysFront, IsPrefixOfProgram}
+use Rattle.play_tool.specs.Written.{Wrote, WroteFront, IsPrefixOf}
+use Rattle.play_tool.specs.Answers.{done_with, Plays, no_action, played}
 use Rattle.play_tool.specs.CodePlays.{procedures_in, procedures_named, HasEnding, RunWritten, RunFront, PutsRunFront, IsPlayOf}
 
 -- The variables of the code of a program begin as the program's do.
@@ -145,30 +146,30 @@ has_ending run goes = of_outcome run.outcome refl
 
 -- Without the action there is none of that name.
 pub no_such_action : {program : List StmtTree} {name : List ℕ} {turns : ℕ} {before after : Option (List ℕ)} → chosen_of program name ≡ None →
-    after ≡ then_bytes before (codes "R action\n") → ProgramPlaysTo program name turns before after NoAction
-no_such_action none e = record { text = codes "R action\n"; plays = no_action none; written = e }
+    after ≡ then_bytes before (codes "R action\n") → Wrote (Plays program name turns) before after NoAction
+no_such_action none e = record { text = codes "R action\n"; answer = no_action none; written = e }
 
 pub no_such_action_front : {program : List StmtTree} {name : List ℕ} {turns : ℕ} {before after : Option (List ℕ)} → chosen_of program name ≡ None →
-    MovesFront before (codes "R action\n") after → ProgramPlaysFront program name turns before after
-no_such_action_front none m = record { text = codes "R action\n"; status = NoAction; plays = no_action none; front = m }
+    MovesFront before (codes "R action\n") after → WroteFront (Plays program name turns) before after
+no_such_action_front none m = record { text = codes "R action\n"; status = NoAction; answer = no_action none; front = m }
 
 -- With it, what the run writes is the program's.
 plays_so : {program : List StmtTree} {name : List ℕ} {turns : ℕ} (run : Run) (ending : Ending) → IsPlayOf program name turns run → ending_of run.outcome ≡ Some ending →
-    ProgramPlays program name turns (text_of run.events ending) (done_with ending)
+    Plays program name turns (text_of run.events ending) (done_with ending)
 plays_so {program = program} {name = name} {turns = turns} run ending p e =
-    subst (λ (events : List Event). ProgramPlays program name turns (text_of events ending) (done_with ending)) (sym p.same_events)
+    subst (λ (events : List Event). Plays program name turns (text_of events ending) (done_with ending)) (sym p.same_events)
     (played p.chosen ending p.is_chosen (sym p.same_ending ∙ e))
 
 pub run_to : {program : List StmtTree} {name : List ℕ} {turns : ℕ} {before after : Option (List ℕ)} {ending : Ending} (run : Run) → IsPlayOf program name turns run →
-    RunWritten run before after ending → ProgramPlaysTo program name turns before after (done_with ending)
-run_to {ending = ending} run p w = record { text = text_of run.events ending; plays = plays_so run ending p w.ended; written = w.written }
+    RunWritten run before after ending → Wrote (Plays program name turns) before after (done_with ending)
+run_to {ending = ending} run p w = record { text = text_of run.events ending; answer = plays_so run ending p w.ended; written = w.written }
 
 pub run_front : {program : List StmtTree} {name : List ℕ} {turns : ℕ} {before after : Option (List ℕ)} (run : Run) → IsPlayOf program name turns run →
-    HasEnding run → RunFront run before after → ProgramPlaysFront program name turns before after
+    HasEnding run → RunFront run before after → WroteFront (Plays program name turns) before after
 run_front run p h f = record {
   text = text_of run.events h.ending;
   status = done_with h.ending;
-  plays = plays_so run h.ending p h.comes;
+  answer = plays_so run h.ending p h.comes;
   front = f.front h.ending h.comes;
 }
 
@@ -176,7 +177,7 @@ not_chosen : (program : List StmtTree) (name chosen : List ℕ) → chosen_of pr
 not_chosen program name chosen e f = cc
 
 same_run_text : {program : List StmtTree} {name text : List ℕ} {turns : ℕ} {before after : Option (List ℕ)} {status : Status} (run : Run) → IsPlayOf program name turns run →
-    RunFront run before after → ProgramPlays program name turns text status → MovesFront before text after
+    RunFront run before after → Plays program name turns text status → MovesFront before text after
 same_run_text {program = program} {name = name} run p f (no_action none) = absurd (not_chosen program name p.chosen p.is_chosen none)
 same_run_text {program = program} {turns = turns} {before = before} {after = after} run p f (played chosen ending is e) =
     let same : p.chosen ≡ chosen = let a = p.is_chosen in cc in
@@ -185,7 +186,7 @@ same_run_text {program = program} {turns = turns} {before = before} {after = aft
     subst (λ (z : List Event). MovesFront before (text_of z ending) after) events (f.front ending ended)
 
 pub run_prefix : {program : List StmtTree} {name : List ℕ} {turns : ℕ} {before after : Option (List ℕ)} (run : Run) → IsPlayOf program name turns run →
-    RunFront run before after → IsPrefixOfProgram program name turns before after
+    RunFront run before after → IsPrefixOf (Plays program name turns) before after
 run_prefix run p f = record { prefix = λ text status plays. same_run_text run p f plays }
 
 -- What was written of a run.

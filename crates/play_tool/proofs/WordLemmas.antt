@@ -1,12 +1,18 @@
 -- On words that are read from the first one on.
-use Rattle.std.proofs.Common.{◌≡◌, ◌≢◌, ◌<◌, ◌≤◌, ◌+◌, ℕ, List, [], ◌∷◌, ◌++◌, length, sym, refl, ap, ◌∙◌, arith, subst, suc, zero, get_or, map, codes, Option, None, Some, inl, inr}
+use Rattle.std.proofs.Common.{◌≡◌, ◌≢◌, ◌<◌, ◌≤◌, ◌+◌, ℕ, List, [], ◌∷◌, ◌++◌, length, sym, refl, ap, ◌∙◌, arith, subst, suc, zero, get_or, map, codes, Option, None, Some, inl, inr, Bool, true, false, ◌&&◌, not}
 use Rattle.std.proofs.lemmas.List.{get_or-map}
 use Rattle.std.proofs.lemmas.Bool.{cases_lt}
 use Rattle.std.specs.Option.{option_map}
 use Rattle.std.specs.Str.{str_to_ascii_uppercase}
 use Rattle.std.specs.Str.Parse.{digits_value}
-use Rattle.play_tool.specs.Words.{Key, Program, Action, Turns, Part, ProgramIn, ActionNamed, TurnsAtMost, key_of, NamesProgram, NamesAction, NamesTurns, GivesPart, word_at, IsGivenBefore, GivesNew, IsRead, AreReadBefore, AskTurns, turns_given, turns_usual, IsRequest, Lacks, IsFirstUnread, IsUsage, is_unread, is_missing}
-use Rattle.play_tool.specs.GivenParts.{Values, given_of, with_part, Adds, IsTaken, AddsWord, AddsNothing, one_if_some, count_of, GiveOf, AreReadUpTo, turns_or_usual, HasValues, LacksValue}
+use Rattle.std.specs.Prelude.{is_some}
+use Rattle.play_tool.specs.declared.mode.Mode.{Mode}
+use Rattle.play_tool.specs.declared.mode.Mode.TheVariants as modes
+use Rattle.play_tool.specs.declared.mode.WordKey.{WordKey}
+use Rattle.play_tool.specs.declared.mode.WordKey.TheVariants.{Program, Action, Turns}
+use Rattle.play_tool.specs.declared.words.Request.{Request}
+use Rattle.play_tool.specs.Words.{mode_word, takes, needs, Part, ProgramIn, ActionNamed, TurnsAtMost, key_of, NamesProgram, NamesAction, NamesTurns, GivesPart, word_at, HasMode, IsGivenBefore, GivesNew, IsRead, AreReadBefore, IsKeyGiven, GiveOf, AskTurns, turns_given, turns_usual, has_key, IsRequest, lack_mode, lack_key, IsFirstUnread, IsUsage, is_unread, is_missing}
+use Rattle.play_tool.specs.GivenParts.{Values, given_of, with_part, Adds, Refuses, not_taken, given_already, AddsWord, AddsNothing, one_if_some, count_of, AreReadUpTo, lacks, is_complete, turns_or_usual, HasValues}
 
 -- A word gives at most one part.
 
@@ -60,30 +66,48 @@ one_part word (TurnsAtMost p) (TurnsAtMost q) x y = ap TurnsAtMost (one_number w
 pub adds_part : {word : List ℕ} {old new : Values} (part : Part) → GivesPart word part → Adds old part new → AddsWord old word new
 adds_part part gives adds = record { part = part; gives = gives; adds = adds }
 
-pub adds_taken : {word : List ℕ} {values : Values} (part : Part) → GivesPart word part → IsTaken values part → AddsNothing values word
-adds_taken {word = word} {values = values} part gives t = record { taken = λ other given. subst (IsTaken values) (one_part word part other gives given) t }
+pub adds_refused : {word : List ℕ} {values : Values} (part : Part) → GivesPart word part → Refuses values part → AddsNothing values word
+adds_refused {word = word} {values = values} part gives r =
+    record { refused = λ other given. subst (Refuses values) (one_part word part other gives given) r }
 
 no_part : (word : List ℕ) (values : Values) → ((path : List ℕ) → NamesProgram word path → ⊥) → ((name : List ℕ) → NamesAction word name → ⊥) →
-    ((n : ℕ) → NamesTurns word n → ⊥) → (part : Part) → GivesPart word part → IsTaken values part
+    ((n : ℕ) → NamesTurns word n → ⊥) → (part : Part) → GivesPart word part → Refuses values part
 no_part word values p a t (ProgramIn path) g = absurd (p path g)
 no_part word values p a t (ActionNamed name) g = absurd (a name g)
 no_part word values p a t (TurnsAtMost n) g = absurd (t n g)
 
 pub adds_no_part : {word : List ℕ} {values : Values} → ((path : List ℕ) → NamesProgram word path → ⊥) → ((name : List ℕ) → NamesAction word name → ⊥) →
     ((n : ℕ) → NamesTurns word n → ⊥) → AddsNothing values word
-adds_no_part {word = word} {values = values} p a t = record { taken = no_part word values p a t }
+adds_no_part {word = word} {values = values} p a t = record { refused = no_part word values p a t }
+
+-- The first word is that of at most one mode.
+
+same_word : (a b : Mode) → mode_word a ≡ mode_word b → a ≡ b
+unfolding first_byte
+same_word modes.Play modes.Play e = refl
+same_word modes.Play modes.Check e = let f : ◌≡◌ {A = ℕ} 112 99 = ap first_byte e in absurd (omega arith)
+same_word modes.Play modes.List e = let f : ◌≡◌ {A = ℕ} 112 108 = ap first_byte e in absurd (omega arith)
+same_word modes.Check modes.Play e = let f : ◌≡◌ {A = ℕ} 99 112 = ap first_byte e in absurd (omega arith)
+same_word modes.Check modes.Check e = refl
+same_word modes.Check modes.List e = let f : ◌≡◌ {A = ℕ} 99 108 = ap first_byte e in absurd (omega arith)
+same_word modes.List modes.Play e = let f : ◌≡◌ {A = ℕ} 108 112 = ap first_byte e in absurd (omega arith)
+same_word modes.List modes.Check e = let f : ◌≡◌ {A = ℕ} 108 99 = ap first_byte e in absurd (omega arith)
+same_word modes.List modes.List e = refl
+
+pub one_mode : (words : List (List ℕ)) (a b : Mode) → HasMode words a → HasMode words b → a ≡ b
+one_mode words a b x y = same_word a b (sym x ∙ y)
 
 -- Read words give at most one part of each key.
 
-behind_the_mode : (words : List (List ℕ)) (place : ℕ) → 0 < place → IsRead words place → GivesNew words place
-behind_the_mode words zero behind read = absurd (omega arith)
-behind_the_mode words (suc place) behind read = read
+new_behind : (words : List (List ℕ)) (place : ℕ) → 0 < place → IsRead words place → (mode : Mode) × HasMode words mode × GivesNew mode words place
+new_behind words zero behind read = absurd (omega arith)
+new_behind words (suc place) behind read = read
 
 -- not where one of them stands before the other
 not_before : (words : List (List ℕ)) (p q : Part) (n : ℕ) (place : ℕ) → key_of p ≡ key_of q → IsGivenBefore words place p → 0 < place → IsRead words place →
     GivesPart (word_at words place) q → ⊥
 not_before words p q n place same earlier behind read gives =
-    let r = behind_the_mode words place behind read in
+    let r = (new_behind words place behind read).2 in
     r.new p earlier (same ∙ ap key_of (one_part (word_at words place) q r.part gives r.gives))
 
 given_at : (words : List (List ℕ)) (p : Part) (place n : ℕ) → 0 < place → place < n → GivesPart (word_at words place) p → IsGivenBefore words n p
@@ -103,28 +127,29 @@ one_given words n p q read same x y =
 
 -- One word more is read.
 
-pub nothing_read : (words : List (List ℕ)) (values : Values) → word_at words 0 ≡ codes "play" → values.program ≡ None → values.action ≡ None → values.turns ≡ None →
+pub nothing_read : (words : List (List ℕ)) (values : Values) → HasMode words values.mode → values.program ≡ None → values.action ≡ None → values.turns ≡ None →
     AreReadUpTo words 1 values
 nothing_read words values mode p a t = record {
+  mode = mode;
   read = first_is;
   give = none_given;
   few = omega arith;
 }
   where
     first_is : AreReadBefore words 1
-    first_is zero lt = mode
+    first_is zero lt = (values.mode, mode)
     first_is (suc place) lt = absurd (omega arith)
 
     not_given : (part : Part) → IsGivenBefore words 1 part → ⊥
     not_given part g = let b = g.behind in let w = g.before in omega arith
 
-    none_given : (key : Key) → GiveOf words 1 key (given_of values key)
+    none_given : (key : WordKey) → GiveOf words 1 key (given_of values key)
     none_given Program = rw p (λ part e g. not_given part g)
     none_given Action = rw a (λ part e g. not_given part g)
     none_given Turns = rw t (λ part e g. not_given part g)
 
 -- what is known of a key where another part is read
-keeps : (words : List (List ℕ)) (n : ℕ) (key : Key) (part : Part) (found : Option Part) → GivesPart (word_at words n) part → key_of part ≢ key →
+keeps : (words : List (List ℕ)) (n : ℕ) (key : WordKey) (part : Part) (found : Option Part) → GivesPart (word_at words n) part → key_of part ≢ key →
     GiveOf words n key found → GiveOf words (n + 1) key found
 keeps words n key part None gives other none = λ p e g.
     elim (cases_lt g.place n) [
@@ -139,8 +164,8 @@ keeps words n key part (Some p) gives other found =
 
 -- what is known of each key where a part is read whose key is free
 gives_key : (words : List (List ℕ)) (n : ℕ) (values : Values) (part : Part) → IsGivenBefore words (n + 1) part →
-    ((key : Key) → key_of part ≢ key → GiveOf words (n + 1) key (given_of values key)) →
-    (key : Key) → GiveOf words (n + 1) key (given_of (with_part values part) key)
+    ((key : WordKey) → key_of part ≢ key → GiveOf words (n + 1) key (given_of values key)) →
+    (key : WordKey) → GiveOf words (n + 1) key (given_of (with_part values part) key)
 gives_key words n values (ProgramIn path) here keep Program = (refl, here)
 gives_key words n values (ProgramIn path) here keep Action = keep Action (λ e. cc)
 gives_key words n values (ProgramIn path) here keep Turns = keep Turns (λ e. cc)
@@ -160,9 +185,9 @@ counted values (ProgramIn path) e = let none = none_back ProgramIn values.progra
 counted values (ActionNamed name) e = let none = none_back ActionNamed values.action e in omega arith
 counted values (TurnsAtMost n) e = let none = none_back TurnsAtMost values.turns e in omega arith
 
-read_new : (words : List (List ℕ)) (place : ℕ) → 0 < place → GivesNew words place → IsRead words place
-read_new words zero behind new = absurd (omega arith)
-read_new words (suc place) behind new = new
+read_new : (words : List (List ℕ)) (mode : Mode) (place : ℕ) → 0 < place → HasMode words mode → GivesNew mode words place → IsRead words place
+read_new words mode zero behind has new = absurd (omega arith)
+read_new words mode (suc place) behind has new = (mode, has, new)
 
 read_more : (words : List (List ℕ)) (n : ℕ) → AreReadBefore words n → IsRead words n → AreReadBefore words (n + 1)
 read_more words n before here place lt =
@@ -172,15 +197,21 @@ read_more words n before here place lt =
     ]
 
 new_part : (words : List (List ℕ)) (n : ℕ) (part : Part) (values : Values) → GiveOf words n (key_of part) (given_of values (key_of part)) →
-    given_of values (key_of part) ≡ None → GivesPart (word_at words n) part → GivesNew words n
-new_part words n part values give free gives =
+    given_of values (key_of part) ≡ None → takes values.mode (key_of part) ≡ true → GivesPart (word_at words n) part → GivesNew values.mode words n
+new_part words n part values give free taken gives =
     let none : (p : Part) → key_of p ≡ key_of part → IsGivenBefore words n p → ⊥ = subst (GiveOf words n (key_of part)) free give in
-    record { part = part; gives = gives; new = λ other g e. none other e g }
+    record { part = part; gives = gives; taken = taken; new = λ other g e. none other e g }
+
+same_mode : (values : Values) (part : Part) → (with_part values part).mode ≡ values.mode
+same_mode values (ProgramIn path) = refl
+same_mode values (ActionNamed name) = refl
+same_mode values (TurnsAtMost n) = refl
 
 one_part_more : (words : List (List ℕ)) (n : ℕ) (part : Part) (old new : Values) → 0 < n → AreReadUpTo words n old → GivesPart (word_at words n) part → Adds old part new →
     AreReadUpTo words (n + 1) new
 one_part_more words n part old new behind r gives adds = record {
-  read = read_more words n r.read (read_new words n behind (new_part words n part old (r.give (key_of part)) adds.free gives));
+  mode = subst (HasMode words) (sym (ap (λ (v : Values). v.mode) adds.added ∙ same_mode old part)) r.mode;
+  read = read_more words n r.read (read_new words old.mode n behind r.mode (new_part words n part old (r.give (key_of part)) adds.free adds.taken gives));
   give = λ key.
       subst (λ (z : Values). GiveOf words (n + 1) key (given_of z key)) (sym adds.added)
       (gives_key words n old part (given_at words part n (n + 1) behind (omega arith) gives) (λ k other. keeps words n k part (given_of old k) gives other (r.give k)) key);
@@ -210,64 +241,121 @@ few_read {values = values} r =
 
 -- The first word that is not read.
 
-unread_behind : (words : List (List ℕ)) (place : ℕ) → 0 < place → (GivesNew words place → ⊥) → IsRead words place → ⊥
-unread_behind words zero behind none read = omega arith
-unread_behind words (suc place) behind none read = none read
+unread_behind : (words : List (List ℕ)) (mode : Mode) (place : ℕ) → 0 < place → HasMode words mode → (GivesNew mode words place → ⊥) → IsRead words place → ⊥
+unread_behind words mode place behind has none read =
+    let r = new_behind words place behind read in
+    none (subst (λ (m : Mode). GivesNew m words place) (one_mode words r.0 mode r.1 has) r.2)
+
+not_true : (b : Bool) → b ≡ false → b ≡ true → ⊥
+not_true b e f = cc
 
 pub adds_nothing : (words : List (List ℕ)) (place : ℕ) (values : Values) → 0 < place → place < length words → AreReadUpTo words place values →
     AddsNothing values (word_at words place) → IsFirstUnread words place
 adds_nothing words place values behind within r none = record {
   within = within;
   before = r.read;
-  unread = unread_behind words place behind not_new;
+  unread = unread_behind words values.mode place behind r.mode (λ new. not_new new (none.refused new.part new.gives));
 }
   where
-    not_new : GivesNew words place → ⊥
-    not_new new =
-        let t = none.taken new.part new.gives in
-        let earlier : GiveOf words place (key_of new.part) (Some t.other) = subst (GiveOf words place (key_of new.part)) t.taken (r.give (key_of new.part)) in
-        new.new t.other earlier.1 earlier.0
+    not_new : (new : GivesNew values.mode words place) → Refuses values new.part → ⊥
+    not_new new (not_taken e) = not_true (takes values.mode (key_of new.part)) e new.taken
+    not_new new (given_already other e) =
+        let earlier : GiveOf words place (key_of new.part) (Some other) = subst (GiveOf words place (key_of new.part)) e (r.give (key_of new.part)) in
+        new.new other earlier.1 earlier.0
 
 -- All words are read.
-
-given_in : (words : List (List ℕ)) (n : ℕ) (key : Key) (part : Part) (found : Option Part) → GiveOf words n key found → found ≡ Some part → IsGivenBefore words n part
-given_in words n key part None give e = absurd cc
-given_in words n key part (Some p) give e = let same : p ≡ part = cc in subst (IsGivenBefore words n) same give.1
 
 turns_read : (words : List (List ℕ)) (turns : Option ℕ) → GiveOf words (length words) Turns (option_map TurnsAtMost turns) → AskTurns words (turns_or_usual turns)
 turns_read words None none = turns_usual (λ n g. none (TurnsAtMost n) refl g)
 turns_read words (Some n) give = turns_given n give.1
 
-pub request_read : {words : List (List ℕ)} {path action : List ℕ} {turns : ℕ} (values : Values) → AreReadUpTo words (length words) values →
-    HasValues values path action turns → IsRequest words path action turns
-request_read {words = words} {path = path} {action = action} values r h = record {
+key_missing : (words : List (List ℕ)) (key : WordKey) (found : Option Part) → GiveOf words (length words) key found → is_some found ≡ false → IsKeyGiven words key → ⊥
+key_missing words key None give e g = give g.part g.of_key g.given
+key_missing words key (Some part) give e g = cc
+
+both_left : (a b : Bool) → (a && b) ≡ true → a ≡ true
+both_left true b h = refl
+both_left false b h = absurd cc
+
+both_right : (a b : Bool) → (a && b) ≡ true → b ≡ true
+both_right true b h = h
+both_right false b h = absurd cc
+
+mapped_some : {A B : Type 0} (f : A → B) (found : Option A) → is_some (option_map f found) ≡ true → is_some found ≡ true
+mapped_some f None e = e
+mapped_some f (Some x) e = refl
+
+not_lacking : (needed some : Bool) → not (needed && not some) ≡ true → needed ≡ true → some ≡ true
+not_lacking true true h e = refl
+not_lacking true false h e = absurd cc
+not_lacking false some h e = absurd cc
+
+-- if no needed key is missing, each needed key is given
+is_there : (values : Values) (key : WordKey) → is_complete values ≡ true → needs values.mode key ≡ true → is_some (given_of values key) ≡ true
+is_there values Program h e =
+    let two = both_left (not (lacks values Program) && not (lacks values Action)) _ h in
+    not_lacking _ _ (both_left (not (lacks values Program)) _ two) e
+is_there values Action h e =
+    let two = both_left (not (lacks values Program) && not (lacks values Action)) _ h in
+    not_lacking _ _ (both_right (not (lacks values Program)) _ two) e
+is_there values Turns h e = not_lacking _ _ (both_right (not (lacks values Program) && not (lacks values Action)) _ h) e
+
+-- and so the request has it
+request_has : (values : Values) (request : Request) (key : WordKey) → HasValues values request → is_some (given_of values key) ≡ true → has_key request key ≡ true
+request_has values request Program h e = ap (λ (p : Option (List ℕ)). is_some p) h.program ∙ mapped_some ProgramIn values.program e
+request_has values request Action h e = ap (λ (p : Option (List ℕ)). is_some p) h.action_named ∙ mapped_some ActionNamed values.action e
+request_has values request Turns h e = refl
+
+pub request_read : {words : List (List ℕ)} {request : Request} (values : Values) → AreReadUpTo words (length words) values → is_complete values ≡ true →
+    HasValues values request → IsRequest words request
+request_read {words = words} {request = request} values r complete h = record {
   read = r.read;
-  program = given_in words (length words) Program (ProgramIn path) (option_map ProgramIn values.program) (r.give Program) (ap (option_map ProgramIn) h.program);
-  action_named = given_in words (length words) Action (ActionNamed action) (option_map ActionNamed values.action) (r.give Action) (ap (option_map ActionNamed) h.action_named);
+  mode = subst (HasMode words) (sym h.mode) r.mode;
+  needed = record {
+    has = λ key e. request_has values request key h (is_there values key complete (ap (λ (m : Mode). needs m key) (sym h.mode) ∙ e));
+  };
+  program = subst (λ (p : Option (List ℕ)). GiveOf words (length words) Program (option_map ProgramIn p)) (sym h.program) (r.give Program);
+  action_named = subst (λ (p : Option (List ℕ)). GiveOf words (length words) Action (option_map ActionNamed p)) (sym h.action_named) (r.give Action);
   turns_asked = subst (AskTurns words) (sym h.turns_are) (turns_read words values.turns (r.give Turns));
 }
 
-pub value_missing : {words : List (List ℕ)} (values : Values) → AreReadUpTo words (length words) values → LacksValue values → IsUsage words (length words + 1)
-value_missing {words = words} values r lacks = is_missing r.read (elim lacks [ inl p ↦ no_program p | inr a ↦ no_action a ])
-  where
-    no_program : values.program ≡ None → Lacks words
-    no_program e = record {
-      key = Program;
-      needed = refl;
-      absent = subst (GiveOf words (length words) Program) (ap (option_map ProgramIn) e) (r.give Program);
-    }
+-- a needed key is missing
+pub record LackKey (values : Values) : Type 0 where
+  pub key : WordKey
+  pub needed : needs values.mode key ≡ true
+  pub absent : is_some (given_of values key) ≡ false
 
-    no_action : values.action ≡ None → Lacks words
-    no_action e = record {
-      key = Action;
-      needed = refl;
-      absent = subst (GiveOf words (length words) Action) (ap (option_map ActionNamed) e) (r.give Action);
-    }
+is_lacking : (needed some : Bool) → (needed && not some) ≡ true → (needed ≡ true) × (some ≡ false)
+is_lacking true true h = absurd cc
+is_lacking true false h = (refl, refl)
+is_lacking false some h = absurd cc
 
--- Words that do not begin with the mode.
-pub no_mode : (words : List (List ℕ)) → (word_at words 0 ≡ codes "play" → ⊥) → IsUsage words 1
-no_mode [] none = is_missing (λ place lt. absurd (omega arith)) (record { key = Program; needed = refl; absent = λ part e g. let w = g.before in omega arith })
-no_mode (word ∷ words) none = is_unread 0 (record { within = omega arith; before = λ place lt. absurd (omega arith); unread = none })
+lack_of : (values : Values) (key : WordKey) → lacks values key ≡ true → LackKey values
+lack_of values key h =
+    let l = is_lacking (needs values.mode key) (is_some (given_of values key)) h in
+    record { key = key; needed = l.0; absent = l.1 }
+
+one_lacks : (values : Values) (a b c : Bool) → lacks values Program ≡ a → lacks values Action ≡ b → lacks values Turns ≡ c →
+    (not a && not b && not c) ≡ false → LackKey values
+one_lacks values true b c p q r h = lack_of values Program p
+one_lacks values false true c p q r h = lack_of values Action q
+one_lacks values false false true p q r h = lack_of values Turns r
+one_lacks values false false false p q r h = absurd cc
+
+pub key_lacks : {words : List (List ℕ)} (values : Values) → AreReadUpTo words (length words) values → is_complete values ≡ false → IsUsage words (length words + 1)
+key_lacks {words = words} values r h =
+    let l = one_lacks values (lacks values Program) (lacks values Action) (lacks values Turns) refl refl refl h in
+    is_missing r.read (lack_key values.mode l.key r.mode l.needed (key_missing words l.key (given_of values l.key) (r.give l.key) l.absent))
+
+-- Words that do not begin with a mode.
+
+no_mode_read : (words : List (List ℕ)) → ((mode : Mode) → HasMode words mode → ⊥) → IsRead words 0 → ⊥
+no_mode_read words none read = none read.0 read.1
+
+pub no_mode : (words : List (List ℕ)) → ((mode : Mode) → HasMode words mode → ⊥) → IsUsage words 1
+no_mode [] none = is_missing (λ place lt. absurd (omega arith)) (lack_mode refl)
+no_mode (word ∷ words) none =
+    is_unread 0 (record { within = omega arith; before = λ place lt. absurd (omega arith); unread = no_mode_read (word ∷ words) none })
 
 -- a word of a list of texts
 pub word_is : {T : Type 0} (bytes : T → List ℕ) (words : List T) (place : ℕ) (word : T) → place < length words → word ≡ get_or words place word →

@@ -1,18 +1,24 @@
--- What the tool answers: a text and a status, by the words and the files. It is defined where the file that the words name is
--- held.
+-- What the tool answers: a text and a status, by the words and the files. It is defined where the file that the words
+-- name is held.
 use Rattle.std.specs.Prelude.{◌≡◌, ℕ, pos, List, codes, Option, None, Some}
 use Rattle.tool_io.specs.Files.{file_of}
-use Rattle.tool_io.specs.Bytes.{then_bytes, MovesFront}
 use Rattle.stapl_lexer.specs.declared.reason.Reason.{Reason}
+use Rattle.stapl_lexer.specs.declared.reason.Reason.TheVariants as reasons
 use Rattle.stapl_syntax.specs.Trees.{StmtTree}
-use Rattle.stapl_syntax.specs.Faults.{IsProgram, FirstFault}
+use Rattle.stapl_syntax.specs.Programs.{IsProgram, FirstFault}
+use Rattle.stapl_syntax.specs.Unbuilt.{IsUnbuiltAt, IsBuiltProgram}
 use Rattle.stapl_meaning.specs.declared.events.Ending.{Ending}
 use Rattle.stapl_meaning.specs.declared.events.Ending.TheVariants as endings
 use Rattle.stapl_meaning.specs.Scopes.{chosen_of}
 use Rattle.stapl_meaning.specs.Plays.{play, ending_of}
 use Rattle.stapl_meaning.specs.Texts.{text_of}
+use Rattle.play_tool.specs.declared.mode.Mode.{Mode}
+use Rattle.play_tool.specs.declared.mode.Mode.TheVariants as modes
+use Rattle.play_tool.specs.declared.words.Request.{Request}
 use Rattle.play_tool.specs.declared.status.Status.{Status}
 use Rattle.play_tool.specs.declared.status.Status.TheVariants.{Done, Spent, Refused, NoAction, Usage, ReadFault, WriteFault, Memory}
+use Rattle.play_tool.specs.Checks.{Checks}
+use Rattle.play_tool.specs.Listings.{Lists}
 use Rattle.play_tool.specs.Texts.{number_line, refusal_line}
 use Rattle.play_tool.specs.Words.{IsRequest, IsUsage}
 
@@ -21,42 +27,66 @@ abbrev pub done_with : Ending → Status
 done_with (endings.Exit code) = Done code
 done_with endings.Spent = Spent
 
--- What is written for a program that is accepted, and the status: it has no such action, or it is played for at most so many turns. A play
--- that still goes on after them is spent.
-pub data ProgramPlays (program : List StmtTree) (action : List ℕ) (turns : ℕ) : List ℕ → Status → Type 0 where
-  no_action : chosen_of program action ≡ None → ProgramPlays program action turns (codes "R action\n") NoAction
+-- What is written of the play of an action, and the status: the program has no such action, or it is played for at most
+-- so many turns. A play that still goes on after them is spent.
+pub data Plays (program : List StmtTree) (action : List ℕ) (turns : ℕ) : List ℕ → Status → Type 0 where
+  no_action : chosen_of program action ≡ None → Plays program action turns (codes "R action\n") NoAction
   played : (chosen : List ℕ) (ending : Ending) → chosen_of program action ≡ Some chosen → ending_of (play program chosen turns).outcome ≡ Some ending →
-      ProgramPlays program action turns (text_of (play program chosen turns).events ending) (done_with ending)
+      Plays program action turns (text_of (play program chosen turns).events ending) (done_with ending)
 
--- What is written for a text, and the status: it is refused at its first fault, or it is a program.
-pub data Plays (bytes action : List ℕ) (turns : ℕ) : List ℕ → Status → Type 0 where
+-- the play of the action that a request names
+pub record PlaysAsked (program : List StmtTree) (request : Request) (text : List ℕ) (status : Status) : Type 0 where
+  pub action : List ℕ
+  pub asked : request.action ≡ Some action
+  pub plays : Plays program action request.turns text status
+
+-- The play that a request asks for, of a text that is a program: a piece of it is not built yet, or the action that is named is played.
+pub data PlaysText (request : Request) (bytes : List ℕ) (program : List StmtTree) : List ℕ → Status → Type 0 where
+  unbuilt : (piece line : ℕ) → IsUnbuiltAt bytes program piece line →
+      PlaysText request bytes program (refusal_line piece line reasons.NotYetBuilt) (Refused piece reasons.NotYetBuilt)
+  built : (text : List ℕ) (status : Status) → IsBuiltProgram bytes program → PlaysAsked program request text status →
+      PlaysText request bytes program text status
+
+-- What each mode does with a text that is a program.
+abbrev pub Work : Request → List ℕ → List StmtTree → Mode → (List ℕ → Status → Type 0)
+Work request bytes program modes.Play = PlaysText request bytes program
+Work request bytes program modes.Check = Checks bytes program
+Work request bytes program modes.List = Lists program
+
+-- What is written for a text, and the status: it is refused at its first fault, or it is a program, and the mode's work
+-- is done.
+pub data TextAnswer (request : Request) (bytes : List ℕ) : List ℕ → Status → Type 0 where
   refused : (piece line : ℕ) (reason : Reason) → FirstFault bytes piece line reason →
-      Plays bytes action turns (refusal_line piece line reason) (Refused piece reason)
+      TextAnswer request bytes (refusal_line piece line reason) (Refused piece reason)
   accepted : (program : List StmtTree) (text : List ℕ) (status : Status) → IsProgram bytes program →
-      ProgramPlays program action turns text status → Plays bytes action turns text status
+      Work request bytes program request.mode text status → TextAnswer request bytes text status
 
--- The answer to the words: they are refused, or the program that they name is played.
+-- The same for a file, where it is held.
+pub record FileAnswer (request : Request) (file : Option (List ℕ)) (text : List ℕ) (status : Status) : Type 0 where
+  pub bytes : List ℕ
+  pub held : file ≡ Some bytes
+  pub answer : TextAnswer request bytes text status
+
+-- The words name this file.
+pub record NamesFile (words : List (List ℕ)) (request : Request) (path : List ℕ) : Type 0 where
+  pub asks : IsRequest words request
+  pub program : request.program ≡ Some path
+
+-- The answer to the words: they are refused, or what they ask is done with the file that they name.
 pub data Answer (words : List (List ℕ)) (files : List (List ℕ × List ℕ)) : List ℕ → Status → Type 0 where
   usage : (n : ℕ) → IsUsage words n → Answer words files (number_line (codes "R usage ") (pos n)) (Usage n)
-  plays : (path action : List ℕ) (turns : ℕ) (bytes text : List ℕ) (status : Status) → IsRequest words path action turns → file_of files path ≡ Some bytes →
-      Plays bytes action turns text status → Answer words files text status
+  asked : (request : Request) (path text : List ℕ) (status : Status) → NamesFile words request path → FileAnswer request (file_of files path) text status →
+      Answer words files text status
 
--- The text of the answer was written, and nothing else, and the status is the answer's.
-pub record Answers (words : List (List ℕ)) (files : List (List ℕ × List ℕ)) (before after : Option (List ℕ)) (status : Status) : Type 0 where
-  pub text : List ℕ
+-- The answer for some text: that which the file gave, whether the store tells it or not.
+pub record SomeTextAnswer (request : Request) (text : List ℕ) (status : Status) : Type 0 where
+  pub bytes : List ℕ
+  pub answer : TextAnswer request bytes text status
+
+-- The answer to the words and some files: those that the store gave, whether it tells them or not.
+pub record SomeFilesAnswer (words : List (List ℕ)) (text : List ℕ) (status : Status) : Type 0 where
+  pub files : List (List ℕ × List ℕ)
   pub answer : Answer words files text status
-  pub written : after ≡ then_bytes before text
-
--- A prefix of the answer's text was written.
-pub record AnswersFront (words : List (List ℕ)) (files : List (List ℕ × List ℕ)) (before after : Option (List ℕ)) : Type 0 where
-  pub text : List ℕ
-  pub status : Status
-  pub answer : Answer words files text status
-  pub front : MovesFront before text after
-
--- What was written is a prefix of the text of each answer.
-pub record IsPrefixOfAnswers (words : List (List ℕ)) (files : List (List ℕ × List ℕ)) (before after : Option (List ℕ)) : Type 0 where
-  pub prefix : (text : List ℕ) (status : Status) → Answer words files text status → MovesFront before text after
 
 -- the status is a fault of reading or writing, or want of memory
 abbrev pub IsFault : Status → Type 0
@@ -68,65 +98,3 @@ IsFault Spent = ⊥
 IsFault (Refused piece reason) = ⊥
 IsFault NoAction = ⊥
 IsFault (Usage n) = ⊥
-
--- The text of the play of a program was written.
-pub record ProgramPlaysTo (program : List StmtTree) (action : List ℕ) (turns : ℕ) (before after : Option (List ℕ)) (status : Status) : Type 0 where
-  pub text : List ℕ
-  pub plays : ProgramPlays program action turns text status
-  pub written : after ≡ then_bytes before text
-
-pub record ProgramPlaysFront (program : List StmtTree) (action : List ℕ) (turns : ℕ) (before after : Option (List ℕ)) : Type 0 where
-  pub text : List ℕ
-  pub status : Status
-  pub plays : ProgramPlays program action turns text status
-  pub front : MovesFront before text after
-
-pub record IsPrefixOfProgram (program : List StmtTree) (action : List ℕ) (turns : ℕ) (before after : Option (List ℕ)) : Type 0 where
-  pub prefix : (text : List ℕ) (status : Status) → ProgramPlays program action turns text status → MovesFront before text after
-
--- The text for the bytes of a program was written.
-pub record PlaysTo (bytes action : List ℕ) (turns : ℕ) (before after : Option (List ℕ)) (status : Status) : Type 0 where
-  pub text : List ℕ
-  pub plays : Plays bytes action turns text status
-  pub written : after ≡ then_bytes before text
-
-pub record PlaysFront (bytes action : List ℕ) (turns : ℕ) (before after : Option (List ℕ)) : Type 0 where
-  pub text : List ℕ
-  pub status : Status
-  pub plays : Plays bytes action turns text status
-  pub front : MovesFront before text after
-
-pub record IsPrefixOfPlays (bytes action : List ℕ) (turns : ℕ) (before after : Option (List ℕ)) : Type 0 where
-  pub prefix : (text : List ℕ) (status : Status) → Plays bytes action turns text status → MovesFront before text after
-
--- The same of a file, where it is held.
-pub record FilePlaysTo (file : Option (List ℕ)) (action : List ℕ) (turns : ℕ) (before after : Option (List ℕ)) (status : Status) : Type 0 where
-  pub bytes : List ℕ
-  pub held : file ≡ Some bytes
-  pub plays : PlaysTo bytes action turns before after status
-
-pub record FilePlaysFront (file : Option (List ℕ)) (action : List ℕ) (turns : ℕ) (before after : Option (List ℕ)) : Type 0 where
-  pub bytes : List ℕ
-  pub held : file ≡ Some bytes
-  pub plays : PlaysFront bytes action turns before after
-
-pub record IsPrefixOfFile (file : Option (List ℕ)) (action : List ℕ) (turns : ℕ) (before after : Option (List ℕ)) : Type 0 where
-  pub prefix : (bytes : List ℕ) → file ≡ Some bytes → IsPrefixOfPlays bytes action turns before after
-
--- The text for some bytes was written: those that the file gave.
-pub record PlaysSomeBytesTo (action : List ℕ) (turns : ℕ) (before after : Option (List ℕ)) (status : Status) : Type 0 where
-  pub bytes : List ℕ
-  pub plays : PlaysTo bytes action turns before after status
-
-pub record PlaysSomeBytesFront (action : List ℕ) (turns : ℕ) (before after : Option (List ℕ)) : Type 0 where
-  pub bytes : List ℕ
-  pub plays : PlaysFront bytes action turns before after
-
--- The answer to the words and some files was written: to the files that the store gave, whether it tells them or not.
-pub record AnswersSomeFiles (words : List (List ℕ)) (before after : Option (List ℕ)) (status : Status) : Type 0 where
-  pub files : List (List ℕ × List ℕ)
-  pub answers : Answers words files before after status
-
-pub record AnswersSomeFilesFront (words : List (List ℕ)) (before after : Option (List ℕ)) : Type 0 where
-  pub files : List (List ℕ × List ℕ)
-  pub answers : AnswersFront words files before after

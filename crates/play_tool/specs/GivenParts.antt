@@ -1,20 +1,30 @@
 -- What the reader of words keeps of the words that it has read.
-use Rattle.std.specs.Prelude.{◌≡◌, ℕ, ◌+◌, ◌≤◌, ◌⊎◌, List, Option, None, Some}
+use Rattle.std.specs.Prelude.{◌≡◌, ℕ, ◌+◌, ◌≤◌, Bool, true, false, ◌&&◌, not, List, Option, None, Some, is_some}
 use Rattle.std.specs.Option.{option_map}
+use Rattle.play_tool.specs.declared.mode.Mode.{Mode}
+use Rattle.play_tool.specs.declared.mode.WordKey.{WordKey}
+use Rattle.play_tool.specs.declared.mode.WordKey.TheVariants.{Program, Action, Turns}
 use Rattle.play_tool.specs.declared.words.Given.{Given}
-use Rattle.play_tool.specs.Words.{Key, Program, Action, Turns, Part, ProgramIn, ActionNamed, TurnsAtMost, key_of, usual_turns, GivesPart, IsGivenBefore, AreReadBefore}
+use Rattle.play_tool.specs.declared.words.Request.{Request}
+use Rattle.play_tool.specs.Words.{Part, ProgramIn, ActionNamed, TurnsAtMost, key_of, usual_turns, takes, needs, GivesPart, HasMode, GiveOf, AreReadBefore}
 
--- the values that are given, by key
+-- the mode, and the values that are given, by key
 pub record Values : Type 0 where
+  pub mode : Mode
   pub program : Option (List ℕ)
   pub action : Option (List ℕ)
   pub turns : Option ℕ
 
 abbrev pub values_of : Given → Values
-values_of given = record { program = option_map (λ path. path.now) given.program; action = given.action; turns = given.turns }
+values_of given = record {
+  mode = given.mode;
+  program = option_map (λ path. path.now) given.program;
+  action = given.action;
+  turns = given.turns;
+}
 
 -- the part that is given of a key
-abbrev pub given_of : Values → Key → Option Part
+abbrev pub given_of : Values → WordKey → Option Part
 given_of values Program = option_map ProgramIn values.program
 given_of values Action = option_map ActionNamed values.action
 given_of values Turns = option_map TurnsAtMost values.turns
@@ -25,25 +35,26 @@ with_part values (ProgramIn path) = record values { program = Some path }
 with_part values (ActionNamed name) = record values { action = Some name }
 with_part values (TurnsAtMost n) = record values { turns = Some n }
 
--- a part more, whose key was free
+-- a part more, whose key the mode takes and which was free
 pub record Adds (old : Values) (part : Part) (new : Values) : Type 0 where
+  pub taken : takes old.mode (key_of part) ≡ true
   pub free : given_of old (key_of part) ≡ None
   pub added : new ≡ with_part old part
 
--- the key of the part is not free
-pub record IsTaken (values : Values) (part : Part) : Type 0 where
-  pub other : Part
-  pub taken : given_of values (key_of part) ≡ Some other
+-- Why a part is not added: the mode does not take its key, or that is given already.
+pub data Refuses (values : Values) (part : Part) : Type 0 where
+  not_taken : takes values.mode (key_of part) ≡ false → Refuses values part
+  given_already : (other : Part) → given_of values (key_of part) ≡ Some other → Refuses values part
 
--- The word gives a part more, whose key was free.
+-- The word gives a part more.
 pub record AddsWord (old : Values) (word : List ℕ) (new : Values) : Type 0 where
   pub part : Part
   pub gives : GivesPart word part
   pub adds : Adds old part new
 
--- The word gives no part whose key is free.
+-- The word gives no part that is added.
 pub record AddsNothing (values : Values) (word : List ℕ) : Type 0 where
-  pub taken : (part : Part) → GivesPart word part → IsTaken values part
+  pub refused : (part : Part) → GivesPart word part → Refuses values part
 
 -- how many values are given
 abbrev pub one_if_some : {A : Type 0} → Option A → ℕ
@@ -53,28 +64,29 @@ one_if_some (Some x) = 1
 abbrev pub count_of : Values → ℕ
 count_of values = one_if_some values.program + one_if_some values.action + one_if_some values.turns
 
--- the first n words give this part of a key, or none
-abbrev pub GiveOf : List (List ℕ) → ℕ → Key → Option Part → Type 0
-GiveOf words n key None = (part : Part) → key_of part ≡ key → IsGivenBefore words n part → ⊥
-GiveOf words n key (Some part) = (key_of part ≡ key) × IsGivenBefore words n part
-
 -- The first n words are read, and they give these values.
 pub record AreReadUpTo (words : List (List ℕ)) (n : ℕ) (values : Values) : Type 0 where
+  pub mode : HasMode words values.mode
   pub read : AreReadBefore words n
-  pub give : (key : Key) → GiveOf words n key (given_of values key)
+  pub give : (key : WordKey) → GiveOf words n key (given_of values key)
   pub few : n ≤ 1 + count_of values
+
+-- the mode needs this key, and it is not given
+abbrev pub lacks : Values → WordKey → Bool
+lacks values key = needs values.mode key && not (is_some (given_of values key))
+
+-- each key is given that the mode needs
+abbrev pub is_complete : Values → Bool
+is_complete values = not (lacks values Program) && not (lacks values Action) && not (lacks values Turns)
 
 -- the number of turns that is given, or the usual one
 abbrev pub turns_or_usual : Option ℕ → ℕ
 turns_or_usual None = usual_turns
 turns_or_usual (Some n) = n
 
--- the values of a request
-pub record HasValues (values : Values) (path action : List ℕ) (turns : ℕ) : Type 0 where
-  pub program : values.program ≡ Some path
-  pub action_named : values.action ≡ Some action
-  pub turns_are : turns ≡ turns_or_usual values.turns
-
--- a needed value is missing
-abbrev pub LacksValue : Values → Type 0
-LacksValue values = (values.program ≡ None) ⊎ (values.action ≡ None)
+-- the request with these values
+pub record HasValues (values : Values) (request : Request) : Type 0 where
+  pub mode : request.mode ≡ values.mode
+  pub program : request.program ≡ values.program
+  pub action_named : request.action ≡ values.action
+  pub turns_are : request.turns ≡ turns_or_usual values.turns

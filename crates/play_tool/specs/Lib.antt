@@ -2,5 +2,8 @@ pub mod Codes
 pub mod Words
 pub mod GivenParts
 pub mod Texts
+pub mod Written
 pub mod CodePlays
+pub mod Checks
+pub mod Listings
 pub mod Answers

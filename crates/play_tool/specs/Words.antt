@@ -1,23 +1,51 @@
 -- The words of a command: the mode, and behind it keys with their values, in any order. The rules are this tool's own.
-use Rattle.std.specs.Prelude.{◌≡◌, ◌≢◌, ℕ, ◌+◌, ◌<◌, ◌≤◌, List, [], ◌++◌, Bool, ◌&&◌, ◌||◌, ◌==◌, not, true, false, length, codes, suc, zero, slice_index, slice_index_or}
+use Rattle.std.specs.Prelude.{◌≡◌, ◌≢◌, ℕ, ◌+◌, ◌<◌, ◌≤◌, List, [], ◌∷◌, ◌++◌, Bool, ◌&&◌, ◌||◌, ◌==◌, not, true, false, length, codes, suc, zero, slice_index, slice_index_or, Option, None, Some, is_some}
 use Rattle.std.specs.Char.{is_ascii_digit}
-use Rattle.std.specs.List.{list_all}
+use Rattle.std.specs.List.{list_all, list_any}
+use Rattle.std.specs.Option.{option_map}
 use Rattle.std.specs.Str.{str_to_ascii_uppercase}
 use Rattle.std.specs.Str.Parse.{digits_value}
 use Rattle.stapl_lexer.specs.Names.{is_name}
 use Rattle.stapl_lexer.specs.ReservedWords.{is_reserved_word}
+use Rattle.play_tool.specs.declared.mode.Mode.{Mode}
+use Rattle.play_tool.specs.declared.mode.Mode.TheVariants as modes
+use Rattle.play_tool.specs.declared.mode.WordKey.{WordKey}
+use Rattle.play_tool.specs.declared.mode.WordKey.TheVariants.{Program, Action, Turns}
+use Rattle.play_tool.specs.declared.words.Request.{Request}
+use Rattle.play_tool.specs.declared.words.WordsRefused.{WordsRefused}
+use Rattle.play_tool.specs.declared.words.WordsRefused.TheVariants as refusals
 
--- the keys
-pub data Key : Type 0 where
-  Program : Key
-  Action : Key
-  Turns : Key
+-- the word of a mode
+abbrev pub mode_word : Mode → List ℕ
+mode_word modes.Play = codes "play"
+mode_word modes.Check = codes "check"
+mode_word modes.List = codes "list"
 
--- a request cannot do without this key
-abbrev pub is_needed : Key → Bool
-is_needed Program = true
-is_needed Action = true
-is_needed Turns = false
+-- the keys that a mode takes
+abbrev pub keys_taken : Mode → List WordKey
+keys_taken modes.Play = Program ∷ Action ∷ Turns ∷ []
+keys_taken modes.Check = Program ∷ []
+keys_taken modes.List = Program ∷ []
+
+-- the keys that a mode cannot do without
+abbrev pub keys_needed : Mode → List WordKey
+keys_needed modes.Play = Program ∷ Action ∷ []
+keys_needed modes.Check = Program ∷ []
+keys_needed modes.List = Program ∷ []
+
+abbrev pub is_same_key : WordKey → WordKey → Bool
+is_same_key Program Program = true
+is_same_key Action Action = true
+is_same_key Turns Turns = true
+is_same_key _ _ = false
+
+-- the mode takes this key
+abbrev pub takes : Mode → WordKey → Bool
+takes mode key = list_any (is_same_key key) (keys_taken mode)
+
+-- the mode cannot do without it
+abbrev pub needs : Mode → WordKey → Bool
+needs mode key = list_any (is_same_key key) (keys_needed mode)
 
 -- What a word behind the mode gives: a part of the request.
 pub data Part : Type 0 where
@@ -25,7 +53,7 @@ pub data Part : Type 0 where
   ActionNamed : (name : List ℕ) → Part
   TurnsAtMost : (n : ℕ) → Part
 
-abbrev pub key_of : Part → Key
+abbrev pub key_of : Part → WordKey
 key_of (ProgramIn path) = Program
 key_of (ActionNamed name) = Action
 key_of (TurnsAtMost n) = Turns
@@ -80,6 +108,10 @@ GivesPart word (TurnsAtMost n) = NamesTurns word n
 abbrev pub word_at : List (List ℕ) → ℕ → List ℕ
 word_at words place = slice_index_or words place []
 
+-- the first word is that of this mode
+abbrev pub HasMode : List (List ℕ) → Mode → Type 0
+HasMode words mode = word_at words 0 ≡ mode_word mode
+
 -- One of the first n words, behind the mode, gives this part.
 pub record IsGivenBefore (words : List (List ℕ)) (n : ℕ) (part : Part) : Type 0 where
   pub place : ℕ
@@ -87,16 +119,18 @@ pub record IsGivenBefore (words : List (List ℕ)) (n : ℕ) (part : Part) : Typ
   pub before : place < n
   pub gives : GivesPart (word_at words place) part
 
--- The word at this place gives a part, and no word before it gives one of the same key.
-pub record GivesNew (words : List (List ℕ)) (place : ℕ) : Type 0 where
+-- The word at this place gives a part whose key the mode takes, and no word before it gives one of the same key.
+pub record GivesNew (mode : Mode) (words : List (List ℕ)) (place : ℕ) : Type 0 where
   pub part : Part
   pub gives : GivesPart (word_at words place) part
+  pub taken : takes mode (key_of part) ≡ true
   pub new : (other : Part) → IsGivenBefore words place other → key_of other ≢ key_of part
 
--- The word at a place is read: the first one is the mode, and each other one gives a part whose key is new.
+-- The word at a place is read: the first one is that of a mode, and each other one gives a new part of a request of
+-- that mode.
 abbrev pub IsRead : List (List ℕ) → ℕ → Type 0
-IsRead words zero = word_at words 0 ≡ codes "play"
-IsRead words (suc place) = GivesNew words (suc place)
+IsRead words zero = (mode : Mode) × HasMode words mode
+IsRead words (suc place) = (mode : Mode) × HasMode words mode × GivesNew mode words (suc place)
 
 -- each of the first n words is read
 abbrev pub AreReadBefore : List (List ℕ) → ℕ → Type 0
@@ -109,23 +143,46 @@ AreRead words = AreReadBefore words (length words)
 abbrev pub IsGiven : List (List ℕ) → Part → Type 0
 IsGiven words part = IsGivenBefore words (length words) part
 
+-- one of the words gives a part of this key
+pub record IsKeyGiven (words : List (List ℕ)) (key : WordKey) : Type 0 where
+  pub part : Part
+  pub of_key : key_of part ≡ key
+  pub given : IsGiven words part
+
+-- one of the first n words gives this part of a key, or none of them gives one
+abbrev pub GiveOf : List (List ℕ) → ℕ → WordKey → Option Part → Type 0
+GiveOf words n key None = (part : Part) → key_of part ≡ key → IsGivenBefore words n part → ⊥
+GiveOf words n key (Some part) = (key_of part ≡ key) × IsGivenBefore words n part
+
 -- The words ask for so many turns, or they ask for none, and it is the usual number.
 pub data AskTurns (words : List (List ℕ)) : ℕ → Type 0 where
   turns_given : (n : ℕ) → IsGiven words (TurnsAtMost n) → AskTurns words n
   turns_usual : ((n : ℕ) → IsGiven words (TurnsAtMost n) → ⊥) → AskTurns words usual_turns
 
--- The words ask to play this action of the program in this file, for at most so many turns.
-pub record IsRequest (words : List (List ℕ)) (path action : List ℕ) (turns : ℕ) : Type 0 where
-  pub read : AreRead words
-  pub program : IsGiven words (ProgramIn path)
-  pub action_named : IsGiven words (ActionNamed action)
-  pub turns_asked : AskTurns words turns
+-- what a request has of a key; it always has a number of turns
+abbrev pub has_key : Request → WordKey → Bool
+has_key request Program = is_some request.program
+has_key request Action = is_some request.action
+has_key request Turns = true
 
--- The words lack a key that is needed.
-pub record Lacks (words : List (List ℕ)) : Type 0 where
-  pub key : Key
-  pub needed : is_needed key ≡ true
-  pub absent : (part : Part) → key_of part ≡ key → IsGiven words part → ⊥
+-- The request has each key that its mode needs.
+pub record HasNeeded (request : Request) : Type 0 where
+  pub has : (key : WordKey) → needs request.mode key ≡ true → has_key request key ≡ true
+
+-- The words ask for this: its mode is that of the first word, it has what they give, and that is all that the mode
+-- needs.
+pub record IsRequest (words : List (List ℕ)) (request : Request) : Type 0 where
+  pub read : AreRead words
+  pub mode : HasMode words request.mode
+  pub needed : HasNeeded request
+  pub program : GiveOf words (length words) Program (option_map ProgramIn request.program)
+  pub action_named : GiveOf words (length words) Action (option_map ActionNamed request.action)
+  pub turns_asked : AskTurns words request.turns
+
+-- The words lack the mode, or a key that it needs.
+pub data Lack (words : List (List ℕ)) : Type 0 where
+  lack_mode : words ≡ [] → Lack words
+  lack_key : (mode : Mode) (key : WordKey) → HasMode words mode → needs mode key ≡ true → (IsKeyGiven words key → ⊥) → Lack words
 
 -- The word at this place is the first that is not read.
 pub record IsFirstUnread (words : List (List ℕ)) (place : ℕ) : Type 0 where
@@ -133,8 +190,13 @@ pub record IsFirstUnread (words : List (List ℕ)) (place : ℕ) : Type 0 where
   pub before : AreReadBefore words place
   pub unread : IsRead words place → ⊥
 
--- The first word, counted from 1, that is not read; or, where all words are read and a needed key is missing, the number of words plus 1.
--- The mode is missing where there are no words.
+-- The first word, counted from 1, that is not read; or, where all words are read and the mode or a needed key is
+-- missing, the number of words plus 1.
 pub data IsUsage (words : List (List ℕ)) : ℕ → Type 0 where
   is_unread : (place : ℕ) → IsFirstUnread words place → IsUsage words (place + 1)
-  is_missing : AreRead words → Lacks words → IsUsage words (length words + 1)
+  is_missing : AreRead words → Lack words → IsUsage words (length words + 1)
+
+-- why words are refused; want of memory needs no cause
+abbrev pub IsWordsRefused : List (List ℕ) → WordsRefused → Type 0
+IsWordsRefused words (refusals.Usage n) = IsUsage words n
+IsWordsRefused words refusals.Memory = Unit {0}

@@ -9,7 +9,8 @@ ghost use Rattle.stapl_code.specs.Safe.{AllBelow, AllFit};
 ghost use Rattle.stapl_codegen.specs.Accepted.{IsAccepted};
 ghost use Rattle.stapl_machine.specs.Zeros.{zeros_of_code};
 ghost use Rattle.stapl_machine.specs.Machines.{IsPrepared, play_of};
-ghost use Rattle.play_tool.specs.Answers.{done_with, IsFault, ProgramPlaysTo, ProgramPlaysFront, IsPrefixOfProgram};
+ghost use Rattle.play_tool.specs.Written.{Wrote, WroteFront, IsPrefixOf};
+ghost use Rattle.play_tool.specs.Answers.{done_with, IsFault, Plays};
 ghost use Rattle.play_tool.specs.CodePlays.{procedures_in, procedures_named, HasEnding, RunWritten, RunFront, PutsRunFront};
 
 use crate::Status;
@@ -188,14 +189,14 @@ pub fn play_program<K: Sink>(
 ) -> Result<Status, NoAnswer>
     requires { IsAccepted (map stmt_tree program.now) }
     ensures answered { IfOk result (λ status. IsFault status → ⊥) }
-    ensures ok { IfOk result (ProgramPlaysTo (map stmt_tree program.now) action.now turns (K.written out.old)
+    ensures ok { IfOk result (Wrote (Plays (map stmt_tree program.now) action.now turns) (K.written out.old)
         (K.written out.new)) }
     ensures read { IsErrOf result NoAnswer.Read → ⊥ }
     ensures write { IsErrOf result NoAnswer.Write → HasRisen K.faults K.is_last out.old out.new }
     ensures front { IsErrOf result NoAnswer.Write →
-        ProgramPlaysFront (map stmt_tree program.now) action.now turns (K.written out.old) (K.written out.new) }
+        WroteFront (Plays (map stmt_tree program.now) action.now turns) (K.written out.old) (K.written out.new) }
     ensures memory { IsErrOf result NoAnswer.Memory →
-        IsPrefixOfProgram (map stmt_tree program.now) action.now turns (K.written out.old) (K.written out.new) }
+        IsPrefixOf (Plays (map stmt_tree program.now) action.now turns) (K.written out.old) (K.written out.new) }
     ensures later { NeverFalls K.faults K.is_last out.old out.new }
 {
     let code = generate(alloc, program)?;

@@ -13,7 +13,7 @@ use tool_io::Failed;
 /// How a run of the tool ends.
 #[derive(Clone, Copy, Debug, PartialEq, Eq)]
 pub enum Status {
-    /// The work is done; a play ended with this code.
+    /// The work is done, 0; or a play ended with this code.
     Done(i32),
     /// The play still goes on after the turns that it was given.
     Spent,
@@ -74,8 +74,8 @@ impl From<Trouble> for NoAnswer {
 }
 
 impl Status {
-    /// The exit code of the process: 0 for a play that ended with code 0, 1 for one that ended with another, 3 for one
-    /// whose turns are spent, and from 4 on one for each cause.
+    /// The exit code of the process: 0 for work that is done and for a play that ended with code 0, 1 for a play that
+    /// ended with another, 3 for one whose turns are spent, and from 4 on one for each cause.
     pub fn exit_code(&self) -> u8
         ensures { result ≡ exit_code_of self.now }
     {

@@ -1,45 +1,118 @@
 //! The top call.
-ghost use Rattle.std.specs.Prelude.{◌≡◌, ℕ, List, map, string_bytes, IfSome, IfOk, IsErrOf};
+ghost use Rattle.std.specs.Prelude.{◌≡◌, ℕ, List, Some, map, string_bytes, IfSome, IfOk, IsErrOf};
 ghost use Rattle.tool_io.specs.Causes.{HasRisen, HasRisenAt, NeverFalls, NoneFalls};
 ghost use Rattle.tool_io.specs.Files.{file_of};
-ghost use Rattle.play_tool.specs.Words.{IsRequest};
-ghost use Rattle.play_tool.specs.Answers.{Answers, AnswersFront, IsPrefixOfAnswers, IsFault, PlaysTo, PlaysFront, IsPrefixOfPlays, FilePlaysTo, FilePlaysFront, IsPrefixOfFile, PlaysSomeBytesTo, PlaysSomeBytesFront, AnswersSomeFiles, AnswersSomeFilesFront};
+ghost use Rattle.stapl_syntax.specs.Programs.{IsProgram};
+ghost use Rattle.stapl_syntax.specs.Trees.{stmt_tree};
+ghost use Rattle.play_tool.specs.Words.{HasNeeded};
+ghost use Rattle.play_tool.specs.Written.{Wrote, WroteFront, IsPrefixOf};
+ghost use Rattle.play_tool.specs.Answers.{PlaysText, Work, TextAnswer, FileAnswer, SomeTextAnswer, NamesFile, Answer, SomeFilesAnswer, IsFault};
+ghost use Rattle.play_tool.specs.declared.words.Request.{Request};
 
-use crate::Status;
+use crate::checking::check_program;
+use crate::listing::list_program;
 use crate::playing::play_program;
 use crate::status::NoAnswer;
-use crate::words::{Request, read_words};
 use crate::writing::{write_refusal, write_usage};
-use stapl_checker::{CheckRefused, check};
+use crate::{Mode, Request, Status, WordsRefused, read_words};
+use stapl_checker::{CheckRefused, check, first_unbuilt};
 use stapl_codegen::laws::programs_are_accepted;
-use stapl_lexer::{Reason, TEXT_LIMIT};
+use stapl_lexer::{Name, Reason, TEXT_LIMIT};
+use stapl_syntax::Stmt;
 use std::alloc::Global;
 use tool_io::{ReadRefused, Shelf, Sink, read_whole};
 
-// Plays what the words ask of the program that some bytes are.
-#[tactic(auto, using(crate::proofs::AnswerLemmas::accepted_to, crate::proofs::AnswerLemmas::accepted_front, crate::proofs::AnswerLemmas::accepted_prefix, crate::proofs::AnswerLemmas::refused_to, crate::proofs::AnswerLemmas::refused_front, crate::proofs::AnswerLemmas::nothing_of_plays))]
-fn play_bytes<K: Sink>(
+// Plays the action of this name, which the request names, if all pieces of the program are built.
+#[tactic(auto, using(crate::proofs::AnswerLemmas::unbuilt_wrote, crate::proofs::AnswerLemmas::unbuilt_front, crate::proofs::WrittenLemmas::nothing_written))]
+fn play_text<K: Sink>(
     alloc: Global,
+    request: &Request,
+    action: &Name,
     bytes: &[u8],
-    request: &Request<'_>,
+    program: &[Stmt],
     out: &mut K,
 ) -> Result<Status, NoAnswer>
+    requires asked { request.now.action ≡ Some action.now }
+    requires program { IsProgram bytes.now (map stmt_tree program.now) }
     ensures answered { IfOk result (λ status. IsFault status → ⊥) }
-    ensures ok { IfOk result (PlaysTo bytes.now request.now.action request.now.turns (K.written out.old)
-        (K.written out.new)) }
+    ensures ok { IfOk result (Wrote (PlaysText request.now bytes.now (map stmt_tree program.now))
+        (K.written out.old) (K.written out.new)) }
     ensures read { IsErrOf result NoAnswer.Read → ⊥ }
     ensures write { IsErrOf result NoAnswer.Write → HasRisen K.faults K.is_last out.old out.new }
     ensures front { IsErrOf result NoAnswer.Write →
-        PlaysFront bytes.now request.now.action request.now.turns (K.written out.old) (K.written out.new) }
+        WroteFront (PlaysText request.now bytes.now (map stmt_tree program.now)) (K.written out.old) (K.written out.new) }
     ensures memory { IsErrOf result NoAnswer.Memory →
-        IsPrefixOfPlays bytes.now request.now.action request.now.turns (K.written out.old) (K.written out.new) }
+        IsPrefixOf (PlaysText request.now bytes.now (map stmt_tree program.now)) (K.written out.old) (K.written out.new) }
+    ensures later { NeverFalls K.faults K.is_last out.old out.new }
+{
+    match first_unbuilt(alloc, bytes, program)? {
+        Some(unbuilt) => {
+            write_refusal(out, unbuilt.piece, unbuilt.line, Reason::NotYetBuilt)?;
+            Ok(Status::Refused(unbuilt.piece, Reason::NotYetBuilt))
+        }
+        None => {
+            programs_are_accepted();
+            play_program(alloc, program, action, request.turns, out)
+        }
+    }
+}
+
+// Does with the program that some bytes are what is asked.
+fn work<K: Sink>(
+    alloc: Global,
+    request: &Request,
+    bytes: &[u8],
+    program: &[Stmt],
+    out: &mut K,
+) -> Result<Status, NoAnswer>
+    requires needed { HasNeeded request.now }
+    requires program { IsProgram bytes.now (map stmt_tree program.now) }
+    ensures answered { IfOk result (λ status. IsFault status → ⊥) }
+    ensures ok { IfOk result (Wrote (Work request.now bytes.now (map stmt_tree program.now) request.now.mode)
+        (K.written out.old) (K.written out.new)) }
+    ensures read { IsErrOf result NoAnswer.Read → ⊥ }
+    ensures write { IsErrOf result NoAnswer.Write → HasRisen K.faults K.is_last out.old out.new }
+    ensures front { IsErrOf result NoAnswer.Write →
+        WroteFront (Work request.now bytes.now (map stmt_tree program.now) request.now.mode)
+        (K.written out.old) (K.written out.new) }
+    ensures memory { IsErrOf result NoAnswer.Memory →
+        IsPrefixOf (Work request.now bytes.now (map stmt_tree program.now) request.now.mode)
+        (K.written out.old) (K.written out.new) }
+    ensures later { NeverFalls K.faults K.is_last out.old out.new }
+{
+    match request.mode {
+        Mode::Play => {
+            let Some(action) = &request.action else {
+                unreachable!()
+            };
+            play_text(alloc, request, action, bytes, program, out)
+        }
+        Mode::Check => check_program(alloc, bytes, program, out),
+        Mode::List => list_program(program, out),
+    }
+}
+
+// Answers what is asked of some bytes.
+#[tactic(auto, using(crate::proofs::AnswerLemmas::refused_wrote, crate::proofs::AnswerLemmas::refused_front, crate::proofs::WrittenLemmas::nothing_written))]
+fn answer_text<K: Sink>(
+    alloc: Global,
+    request: &Request,
+    bytes: &[u8],
+    out: &mut K,
+) -> Result<Status, NoAnswer>
+    requires { HasNeeded request.now }
+    ensures answered { IfOk result (λ status. IsFault status → ⊥) }
+    ensures ok { IfOk result (Wrote (TextAnswer request.now bytes.now) (K.written out.old) (K.written out.new)) }
+    ensures read { IsErrOf result NoAnswer.Read → ⊥ }
+    ensures write { IsErrOf result NoAnswer.Write → HasRisen K.faults K.is_last out.old out.new }
+    ensures front { IsErrOf result NoAnswer.Write →
+        WroteFront (TextAnswer request.now bytes.now) (K.written out.old) (K.written out.new) }
+    ensures memory { IsErrOf result NoAnswer.Memory →
+        IsPrefixOf (TextAnswer request.now bytes.now) (K.written out.old) (K.written out.new) }
     ensures later { NeverFalls K.faults K.is_last out.old out.new }
 {
     match check(alloc, bytes) {
-        Ok(program) => {
-            programs_are_accepted();
-            play_program(alloc, &program, &request.action, request.turns, out)
-        }
+        Ok(program) => work(alloc, request, bytes, &program, out),
         Err(
             CheckRefused::Refused {
                 piece,
@@ -54,35 +127,35 @@ fn play_bytes<K: Sink>(
     }
 }
 
-// Plays an action of the program in a file.
-#[tactic(auto, using(crate::proofs::AnswerLemmas::file_to, crate::proofs::AnswerLemmas::file_front, crate::proofs::AnswerLemmas::file_prefix, crate::proofs::AnswerLemmas::nothing_of_file, crate::proofs::AnswerLemmas::long_to, crate::proofs::AnswerLemmas::long_front, crate::proofs::AnswerLemmas::some_bytes_to, crate::proofs::AnswerLemmas::some_bytes_front, crate::proofs::AnswerLemmas::some_bytes_long_to, crate::proofs::AnswerLemmas::some_bytes_long_front))]
-fn play_file<S: Shelf, K: Sink>(
+// Answers what is asked of the program in a file.
+#[tactic(auto, using(crate::proofs::WrittenLemmas::nothing_written))]
+fn answer_file<S: Shelf, K: Sink>(
     alloc: Global,
-    request: &Request<'_>,
+    request: &Request,
+    path: &str,
     shelf: &mut S,
     out: &mut K,
 ) -> Result<Status, NoAnswer>
+    requires { HasNeeded request.now }
     ensures answered { IfOk result (λ status. IsFault status → ⊥) }
     ensures ok { IfOk result (λ status. IfSome (S.told shelf.old) (λ files.
-        FilePlaysTo (file_of files request.now.program.now) request.now.action request.now.turns (K.written out.old) (K.written out.new) status)) }
-    ensures read { IsErrOf result NoAnswer.Read →
-        HasRisenAt S.faults S.is_last request.now.program.now shelf.old shelf.new }
+        Wrote (FileAnswer request.now (file_of files path.now)) (K.written out.old) (K.written out.new) status)) }
+    ensures read { IsErrOf result NoAnswer.Read → HasRisenAt S.faults S.is_last path.now shelf.old shelf.new }
     ensures nothing { IsErrOf result NoAnswer.Read → K.written out.new ≡ K.written out.old }
     ensures write { IsErrOf result NoAnswer.Write → HasRisen K.faults K.is_last out.old out.new }
     ensures front { IsErrOf result NoAnswer.Write → IfSome (S.told shelf.old) (λ files.
-        FilePlaysFront (file_of files request.now.program.now) request.now.action request.now.turns (K.written out.old) (K.written out.new)) }
-    ensures some_bytes { IfOk result (PlaysSomeBytesTo request.now.action request.now.turns (K.written out.old)
-        (K.written out.new)) }
-    ensures some_bytes_front { IsErrOf result NoAnswer.Write →
-        PlaysSomeBytesFront request.now.action request.now.turns (K.written out.old) (K.written out.new) }
+        WroteFront (FileAnswer request.now (file_of files path.now)) (K.written out.old) (K.written out.new)) }
+    ensures some_text { IfOk result (Wrote (SomeTextAnswer request.now) (K.written out.old) (K.written out.new)) }
+    ensures some_text_front { IsErrOf result NoAnswer.Write →
+        WroteFront (SomeTextAnswer request.now) (K.written out.old) (K.written out.new) }
     ensures memory { IsErrOf result NoAnswer.Memory → IfSome (S.told shelf.old) (λ files.
-        IsPrefixOfFile (file_of files request.now.program.now) request.now.action request.now.turns (K.written out.old) (K.written out.new)) }
+        IsPrefixOf (FileAnswer request.now (file_of files path.now)) (K.written out.old) (K.written out.new)) }
     ensures keeps { S.told shelf.new ≡ S.told shelf.old }
     ensures later { NoneFalls S.faults S.is_last shelf.old shelf.new }
     ensures out_later { NeverFalls K.faults K.is_last out.old out.new }
 {
-    match read_whole(alloc, shelf, request.program, TEXT_LIMIT as u32) {
-        Ok(bytes) => play_bytes(alloc, &bytes, request, out),
+    match read_whole(alloc, shelf, path, TEXT_LIMIT as u32) {
+        Ok(bytes) => answer_text(alloc, request, &bytes, out),
         Err(ReadRefused::TooLong) => {
             write_refusal(out, 0, 0, Reason::TooLong)?;
             Ok(Status::Refused(0, Reason::TooLong))
@@ -93,7 +166,7 @@ fn play_file<S: Shelf, K: Sink>(
 }
 
 // Does what the words ask.
-#[tactic(auto, using(crate::proofs::AnswerLemmas::usage_to, crate::proofs::AnswerLemmas::usage_front, crate::proofs::AnswerLemmas::request_to, crate::proofs::AnswerLemmas::request_front, crate::proofs::AnswerLemmas::request_prefix, crate::proofs::AnswerLemmas::some_files_usage_to, crate::proofs::AnswerLemmas::some_files_usage_front, crate::proofs::AnswerLemmas::some_files_request_to, crate::proofs::AnswerLemmas::some_files_request_front))]
+#[tactic(auto, using(crate::proofs::AnswerLemmas::usage_wrote, crate::proofs::AnswerLemmas::usage_front, crate::proofs::AnswerLemmas::some_usage_wrote, crate::proofs::AnswerLemmas::some_usage_front, crate::proofs::WrittenLemmas::nothing_written))]
 fn run<S: Shelf, K: Sink>(
     alloc: Global,
     words: &[String],
@@ -102,35 +175,41 @@ fn run<S: Shelf, K: Sink>(
 ) -> Result<Status, NoAnswer>
     ensures answered { IfOk result (λ status. IsFault status → ⊥) }
     ensures ok { IfOk result (λ status. IfSome (S.told shelf.old) (λ files.
-        Answers (map string_bytes words.now) files (K.written out.old) (K.written out.new) status)) }
+        Wrote (Answer (map string_bytes words.now) files) (K.written out.old) (K.written out.new) status)) }
     ensures read { IsErrOf result NoAnswer.Read →
-        (path action : List ℕ) × (turns : ℕ) × IsRequest (map string_bytes words.now) path action turns
+        (request : Request) × (path : List ℕ) × NamesFile (map string_bytes words.now) request path
         × HasRisenAt S.faults S.is_last path shelf.old shelf.new }
     ensures nothing { IsErrOf result NoAnswer.Read → K.written out.new ≡ K.written out.old }
     ensures write { IsErrOf result NoAnswer.Write → HasRisen K.faults K.is_last out.old out.new }
     ensures front { IsErrOf result NoAnswer.Write → IfSome (S.told shelf.old) (λ files.
-        AnswersFront (map string_bytes words.now) files (K.written out.old) (K.written out.new)) }
-    ensures some_files { IfOk result (AnswersSomeFiles (map string_bytes words.now) (K.written out.old)
+        WroteFront (Answer (map string_bytes words.now) files) (K.written out.old) (K.written out.new)) }
+    ensures some_files { IfOk result (Wrote (SomeFilesAnswer (map string_bytes words.now)) (K.written out.old)
         (K.written out.new)) }
     ensures some_files_front { IsErrOf result NoAnswer.Write →
-        AnswersSomeFilesFront (map string_bytes words.now) (K.written out.old) (K.written out.new) }
+        WroteFront (SomeFilesAnswer (map string_bytes words.now)) (K.written out.old) (K.written out.new) }
     ensures memory { IsErrOf result NoAnswer.Memory → IfSome (S.told shelf.old) (λ files.
-        IsPrefixOfAnswers (map string_bytes words.now) files (K.written out.old) (K.written out.new)) }
+        IsPrefixOf (Answer (map string_bytes words.now) files) (K.written out.old) (K.written out.new)) }
     ensures keeps { S.told shelf.new ≡ S.told shelf.old }
     ensures later { NoneFalls S.faults S.is_last shelf.old shelf.new }
     ensures out_later { NeverFalls K.faults K.is_last out.old out.new }
 {
-    match read_words(words) {
-        Ok(request) => play_file(alloc, &request, shelf, out),
-        Err(n) => {
+    match read_words(alloc, words) {
+        Ok(request) => {
+            let Some(program) = &request.program else {
+                unreachable!()
+            };
+            answer_file(alloc, &request, program.as_str(), shelf, out)
+        }
+        Err(WordsRefused::Usage(n)) => {
             write_usage(out, n)?;
             Ok(Status::Usage(n))
         }
+        Err(WordsRefused::Memory) => Err(NoAnswer::Memory),
     }
 }
 
-/// Does what the words ask: `play`, and behind it in any order `program=` with a path, `action=` with a name, and
-/// perhaps `turns=` with the most turns that the play may take. What the tool says goes to the sink.
+/// Does what the words ask: `play`, `check` or `list`, and after it the keys that the mode takes, in any order. What
+/// the tool says goes to the sink.
 pub fn run_tool<S: Shelf, K: Sink>(
     alloc: Global,
     words: &[String],
@@ -139,28 +218,28 @@ pub fn run_tool<S: Shelf, K: Sink>(
 ) -> Status
     // Every status but those of faults and of want of memory is the answer's, and its text is written and nothing else.
     ensures answer { (IsFault result → ⊥) → IfSome (S.told shelf.old) (λ files.
-        Answers (map string_bytes words.now) files (K.written out.old) (K.written out.new) result) }
+        Wrote (Answer (map string_bytes words.now) files) (K.written out.old) (K.written out.new) result) }
 
     // A read fault comes only where the count of the file that the words name rose, and then nothing is written.
     ensures read { result ≡ Status.ReadFault →
-        (path action : List ℕ) × (turns : ℕ) × IsRequest (map string_bytes words.now) path action turns
+        (request : Request) × (path : List ℕ) × NamesFile (map string_bytes words.now) request path
         × HasRisenAt S.faults S.is_last path shelf.old shelf.new }
     ensures nothing { result ≡ Status.ReadFault → K.written out.new ≡ K.written out.old }
 
     // A write fault comes only where the sink's count rose, and then a prefix of the text is written.
     ensures write { result ≡ Status.WriteFault → HasRisen K.faults K.is_last out.old out.new }
     ensures front { result ≡ Status.WriteFault → IfSome (S.told shelf.old) (λ files.
-        AnswersFront (map string_bytes words.now) files (K.written out.old) (K.written out.new)) }
+        WroteFront (Answer (map string_bytes words.now) files) (K.written out.old) (K.written out.new)) }
 
     // Also of a shelf that does not tell its files: what is written is the answer to some files, or a prefix of one.
     ensures some_files { (IsFault result → ⊥) →
-        AnswersSomeFiles (map string_bytes words.now) (K.written out.old) (K.written out.new) result }
+        Wrote (SomeFilesAnswer (map string_bytes words.now)) (K.written out.old) (K.written out.new) result }
     ensures some_files_front { result ≡ Status.WriteFault →
-        AnswersSomeFilesFront (map string_bytes words.now) (K.written out.old) (K.written out.new) }
+        WroteFront (SomeFilesAnswer (map string_bytes words.now)) (K.written out.old) (K.written out.new) }
 
     // After want of memory a prefix of the text is written.
     ensures memory { result ≡ Status.Memory → IfSome (S.told shelf.old) (λ files.
-        IsPrefixOfAnswers (map string_bytes words.now) files (K.written out.old) (K.written out.new)) }
+        IsPrefixOf (Answer (map string_bytes words.now) files) (K.written out.old) (K.written out.new)) }
 
     // Whatever is answered, the files stay, and no count falls.
     ensures keeps { S.told shelf.new ≡ S.told shelf.old }

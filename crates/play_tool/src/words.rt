@@ -1,11 +1,16 @@
 //! The words of a command.
-ghost use Rattle.std.specs.Prelude.{◌≡◌, ◌≤◌, ◌<◌, ◌+◌, ℕ, List, [], length, map, codes, string_bytes, true, false, None, IfSome, IfNone, IfOk, IfErr};
+ghost use Rattle.std.specs.Prelude.{◌≡◌, ◌≤◌, ◌<◌, ◌+◌, ℕ, List, [], length, map, codes, string_bytes, is_some, None, IfSome, IfNone, IfOk, IfErr};
 ghost use Rattle.std.specs.Char.{is_ascii_digit};
 ghost use Rattle.std.specs.List.{list_all};
-ghost use Rattle.play_tool.specs.Words.{ProgramIn, ActionNamed, TurnsAtMost, is_decimal, NamesProgram, SpellsFreeName, NamesAction, SpellsTurns, NamesTurns, word_at, IsRequest, IsFirstUnread, IsUsage};
-ghost use Rattle.play_tool.specs.GivenParts.{values_of, Adds, IsTaken, AddsWord, AddsNothing, AreReadUpTo, HasValues, LacksValue};
+ghost use Rattle.play_tool.specs.Words.{mode_word, ProgramIn, ActionNamed, TurnsAtMost, is_decimal, NamesProgram, SpellsFreeName, NamesAction, SpellsTurns, NamesTurns, HasMode, IsRequest, IsFirstUnread, IsWordsRefused};
+ghost use Rattle.play_tool.specs.GivenParts.{values_of, given_of, Adds, Refuses, AddsWord, AddsNothing, AreReadUpTo, lacks, is_complete, HasValues};
+ghost use Rattle.play_tool.specs.declared.mode.Mode.{Mode};
 
+use crate::mode::WordKey;
+use crate::{FileName, Mode};
 use stapl_lexer::Name;
+use std::alloc::{AllocError, Global};
+use thiserror::Error;
 
 /// The most turns that words may ask for.
 const MOST_TURNS: u32 = 1_000_000_000;
@@ -13,32 +18,48 @@ const MOST_TURNS: u32 = 1_000_000_000;
 /// How many turns there are where words ask for none.
 const USUAL_TURNS: u32 = 100_000_000;
 
-/// What the words ask: to play an action of the program in a file.
-#[derive(Clone, Copy)]
-pub struct Request<'a> {
-    /// The path of the program, which is not empty.
-    pub program: &'a str,
+/// What the words ask for.
+#[derive(Drop)]
+pub struct Request {
+    pub mode: Mode,
+    /// The file of the program, which is not empty.
+    pub program: Option<FileName>,
     /// The name of the action.
-    pub action: Name,
-    /// The most turns that the play may take.
+    pub action: Option<Name>,
+    /// The most turns that the play may take, or the usual number if the words say none.
     pub turns: u32,
+}
+
+/// Why words are no request.
+#[derive(Clone, Copy, Debug, PartialEq, Eq, Error)]
+pub enum WordsRefused {
+    /// The first word, counted from 1, that is not read; or the number of words plus 1, if all are read, and the mode
+    /// or a key that it needs is missing.
+    #[error("the word {0} is not as stated")]
+    Usage(u32),
+    /// There was no memory.
+    #[error("out of memory")]
+    Memory,
 }
 
 // What the words so far have given.
 #[derive(Clone, Copy)]
 struct Given<'a> {
+    mode: Mode,
     program: Option<&'a str>,
     action: Option<Name>,
     turns: Option<u32>,
 }
 
 impl<'a> Given<'a> {
-    fn nothing() -> Given<'a>
+    fn nothing(mode: Mode) -> Given<'a>
+        ensures mode { result.mode ≡ mode }
         ensures program { result.program ≡ None }
         ensures action { result.action ≡ None }
         ensures turns { result.turns ≡ None }
     {
         Given {
+            mode,
             program: None,
             action: None,
             turns: None,
@@ -47,11 +68,15 @@ impl<'a> Given<'a> {
 
     fn with_program(&self, path: &'a str) -> Option<Given<'a>>
         ensures some { IfSome result (λ next. Adds (values_of self.now) (ProgramIn path.now) (values_of next)) }
-        ensures none { IfNone result (IsTaken (values_of self.now) (ProgramIn path.now)) }
+        ensures none { IfNone result (Refuses (values_of self.now) (ProgramIn path.now)) }
     {
+        if !self.mode.takes(WordKey::Program) {
+            return None;
+        }
         match self.program {
             Some(_) => None,
             None => Some(Given {
+                mode: self.mode,
                 program: Some(path),
                 action: self.action,
                 turns: self.turns,
@@ -61,11 +86,15 @@ impl<'a> Given<'a> {
 
     fn with_action(&self, name: Name) -> Option<Given<'a>>
         ensures some { IfSome result (λ next. Adds (values_of self.now) (ActionNamed name) (values_of next)) }
-        ensures none { IfNone result (IsTaken (values_of self.now) (ActionNamed name)) }
+        ensures none { IfNone result (Refuses (values_of self.now) (ActionNamed name)) }
     {
+        if !self.mode.takes(WordKey::Action) {
+            return None;
+        }
         match self.action {
             Some(_) => None,
             None => Some(Given {
+                mode: self.mode,
                 program: self.program,
                 action: Some(name),
                 turns: self.turns,
@@ -75,11 +104,15 @@ impl<'a> Given<'a> {
 
     fn with_turns(&self, turns: u32) -> Option<Given<'a>>
         ensures some { IfSome result (λ next. Adds (values_of self.now) (TurnsAtMost turns) (values_of next)) }
-        ensures none { IfNone result (IsTaken (values_of self.now) (TurnsAtMost turns)) }
+        ensures none { IfNone result (Refuses (values_of self.now) (TurnsAtMost turns)) }
     {
+        if !self.mode.takes(WordKey::Turns) {
+            return None;
+        }
         match self.turns {
             Some(_) => None,
             None => Some(Given {
+                mode: self.mode,
                 program: self.program,
                 action: self.action,
                 turns: Some(turns),
@@ -87,8 +120,8 @@ impl<'a> Given<'a> {
         }
     }
 
-    // What is given with one word more; `None` where it gives nothing, or its key has been given.
-    #[tactic(auto, using(crate::proofs::WordLemmas::adds_part, crate::proofs::WordLemmas::adds_taken, crate::proofs::WordLemmas::adds_no_part))]
+    // What is given with one word more; `None` where it gives nothing that the mode takes, or its key has been given.
+    #[tactic(auto, using(crate::proofs::WordLemmas::adds_part, crate::proofs::WordLemmas::adds_refused, crate::proofs::WordLemmas::adds_no_part))]
     fn with_word(&self, word: &'a str) -> Option<Given<'a>>
         ensures some { IfSome result (λ next. AddsWord (values_of self.now) word.now (values_of next)) }
         ensures none { IfNone result (AddsNothing (values_of self.now) word.now) }
@@ -105,26 +138,50 @@ impl<'a> Given<'a> {
         None
     }
 
-    // The request that the values make; `None` where a needed one is missing.
-    fn request(&self) -> Option<Request<'a>>
-        ensures some { IfSome result (λ request.
-            HasValues (values_of self.now) request.program.now request.action request.turns) }
-        ensures none { IfNone result (LacksValue (values_of self.now)) }
+    fn has(&self, key: WordKey) -> bool
+        ensures { result ≡ is_some (given_of (values_of self.now) key) }
     {
-        let Some(program) = self.program else {
-            return None;
-        };
-        let Some(action) = self.action else {
-            return None;
-        };
-        let turns = match self.turns {
-            Some(turns) => turns,
-            None => USUAL_TURNS,
-        };
-        Some(Request {
+        match key {
+            WordKey::Program => self.program.is_some(),
+            WordKey::Action => self.action.is_some(),
+            WordKey::Turns => self.turns.is_some(),
+        }
+    }
+
+    // Whether the mode needs a key that is not given.
+    fn lacks(&self, key: WordKey) -> bool
+        ensures { result ≡ lacks (values_of self.now) key }
+    {
+        self.mode.needs(key) && !self.has(key)
+    }
+
+    // Whether each key is given that the mode needs.
+    fn is_complete(&self) -> bool
+        ensures { result ≡ is_complete (values_of self.now) }
+    {
+        !self.lacks(WordKey::Program) && !self.lacks(WordKey::Action) && !self.lacks(WordKey::Turns)
+    }
+
+    // The name of the program's file.
+    fn file_name(&self, alloc: Global) -> Result<Option<FileName>, AllocError>
+        ensures { IfOk result (λ name. name ≡ (values_of self.now).program) }
+    {
+        match self.program {
+            Some(path) => Ok(Some(FileName::of(alloc, path)?)),
+            None => Ok(None),
+        }
+    }
+
+    // The request with the values.
+    fn request(&self, alloc: Global) -> Result<Request, AllocError>
+        ensures { IfOk result (HasValues (values_of self.now)) }
+    {
+        let program = self.file_name(alloc)?;
+        Ok(Request {
+            mode: self.mode,
             program,
-            action,
-            turns,
+            action: self.action,
+            turns: self.turns.unwrap_or(USUAL_TURNS),
         })
     }
 }
@@ -202,27 +259,45 @@ fn turn_count(word: &str) -> Option<u32>
     }
 }
 
-// Whether the first word is the mode.
-fn begins_with_mode(words: &[String]) -> bool
-    ensures yes { result ≡ true → (0 < length words.now) × (word_at (map string_bytes words.now) 0 ≡ codes "play") }
-    ensures no { result ≡ false → word_at (map string_bytes words.now) 0 ≡ codes "play" → ⊥ }
+// The mode that a word names.
+fn mode_named(word: &str) -> Option<Mode>
+    ensures some { IfSome result (λ mode. word.now ≡ mode_word mode) }
+    ensures none { IfNone result ((mode : Mode) → word.now ≡ mode_word mode → ⊥) }
+{
+    if word == "play" {
+        return Some(Mode::Play);
+    }
+    if word == "check" {
+        return Some(Mode::Check);
+    }
+    if word == "list" {
+        return Some(Mode::List);
+    }
+    None
+}
+
+// The mode that the first word names.
+fn mode_of(words: &[String]) -> Option<Mode>
+    ensures some { IfSome result (λ _. 0 < length words.now) }
+    ensures mode { IfSome result (HasMode (map string_bytes words.now)) }
+    ensures none { IfNone result ((mode : Mode) → HasMode (map string_bytes words.now) mode → ⊥) }
 {
     if words.is_empty() {
-        return false;
+        return None;
     }
-    words[0].as_str() == "play"
+    mode_named(words[0].as_str())
 }
 
 // What the words behind the mode give; or, in `Err`, the place of the first one that is not read, counted from 0.
-fn read_parts(words: &[String]) -> Result<Given<'_>, usize>
+fn read_parts(mode: Mode, words: &[String]) -> Result<Given<'_>, usize>
     requires some { 0 < length words.now }
-    requires mode { word_at (map string_bytes words.now) 0 ≡ codes "play" }
+    requires mode { HasMode (map string_bytes words.now) mode }
     ensures read { IfOk result (λ given.
         AreReadUpTo (map string_bytes words.now) (length words.now) (values_of given)) }
     ensures unread { IfErr result (IsFirstUnread (map string_bytes words.now)) }
     ensures few { IfErr result (λ place. place ≤ 4) }
 {
-    let mut given = Given::nothing();
+    let mut given = Given::nothing(mode);
     for place in 1..words.len() {
         let Some(next) = given.with_word(words[place].as_str()) else {
             return Err(place);
@@ -232,21 +307,22 @@ fn read_parts(words: &[String]) -> Result<Given<'_>, usize>
     Ok(given)
 }
 
-/// What the words ask; or, in `Err`, the first word that is not read, or the number of words plus 1 where all are read
-/// and the mode or a needed key is missing. Words count from 1.
-pub fn read_words(words: &[String]) -> Result<Request<'_>, u32>
-    ensures request { IfOk result (λ request.
-        IsRequest (map string_bytes words.now) request.program.now request.action request.turns) }
-    ensures usage { IfErr result (IsUsage (map string_bytes words.now)) }
+/// What the words ask for.
+///
+/// `Usage` says which word is the first that is not read, or that one is missing; `Memory` is want of memory.
+pub fn read_words(alloc: Global, words: &[String]) -> Result<Request, WordsRefused>
+    ensures request { IfOk result (IsRequest (map string_bytes words.now)) }
+    ensures refused { IfErr result (IsWordsRefused (map string_bytes words.now)) }
 {
-    if !begins_with_mode(words) {
-        return Err(1);
-    }
-    match read_parts(words) {
-        Ok(given) => match given.request() {
-            Some(request) => Ok(request),
-            None => Err(words.len() as u32 + 1),
+    let Some(mode) = mode_of(words) else {
+        return Err(WordsRefused::Usage(1));
+    };
+    match read_parts(mode, words) {
+        Ok(given) if given.is_complete() => match given.request(alloc) {
+            Ok(request) => Ok(request),
+            Err(_) => Err(WordsRefused::Memory),
         },
-        Err(place) => Err(place as u32 + 1),
+        Ok(_) => Err(WordsRefused::Usage(words.len() as u32 + 1)),
+        Err(place) => Err(WordsRefused::Usage(place as u32 + 1)),
     }
 }

@@ -12,9 +12,9 @@ use stapl_lexer::Reason;
 use stapl_meaning::Ending;
 use tool_io::{Failed, Lines, Sink};
 
-// Puts a label and a number.
+/// Puts a label and a number.
 #[tactic(auto, using(tool_io::proofs::PutLemmas::put_then, tool_io::proofs::PutLemmas::put_then_front, tool_io::proofs::PutLemmas::front_with))]
-fn put_labelled<K: Sink>(lines: &mut Lines<K>, label: &[u8], n: i64) -> Result<(), Failed>
+pub fn put_labelled<K: Sink>(lines: &mut Lines<K>, label: &[u8], n: i64) -> Result<(), Failed>
     requires { IsWhole lines.old }
     ensures same_sink { IsOverSame lines.old lines.new }
     ensures whole { OnOk result (IsWhole lines.new) }

@@ -12,3 +12,4 @@ mod zeros;
 
 pub use running::Machine;
 pub use turns::Trouble;
+pub use writing::{hex_byte, put_escaped};

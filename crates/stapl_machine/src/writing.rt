@@ -7,8 +7,8 @@ ghost use Rattle.stapl_meaning.specs.declared.events.Event.TheVariants.{Print};
 
 use tool_io::{Failed, Lines, Sink};
 
-// An upper-case hexadecimal digit.
-fn hex_byte(digit: u8) -> u8
+/// An upper-case hexadecimal digit.
+pub fn hex_byte(digit: u8) -> u8
     requires { digit < 16 }
     ensures { result ≡ hex_digit digit }
 {
@@ -36,8 +36,10 @@ fn put_escaped_byte<K: Sink>(out: &mut Lines<K>, byte: u8) -> Result<(), Failed>
     out.put(&[b'\\', hex_byte(byte / 16), hex_byte(byte % 16)])
 }
 
-// Puts a text, escaped.
-fn put_escaped<K: Sink>(out: &mut Lines<K>, bytes: &[u8]) -> Result<(), Failed>
+/// Puts a text, escaped.
+///
+/// `Failed` as of the sink.
+pub fn put_escaped<K: Sink>(out: &mut Lines<K>, bytes: &[u8]) -> Result<(), Failed>
     requires { IsWhole out.old }
     ensures same_sink { IsOverSame out.old out.new }
     ensures whole { OnOk result (IsWhole out.new) }

@@ -1,5 +1,5 @@
 //! What the tool answers to its words, over a store and a sink in memory.
-use play_tool::{Status, run_tool};
+use play_tool::{Mode, Status, read_words, run_tool};
 use stapl_lexer::Reason;
 use std::test::Fail;
 use tool_io::{MemShelf, MemSink};
@@ -47,6 +47,29 @@ fn keeps_a_prefix_where_the_third_write_fails(rt: HostRuntime) -> Result<(), Fai
     assert_eq!(rt; status, Status::WriteFault);
     assert_eq!(rt; written.as_slice(), b"P HELLO\n".as_slice());
     assert_eq!(rt; status.exit_code(), 10);
+    Ok(())
+}
+
+#[test]
+fn reads_words(rt: HostRuntime) -> Result<(), Fail> {
+    let alloc = rt.alloc();
+    let mut words = Vec::new(alloc);
+    for word in ["play", "turns=7", "action=a", "program=p"] {
+        words.push(String::from_str(alloc, word)?)?;
+    }
+    let Ok(request) = read_words(alloc, &words) else {
+        panic!(rt; "the words are refused");
+    };
+    assert_eq!(rt; request.mode, Mode::Play);
+    assert_eq!(rt; request.turns, 7);
+    match &request.program {
+        Some(program) => assert_eq!(rt; program.as_str(), "p"),
+        None => panic!(rt; "no program"),
+    }
+    match &request.action {
+        Some(action) => assert_eq!(rt; action.bytes(), b"A".as_slice()),
+        None => panic!(rt; "no action"),
+    }
     Ok(())
 }
 

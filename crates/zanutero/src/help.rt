@@ -1,22 +1,29 @@
 //! What the words `--help` and `--version`, each alone, are answered.
-use play_tool::Status;
-use tool_io::{Lines, Sink};
+ghost use Rattle.std.specs.Prelude.{◌≡◌, map, string_bytes};
+ghost use Rattle.std.specs.Option.{option_map};
+ghost use Rattle.zanutero.specs.Commands.{text_of_word, text_asked};
 
-const HELP: &[u8] = b"zanutero: plays STAPL programs (JEDEC JESD71)
+const HELP: &[u8] = b"zanutero: checks, lists and plays STAPL programs (JEDEC JESD71)
 
+  zanutero check program=PATH
+      checks the program in the file PATH: counts its statements, or names its
+      first fault, and says whether its CRC is that of the text
+  zanutero list program=PATH
+      lists the notes of the program, and its actions with their procedures
   zanutero play program=PATH action=NAME [turns=N]
-      plays the action NAME of the program in the file PATH, and writes what it
-      prints and how it ends; the keys stand in any order
+      plays the action NAME of the program, and writes what it prints and how it
+      ends
       turns=N  the most turns of the play, 0 to 1000000000; where it is missing,
                100000000; each statement that is played takes one
   zanutero --help
   zanutero --version
 
-For example:
+The keys stand in any order. For example:
+  zanutero check program=examples/hello.stp
   zanutero play program=examples/hello.stp action=A
 
 Exit codes:
-  0  the play ended with code 0
+  0  the program is checked or listed, or the play ended with code 0
   1  the play ended with another code
   3  the play still went on after its turns
   4  the program is refused: the line R program PIECE line LINE REASON
@@ -30,21 +37,24 @@ Exit codes:
 const VERSION: &[u8] = b"zanutero 0.1.0
 ";
 
-/// The text that the words ask for, where they are one word that asks for one.
-pub fn answer_to(words: &[String]) -> Option<&'static [u8]> {
-    match words {
-        [word] if word.as_str() == "--help" => Some(HELP),
-        [word] if word.as_str() == "--version" => Some(VERSION),
-        _ => None,
+fn text_of_word(word: &str) -> Option<&'static [u8]>
+    ensures { option_map (λ text. text.now) result ≡ text_of_word word.now }
+{
+    if word == "--help" {
+        Some(HELP)
+    } else if word == "--version" {
+        Some(VERSION)
+    } else {
+        None
     }
 }
 
-/// Writes a text, and answers the exit code.
-pub fn show<K: Sink>(out: &mut K, text: &[u8]) -> u8 {
-    let mut lines = Lines::new(out);
-    if lines.put(text).is_ok() && lines.finish().is_ok() {
-        Status::Done(0).exit_code()
-    } else {
-        Status::WriteFault.exit_code()
+/// The text that the words ask for, if they are one that asks for one.
+pub fn text_asked(words: &[String]) -> Option<&'static [u8]>
+    ensures { option_map (λ text. text.now) result ≡ text_asked (map string_bytes words.now) }
+{
+    match words {
+        [word] => text_of_word(word.as_str()),
+        _ => None,
     }
 }

@@ -2,12 +2,12 @@ use Rattle.std.proofs.Common.{refl, ap, ◌∙◌, rules}
 use Rattle.stapl_code.specs.declared.raw.CodeLists.{CodeLists}
 use Rattle.stapl_machine.specs.Machines.{play_of}
 use Rattle.play_tool.specs.CodePlays.{procedures_in}
-use Rattle.play_tool.proofs.AnswerLemmas.{nothing_of_program}
+use Rattle.play_tool.proofs.WrittenLemmas.{nothing_written}
 use Rattle.play_tool.proofs.PlayLemmas.{none_chosen, play_chosen_of, zeros_fit, no_such_action, no_such_action_front, run_to, run_front, run_prefix}
 use Rattle.play_tool.proofs.playing.play_program.Goals as goal
 
 pub returns-in_err-code-clause-memory : goal.returns-in_err-code-clause-memory
-returns-in_err-code-clause-memory g c = λ _. nothing_of_program refl
+returns-in_err-code-clause-memory g c = λ _. nothing_written refl
 
 pub returns-in_err-write_text-clause-front : goal.returns-in_err-write_text-clause-front
 returns-in_err-write_text-clause-front g c = λ _.

@@ -1,29 +1,38 @@
-use Rattle.std.proofs.Common.{Option, None, Some, IfSome, Result, Ok, Err, IfOk}
-use Rattle.play_tool.proofs.AnswerLemmas.{request_to, request_front, request_prefix, some_files_request_to, some_files_request_front}
+use Rattle.std.proofs.Common.{◌∙◌, sym, ap, map, string_bytes, Global, Some}
+use Rattle.play_tool.specs.Answers.{NamesFile}
+use Rattle.play_tool.proofs.AnswerLemmas.{has_program, file_words, words_file, some_words, on_ok, on_some}
+use Rattle.play_tool.proofs.WrittenLemmas.{wrote_within, front_within, prefix_within}
 use Rattle.play_tool.proofs.top.run.Goals as goal
 
-on_ok : {T E : Type 0} {P Q : T → Type 0} (r : Result T E) → ((x : T) → P x → Q x) → IfOk r P → IfOk r Q
-on_ok (Ok x) f p = f x p
-on_ok (Err e) f p = tt
+pub unreachable-requires : goal.unreachable-requires
+unreachable-requires g c = has_program c.in-Ok.request (c.in-Ok.ensures.request).needed c.in_default.is
 
-on_some : {T : Type 0} {P Q : T → Type 0} (o : Option T) → ((x : T) → P x → Q x) → IfSome o P → IfSome o Q
-on_some None f p = tt
-on_some (Some x) f p = f x p
+pub returns-in-Some-clause-ok : goal.returns-in-Some-clause-ok
+returns-in-Some-clause-ok g c =
+    let names : NamesFile (map (string_bytes {Z = Global}) c.args.words.now) c.in-Ok.request c.as_str.result.now =
+    record { asks = c.in-Ok.ensures.request; program = c.in-Some.is ∙ ap Some (sym c.as_str.ensures) } in
+    on_ok c.answer_file.result (λ status. on_some (g.S.Shelf.told c.args.shelf.now) (λ files. wrote_within (file_words names))) c.answer_file.ensures.ok
 
-pub returns-in-Ok-clause-ok : goal.returns-in-Ok-clause-ok
-returns-in-Ok-clause-ok g c =
-    on_ok c.play_file.result (λ status. on_some (g.S.Shelf.told c.args.shelf.now) (λ files. request_to c.in-Ok.ensures.request)) c.play_file.ensures.ok
+pub returns-in-Some-clause-front : goal.returns-in-Some-clause-front
+returns-in-Some-clause-front g c = λ e.
+    let names : NamesFile (map (string_bytes {Z = Global}) c.args.words.now) c.in-Ok.request c.as_str.result.now =
+    record { asks = c.in-Ok.ensures.request; program = c.in-Some.is ∙ ap Some (sym c.as_str.ensures) } in
+    on_some (g.S.Shelf.told c.args.shelf.now) (λ files. front_within (file_words names)) (c.answer_file.ensures.front e)
 
-pub returns-in-Ok-clause-front : goal.returns-in-Ok-clause-front
-returns-in-Ok-clause-front g c = λ e.
-    on_some (g.S.Shelf.told c.args.shelf.now) (λ files. request_front c.in-Ok.ensures.request) (c.play_file.ensures.front e)
+pub returns-in-Some-clause-some_files : goal.returns-in-Some-clause-some_files
+returns-in-Some-clause-some_files g c =
+    let names : NamesFile (map (string_bytes {Z = Global}) c.args.words.now) c.in-Ok.request c.as_str.result.now =
+    record { asks = c.in-Ok.ensures.request; program = c.in-Some.is ∙ ap Some (sym c.as_str.ensures) } in
+    on_ok c.answer_file.result (λ status. wrote_within (some_words names)) c.answer_file.ensures.some_text
 
-pub returns-in-Ok-clause-some_files : goal.returns-in-Ok-clause-some_files
-returns-in-Ok-clause-some_files g c = on_ok c.play_file.result (λ status. some_files_request_to c.in-Ok.ensures.request) c.play_file.ensures.some_bytes
+pub returns-in-Some-clause-some_files_front : goal.returns-in-Some-clause-some_files_front
+returns-in-Some-clause-some_files_front g c = λ e.
+    let names : NamesFile (map (string_bytes {Z = Global}) c.args.words.now) c.in-Ok.request c.as_str.result.now =
+    record { asks = c.in-Ok.ensures.request; program = c.in-Some.is ∙ ap Some (sym c.as_str.ensures) } in
+    front_within (some_words names) (c.answer_file.ensures.some_text_front e)
 
-pub returns-in-Ok-clause-some_files_front : goal.returns-in-Ok-clause-some_files_front
-returns-in-Ok-clause-some_files_front g c = λ e. some_files_request_front c.in-Ok.ensures.request (c.play_file.ensures.some_bytes_front e)
-
-pub returns-in-Ok-clause-memory : goal.returns-in-Ok-clause-memory
-returns-in-Ok-clause-memory g c = λ e.
-    on_some (g.S.Shelf.told c.args.shelf.now) (λ files. request_prefix c.in-Ok.ensures.request) (c.play_file.ensures.memory e)
+pub returns-in-Some-clause-memory : goal.returns-in-Some-clause-memory
+returns-in-Some-clause-memory g c = λ e.
+    let names : NamesFile (map (string_bytes {Z = Global}) c.args.words.now) c.in-Ok.request c.as_str.result.now =
+    record { asks = c.in-Ok.ensures.request; program = c.in-Some.is ∙ ap Some (sym c.as_str.ensures) } in
+    on_some (g.S.Shelf.told c.args.shelf.now) (λ files. prefix_within (words_file names)) (c.answer_file.ensures.memory e)

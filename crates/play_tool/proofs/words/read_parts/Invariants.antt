@@ -6,4 +6,4 @@ use Rattle.play_tool.proofs.words.read_parts.Given as goal
 abbrev pub invariant-loop-place : goal.invariant-loop-place
 invariant-loop-place l =
     AreReadUpTo (map string_bytes l.words) l.place
-    (record { program = option_map (λ path. path.now) l.given.0; action = l.given.1.0; turns = l.given.1.1.0 })
+    (record { mode = l.given.0; program = option_map (λ path. path.now) l.given.1.0; action = l.given.1.1.0; turns = l.given.1.1.1.0 })

@@ -1,0 +1,20 @@
+use Rattle.std.proofs.Common.{Option, None, Some, IfNone}
+use Rattle.play_tool.specs.Words.{ProgramIn, ActionNamed, TurnsAtMost}
+use Rattle.play_tool.proofs.WordLemmas.{adds_refused}
+use Rattle.play_tool.proofs.words.Given.with_word.Goals as goal
+
+on_none : {T P Q : Type 0} (o : Option T) → (P → Q) → IfNone o P → IfNone o Q
+on_none None f p = f p
+on_none (Some x) f p = tt
+
+pub returns-in-Some-clause-none : goal.returns-in-Some-clause-none
+returns-in-Some-clause-none c =
+    on_none c.with_program.result (adds_refused (ProgramIn c.in-Some.path.now) c.in-Some.ensures.some) c.with_program.ensures.none
+
+pub returns-in-Some-action_name-clause-none : goal.returns-in-Some-action_name-clause-none
+returns-in-Some-action_name-clause-none c =
+    on_none c.with_action.result (adds_refused (ActionNamed c.in-Some-action_name.name) c.in-Some-action_name.ensures.some) c.with_action.ensures.none
+
+pub returns-in-Some-turn_count-clause-none : goal.returns-in-Some-turn_count-clause-none
+returns-in-Some-turn_count-clause-none c =
+    on_none c.with_turns.result (adds_refused (TurnsAtMost c.in-Some-turn_count.turns) c.in-Some-turn_count.ensures.some) c.with_turns.ensures.none
