@@ -1,5 +1,6 @@
 """What the benches share: they time whole runs of ./zanutero and print the ratios between sizes."""
 import argparse
+import os
 import pathlib
 import resource
 import subprocess
@@ -16,11 +17,31 @@ def processor_time():
     return used.ru_utime + used.ru_stime
 
 
-class Bench:
-    """A command line with --runs and --processor, and a text in a file of its own that ./zanutero plays."""
+# Runs a program with its words, writes nothing of what it writes, and prints its exit code, its processor time in
+# seconds and its peak memory in KiB. The peak is at least that of the small Python in which this runs.
+ALONE = """
+import os, sys
+away = [(os.POSIX_SPAWN_OPEN, 1, os.devnull, os.O_WRONLY, 0)]
+_, status, used = os.wait4(os.posix_spawn(sys.argv[1], sys.argv[1:], os.environ, file_actions=away), 0)
+print(os.WEXITSTATUS(status), used.ru_utime + used.ru_stime, used.ru_maxrss)
+"""
 
-    def __init__(self, description, **more):
+
+def alone(words, code):
+    """The processor time and the peak memory, in bytes, of one run of a program, which ends with this code."""
+    command = [sys.executable, "-I", "-S", "-c", ALONE, *map(os.fspath, words)]
+    ended, seconds, peak = subprocess.run(command, stdout=subprocess.PIPE, check=True).stdout.split()
+    if int(ended) != code:
+        sys.exit(f"exit code {int(ended)} in place of {code}")
+    return float(seconds), 1024 * int(peak)
+
+
+class Bench:
+    """A command line with --runs and --processor, and a text in a file of its own that ./zanutero plays or checks."""
+
+    def __init__(self, description, mode="play", **more):
         """The words in more are asked for, too, each with what --help says of it."""
+        self.mode = mode
         parser = argparse.ArgumentParser(description=description)
         for name, told in more.items():
             parser.add_argument(name, help=told)
@@ -43,9 +64,10 @@ class Bench:
         self.folder.cleanup()
 
     def play(self, code, *more, top=TOP):
-        """The time of a play of the text by the program of a checkout, which ends with this code."""
+        """The time of a run on the text of the program of a checkout, which ends with this code."""
         begun = self.clock()
-        words = [top / "zanutero", "play", f"program={self.path}", "action=A", *more]
+        action = ["action=A"] if self.mode == "play" else []
+        words = [top / "zanutero", self.mode, f"program={self.path}", *action, *more]
         done = subprocess.run(words, stdout=subprocess.DEVNULL)
         took = self.clock() - begun
         if done.returncode != code:
@@ -53,11 +75,11 @@ class Bench:
         return took
 
     def shortest(self, code, runs, *more):
-        """The shortest time of so many plays of the text, which end with this code."""
+        """The shortest time of so many runs on the text, which end with this code."""
         return min(self.play(code, *more) for _ in range(runs))
 
     def seconds(self, text, code, *more):
-        """The shortest time of a play of this text, above that of an empty one."""
+        """The shortest time of a run on this text, above that of an empty one."""
         self.path.write_bytes(text)
         return self.shortest(code, self.runs, *more) - self.start
 
