@@ -8,7 +8,7 @@ use std::test::Fail;
 // How many statements the program has that a text is, or why it is refused.
 fn outcome(alloc: Global, text: &[u8]) -> (usize, Option<CheckRefused>) {
     match check(alloc, text) {
-        Ok(statements) => (statements.len(), None),
+        Ok(program) => (program.statements().len(), None),
         Err(refused) => (0, Some(refused)),
     }
 }

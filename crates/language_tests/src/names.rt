@@ -27,10 +27,10 @@ fn names_of(alloc: Global, statements: &[Stmt]) -> Result<Names, Fail> {
 fn finds_the_names_of_a_program(rt: HostRuntime) -> Result<(), Fail> {
     let text =
         "ACTION A=P;DATA D;INTEGER K[3];ENDDATA;DATA E;INTEGER H;ENDDATA;PROCEDURE P USES D;BOOLEAN B;L: B=0;ENDPROC;";
-    let Ok(statements) = check(rt.alloc(), text.as_bytes()) else {
+    let Ok(program) = check(rt.alloc(), text.as_bytes()) else {
         return Err("no program".into());
     };
-    let names = names_of(rt.alloc(), &statements)?;
+    let names = names_of(rt.alloc(), program.statements())?;
     assert_eq!(rt; (names.blocks(), names.variables()), (3, 3));
     assert_eq!(rt; names.action(&name("A")?), Some(1));
     assert_eq!(rt; names.block(&name("X")?), None);

@@ -1,6 +1,7 @@
 -- On answers: which relation holds the answers of which.
-use Rattle.std.proofs.Common.{◌≡◌, ◌<◌, ℕ, pos, List, [], ◌∷◌, length, codes, Option, None, Some, Result, Ok, Err, IfOk, IfSome, IsSomeAnd, refl, sym, ap, ◌∙◌, subst, replicate, arith, ◌+◌, Bool, true, false, map}
+use Rattle.std.proofs.Common.{◌≡◌, ◌<◌, ℕ, pos, List, [], ◌∷◌, length, codes, Option, None, Some, Result, Ok, Err, IfOk, IfSome, IsSomeAnd, refl, sym, ap, ◌∙◌, subst, replicate, arith, ◌+◌, true, false}
 use Rattle.std.proofs.lemmas.List.{length-replicate}
+use Rattle.std.proofs.lemmas.Option.{same_Some, none-some}
 use Rattle.std.proofs.lemmas.Slice.Eq.{bytes_eq-Decides}
 use Rattle.std.specs.Prelude.{is_some}
 use Rattle.tool_io.specs.Bytes.{then_bytes, MovesFront}
@@ -10,7 +11,7 @@ use Rattle.stapl_lexer.specs.declared.reason.Reason.{Reason}
 use Rattle.stapl_lexer.specs.declared.reason.Reason.TheVariants as reasons
 use Rattle.stapl_syntax.specs.Trees.{StmtTree}
 use Rattle.stapl_syntax.specs.Programs.{IsProgram, FirstFault, is_too_long}
-use Rattle.stapl_syntax.specs.Unbuilt.{is_unbuilt, IsUnbuiltAt, IsBuiltProgram}
+use Rattle.stapl_syntax.specs.Unbuilt.{IsUnbuiltAt, IsBuiltProgram}
 use Rattle.stapl_checker.proofs.UniqueLemmas.{one_program, no_fault}
 use Rattle.play_tool.specs.declared.mode.Mode.{Mode}
 use Rattle.play_tool.specs.declared.mode.Mode.TheVariants as modes
@@ -25,9 +26,6 @@ use Rattle.play_tool.specs.Written.{Wrote, WroteFront}
 use Rattle.play_tool.specs.Answers.{Plays, PlaysText, unbuilt, built, Work, TextAnswer, refused, accepted, FileAnswer, NamesFile, Answer, usage, asked, SomeTextAnswer, SomeFilesAnswer}
 use Rattle.play_tool.proofs.OneRequest.{one_request, no_usage}
 use Rattle.play_tool.proofs.WrittenLemmas.{IsWithin, wrote_text, wrote_front}
-
-some_back : {A : Type 0} (x y : A) → Some x ≡ Some y → x ≡ y
-some_back x y e = cc
 
 pub on_ok : {T E : Type 0} {P Q : T → Type 0} (r : Result T E) → ((x : T) → P x → Q x) → IfOk r P → IfOk r Q
 on_ok (Ok x) f p = f x p
@@ -65,15 +63,15 @@ plays_asked request bytes program {action = action} a is = record {
   to = λ text status p. built text status is (record { action = action; asked = a; plays = p });
 }
 
-pub clash : {A : Type 0} (b : Bool) → b ≡ true → b ≡ false → A
-clash true e f = absurd cc
-clash false e f = absurd cc
+-- a program that is built has no piece that is not
+pub not_both : {bytes : List ℕ} {program : List StmtTree} {piece line : ℕ} → IsBuiltProgram bytes program → IsUnbuiltAt bytes program piece line → ⊥
+not_both is at = none-some at.index (sym is.built ∙ at.is_first)
 
 asked_play : {request : Request} {bytes : List ℕ} {program : List StmtTree} {action text : List ℕ} {status : Status} → request.action ≡ Some action → IsBuiltProgram bytes program →
     PlaysText request bytes program text status → Plays program action request.turns text status
-asked_play {program = program} a is (unbuilt piece line at) = clash (is_unbuilt (map Some program) at.index) at.here (is.built at.index at.within)
+asked_play a is (unbuilt piece line at) = absurd (not_both is at)
 asked_play {request = request} {program = program} {action = action} a is (built text status own p) =
-    subst (λ (z : List ℕ). Plays program z request.turns text status) (some_back p.action action (sym p.asked ∙ a)) p.plays
+    subst (λ (z : List ℕ). Plays program z request.turns text status) (same_Some p.action action (sym p.asked ∙ a)) p.plays
 
 pub asked_plays : (request : Request) (bytes : List ℕ) (program : List StmtTree) {action : List ℕ} → request.action ≡ Some action → IsBuiltProgram bytes program →
     IsWithin (PlaysText request bytes program) (Plays program action request.turns)
@@ -91,9 +89,11 @@ unbuilt_front piece line at m = wrote_front (refusal_line piece line reasons.Not
 
 -- The answer for a text that is a program is the work on it.
 
-pub work_answers : (request : Request) (bytes : List ℕ) (program : List StmtTree) → IsProgram bytes program →
-    IsWithin (Work request bytes program request.mode) (TextAnswer request bytes)
-work_answers request bytes program is = record { to = λ text status w. accepted program text status is w }
+pub work_answers : (request : Request) (own bytes : List ℕ) (program : List StmtTree) → own ≡ bytes → IsProgram bytes program →
+    IsWithin (Work request own program request.mode) (TextAnswer request bytes)
+work_answers request own bytes program same is =
+    subst (λ (z : List ℕ). IsWithin (Work request z program request.mode) (TextAnswer request bytes)) (sym same)
+    (record { to = λ text status w. accepted program text status is w })
 
 answer_works : {request : Request} {bytes text : List ℕ} {status : Status} (program : List StmtTree) → IsProgram bytes program →
     TextAnswer request bytes text status → Work request bytes program request.mode text status
@@ -101,9 +101,11 @@ answer_works program is (refused piece line reason fault) = absurd (no_fault pro
 answer_works {request = request} {bytes = bytes} program is (accepted other text status other_is w) =
     subst (λ (z : List StmtTree). Work request bytes z request.mode text status) (one_program bytes other program other_is is) w
 
-pub answers_work : (request : Request) (bytes : List ℕ) (program : List StmtTree) → IsProgram bytes program →
-    IsWithin (TextAnswer request bytes) (Work request bytes program request.mode)
-answers_work request bytes program is = record { to = λ text status a. answer_works program is a }
+pub answers_work : (request : Request) (own bytes : List ℕ) (program : List StmtTree) → own ≡ bytes → IsProgram bytes program →
+    IsWithin (TextAnswer request bytes) (Work request own program request.mode)
+answers_work request own bytes program same is =
+    subst (λ (z : List ℕ). IsWithin (TextAnswer request bytes) (Work request z program request.mode)) (sym same)
+    (record { to = λ text status a. answer_works program is a })
 
 -- A text is refused.
 
@@ -127,7 +129,7 @@ words_answer names (usage n u) = absurd (no_usage names.asks u)
 words_answer {files = files} {request = request} {path = path} names (asked other other_path text status other_names a) =
     let same : other ≡ request = one_request other_names.asks names.asks in
     let paths : other_path ≡ path =
-    some_back other_path path (sym other_names.program ∙ ap (λ (r : Request). r.program) same ∙ names.program) in
+    same_Some other_path path (sym other_names.program ∙ ap (λ (r : Request). r.program) same ∙ names.program) in
     subst (λ (r : Request). FileAnswer r (file_of files path) text status) same
     (subst (λ (p : List ℕ). FileAnswer other (file_of files p) text status) paths a)
 

@@ -1,10 +1,10 @@
 -- The words and the files have at most one answer.
-use Rattle.std.proofs.Common.{◌≡◌, ◌<◌, ◌≤◌, ◌+◌, ℕ, pos, Bool, true, false, List, refl, sym, ap, ◌∙◌, subst, Option, None, Some, codes, map, arith, ◌⊎◌, inl, inr}
-use Rattle.std.proofs.lemmas.Bool.{cases_lt}
+use Rattle.std.proofs.Common.{◌≡◌, ◌+◌, ℕ, pos, List, refl, sym, ap, ◌∙◌, subst, Option, None, Some, codes}
+use Rattle.std.proofs.lemmas.Option.{same_Some, none-some}
 use Rattle.stapl_lexer.specs.declared.reason.Reason.TheVariants as reasons
 use Rattle.stapl_lexer.proofs.PieceLemmas.{cut_one_way}
 use Rattle.stapl_syntax.specs.Programs.{line_of_index}
-use Rattle.stapl_syntax.specs.Unbuilt.{is_unbuilt, IsUnbuiltAt}
+use Rattle.stapl_syntax.specs.Unbuilt.{IsUnbuiltAt}
 use Rattle.stapl_lexer.specs.declared.reason.Reason.{Reason}
 use Rattle.stapl_syntax.specs.Trees.{StmtTree}
 use Rattle.stapl_checker.proofs.UniqueLemmas.{one_first_fault, one_program, no_fault}
@@ -22,7 +22,7 @@ use Rattle.play_tool.specs.Checks.{check_text, Checks, checked}
 use Rattle.play_tool.specs.Listings.{Lists, listed}
 use Rattle.play_tool.specs.Texts.{number_line, refusal_line}
 use Rattle.play_tool.specs.Answers.{PlaysText, unbuilt, built, done_with, Plays, no_action, played, PlaysAsked, Work, TextAnswer, refused, accepted, FileAnswer, Answer, usage, asked}
-use Rattle.play_tool.proofs.AnswerLemmas.{words_file, clash}
+use Rattle.play_tool.proofs.AnswerLemmas.{words_file, not_both}
 use Rattle.play_tool.proofs.CheckLemmas.{one_word}
 use Rattle.play_tool.proofs.OneRequest.{one_usage, no_usage}
 
@@ -34,14 +34,8 @@ pub record Said : Type 0 where
 abbrev said : List ℕ → Status → Said
 said text status = record { text = text; status = status }
 
-none_some : {A : Type 0} (x : A) → None ≡ Some x → ⊥
-none_some x e = cc
-
-some_some : {A : Type 0} (x y : A) → Some x ≡ Some y → x ≡ y
-some_some x y e = cc
-
 no_action_played : (program : List StmtTree) (action chosen : List ℕ) → chosen_of program action ≡ None → chosen_of program action ≡ Some chosen → ⊥
-no_action_played program action chosen e f = none_some chosen (sym e ∙ f)
+no_action_played program action chosen e f = none-some chosen (sym e ∙ f)
 
 -- what a play says that ends so
 abbrev said_of : List StmtTree → ℕ → List ℕ → Ending → Said
@@ -52,7 +46,7 @@ same_play program turns a b e f p q = rw (p, q) refl
 
 one_ending : (program : List StmtTree) (turns : ℕ) (a b : List ℕ) (e f : Ending) → a ≡ b → ending_of (play program a turns).outcome ≡ Some e →
     ending_of (play program b turns).outcome ≡ Some f → e ≡ f
-one_ending program turns a b e f p x y = some_some e f (sym x ∙ ap (λ (z : List ℕ). ending_of (play program z turns).outcome) p ∙ y)
+one_ending program turns a b e f p x y = same_Some e f (sym x ∙ ap (λ (z : List ℕ). ending_of (play program z turns).outcome) p ∙ y)
 
 -- an accepted program gives one answer
 one_play : {program : List StmtTree} {action xs ys : List ℕ} {turns : ℕ} {s t : Status} → Plays program action turns xs s →
@@ -61,30 +55,22 @@ one_play (no_action e) (no_action f) = refl
 one_play {program = program} {action = action} (no_action e) (played chosen ending f g) = absurd (no_action_played program action chosen e f)
 one_play {program = program} {action = action} (played chosen ending f g) (no_action e) = absurd (no_action_played program action chosen e f)
 one_play {program = program} {turns = turns} (played chosen a f g) (played other b h k) =
-    let same = some_some chosen other (sym f ∙ h) in
+    let same = same_Some chosen other (sym f ∙ h) in
     same_play program turns chosen other a b same (one_ending program turns chosen other a b same g k)
 
 -- a request names one action at most
 one_asked : {program : List StmtTree} {request : Request} {xs ys : List ℕ} {s t : Status} → PlaysAsked program request xs s → PlaysAsked program request ys t →
     said xs s ≡ said ys t
 one_asked {program = program} {request = request} {ys = ys} {t = t} a b =
-    one_play a.plays (subst (λ (z : List ℕ). Plays program z request.turns ys t) (some_some b.action a.action (sym b.asked ∙ a.asked)) b.plays)
+    one_play a.plays (subst (λ (z : List ℕ). Plays program z request.turns ys t) (same_Some b.action a.action (sym b.asked ∙ a.asked)) b.plays)
 
 -- the first piece that is not built is one
-same_index : (test : ℕ → Bool) (i j : ℕ) → test i ≡ true → test j ≡ true → ((k : ℕ) → k < i → test k ≡ false) → ((k : ℕ) → k < j → test k ≡ false) → i ≡ j
-same_index test i j a b before also = by (cases_lt i j) (cases_lt j i)
-  where
-    by : (i < j) ⊎ (j ≤ i) → (j < i) ⊎ (i ≤ j) → i ≡ j
-    by (inl l) m = clash (test i) a (also i l)
-    by (inr l) (inl m) = clash (test j) b (before j m)
-    by (inr l) (inr m) = omega arith
-
 same_unbuilt : (p l q m : ℕ) → p ≡ q → l ≡ m → said (refusal_line p l reasons.NotYetBuilt) (Refused p reasons.NotYetBuilt) ≡ said (refusal_line q m reasons.NotYetBuilt) (Refused q reasons.NotYetBuilt)
 same_unbuilt p l q m a b = rw (a, b) refl
 
 one_unbuilt : {bytes : List ℕ} {program : List StmtTree} {p l q m : ℕ} → IsUnbuiltAt bytes program p l → IsUnbuiltAt bytes program q m → (p ≡ q) × (l ≡ m)
 one_unbuilt {bytes = bytes} {program = program} a b =
-    let index = same_index (is_unbuilt (map Some program)) a.index b.index a.here b.here a.before b.before in
+    let index = same_Some a.index b.index (sym a.is_first ∙ b.is_first) in
     let pieces = cut_one_way bytes a.pieces b.pieces a.cut b.cut in (
       a.piece_is ∙ ap (λ (i : ℕ). i + 1) index ∙ sym b.piece_is,
       a.line_is ∙ (λ j. line_of_index bytes (pieces j) (index j)) ∙ sym b.line_is,
@@ -94,8 +80,8 @@ one_unbuilt {bytes = bytes} {program = program} a b =
 one_played : {request : Request} {bytes : List ℕ} {program : List StmtTree} {xs ys : List ℕ} {s t : Status} → PlaysText request bytes program xs s →
     PlaysText request bytes program ys t → said xs s ≡ said ys t
 one_played (unbuilt p l a) (unbuilt q m b) = let e = one_unbuilt a b in same_unbuilt p l q m e.0 e.1
-one_played {program = program} (unbuilt p l a) (built text status is b) = clash (is_unbuilt (map Some program) a.index) a.here (is.built a.index a.within)
-one_played {program = program} (built text status is a) (unbuilt p l b) = clash (is_unbuilt (map Some program) b.index) b.here (is.built b.index b.within)
+one_played (unbuilt p l a) (built text status is b) = absurd (not_both is a)
+one_played (built text status is a) (unbuilt p l b) = absurd (not_both is b)
 one_played (built text status is a) (built other also_status also b) = one_asked a b
 
 same_check : (program : List StmtTree) (a b : Option CheckWords) → a ≡ b → said (check_text program a) (Done (pos 0)) ≡ said (check_text program b) (Done (pos 0))
@@ -131,7 +117,7 @@ same_line n m e = rw e refl
 
 one_file : {request : Request} {file : Option (List ℕ)} {xs ys : List ℕ} {s t : Status} → FileAnswer request file xs s → FileAnswer request file ys t → said xs s ≡ said ys t
 one_file {request = request} {ys = ys} {t = t} a b =
-    one_text a.answer (subst (λ (z : List ℕ). TextAnswer request z ys t) (some_some b.bytes a.bytes (sym b.held ∙ a.held)) b.answer)
+    one_text a.answer (subst (λ (z : List ℕ). TextAnswer request z ys t) (same_Some b.bytes a.bytes (sym b.held ∙ a.held)) b.answer)
 
 -- there is one answer
 one_said : {words : List (List ℕ)} {files : List (List ℕ × List ℕ)} {xs ys : List ℕ} {s t : Status} → Answer words files xs s → Answer words files ys t → said xs s ≡ said ys t

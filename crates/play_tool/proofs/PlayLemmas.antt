@@ -1,34 +1,36 @@
 -- On plays of a program through its code.
-use Rattle.std.proofs.Common.{◌≡◌, ◌≢◌, ◌<◌, ◌+◌, ℕ, pos, List, [], ◌∷◌, ◌++◌, length, map, replicate, refl, sym, ap, ◌∙◌, subst, suc, zero, arith, Bool, true, false, ◌&&◌, Option, Some, None, if◌then◌else◌, codes, get_or, drop, ◌≤◌}
-use Rattle.std.proofs.lemmas.Slice.Eq.{bytes_eq-Decides}
+use Rattle.std.proofs.Common.{◌≡◌, ◌≢◌, ◌<◌, ◌+◌, ℕ, pos, List, [], ◌∷◌, length, map, replicate, refl, sym, ap, ◌∙◌, subst, suc, zero, arith, Bool, true, false, Option, Some, None, if◌then◌else◌, codes, get_or, drop, ◌≤◌}
 use Rattle.std.proofs.Math.Seq.{drop-cons}
 use Rattle.std.proofs.Math.ListN.{drop_of_length-le}
-use Rattle.std.specs.List.{list_all, flat_map}
+use Rattle.std.specs.List.{flat_map}
+use Rattle.std.specs.Prelude.{All}
 use Rattle.std.specs.Str.{bytes_eq}
+use Rattle.std.proofs.lemmas.List.Elements.{All-head, All-tail}
+use Rattle.std.proofs.lemmas.Option.{same_Some, none-some}
 use Rattle.tool_io.specs.Bytes.{then_bytes, MovesFront}
 use Rattle.tool_io.specs.declared.lines.Lines.{Lines}
 use Rattle.tool_io.specs.Lines.{gathered, taken, Puts, PutsFront}
 use Rattle.tool_io.proofs.BytesLemmas.{moves_front_nothing}
 use Rattle.tool_io.proofs.PutLemmas.{put_then_front, front_with, front_written, finish_front}
-use Rattle.stapl_syntax.specs.Trees.{BodyTree, action, end_procedure, StmtTree}
-use Rattle.stapl_syntax.specs.Built.{unlabelled, action_of, procedure_of}
-use Rattle.stapl_syntax.specs.Unbuilt.{is_inside}
-use Rattle.stapl_syntax.specs.Shapes.{is_between, IsOneProcedure}
+use Rattle.stapl_syntax.specs.declared.names.Key.{Key}
+use Rattle.stapl_syntax.specs.declared.names.Variable.{Variable}
+use Rattle.stapl_syntax.specs.Trees.{ItemTree, BodyTree, action, StmtTree}
 use Rattle.stapl_meaning.specs.declared.events.Event.{Event}
 use Rattle.stapl_meaning.specs.declared.events.Ending.{Ending}
 use Rattle.stapl_meaning.specs.declared.values.Held.{Held}
 use Rattle.stapl_meaning.specs.declared.values.Held.TheVariants as held
-use Rattle.stapl_meaning.specs.Scopes.{Variable, variables_of, zeros_of, procedure_number, chosen_before, chosen_from, chosen_of}
+use Rattle.stapl_meaning.specs.Scopes.{program_names, zeros_of, procedure_number, item_procedure, chosen_before, chosen_from, chosen_of}
 use Rattle.stapl_meaning.specs.Scopes as scopes
 use Rattle.stapl_meaning.specs.Plays.{Outcome, Ended, Going, Stopped, Run, play, ending_of}
 use Rattle.stapl_meaning.specs.declared.events.Ending.TheVariants.{Spent}
 use Rattle.stapl_meaning.specs.Texts.{event_line, ending_line, text_of}
-use Rattle.stapl_code.specs.declared.raw.VarDef.{VarDef}
 use Rattle.stapl_code.specs.declared.raw.ActionDef.{ActionDef}
 use Rattle.stapl_code.specs.declared.raw.CodeLists.{CodeLists}
-use Rattle.stapl_code.specs.Safe.{AllFit}
-use Rattle.stapl_codegen.specs.Accepted.{IsAccepted}
-use Rattle.stapl_codegen.specs.Generated.{first_action, IsCodeOf}
+use Rattle.stapl_code.specs.declared.raw.ItemDef.{ItemDef}
+use Rattle.stapl_code.specs.Ranges.{IsItem, IsAction}
+use Rattle.stapl_code.specs.Safe.{AllFit, AllBelow}
+use Rattle.stapl_codegen.specs.Emit.{item_def, action_def, actions_from}
+use Rattle.stapl_codegen.specs.Generated.{integer_def, IsCodeOf}
 use Rattle.stapl_machine.specs.Zeros.{zero_of, zeros_of_code}
 use Rattle.stapl_machine.specs.Machines.{play_of}
 use Rattle.play_tool.specs.declared.status.Status.{Status}
@@ -39,15 +41,12 @@ use Rattle.play_tool.specs.CodePlays.{procedures_in, procedures_named, HasEnding
 
 -- The variables of the code of a program begin as the program's do.
 
-abbrev integer_def : VarDef
-integer_def = record { kind = 0; size = 1 }
-
-zeros_are : (vs : List Variable) → map zero_of (replicate (length vs) integer_def) ≡ map scopes.zero_of vs
+zeros_are : (vs : List (Key × Variable)) → map zero_of (replicate (length vs) integer_def) ≡ map scopes.zero_of vs
 zeros_are [] = refl
 zeros_are (v ∷ vs) = ap (λ (z : List Held). held.Int (pos 0) ∷ z) (zeros_are vs)
 
 pub same_zeros : (program : List StmtTree) (code : CodeLists) → IsCodeOf program code → zeros_of_code code ≡ zeros_of program
-same_zeros program code is = ap (map zero_of) is.variables ∙ zeros_are (variables_of program)
+same_zeros program code is = ap zeros_of_code is.lists ∙ zeros_are (program_names program).variables
 
 integers_fit : (n : ℕ) → AllFit (replicate n integer_def) (map zero_of (replicate n integer_def))
 integers_fit zero = tt
@@ -55,85 +54,64 @@ integers_fit (suc n) = (refl, integers_fit n)
 
 pub zeros_fit : (program : List StmtTree) (code : CodeLists) → IsCodeOf program code → AllFit code.variables (zeros_of_code code)
 zeros_fit program code is =
-    subst (λ (vs : List VarDef). AllFit vs (map zero_of vs)) (sym is.variables) (integers_fit (length (variables_of program)))
+    subst (λ (lists : CodeLists). AllFit lists.variables (zeros_of_code lists)) (sym is.lists) (integers_fit (length (program_names program).variables))
 
--- An accepted program has one action, which runs its one procedure.
+-- The code's action of a name has the program's procedures.
 
-passes_by : (program : List StmtTree) (body : BodyTree) (name : List ℕ) (others : Option (List ℕ)) → is_inside body ≡ true →
-    chosen_before program body name others ≡ others
-passes_by program (action a text items) name others inside = absurd cc
-passes_by program _ name others inside = refl
+items_same : (program : List StmtTree) (items : List ItemTree) → procedures_in (map (item_def program) items) ≡ map (item_procedure program) items
+items_same program [] = refl
+items_same program (item ∷ items) = ap (λ l. procedure_number program item.0 ∷ l) (items_same program items)
 
-both_left : (a b : Bool) → (a && b) ≡ true → a ≡ true
-both_left true b h = refl
-both_left false b h = absurd cc
+actions_same : (program sts : List StmtTree) (name : List ℕ) → procedures_named (actions_from program sts) name ≡ chosen_from program sts name
+actions_same program [] name = refl
+actions_same program (st ∷ rest) name = by st.body (actions_same program rest name)
+  where
+    by : (b : BodyTree) → procedures_named (actions_from program rest) name ≡ chosen_from program rest name →
+        procedures_named (action_def program b (actions_from program rest)) name ≡ chosen_before program b name (chosen_from program rest name)
+    by (action own text items) more = λ j. if bytes_eq name own then Some (items_same program items j) else more j
+    by _ more = more
 
-both_right : (a b : Bool) → (a && b) ≡ true → b ≡ true
-both_right true b h = h
-both_right false b h = absurd cc
+pub same_chosen : (program : List StmtTree) (code : CodeLists) (name : List ℕ) → IsCodeOf program code → procedures_named code.actions name ≡ chosen_of program name
+same_chosen program code name is = ap (λ (lists : CodeLists). procedures_named lists.actions name) is.lists ∙ actions_same program program name
 
-none_inside : (program inner : List StmtTree) (last : StmtTree) (name : List ℕ) → list_all is_between inner ≡ true → last.body ≡ end_procedure →
-    chosen_from program (inner ++ last ∷ []) name ≡ None
-none_inside program [] last name between is = ap (λ (b : BodyTree). chosen_before program b name None) is
-none_inside program (st ∷ inner) last name between is =
-    passes_by program st.body name (chosen_from program (inner ++ last ∷ []) name) (both_left (is_inside st.body) _ (both_left (is_between st) _ between))
-    ∙ none_inside program inner last name (both_right (is_between st) _ between) is
+-- The procedures of an action are among those of the code.
 
-equals_itself : (name : List ℕ) → bytes_eq name name ≡ true
-equals_itself name = (bytes_eq-Decides name name).1 refl
+items_below : (n : ℕ) (items : List ItemDef) → All (IsItem n) items → AllBelow n (procedures_in items)
+items_below n [] are = tt
+items_below n (item ∷ items) are = ((All-head (IsItem n) item items are).there, items_below n items (All-tail (IsItem n) item items are))
 
-the_procedure : (name run : List ℕ) (rest : List StmtTree) →
-    procedure_number (unlabelled (action_of name run) ∷ unlabelled (procedure_of run) ∷ rest) run ≡ 0
-the_procedure name run rest = rw (equals_itself run) refl
-
-abbrev only_action : List ℕ → List ℕ → Option (List ℕ)
-only_action own name = if bytes_eq name own then Some (0 ∷ []) else None
-
-chosen_in_order : (own run : List ℕ) (inner : List StmtTree) (last : StmtTree) (name : List ℕ) → list_all is_between inner ≡ true → last.body ≡ end_procedure →
-    chosen_of (unlabelled (action_of own run) ∷ unlabelled (procedure_of run) ∷ inner ++ last ∷ []) name ≡ only_action own name
-chosen_in_order own run inner last name between is =
-    let program : List StmtTree = unlabelled (action_of own run) ∷ unlabelled (procedure_of run) ∷ inner ++ last ∷ [] in
-    ap (λ (n : ℕ). if bytes_eq name own then Some (n ∷ []) else chosen_from program (inner ++ last ∷ []) name) (the_procedure own run (inner ++ last ∷ []))
-    ∙ ap (λ (others : Option (List ℕ)). if bytes_eq name own then Some (0 ∷ []) else others) (none_inside program inner last name between is)
-
-chosen_is : (program : List StmtTree) (shape : IsOneProcedure program) (name : List ℕ) → chosen_of program name ≡ only_action shape.name name
-chosen_is program shape name =
-    ap (λ (p : List StmtTree). chosen_of p name) shape.order
-    ∙ chosen_in_order shape.name shape.run shape.inner shape.last name shape.between shape.last_is
-
-first_name : (program : List StmtTree) (shape : IsOneProcedure program) (name : List ℕ) → first_action program ≡ Some name → name ≡ shape.name
-first_name program shape name e = let f : first_action program ≡ Some shape.name = ap first_action shape.order in cc
-
--- the code's action of a name has the program's procedures
-pub same_chosen : (program : List StmtTree) (code : CodeLists) (name : List ℕ) → IsAccepted program → IsCodeOf program code →
-    procedures_named code.actions name ≡ chosen_of program name
-same_chosen program code name accepted is =
-    ap (λ (actions : List ActionDef). procedures_named actions name) is.actions
-    ∙ ap (λ (own : List ℕ). only_action own name) (first_name program accepted.shape is.action is.action_is)
-    ∙ sym (chosen_is program accepted.shape name)
+pub named_below : (n : ℕ) (actions : List ActionDef) (name chosen : List ℕ) → All (IsAction n) actions → procedures_named actions name ≡ Some chosen → AllBelow n chosen
+named_below n [] name chosen are e = absurd (none-some chosen e)
+named_below n (def ∷ rest) name chosen are e = by (bytes_eq name def.name) e (named_below n rest name chosen (All-tail (IsAction n) def rest are))
+  where
+    by : (b : Bool) → (if b then Some (procedures_in def.items) else procedures_named rest name) ≡ Some chosen →
+        (procedures_named rest name ≡ Some chosen → AllBelow n chosen) → AllBelow n chosen
+    by true e more =
+        subst (AllBelow n) (same_Some (procedures_in def.items) chosen e) (items_below n def.items (All-head (IsAction n) def rest are).each)
+    by false e more = more e
 
 -- The code's play of the chosen procedures is the program's.
-pub play_of_action : (program : List StmtTree) (code : CodeLists) (name chosen : List ℕ) (turns : ℕ) → IsAccepted program → IsCodeOf program code →
+pub play_of_action : (program : List StmtTree) (code : CodeLists) (name chosen : List ℕ) (turns : ℕ) → IsCodeOf program code →
     procedures_named code.actions name ≡ Some chosen → IsPlayOf program name turns (play_of code chosen turns)
-play_of_action program code name chosen turns accepted is e =
+play_of_action program code name chosen turns is e =
     let zeros = same_zeros program code is in
     record {
       chosen = chosen;
-      is_chosen = sym (same_chosen program code name accepted is) ∙ e;
+      is_chosen = sym (same_chosen program code name is) ∙ e;
       same_events = rw zeros (is.stands.same_events chosen turns);
       same_ending = rw zeros (is.stands.same_ending chosen turns);
     }
 
 -- The same, where the code's actions are told.
-pub none_chosen : (program : List StmtTree) (name : List ℕ) (code : CodeLists) (actions : List ActionDef) → IsAccepted program → IsCodeOf program code →
+pub none_chosen : (program : List StmtTree) (name : List ℕ) (code : CodeLists) (actions : List ActionDef) → IsCodeOf program code →
     actions ≡ code.actions → procedures_named actions name ≡ None → chosen_of program name ≡ None
-none_chosen program name code actions accepted is same none =
-    sym (same_chosen program code name accepted is) ∙ ap (λ (z : List ActionDef). procedures_named z name) (sym same) ∙ none
+none_chosen program name code actions is same none =
+    sym (same_chosen program code name is) ∙ ap (λ (z : List ActionDef). procedures_named z name) (sym same) ∙ none
 
-pub play_chosen_of : {program : List StmtTree} {name : List ℕ} {turns : ℕ} (code : CodeLists) (actions : List ActionDef) (chosen : List ℕ) → IsAccepted program →
+pub play_chosen_of : {program : List StmtTree} {name : List ℕ} {turns : ℕ} (code : CodeLists) (actions : List ActionDef) (chosen : List ℕ) →
     IsCodeOf program code → actions ≡ code.actions → procedures_named actions name ≡ Some chosen → IsPlayOf program name turns (play_of code chosen turns)
-play_chosen_of {program = program} {name = name} {turns = turns} code actions chosen accepted is same some =
-    play_of_action program code name chosen turns accepted is (ap (λ (z : List ActionDef). procedures_named z name) (sym same) ∙ some)
+play_chosen_of {program = program} {name = name} {turns = turns} code actions chosen is same some =
+    play_of_action program code name chosen turns is (ap (λ (z : List ActionDef). procedures_named z name) (sym same) ∙ some)
 
 -- A run that does not stop comes to an ending.
 pub has_ending : (run : Run) → run.outcome ≢ Stopped → HasEnding run

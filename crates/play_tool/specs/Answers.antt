@@ -40,7 +40,8 @@ pub record PlaysAsked (program : List StmtTree) (request : Request) (text : List
   pub asked : request.action ≡ Some action
   pub plays : Plays program action request.turns text status
 
--- The play that a request asks for, of a text that is a program: a piece of it is not built yet, or the action that is named is played.
+-- The play that a request asks for, of a text that is a program: a piece of it is not built yet, or the action that is
+-- named is played.
 pub data PlaysText (request : Request) (bytes : List ℕ) (program : List StmtTree) : List ℕ → Status → Type 0 where
   unbuilt : (piece line : ℕ) → IsUnbuiltAt bytes program piece line →
       PlaysText request bytes program (refusal_line piece line reasons.NotYetBuilt) (Refused piece reasons.NotYetBuilt)

@@ -2,11 +2,11 @@
 ghost use Rattle.std.specs.Prelude.{◌≡◌, ◌<◌, length, map, Some, None, OnOk, OnErr, IfOk, IfSome, IfNone, IsErrOf};
 ghost use Rattle.tool_io.specs.Causes.{HasRisen, NeverFalls};
 ghost use Rattle.tool_io.specs.Lines.{IsWhole, IsOverSame, SinkNeverFalls, sink_of, Puts};
-ghost use Rattle.stapl_syntax.specs.Trees.{stmt_tree};
+ghost use Rattle.stapl_syntax.specs.ProgramValues.{trees_of};
+ghost use Rattle.stapl_syntax.specs.Unbuilt.{IsBuiltProgram};
 ghost use Rattle.stapl_meaning.specs.Plays.{ending_of};
 ghost use Rattle.stapl_meaning.specs.Texts.{text_of};
 ghost use Rattle.stapl_code.specs.Safe.{AllBelow, AllFit};
-ghost use Rattle.stapl_codegen.specs.Accepted.{IsAccepted};
 ghost use Rattle.stapl_machine.specs.Zeros.{zeros_of_code};
 ghost use Rattle.stapl_machine.specs.Machines.{IsPrepared, play_of};
 ghost use Rattle.play_tool.specs.Written.{Wrote, WroteFront, IsPrefixOf};
@@ -23,7 +23,7 @@ use stapl_codegen::generate;
 use stapl_lexer::Name;
 use stapl_machine::Machine;
 use stapl_meaning::Ending;
-use stapl_syntax::Stmt;
+use stapl_syntax::Program;
 use std::alloc::{AllocError, Global};
 use std::marker::Brand;
 use std::sync::ledger::{Blank, Ledger};
@@ -85,6 +85,7 @@ fn put_play<K: Sink, L: Ledger>(
     ensures read { IsErrOf result NoAnswer.Read → ⊥ }
     ensures write { IsErrOf result NoAnswer.Write →
         HasRisen K.faults K.is_last (sink_of lines.old) (sink_of lines.new) }
+    ensures memory { IsErrOf result NoAnswer.Memory → IsWhole lines.new }
     ensures kept { SinkNeverFalls K.faults K.is_last lines.old lines.new }
 {
     let mut steps = Steps::<L>::none(blank);
@@ -179,24 +180,24 @@ fn status_of(ending: Ending) -> Status
     }
 }
 
-/// Plays an action of an accepted program, for at most so many turns.
+/// Plays an action of a built program, for at most so many turns.
 pub fn play_program<K: Sink>(
     alloc: Global,
-    program: &[Stmt],
+    program: &Program,
     action: &Name,
     turns: u32,
     out: &mut K,
 ) -> Result<Status, NoAnswer>
-    requires { IsAccepted (map stmt_tree program.now) }
+    requires { IsBuiltProgram program.now.text (trees_of program.now) }
     ensures answered { IfOk result (λ status. IsFault status → ⊥) }
-    ensures ok { IfOk result (Wrote (Plays (map stmt_tree program.now) action.now turns) (K.written out.old)
+    ensures ok { IfOk result (Wrote (Plays (trees_of program.now) action.now turns) (K.written out.old)
         (K.written out.new)) }
     ensures read { IsErrOf result NoAnswer.Read → ⊥ }
     ensures write { IsErrOf result NoAnswer.Write → HasRisen K.faults K.is_last out.old out.new }
     ensures front { IsErrOf result NoAnswer.Write →
-        WroteFront (Plays (map stmt_tree program.now) action.now turns) (K.written out.old) (K.written out.new) }
+        WroteFront (Plays (trees_of program.now) action.now turns) (K.written out.old) (K.written out.new) }
     ensures memory { IsErrOf result NoAnswer.Memory →
-        IsPrefixOf (Plays (map stmt_tree program.now) action.now turns) (K.written out.old) (K.written out.new) }
+        IsPrefixOf (Plays (trees_of program.now) action.now turns) (K.written out.old) (K.written out.new) }
     ensures later { NeverFalls K.faults K.is_last out.old out.new }
 {
     let code = generate(alloc, program)?;

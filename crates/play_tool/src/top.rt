@@ -2,8 +2,7 @@
 ghost use Rattle.std.specs.Prelude.{◌≡◌, ℕ, List, Some, map, string_bytes, IfSome, IfOk, IsErrOf};
 ghost use Rattle.tool_io.specs.Causes.{HasRisen, HasRisenAt, NeverFalls, NoneFalls};
 ghost use Rattle.tool_io.specs.Files.{file_of};
-ghost use Rattle.stapl_syntax.specs.Programs.{IsProgram};
-ghost use Rattle.stapl_syntax.specs.Trees.{stmt_tree};
+ghost use Rattle.stapl_syntax.specs.ProgramValues.{trees_of};
 ghost use Rattle.play_tool.specs.Words.{HasNeeded};
 ghost use Rattle.play_tool.specs.Written.{Wrote, WroteFront, IsPrefixOf};
 ghost use Rattle.play_tool.specs.Answers.{PlaysText, Work, TextAnswer, FileAnswer, SomeTextAnswer, NamesFile, Answer, SomeFilesAnswer, IsFault};
@@ -16,9 +15,8 @@ use crate::status::NoAnswer;
 use crate::writing::{write_refusal, write_usage};
 use crate::{Mode, Request, Status, WordsRefused, read_words};
 use stapl_checker::{CheckRefused, check, first_unbuilt};
-use stapl_codegen::laws::programs_are_accepted;
 use stapl_lexer::{Name, Reason, TEXT_LIMIT};
-use stapl_syntax::Stmt;
+use stapl_syntax::Program;
 use std::alloc::Global;
 use tool_io::{ReadRefused, Shelf, Sink, read_whole};
 
@@ -28,55 +26,50 @@ fn play_text<K: Sink>(
     alloc: Global,
     request: &Request,
     action: &Name,
-    bytes: &[u8],
-    program: &[Stmt],
+    program: &Program,
     out: &mut K,
 ) -> Result<Status, NoAnswer>
-    requires asked { request.now.action ≡ Some action.now }
-    requires program { IsProgram bytes.now (map stmt_tree program.now) }
+    requires { request.now.action ≡ Some action.now }
     ensures answered { IfOk result (λ status. IsFault status → ⊥) }
-    ensures ok { IfOk result (Wrote (PlaysText request.now bytes.now (map stmt_tree program.now))
+    ensures ok { IfOk result (Wrote (PlaysText request.now program.now.text (trees_of program.now))
         (K.written out.old) (K.written out.new)) }
     ensures read { IsErrOf result NoAnswer.Read → ⊥ }
     ensures write { IsErrOf result NoAnswer.Write → HasRisen K.faults K.is_last out.old out.new }
     ensures front { IsErrOf result NoAnswer.Write →
-        WroteFront (PlaysText request.now bytes.now (map stmt_tree program.now)) (K.written out.old) (K.written out.new) }
+        WroteFront (PlaysText request.now program.now.text (trees_of program.now))
+        (K.written out.old) (K.written out.new) }
     ensures memory { IsErrOf result NoAnswer.Memory →
-        IsPrefixOf (PlaysText request.now bytes.now (map stmt_tree program.now)) (K.written out.old) (K.written out.new) }
+        IsPrefixOf (PlaysText request.now program.now.text (trees_of program.now))
+        (K.written out.old) (K.written out.new) }
     ensures later { NeverFalls K.faults K.is_last out.old out.new }
 {
-    match first_unbuilt(alloc, bytes, program)? {
+    match first_unbuilt(alloc, program)? {
         Some(unbuilt) => {
             write_refusal(out, unbuilt.piece, unbuilt.line, Reason::NotYetBuilt)?;
             Ok(Status::Refused(unbuilt.piece, Reason::NotYetBuilt))
         }
-        None => {
-            programs_are_accepted();
-            play_program(alloc, program, action, request.turns, out)
-        }
+        None => play_program(alloc, program, action, request.turns, out),
     }
 }
 
-// Does with the program that some bytes are what is asked.
+// Does with a program what is asked.
 fn work<K: Sink>(
     alloc: Global,
     request: &Request,
-    bytes: &[u8],
-    program: &[Stmt],
+    program: &Program,
     out: &mut K,
 ) -> Result<Status, NoAnswer>
-    requires needed { HasNeeded request.now }
-    requires program { IsProgram bytes.now (map stmt_tree program.now) }
+    requires { HasNeeded request.now }
     ensures answered { IfOk result (λ status. IsFault status → ⊥) }
-    ensures ok { IfOk result (Wrote (Work request.now bytes.now (map stmt_tree program.now) request.now.mode)
+    ensures ok { IfOk result (Wrote (Work request.now program.now.text (trees_of program.now) request.now.mode)
         (K.written out.old) (K.written out.new)) }
     ensures read { IsErrOf result NoAnswer.Read → ⊥ }
     ensures write { IsErrOf result NoAnswer.Write → HasRisen K.faults K.is_last out.old out.new }
     ensures front { IsErrOf result NoAnswer.Write →
-        WroteFront (Work request.now bytes.now (map stmt_tree program.now) request.now.mode)
+        WroteFront (Work request.now program.now.text (trees_of program.now) request.now.mode)
         (K.written out.old) (K.written out.new) }
     ensures memory { IsErrOf result NoAnswer.Memory →
-        IsPrefixOf (Work request.now bytes.now (map stmt_tree program.now) request.now.mode)
+        IsPrefixOf (Work request.now program.now.text (trees_of program.now) request.now.mode)
         (K.written out.old) (K.written out.new) }
     ensures later { NeverFalls K.faults K.is_last out.old out.new }
 {
@@ -85,10 +78,10 @@ fn work<K: Sink>(
             let Some(action) = &request.action else {
                 unreachable!()
             };
-            play_text(alloc, request, action, bytes, program, out)
+            play_text(alloc, request, action, program, out)
         }
-        Mode::Check => check_program(alloc, bytes, program, out),
-        Mode::List => list_program(program, out),
+        Mode::Check => check_program(alloc, program.text(), program.statements(), out),
+        Mode::List => list_program(program.statements(), out),
     }
 }
 
@@ -112,7 +105,7 @@ fn answer_text<K: Sink>(
     ensures later { NeverFalls K.faults K.is_last out.old out.new }
 {
     match check(alloc, bytes) {
-        Ok(program) => work(alloc, request, bytes, &program, out),
+        Ok(program) => work(alloc, request, &program, out),
         Err(
             CheckRefused::Refused {
                 piece,

@@ -1,68 +1,19 @@
 -- An earlier piece declares a name exactly if the entry of that name in the table of all pieces has a lower number.
-use Rattle.std.proofs.Common.{◌≡◌, ℕ, zero, suc, ◌+◌, ◌<◌, ◌≤◌, Bool, true, false, cond, List, [], ◌∷◌, ◌++◌, take, Option, Some, None, is_some, refl, sym, ap, ◌∙◌, true≢false, arith, append_assoc, nat_lt, if◌then◌else◌}
+use Rattle.std.proofs.Common.{◌≡◌, ℕ, zero, suc, ◌+◌, ◌≤◌, Bool, true, false, cond, List, [], ◌∷◌, take, Option, Some, None, is_some, refl, sym, ap, ◌∙◌, arith, nat_lt}
 use Rattle.std.specs.List.{cons_option}
 use Rattle.std.specs.Map.{lookup}
 use Rattle.std.specs.Option.{option_map_or}
 use Rattle.std.specs.Str.{bytes_eq}
-use Rattle.std.proofs.lemmas.Bool.{lt-ltb, ltb-true, and_parts}
-use Rattle.std.proofs.lemmas.Slice.Eq.{bytes_eq-Decides}
+use Rattle.std.proofs.lemmas.Bool.{lt-ltb, le-ltb}
 use Rattle.stapl_syntax.specs.declared.names.Declaration.{Declaration}
 use Rattle.stapl_syntax.specs.declared.names.Key.{Key}
 use Rattle.stapl_syntax.specs.Trees.{BodyTree, procedure, data_block, action, StmtTree}
-use Rattle.stapl_syntax.specs.Names.{Numbered, numbered_from, numbered, inside_behind, declaration, block_of, block_of_body, action_of, action_of_body, variable_of, variable_in, label_of, label_in, declared_from, declared, put_first, firsts_behind, firsts, key_eq, names_of}
+use Rattle.stapl_syntax.specs.Names.{Numbered, numbered_from, numbered, inside_behind, declaration, block_of, block_of_body, action_of, action_of_body, variable_of, variable_in, label_of, label_in, declared_from, declared, firsts, key_eq, names_of}
 use Rattle.stapl_syntax.specs.Rules.{declared_in}
+use Rattle.stapl_names.proofs.Keys.{name_same, key_same, found_behind}
 use Rattle.stapl_checker.specs.Earlier.{stands_below, piece_of_block, piece_of_variable, own_number, declared_below}
 
-abbrev or_else : {A : Type 0} → Option A → Option A → Option A
-or_else None y = y
-or_else (Some x) y = Some x
-
-not_less : (n m : ℕ) → m ≤ n → nat_lt n m ≡ false
-not_less n m le = by (nat_lt n m) refl
-  where
-    by : (b : Bool) → nat_lt n m ≡ b → nat_lt n m ≡ false
-    by false e = e
-    by true e = let l : n < m = ltb-true n m e in absurd (omega (arith, le, l))
-
 module _ {K V : Type 0} where
-  lookup_append : (test : K → Bool) (es ys : List (K × V)) → lookup test (es ++ ys) ≡ or_else (lookup test es) (lookup test ys)
-  lookup_append test [] ys = refl
-  lookup_append test (e ∷ es) ys = by (lookup_append test es ys) (test e.0)
-    where
-      by : lookup test (es ++ ys) ≡ or_else (lookup test es) (lookup test ys) → (b : Bool) →
-          cond b (Some e.1) (lookup test (es ++ ys)) ≡ or_else (cond b (Some e.1) (lookup test es)) (lookup test ys)
-      by given true = refl
-      by given false = given
-
-  append_none : (es : List (K × V)) → es ++ [] ≡ es
-  append_none [] = refl
-  append_none (e ∷ es) = ap (λ l. e ∷ l) (append_none es)
-
-  module _ (eq : K → K → Bool) (same : (x y : K) → eq x y ≡ true → x ≡ y) where
-    -- an entry whose key stands in front is not found
-    behind_first : (k : K) (es : List (K × V)) (x : K × V) (xs : List (K × V)) → is_some (lookup (eq x.0) es) ≡ true →
-        lookup (eq k) (es ++ xs) ≡ lookup (eq k) (es ++ (x ∷ xs))
-    behind_first k es x xs there =
-        lookup_append (eq k) es xs ∙ by (lookup (eq k) es) refl (eq k x.0) refl ∙ sym (lookup_append (eq k) es (x ∷ xs))
-      where
-        by : (o : Option V) → lookup (eq k) es ≡ o → (b : Bool) → eq k x.0 ≡ b →
-            or_else (lookup (eq k) es) (lookup (eq k) xs) ≡ or_else (lookup (eq k) es) (cond (eq k x.0) (Some x.1) (lookup (eq k) xs))
-        by (Some v) e b f = ap (λ o. or_else o (lookup (eq k) xs)) e ∙ sym (ap (λ o. or_else o (cond (eq k x.0) (Some x.1) (lookup (eq k) xs))) e)
-        by None e false f = ap (λ c. or_else (lookup (eq k) es) (cond c (Some x.1) (lookup (eq k) xs))) (sym f)
-        by None e true f = absurd (true≢false (sym there ∙ ap (λ z. is_some (lookup (eq z) es)) (sym (same k x.0 f)) ∙ ap is_some e))
-
-    found_behind : (k : K) (xs es : List (K × V)) → lookup (eq k) (firsts_behind eq es xs) ≡ lookup (eq k) (es ++ xs)
-    found_behind k [] es = ap (lookup (eq k)) (sym (append_none es))
-    found_behind k (x ∷ xs) es = found_behind k xs (put_first eq es x) ∙ by (is_some (lookup (eq x.0) es)) refl
-      where
-        by : (b : Bool) → is_some (lookup (eq x.0) es) ≡ b → lookup (eq k) (put_first eq es x ++ xs) ≡ lookup (eq k) (es ++ (x ∷ xs))
-        by true e = ap (λ b. lookup (eq k) ((if b then es else es ++ (x ∷ [])) ++ xs)) e ∙ behind_first k es x xs e
-        by false e = ap (λ b. lookup (eq k) ((if b then es else es ++ (x ∷ [])) ++ xs)) e ∙ ap (lookup (eq k)) (append_assoc es (x ∷ []) xs)
-
-    -- a table of first declarations answers by the first declaration
-    pub found_first : (k : K) (xs : List (K × V)) → lookup (eq k) (firsts eq xs) ≡ lookup (eq k) xs
-    found_first k xs = found_behind k xs []
-
   module _ (declares : Option (List ℕ) → ℕ → StmtTree → Option (K × V)) (number : V → ℕ)
       (numbers : (now : Option (List ℕ)) (n : ℕ) (st : StmtTree) (e : K × V) → declares now n st ≡ Some e → number e.1 ≡ n) (test : K → Bool) where
     Stands : Option (List ℕ) → List Numbered → ℕ → Bool
@@ -78,7 +29,7 @@ module _ {K V : Type 0} where
         hit : stands_below number m (lookup test (declared_from declares (inside_behind now st.body) (numbered_from (n + 1) read))) ≡ false →
             (e : K × V) → declares now n st ≡ Some e → (b : Bool) →
             stands_below number m (cond b (Some e.1) (lookup test (declared_from declares (inside_behind now st.body) (numbered_from (n + 1) read)))) ≡ false
-        hit given e is true = ap (λ k. nat_lt k m) (numbers now n st e is) ∙ not_less n m le
+        hit given e is true = ap (λ k. nat_lt k m) (numbers now n st e is) ∙ le-ltb n m le
         hit given e is false = given
 
         by : stands_below number m (lookup test (declared_from declares (inside_behind now st.body) (numbered_from (n + 1) read))) ≡ false →
@@ -151,16 +102,6 @@ label_number (Some block) n (Some name) = refl
 label_number (Some block) n None = refl
 label_number None n label = refl
 
-pub bytes_same : (x y : List ℕ) → bytes_eq x y ≡ true → x ≡ y
-bytes_same x y h = (bytes_eq-Decides x y).0 h
-
-key_same : (a b : Key) → key_eq a b ≡ true → a ≡ b
-key_same a b h =
-    let parts = and_parts (bytes_eq a.block b.block) (bytes_eq a.name b.name) h in
-    let p = bytes_same a.block b.block parts.0 in
-    let q = bytes_same a.name b.name parts.1 in
-    λ j. record { block = p j; name = q j }
-
 -- what a table of first declarations says of earlier pieces
 module _ {K V : Type 0} (eq : K → K → Bool) (same : (x y : K) → eq x y ≡ true → x ≡ y) (declares : Option (List ℕ) → ℕ → StmtTree → Option (K × V)) (number : V → ℕ)
     (numbers : (now : Option (List ℕ)) (n : ℕ) (st : StmtTree) (e : K × V) → declares now n st ≡ Some e → number e.1 ≡ n) where
@@ -168,9 +109,9 @@ module _ {K V : Type 0} (eq : K → K → Bool) (same : (x y : K) → eq x y ≡
       stands_below number (1 + i) (lookup (eq k) (firsts eq (declared declares (numbered read))))
       ≡ is_some (lookup (eq k) (firsts eq (declared declares (numbered (take i read)))))
   earlier_by read i k =
-      ap (stands_below number (1 + i)) (found_first eq same k (declared declares (numbered read)))
+      ap (stands_below number (1 + i)) (found_behind eq same k (declared declares (numbered read)) [])
       ∙ stands_earlier declares number numbers (eq k) read i None 1
-      ∙ sym (ap is_some (found_first eq same k (declared declares (numbered (take i read)))))
+      ∙ sym (ap is_some (found_behind eq same k (declared declares (numbered (take i read))) []))
 
 module _ (read : List (Option StmtTree)) (i : ℕ) where
   abbrev Same : {K V : Type 0} → (K → K → Bool) → (V → ℕ) → (Option (List ℕ) → ℕ → StmtTree → Option (K × V)) → K → Type 0
@@ -179,10 +120,10 @@ module _ (read : List (Option StmtTree)) (i : ℕ) where
       ≡ is_some (lookup (eq k) (firsts eq (declared declares (numbered (take i read)))))
 
   blocks_same : (k : List ℕ) → Same bytes_eq piece_of_block block_of k
-  blocks_same = earlier_by bytes_eq bytes_same block_of piece_of_block (λ now n st e h. numbered_as piece_of_block (block_of_body n st.body) n e (block_number n st.body) h) read i
+  blocks_same = earlier_by bytes_eq name_same block_of piece_of_block (λ now n st e h. numbered_as piece_of_block (block_of_body n st.body) n e (block_number n st.body) h) read i
 
   actions_same : (k : List ℕ) → Same bytes_eq own_number action_of k
-  actions_same = earlier_by bytes_eq bytes_same action_of own_number (λ now n st e h. numbered_as own_number (action_of_body n st.body) n e (action_number n st.body) h) read i
+  actions_same = earlier_by bytes_eq name_same action_of own_number (λ now n st e h. numbered_as own_number (action_of_body n st.body) n e (action_number n st.body) h) read i
 
   variables_same : (k : Key) → Same key_eq piece_of_variable variable_of k
   variables_same =

@@ -1,13 +1,13 @@
 -- What is found on the way is the first fault.
-use Rattle.std.proofs.Common.{◌≡◌, ◌≤◌, ◌<◌, ◌+◌, ℕ, zero, suc, Bool, true, false, List, [], ◌∷◌, length, Option, None, Some, is_some, refl, sym, ap, ◌∙◌, subst, arith, take, map, get_or, slice_get, cond, All, ◌⊎◌, inl, inr, if◌then◌else◌, nat_le}
+use borrow.Author.Count.{below_more}
+use Rattle.std.proofs.Common.{◌≡◌, ◌≤◌, ◌<◌, ◌+◌, ℕ, zero, suc, Bool, true, false, List, [], ◌∷◌, length, Option, None, Some, is_some, refl, sym, ap, ◌∙◌, subst, arith, take, map, get_or, slice_get, cond, All, if◌then◌else◌, nat_le}
 use Rattle.std.specs.List.{cons_option}
 use Rattle.std.specs.Map.{lookup, keys_of}
+use Rattle.std.specs.Option.{option_map}
 use Rattle.std.specs.Str.{bytes_eq}
-use Rattle.std.proofs.lemmas.Bool.{cases_lt}
-use Rattle.std.proofs.lemmas.List.{take_all, take-map}
+use Rattle.std.proofs.lemmas.List.{length-map, length-take-le, take-take, take_all, take-map}
 use Rattle.std.proofs.lemmas.List.Elements.{All-take}
-use Rattle.std.proofs.lemmas.Option.{slice_get-get_or, slice_get_past}
-use Rattle.std.proofs.lemmas.Slice.Eq.{bytes_eq-Decides}
+use Rattle.std.proofs.lemmas.Option.{slice_get-get_or, slice_get-map, slice_get_past}
 use Rattle.stapl_lexer.specs.declared.reason.Reason.{Reason}
 use Rattle.stapl_lexer.specs.declared.reason.Reason.TheVariants as reasons
 use Rattle.stapl_syntax.specs.declared.names.Block.{Block}
@@ -26,13 +26,10 @@ use Rattle.stapl_checker.specs.Readings.{stmt_trees, IsFrontTo, IsToldBy}
 use Rattle.stapl_checker.specs.Scopes.{named, IsInside}
 use Rattle.stapl_checker.specs.Courses.{BeginsListed, facts_by, numbered_trees, broken_by, broken_at, NoneBroken, StopsAt, ComesToEnd, IsCourse}
 use Rattle.stapl_checker.specs.Firsts.{front_by, front_of, reason_of_course, fault_at, first_by, IsFirstFault}
-use Rattle.stapl_checker.proofs.Earlier.{declared_same, found_first, bytes_same}
-use Rattle.stapl_checker.proofs.ReadingLemmas.{map_length, taken}
+use Rattle.stapl_names.proofs.Keys.{name_same, name_itself, found_behind}
+use Rattle.stapl_checker.proofs.Earlier.{declared_same}
 
 -- each block that a statement begins is in the table
-
-own_name : (name : List ℕ) → bytes_eq name name ≡ true
-own_name name = (bytes_eq-Decides name name).1 refl
 
 -- entries of blocks hold the block that a statement begins
 abbrev Holds : List (List ℕ × Block) → BodyTree → Type 0
@@ -50,7 +47,7 @@ stands name es (Some e) h = by (bytes_eq name e.0)
     by false = h
 
 first_stands : (name : List ℕ) (block : Block) (es : List (List ℕ × Block)) → is_some (lookup (bytes_eq name) ((name, block) ∷ es)) ≡ true
-first_stands name block es = ap (λ (c : Bool). is_some (cond c (Some block) (lookup (bytes_eq name) es))) (own_name name)
+first_stands name block es = ap (λ (c : Bool). is_some (cond c (Some block) (lookup (bytes_eq name) es))) (name_itself name)
 
 holds_more : (es : List (List ℕ × Block)) (o : Option (List ℕ × Block)) (b : BodyTree) → Holds es b → Holds (cons_option o es) b
 holds_more es o (procedure name uses) h = stands name es o h
@@ -76,27 +73,20 @@ all_hold (n ∷ ns) (t ∷ sts) now long (suc i) st at =
     (all_hold ns sts (inside_behind now t.body) (omega (arith, long)) i st at)
 
 listed_from : (statements : List Numbered) (b : BodyTree) → Holds (declared block_of statements) b → BeginsListed (names_of statements) b
-listed_from statements (procedure name uses) h = ap is_some (found_first bytes_eq bytes_same name (declared block_of statements)) ∙ h
-listed_from statements (data_block name) h = ap is_some (found_first bytes_eq bytes_same name (declared block_of statements)) ∙ h
+listed_from statements (procedure name uses) h = ap is_some (found_behind bytes_eq name_same name (declared block_of statements) []) ∙ h
+listed_from statements (data_block name) h = ap is_some (found_behind bytes_eq name_same name (declared block_of statements) []) ∙ h
 listed_from statements _ h = tt
 
 pub all_listed : (names : Names) (numbers : List ℕ) (statements : List Stmt) → names ≡ names_of (with_numbers numbers (map stmt_tree statements)) →
     length numbers ≡ length statements → All (λ (st : StmtTree). BeginsListed names st.body) (map stmt_tree statements)
 all_listed names numbers statements e long = λ i d lt.
     let trees = map stmt_tree statements in
-    let mapped = map_length stmt_tree statements in
+    let mapped = length-map statements stmt_tree in
     subst (λ (z : Names). BeginsListed z (get_or trees i d).body) (sym e)
     (listed_from (with_numbers numbers trees) (get_or trees i d).body
     (all_hold numbers trees None (omega (arith, long, mapped)) i (get_or trees i d) (slice_get-get_or trees i d lt)))
 
 -- on lists
-
-take_take : {A : Type 0} (xs : List A) (k n : ℕ) → k ≤ n → take k (take n xs) ≡ take k xs
-take_take xs zero n le = refl
-take_take [] (suc k) zero le = refl
-take_take [] (suc k) (suc n) le = refl
-take_take (x ∷ xs) (suc k) zero le = absurd (omega arith)
-take_take (x ∷ xs) (suc k) (suc n) le = ap (λ z. x ∷ z) (take_take xs k n (omega arith))
 
 slice_take : {A : Type 0} (xs : List A) (k n : ℕ) → k < n → slice_get (take n xs) k ≡ slice_get xs k
 slice_take [] k zero lt = refl
@@ -104,11 +94,6 @@ slice_take [] k (suc n) lt = refl
 slice_take (x ∷ xs) k zero lt = absurd (omega arith)
 slice_take (x ∷ xs) zero (suc n) lt = refl
 slice_take (x ∷ xs) (suc k) (suc n) lt = slice_take xs k n (omega arith)
-
-slice_mapped : {A B : Type 0} (f : A → B) (xs : List A) (i : ℕ) (x : A) → slice_get xs i ≡ Some x → slice_get (map f xs) i ≡ Some (f x)
-slice_mapped f [] i x e = absurd cc
-slice_mapped f (y ∷ xs) zero x e = let same : y ≡ x = cc in ap (λ z. Some (f z)) same
-slice_mapped f (y ∷ xs) (suc i) x e = slice_mapped f xs i x e
 
 statement_trees : (trees : List StmtTree) → what_trees (map statement trees) ≡ map Some trees
 statement_trees [] = refl
@@ -118,11 +103,11 @@ statement_trees (t ∷ trees) = ap (λ (z : List (Option StmtTree)). Some t ∷ 
 module _ (whats : List What) (trees : List StmtTree) (below : length trees ≤ length whats) (front : take (length trees) whats ≡ map statement trees) where
   what_there : (k : ℕ) (st : StmtTree) → k < length trees → slice_get trees k ≡ Some st → slice_get whats k ≡ Some (statement st)
   what_there k st lt at =
-      sym (slice_take whats k (length trees) lt) ∙ ap (λ (z : List What). slice_get z k) front ∙ slice_mapped statement trees k st at
+      sym (slice_take whats k (length trees) lt) ∙ ap (λ (z : List What). slice_get z k) front ∙ slice_get-map statement trees k ∙ ap (option_map statement) at
 
   front_trees : (k : ℕ) → k ≤ length trees → take k (what_trees whats) ≡ map Some (take k trees)
   front_trees k le =
-      take-map what_tree k whats ∙ ap what_trees (sym (take_take whats k (length trees) le)) ∙ ap (λ (z : List What). what_trees (take k z)) front
+      take-map what_tree k whats ∙ ap what_trees (sym (take-take k (length trees) whats le)) ∙ ap (λ (z : List What). what_trees (take k z)) front
       ∙ ap what_trees (take-map statement k trees) ∙ statement_trees (take k trees)
 
   module _ (names : Names) (all : names ≡ names_of (numbered (what_trees whats))) where
@@ -181,8 +166,8 @@ in_front : (whats : List What) (statements : List Stmt) (unread : Option Unread)
     front_by unread (length statements) ≤ length statements → IsInFront whats (map stmt_tree (take (front_by unread (length statements)) statements))
 in_front whats statements None front le =
     let all : take (length statements) statements ≡ statements = take_all (length statements) statements (omega arith) in
-    let mapped = map_length stmt_tree statements in
-    let also = map_length statement (stmt_trees statements) in
+    let mapped = length-map statements stmt_tree in
+    let also = length-map (stmt_trees statements) statement in
     let long = ap length front in
     subst (λ (z : List Stmt). IsInFront whats (map stmt_tree z)) (sym all)
     (record {
@@ -190,8 +175,8 @@ in_front whats statements None front le =
       front = take_all (length (stmt_trees statements)) whats (omega (arith, mapped, also, long)) ∙ front;
     })
 in_front whats statements (Some u) front le =
-    let mapped = map_length stmt_tree (take u.index statements) in
-    let long = taken statements u.index le in
+    let mapped = length-map (take u.index statements) stmt_tree in
+    let long = length-take-le u.index statements le in
     let lt = front.below in
     let index : length (map stmt_tree (take u.index statements)) ≡ u.index = omega (arith, mapped, long) in
     record {
@@ -224,11 +209,7 @@ end_same names before n c is =
     λ j. if a j then Some reasons.NotClosed else if b j then None else Some reasons.NothingToDo
 
 none_to : (whats : List What) (n : ℕ) → ((k : ℕ) → k < n → reason_at whats k ≡ None) → reason_at whats n ≡ None → (k : ℕ) → k ≤ n → reason_at whats k ≡ None
-none_to whats n before here k le = by (cases_lt k n)
-  where
-    by : (k < n) ⊎ (n ≤ k) → reason_at whats k ≡ None
-    by (inl lt) = before k lt
-    by (inr ge) = let same : k ≡ n = omega arith in ap (reason_at whats) same ∙ here
+none_to whats n before here k le = below_more (λ i. reason_at whats i ≡ None) n before here k (omega arith)
 
 at_end : (whats : List What) (trees : List StmtTree) (count : ℕ) (reason : Option Reason) → count ≡ length whats → ((k : ℕ) → k < count → reason_at whats k ≡ None) →
     reason_at whats count ≡ reason → what_trees whats ≡ map Some trees → IsFirstFault whats trees (fault_at count reason)
@@ -254,17 +235,17 @@ ends_by : (names : Names) (whats : List What) (statements : List Stmt) (unread :
     IsFirstFault whats (map stmt_tree statements) (first_by unread count c)
 ends_by names whats statements (Some u) count c front all le long ends =
     let own = in_front whats statements (Some u) front le in
-    let mapped = map_length stmt_tree (take u.index statements) in
-    let many = taken statements u.index le in
+    let mapped = length-map (take u.index statements) stmt_tree in
+    let many = length-take-le u.index statements le in
     at_unread whats (map stmt_tree statements) u front.below front.here
     (λ k lt. none_in_front whats (map stmt_tree (take u.index statements)) own.below own.front names all (length (map stmt_tree (take u.index statements))) (omega arith) ends.none k
     (omega (arith, lt, mapped, many)))
 ends_by names whats statements None count c front all le long ends =
     let own = in_front whats statements None front le in
     let kept = take_all (length statements) statements (omega arith) in
-    let mapped = map_length stmt_tree (take (length statements) statements) in
-    let also = map_length statement (stmt_trees statements) in
-    let trees = map_length stmt_tree statements in
+    let mapped = length-map (take (length statements) statements) stmt_tree in
+    let also = length-map (stmt_trees statements) statement in
+    let trees = length-map statements stmt_tree in
     let whole = ap length front in
     let kept_long = ap length kept in
     at_end whats (map stmt_tree statements) count (reason_of_course c) (omega (arith, long, also, trees, whole, kept_long))

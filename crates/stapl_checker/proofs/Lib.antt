@@ -1,5 +1,3 @@
-pub mod TableLemmas
-pub mod UnbuiltLemmas
 pub mod Judged
 pub mod TextLemmas
 pub mod Earlier

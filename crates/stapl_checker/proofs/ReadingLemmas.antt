@@ -1,6 +1,6 @@
 -- A piece more is read.
 use Rattle.std.proofs.Common.{◌≡◌, ◌≤◌, ◌<◌, ◌+◌, ℕ, zero, suc, List, [], ◌∷◌, ◌++◌, length, refl, sym, ap, ◌∙◌, Option, None, Some, take, map, get_or, slice_get, subst, arith, false}
-use Rattle.std.proofs.lemmas.List.{take_more, take_all}
+use Rattle.std.proofs.lemmas.List.{append-nil, length-append, length-map, length-take-le, map-append, take-append-le, take_more, take_all}
 use Rattle.stapl_lexer.specs.declared.piece.Piece.{Piece}
 use Rattle.stapl_lexer.specs.declared.reason.Reason.{Reason}
 use Rattle.stapl_syntax.specs.declared.statement.Stmt.{Stmt}
@@ -16,19 +16,6 @@ use Rattle.stapl_checker.specs.Readings.{IsRead, first_unread, Adds, stmt_trees,
 -- on lists with one item more
 
 module _ {A : Type 0} where
-  length_snoc : (xs : List A) (x : A) → length (xs ++ x ∷ []) ≡ length xs + 1
-  length_snoc [] x = refl
-  length_snoc (y ∷ xs) x = let h = length_snoc xs x in omega (arith, h)
-
-  append_none : (xs : List A) → xs ++ [] ≡ xs
-  append_none [] = refl
-  append_none (x ∷ xs) = ap (λ (z : List A). x ∷ z) (append_none xs)
-
-  take_front : (xs : List A) (x : A) (i : ℕ) → i ≤ length xs → take i (xs ++ x ∷ []) ≡ take i xs
-  take_front xs x zero le = refl
-  take_front [] x (suc i) le = absurd (omega arith)
-  take_front (y ∷ xs) x (suc i) le = ap (λ (z : List A). y ∷ z) (take_front xs x i (omega arith))
-
   slice_front : (xs : List A) (x : A) (i : ℕ) → i < length xs → slice_get (xs ++ x ∷ []) i ≡ slice_get xs i
   slice_front [] x i lt = absurd (omega arith)
   slice_front (y ∷ xs) x zero lt = refl
@@ -37,15 +24,6 @@ module _ {A : Type 0} where
   slice_last : (xs : List A) (x : A) → slice_get (xs ++ x ∷ []) (length xs) ≡ Some x
   slice_last [] x = refl
   slice_last (y ∷ xs) x = slice_last xs x
-
-module _ {A B : Type 0} (f : A → B) where
-  pub map_snoc : (xs : List A) (x : A) → map f (xs ++ x ∷ []) ≡ map f xs ++ f x ∷ []
-  map_snoc [] x = refl
-  map_snoc (y ∷ xs) x = ap (λ (z : List B). f y ∷ z) (map_snoc xs x)
-
-  pub map_length : (xs : List A) → length (map f xs) ≡ length xs
-  map_length [] = refl
-  map_length (x ∷ xs) = let h = map_length xs in cc
 
 -- on numbers
 
@@ -76,7 +54,7 @@ are_more text [] (q ∷ whats) piece w a s = absurd a
 are_more text (p ∷ pieces) [] piece w a s = absurd a
 are_more text (p ∷ pieces) (q ∷ whats) piece w a s = (a.0, are_more text pieces whats piece w a.1 s)
 
-as_long : (text : List ℕ) (pieces : List Piece) (whats : List What) → AreWhat text pieces whats → length whats ≡ length pieces
+pub as_long : (text : List ℕ) (pieces : List Piece) (whats : List What) → AreWhat text pieces whats → length whats ≡ length pieces
 as_long text [] [] a = refl
 as_long text [] (w ∷ whats) a = absurd a
 as_long text (p ∷ pieces) [] a = absurd a
@@ -85,44 +63,44 @@ as_long text (p ∷ pieces) (w ∷ whats) a = let h = as_long text pieces whats 
 -- the front stays if a piece stands after it
 front_stays : (whats : List What) (sts : List StmtTree) (w : What) (t : StmtTree) (u : Unread) → IsFront whats sts u → IsFront (whats ++ w ∷ []) (sts ++ t ∷ []) u
 front_stays whats sts w t u front =
-    let long = length_snoc whats w in
-    let longer = length_snoc sts t in
+    let long = length-append whats (w ∷ []) in
+    let longer = length-append sts (t ∷ []) in
     let below = front.below in
     let enough = front.enough in
     record {
       below = omega (arith, below, long);
       enough = omega (arith, enough, longer);
-      front = take_front whats w u.index (omega (arith, below)) ∙ front.front ∙ ap (map statement) (sym (take_front sts t u.index enough));
+      front = take-append-le u.index whats (w ∷ []) (omega (arith, below)) ∙ front.front ∙ ap (map statement) (sym (take-append-le u.index sts (t ∷ []) enough));
       here = slice_front whats w u.index below ∙ front.here;
     }
 
 front_stays_faulty : (whats : List What) (sts : List StmtTree) (w : What) (u : Unread) → IsFront whats sts u → IsFront (whats ++ w ∷ []) sts u
 front_stays_faulty whats sts w u front =
-    let long = length_snoc whats w in
+    let long = length-append whats (w ∷ []) in
     let below = front.below in
     record {
       below = omega (arith, below, long);
       enough = front.enough;
-      front = take_front whats w u.index (omega (arith, below)) ∙ front.front;
+      front = take-append-le u.index whats (w ∷ []) (omega (arith, below)) ∙ front.front;
       here = slice_front whats w u.index below ∙ front.here;
     }
 
 front_with : (whats : List What) (sts : List StmtTree) (t : StmtTree) (unread : Option Unread) → IsFrontTo whats sts unread →
     IsFrontTo (whats ++ statement t ∷ []) (sts ++ t ∷ []) unread
-front_with whats sts t None front = ap (λ (z : List What). z ++ statement t ∷ []) front ∙ sym (map_snoc statement sts t)
+front_with whats sts t None front = ap (λ (z : List What). z ++ statement t ∷ []) front ∙ sym (map-append statement sts (t ∷ []))
 front_with whats sts t (Some u) front = front_stays whats sts (statement t) t u front
 
 front_without : (whats : List What) (sts : List StmtTree) (i : ℕ) (reason : Reason) (unread : Option Unread) → length whats ≡ i → IsFrontTo whats sts unread →
     IsFrontTo (whats ++ faulty reason ∷ []) sts (first_unread unread (record { index = i; reason = reason }))
 front_without whats sts i reason None at front =
-    let long = length_snoc whats (faulty reason) in
-    let mapped = map_length statement sts in
+    let long = length-append whats (faulty reason ∷ []) in
+    let mapped = length-map sts statement in
     let same : length whats ≡ length (map statement sts) = ap length front in
     let all : length sts ≤ i = omega (arith, at, mapped, same) in
     record {
       below = omega (arith, long, at);
       enough = omega (arith, at, mapped, same);
-      front = take_front whats (faulty reason) i (omega (arith, at)) ∙ take_all i whats (omega (arith, at)) ∙ front ∙ ap (map statement) (sym (take_all i sts all));
+      front = take-append-le i whats (faulty reason ∷ []) (omega (arith, at)) ∙ take_all i whats (omega (arith, at)) ∙ front ∙ ap (map statement) (sym (take_all i sts all));
       here = ap (slice_get (whats ++ faulty reason ∷ [])) (sym at) ∙ slice_last whats (faulty reason);
     }
 front_without whats sts i reason (Some u) at front = front_stays_faulty whats sts (faulty reason) u front
@@ -133,12 +111,12 @@ added : (text : List ℕ) (pieces : List Piece) (i : ℕ) (piece : Piece) (read 
 added text pieces i piece (Statement st) old new at is one adds =
     let tree = stmt_tree st in
     let long = as_long text pieces is.whats is.are in
-    let mapped = map_length what_tree is.whats in
+    let mapped = length-map is.whats what_tree in
     let numbers : 1 + length (what_trees is.whats) ≡ i + 1 = omega (arith, mapped, long, at) in
     let many = is.told.as_many in
-    let trees = map_length stmt_tree old.statements.items in
-    let own = length_snoc old.numbers.items (i + 1) in
-    let also = length_snoc old.statements.items st in
+    let trees = length-map old.statements.items stmt_tree in
+    let own = length-append old.numbers.items ((i + 1) ∷ []) in
+    let also = length-append old.statements.items (st ∷ []) in
     let a = ap length adds.0 in
     let b = ap length adds.1.0 in
     record {
@@ -146,17 +124,17 @@ added text pieces i piece (Statement st) old new at is one adds =
       are = are_more text pieces is.whats piece (statement tree) is.are one;
       told = record {
         same =
-            ap numbered (map_snoc what_tree is.whats (statement tree)) ∙ numbered_snoc 1 (what_trees is.whats) (Some tree)
+            ap numbered (map-append what_tree is.whats (statement tree ∷ [])) ∙ numbered_snoc 1 (what_trees is.whats) (Some tree)
             ∙ ap (λ (z : List Numbered). z ++ record { piece = 1 + length (what_trees is.whats); statement = tree } ∷ []) is.told.same
             ∙ ap (λ (k : ℕ). with_numbers old.numbers.items (stmt_trees old.statements.items) ++ record { piece = k; statement = tree } ∷ []) numbers
             ∙ sym (with_snoc old.numbers.items (stmt_trees old.statements.items) (i + 1) tree (omega (arith, many, trees)))
-            ∙ sym (ap (λ (z : List StmtTree). with_numbers (old.numbers.items ++ (i + 1) ∷ []) z) (map_snoc stmt_tree old.statements.items st))
+            ∙ sym (ap (λ (z : List StmtTree). with_numbers (old.numbers.items ++ (i + 1) ∷ []) z) (map-append stmt_tree old.statements.items (st ∷ [])))
             ∙ sym (ap (λ (z : List ℕ). with_numbers z (stmt_trees (old.statements.items ++ st ∷ []))) adds.0)
             ∙ sym (ap (λ (z : List Stmt). with_numbers new.numbers.items (stmt_trees z)) adds.1.0);
         as_many = omega (arith, a, b, own, also, many);
         front =
             subst (λ (z : List Stmt). IsFrontTo (is.whats ++ statement tree ∷ []) (stmt_trees z) new.unread) (sym adds.1.0)
-            (subst (λ (z : List StmtTree). IsFrontTo (is.whats ++ statement tree ∷ []) z new.unread) (sym (map_snoc stmt_tree old.statements.items st))
+            (subst (λ (z : List StmtTree). IsFrontTo (is.whats ++ statement tree ∷ []) z new.unread) (sym (map-append stmt_tree old.statements.items (st ∷ [])))
             (subst (IsFrontTo (is.whats ++ statement tree ∷ []) (stmt_trees old.statements.items ++ tree ∷ [])) (sym adds.1.1)
             (front_with is.whats (stmt_trees old.statements.items) tree old.unread is.told.front)));
       };
@@ -171,8 +149,8 @@ added text pieces i piece (Faulty reason) old new at is one adds =
       are = are_more text pieces is.whats piece (faulty reason) is.are one;
       told = record {
         same =
-            ap numbered (map_snoc what_tree is.whats (faulty reason)) ∙ numbered_snoc 1 (what_trees is.whats) None
-            ∙ append_none (numbered (what_trees is.whats)) ∙ is.told.same
+            ap numbered (map-append what_tree is.whats (faulty reason ∷ [])) ∙ numbered_snoc 1 (what_trees is.whats) None
+            ∙ append-nil (numbered (what_trees is.whats)) ∙ is.told.same
             ∙ sym (ap (λ (z : List ℕ). with_numbers z (stmt_trees old.statements.items)) adds.0)
             ∙ sym (ap (λ (z : List Stmt). with_numbers new.numbers.items (stmt_trees z)) adds.1.0);
         as_many = omega (arith, a, b, many);
@@ -187,30 +165,11 @@ added text pieces i piece (Faulty reason) old new at is one adds =
 abbrev pub no_piece : Piece
 no_piece = record { start = 0; end = 0; line = 0; closed = false }
 
-pub taken : {A : Type 0} (xs : List A) (i : ℕ) → i ≤ length xs → length (take i xs) ≡ i
-taken xs zero le = refl
-taken [] (suc i) le = absurd (omega arith)
-taken (x ∷ xs) (suc i) le = let h = taken xs i (omega arith) in omega (arith, h)
-
 pub reading_more : (text : List ℕ) (pieces : List Piece) (i : ℕ) (piece d : Piece) (read : Read) (old new : Reading) → i < length pieces → piece ≡ get_or pieces i d →
     IsReading text (take i pieces) old → IsRead text piece read → Adds i read old new → IsReading text (take (i + 1) pieces) new
 reading_more text pieces i piece d read old new below is so_far one adds =
     subst (λ (z : List Piece). IsReading text z new) (sym (take_more pieces i d below))
-    (added text (take i pieces) i (get_or pieces i d) read old new (taken pieces i (omega arith)) so_far (subst (λ (p : Piece). IsRead text p read) is one) adds)
-
-pub reading_none : (text : List ℕ) (reading : Reading) → reading.numbers.items ≡ [] → reading.statements.items ≡ [] → reading.unread ≡ None → IsReading text [] reading
-reading_none text reading a b c = record {
-  whats = [];
-  are = tt;
-  told = record {
-    same = sym (ap (λ (z : List ℕ). with_numbers z (stmt_trees reading.statements.items)) a);
-    as_many = ap length a ∙ sym (ap length b);
-    front = subst (IsFrontTo [] (stmt_trees reading.statements.items)) (sym c) (sym (ap (λ (z : List Stmt). map statement (stmt_trees z)) b));
-  };
-}
-
-pub reading_all : (text : List ℕ) (pieces : List Piece) (i : ℕ) (reading : Reading) → length pieces ≤ i → IsReading text (take i pieces) reading → IsReading text pieces reading
-reading_all text pieces i reading past is = subst (λ (z : List Piece). IsReading text z reading) (take_all i pieces past) is
+    (added text (take i pieces) i (get_or pieces i d) read old new (length-take-le i pieces (omega arith)) so_far (subst (λ (p : Piece). IsRead text p read) is one) adds)
 
 -- how many statements there are
 
@@ -228,10 +187,10 @@ with_long (n ∷ ns) (t ∷ sts) e = let h = with_long ns sts (omega (arith, e))
 pub few_statements : (text : List ℕ) (pieces : List Piece) (reading : Reading) → IsReading text pieces reading → length reading.statements.items ≤ length pieces
 few_statements text pieces reading is =
     let long = as_long text pieces is.whats is.are in
-    let mapped = map_length what_tree is.whats in
+    let mapped = length-map is.whats what_tree in
     let few = numbered_few 1 (what_trees is.whats) in
     let same = ap length is.told.same in
     let many = is.told.as_many in
-    let trees = map_length stmt_tree reading.statements.items in
+    let trees = length-map reading.statements.items stmt_tree in
     let whole = with_long reading.numbers.items (stmt_trees reading.statements.items) (omega (arith, many, trees)) in
     omega (arith, long, mapped, few, same, trees, whole)

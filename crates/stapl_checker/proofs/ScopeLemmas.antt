@@ -1,24 +1,22 @@
 -- A block has a number exactly if it is in the table.
-use Rattle.std.proofs.Common.{◌≡◌, ℕ, zero, suc, List, [], ◌∷◌, Bool, false, refl, Option, None, Some, is_some, sym, ap, ◌∙◌, position, slice_get}
+use Rattle.std.proofs.Common.{◌≡◌, ℕ, List, Bool, false, refl, Option, None, Some, is_some, sym, ap, ◌∙◌, position, slice_get}
 use Rattle.std.specs.Map.{lookup, keys_of, values_of}
 use Rattle.std.specs.Str.{bytes_eq}
+use Rattle.std.proofs.lemmas.Option.{none-some, slice_get-map}
 use Rattle.indexmap.proofs.MapLemmas.{some_index, Found-position}
 use Rattle.stapl_syntax.specs.declared.names.Declaration.{Declaration}
 use Rattle.stapl_syntax.specs.declared.names.Key.{Key}
-use Rattle.std.specs.Option.{option_and_then}
+use Rattle.std.specs.Option.{option_and_then, option_map}
 use Rattle.stapl_syntax.specs.declared.names.Variable.{Variable}
 use Rattle.stapl_syntax.specs.Names.{Names, block_named, variable_in, label_in, variable_number, key_in, key_eq}
 use Rattle.stapl_syntax.specs.Rules.{is_data_block, is_again}
+use Rattle.stapl_names.proofs.Keys.{none_from}
 use Rattle.stapl_checker.specs.Earlier.{passes_in, stands_below, piece_of_block}
 use Rattle.stapl_checker.specs.Scopes.{variable_in_block}
 
 pub has_number : (names : Names) (name : List ℕ) (number : Option ℕ) (b : Bool) → number ≡ position (bytes_eq name) (keys_of names.blocks) → b ≡ is_some number →
     b ≡ is_some (block_named names name)
 has_number names name number b e f = f ∙ ap is_some e ∙ some_index (bytes_eq name) names.blocks
-
-none_from : {A : Type 0} (o : Option A) → is_some o ≡ false → o ≡ None
-none_from None e = refl
-none_from (Some x) e = absurd cc
 
 pub no_number : (names : Names) (name : List ℕ) (number : Option ℕ) → number ≡ position (bytes_eq name) (keys_of names.blocks) → number ≡ None →
     false ≡ is_data_block (block_named names name)
@@ -60,9 +58,7 @@ no_label test inside o at = by inside ∙ ap (λ (z : Option (List ℕ)). is_aga
 -- the value at the place of a key is what a look-up finds
 module _ {K V : Type 0} where
   value_at : (es : List (K × V)) (n : ℕ) (e : K × V) → slice_get es n ≡ Some e → slice_get (values_of es) n ≡ Some e.1
-  value_at [] n e at = absurd cc
-  value_at (x ∷ es) zero e at = let same : x ≡ e = cc in ap (λ (z : K × V). Some z.1) same
-  value_at (x ∷ es) (suc n) e at = value_at es n e at
+  value_at es n e at = slice_get-map (λ (x : K × V). x.1) es n ∙ ap (option_map (λ (x : K × V). x.1)) at
 
   pub found_at : (test : K → Bool) (es : List (K × V)) (n : ℕ) (e : K × V) → position test (keys_of es) ≡ Some n → slice_get es n ≡ Some e → lookup test es ≡ Some e.1
   found_at test es n e at there = (Found-position test es n at).value ∙ value_at es n e there
@@ -78,10 +74,7 @@ no_earlier names name number n e f = ap (stands_below piece_of_block n) (sym (no
 pub own_some : (names : Names) (name : List ℕ) (seen : Option (List ℕ)) (o : Option ℕ) (n : ℕ) (v : Variable) →
     o ≡ option_and_then (λ block. variable_number names block name) seen → o ≡ Some n → slice_get names.variables n ≡ Some (v.key, v) →
     Some v ≡ variable_in_block names seen name
-own_some names name None o n v e f there = absurd (none_some (sym e ∙ f))
-  where
-    none_some : {A : Type 0} {x : A} → None ≡ Some x → ⊥
-    none_some k = cc
+own_some names name None o n v e f there = absurd (none-some n (sym e ∙ f))
 own_some names name (Some block) o n v e f there = sym (found_at (key_eq (key_in block name)) names.variables n (v.key, v) (sym e ∙ f) there)
 
 pub own_none : (names : Names) (name : List ℕ) (seen : Option (List ℕ)) (o : Option ℕ) →

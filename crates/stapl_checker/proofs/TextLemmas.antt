@@ -1,9 +1,10 @@
 -- From what the pieces are to what the text is: a program, or its first fault.
-use Rattle.std.proofs.Common.{◌≡◌, ◌≤◌, ◌<◌, ◌+◌, ℕ, zero, suc, List, [], ◌∷◌, length, Option, None, Some, refl, sym, subst, arith, map, slice_get, ◌⊎◌, inl, inr}
+use Rattle.std.proofs.Common.{◌≡◌, ◌≤◌, ◌<◌, ◌+◌, ℕ, zero, suc, List, [], ◌∷◌, length, Option, None, Some, refl, sym, subst, arith, map, get_or, slice_get, ◌⊎◌, inl, inr}
 use Rattle.stapl_lexer.specs.declared.piece.Piece.{Piece}
 use Rattle.stapl_lexer.specs.declared.reason.Reason.{Reason}
 use Rattle.std.proofs.lemmas.Bool.{cases_lt}
 use Rattle.std.proofs.lemmas.List.{length-map}
+use Rattle.std.proofs.lemmas.Option.{slice_get-get_or}
 use Rattle.stapl_lexer.specs.declared.reason.Reason.TheVariants as reasons
 use Rattle.stapl_lexer.specs.Pieces.{IsCut, text_limit}
 use Rattle.stapl_syntax.specs.declared.statement.Stmt.{Stmt}
@@ -12,23 +13,18 @@ use Rattle.stapl_syntax.specs.Programs.{piece_limit, IsReadAs, AreReadAs, line_o
 use Rattle.stapl_syntax.specs.Programs.{HasReasonAt, one_too_many, NoneBefore, IsProgram, FirstFault, is_first}
 use Rattle.stapl_grammar.proofs.LawLemmas.{no_reason}
 use Rattle.stapl_checker.specs.Judgements.{What, statement, faulty, IsWhat, AreWhat, what_tree, what_trees, reason_of, reason_from, reason_at, IsFirstReason, HasNoReason, IsJudged}
+use Rattle.stapl_checker.proofs.ReadingLemmas.{as_long, no_piece}
 use Rattle.stapl_checker.proofs.Judged.{judged, judged_end}
 
 read_as : (text : List ℕ) (piece : Piece) (w : What) → IsWhat text piece w → IsReadAs text piece (what_tree w)
 read_as text piece (statement st) is = is
 read_as text piece (faulty reason) is = λ st means. no_reason st means is.holds
 
-pub are_read_as : (text : List ℕ) (pieces : List Piece) (whats : List What) → AreWhat text pieces whats → AreReadAs text pieces (what_trees whats)
+are_read_as : (text : List ℕ) (pieces : List Piece) (whats : List What) → AreWhat text pieces whats → AreReadAs text pieces (what_trees whats)
 are_read_as text [] [] a = tt
 are_read_as text [] (w ∷ whats) a = absurd a
 are_read_as text (p ∷ pieces) [] a = absurd a
 are_read_as text (p ∷ pieces) (w ∷ whats) a = (read_as text p w a.0, are_read_as text pieces whats a.1)
-
-pub same_length : (text : List ℕ) (pieces : List Piece) (whats : List What) → AreWhat text pieces whats → length whats ≡ length pieces
-same_length text [] [] a = refl
-same_length text [] (w ∷ whats) a = absurd a
-same_length text (p ∷ pieces) [] a = absurd a
-same_length text (p ∷ pieces) (w ∷ whats) a = let h = same_length text pieces whats a.1 in cc
 
 -- what stands at an index: a piece and what it is
 record IsWhatAt (text : List ℕ) (piece : Option Piece) (what : Option What) : Type 0 where
@@ -71,7 +67,7 @@ none_before text pieces whats n are none k lt =
 pub fault_is : (text : List ℕ) (pieces : List Piece) (whats : List What) (i : ℕ) (reason : Reason) → length text ≤ text_limit → IsCut text pieces →
     AreWhat text pieces whats → IsFirstReason whats i reason → FirstFault text (i + 1) (line_of_index text pieces i) reason
 fault_is text pieces whats i reason short cut are first =
-    let long = same_length text pieces whats are in
+    let long = as_long text pieces whats are in
     let within = first.within in
     is_first pieces (what_trees whats) i reason short cut (are_read_as text pieces whats are) (omega arith)
     (subst (IsJudged text (what_trees whats) i (slice_get pieces i)) first.here (judged_at text pieces whats i are))
@@ -80,7 +76,7 @@ fault_is text pieces whats i reason short cut are first =
 pub program_is : (text : List ℕ) (pieces : List Piece) (whats : List What) (statements : List StmtTree) → length text ≤ text_limit → IsCut text pieces →
     AreWhat text pieces whats → HasNoReason whats → what_trees whats ≡ map Some statements → IsProgram text statements
 program_is text pieces whats statements short cut are free same =
-    let long = same_length text pieces whats are in
+    let long = as_long text pieces whats are in
     record {
       short = short;
       pieces = pieces;
@@ -97,14 +93,9 @@ read_length text (p ∷ pieces) [] a = absurd a
 read_length text (p ∷ pieces) (r ∷ read) a = let h = read_length text pieces read a.1 in cc
 
 -- a program has no piece too many
-pub few_pieces : (text : List ℕ) (statements : List StmtTree) → IsProgram text statements → length statements ≤ piece_limit
+few_pieces : (text : List ℕ) (statements : List StmtTree) → IsProgram text statements → length statements ≤ piece_limit
 few_pieces text statements program = by (cases_lt piece_limit (length statements))
   where
-    there : (pieces : List Piece) (i : ℕ) → i < length pieces → (piece : Piece) × (slice_get pieces i ≡ Some piece)
-    there [] i lt = absurd (omega arith)
-    there (p ∷ pieces) zero lt = (p, refl)
-    there (p ∷ pieces) (suc i) lt = there pieces i (omega arith)
-
     late : (at : Option Piece) → (piece : Piece) × (at ≡ Some piece) → HasReasonAt text (map Some statements) piece_limit at reasons.TooManyPieces
     late at found = subst (λ (p : Option Piece). HasReasonAt text (map Some statements) piece_limit p reasons.TooManyPieces) (sym found.1) (one_too_many found.0 (omega arith))
 
@@ -114,7 +105,7 @@ few_pieces text statements program = by (cases_lt piece_limit (length statements
         let long = read_length text program.pieces (map Some statements) program.read in
         let mapped = length-map statements Some in
         absurd (program.sound piece_limit (omega (arith, long, mapped, lt)) reasons.TooManyPieces
-        (late (slice_get program.pieces piece_limit) (there program.pieces piece_limit (omega (arith, long, mapped, lt)))))
+        (late (slice_get program.pieces piece_limit) (get_or program.pieces piece_limit no_piece, slice_get-get_or program.pieces piece_limit no_piece (omega (arith, long, mapped, lt)))))
 
 pub few_statements_of : (text : List ℕ) (statements : List Stmt) → IsProgram text (map stmt_tree statements) → length statements ≤ piece_limit
 few_statements_of text statements program =

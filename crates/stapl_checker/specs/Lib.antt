@@ -1,5 +1,3 @@
-pub mod Reads
-pub mod OwnNames
 pub mod Verdicts
 pub mod Judgements
 pub mod Earlier

@@ -1,7 +1,8 @@
 //! Which statements are built.
 ghost use Rattle.std.specs.Prelude.{◌≡◌, map};
+ghost use Rattle.std.specs.List.{list_all};
 ghost use Rattle.stapl_syntax.specs.Trees.{expr_tree, item_tree, part_tree, body_tree, stmt_tree};
-ghost use Rattle.stapl_syntax.specs.Built.{is_built_atom, is_built_sum, is_built_condition, is_built_print, is_built_simple, is_built_inner, is_built_list, is_built_outer, is_built};
+ghost use Rattle.stapl_syntax.specs.Built.{is_built_atom, is_built_sum, is_built_condition, is_built_print, is_built_simple, is_built_inner, is_built_item, is_built_outer, is_built};
 
 use stapl_lexer::BinOp;
 use stapl_syntax::{Body, Expr, Item, PrintPart, Stmt};
@@ -69,29 +70,33 @@ fn is_inner(body: &Body) -> bool
     }
 }
 
-// One procedure, which always runs.
-fn is_list(items: &[Item]) -> bool
-    ensures { result ≡ is_built_list (map item_tree items.now) }
+// A procedure that always runs.
+fn is_built_item(item: &Item) -> bool
+    ensures { result ≡ is_built_item (item_tree item.now) }
 {
-    match items {
-        [item] => item.choice.is_none(),
-        _ => false,
-    }
+    item.choice.is_none()
+}
+
+fn all_items_are_built(items: &[Item]) -> bool
+    ensures { result ≡ list_all (λ item. is_built_item (item_tree item)) items.now }
+{
+    items.iter().all(|item| is_built_item(item))
 }
 
 // A statement outside procedures.
+#[tactic(auto, using(crate::proofs::MappedLists::mapped_lists))]
 fn is_built_outer(body: &Body) -> bool
     ensures { result ≡ is_built_outer (body_tree body.now) }
 {
     match body {
-        Body::Action(_, None, items) => is_list(items.as_slice()),
-        Body::Procedure(_, uses) => uses.is_none(),
+        Body::Note(_, _) | Body::Procedure(_, _) | Body::Crc(_) => true,
+        Body::Action(_, _, items) => all_items_are_built(items.as_slice()),
         _ => false,
     }
 }
 
 /// Whether a statement is built.
-pub fn is_built(statement: &Stmt) -> bool
+pub(crate) fn is_built(statement: &Stmt) -> bool
     ensures { result ≡ is_built (stmt_tree statement.now) }
 {
     is_built_outer(&statement.body) || is_inner(&statement.body)

@@ -1,10 +1,10 @@
 //! The check of a whole text.
-ghost use Rattle.std.specs.Prelude.{◌≡◌, ◌≤◌, ◌+◌, length, map, IfOk, IfErr};
+ghost use Rattle.std.specs.Prelude.{◌≡◌, ◌≤◌, ◌+◌, length, IfOk, IfErr};
 ghost use Rattle.stapl_lexer.specs.Pieces.{IsCut, text_limit};
-ghost use Rattle.stapl_syntax.specs.Trees.{stmt_tree};
 ghost use Rattle.stapl_syntax.specs.Names.{with_numbers, names_of};
 ghost use Rattle.stapl_syntax.specs.Programs.{line_of_index};
 ghost use Rattle.stapl_syntax.specs.Programs.{IsProgram};
+ghost use Rattle.stapl_syntax.specs.ProgramValues.{trees_of};
 ghost use Rattle.stapl_checker.specs.Readings.{stmt_trees, IsReading};
 ghost use Rattle.stapl_checker.specs.Answers.{IsVerdict, IsCause};
 
@@ -13,7 +13,7 @@ use crate::lines::line_of_index;
 use crate::reading::{Reading, read_pieces};
 use stapl_lexer::{Piece, Reason, TEXT_LIMIT, cut};
 use stapl_names::{Names, collect};
-use stapl_syntax::Stmt;
+use stapl_syntax::{Program, Stmt};
 use std::alloc::{AllocError, Global};
 use thiserror::Error;
 
@@ -70,12 +70,27 @@ pub enum CheckRefused {
     Memory,
 }
 
-/// The program that a text is, by its statements, one a piece (JESD71, program structure). The text may be any bytes.
+// The program of a text, whose statements these are.
+fn program_of(alloc: Global, text: &[u8], statements: Vec<Stmt>) -> Result<Program, CheckRefused>
+    requires { IsProgram text.now (stmt_trees statements.items) }
+    ensures text { IfOk result (λ program. program.text ≡ text.now) }
+    ensures program { IfOk result (λ program. IsProgram text.now (trees_of program)) }
+    ensures refused { IfErr result (IsCause text.now) }
+{
+    let Ok(owned) = Vec::from_slice(alloc, text) else {
+        return Err(CheckRefused::Memory);
+    };
+    Ok(Program::of(owned, statements))
+}
+
+/// The program that a text is (JESD71, program structure). The text may be any bytes.
 ///
 /// The error `Refused` is the first fault of the text, as `stapl_syntax` defines it; `Memory` is want of memory. The
-/// time is linear in the length of the text, where look-ups by name take constant time.
-pub fn check(alloc: Global, text: &[u8]) -> Result<Vec<Stmt>, CheckRefused>
-    ensures program { IfOk result (λ statements. IsProgram text.now (map stmt_tree statements.items)) }
+/// time is linear in the length of the text, if look-ups by name take constant time, but for one case: in a procedure
+/// with a long USES, a name that as many other blocks declare is searched again at each mention.
+pub fn check(alloc: Global, text: &[u8]) -> Result<Program, CheckRefused>
+    ensures text { IfOk result (λ program. program.text ≡ text.now) }
+    ensures program { IfOk result (λ program. IsProgram text.now (trees_of program)) }
     ensures refused { IfErr result (IsCause text.now) }
 {
     if text.len() > TEXT_LIMIT {
@@ -89,7 +104,7 @@ pub fn check(alloc: Global, text: &[u8]) -> Result<Vec<Stmt>, CheckRefused>
         return Err(CheckRefused::Memory);
     };
     match verdict {
-        Verdict::Program(statements) => Ok(statements),
+        Verdict::Program(statements) => program_of(alloc, text, statements),
         Verdict::Fault(piece, line, reason) => Err(CheckRefused::Refused {
             piece,
             line,

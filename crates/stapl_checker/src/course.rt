@@ -1,7 +1,7 @@
 //! What is kept of the statements before a piece.
 ghost use Rattle.std.specs.Prelude.{◌≡◌, ◌≤◌, ◌<◌, ◌+◌, ◌^◌, [], false, is_some};
 ghost use Rattle.stapl_syntax.specs.Trees.{body_tree};
-ghost use Rattle.stapl_syntax.specs.Names.{inside_behind};
+ghost use Rattle.stapl_syntax.specs.Names.{Names, inside_behind};
 ghost use Rattle.stapl_syntax.specs.Rules.{in_data_block, is_action, is_block, is_crc};
 ghost use Rattle.stapl_checker.specs.Scopes.{named, IsInside};
 ghost use Rattle.stapl_checker.specs.Places.{place_of};
@@ -84,10 +84,9 @@ fn place_after(names: &Names, inside: Option<u32>, before: Place, body: &Body) -
 
 impl Course {
     /// What is kept before the first piece.
-    pub(crate) fn first(names: &Names) -> Course
-        ensures { IsCourse names.now [] 0 result }
+    pub(crate) fn first() -> Course
+        ensures { (names : Names) → IsCourse names [] 0 result }
     {
-        let _names = names;
         Course {
             inside: None,
             place: Place {

@@ -53,7 +53,7 @@ pub(crate) fn walk(names: &Names, statements: &[Stmt]) -> Way
     requires listed { All (λ st. BeginsListed names.now st.body) (map stmt_tree statements.now) }
     ensures { IsWay names.now (map stmt_tree statements.now) result }
 {
-    let mut course = Course::first(names);
+    let mut course = Course::first();
     for (i, statement) in statements.iter().enumerate() {
         match reason_here(names, course, i as u32, statement) {
             Some(reason) => return Way::Stops(i as u32, reason),

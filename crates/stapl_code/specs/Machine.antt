@@ -16,8 +16,8 @@ use Rattle.stapl_code.specs.declared.instr.PrintPart.TheVariants as parts
 use Rattle.stapl_code.specs.declared.instr.Instr.{Instr}
 use Rattle.stapl_code.specs.declared.instr.Instr.TheVariants.{Turn, Push, Load, Store, Binary, Jump, JumpIfZero, EndProc, Print, Exit}
 
--- What one instruction does: on to the one behind it, perhaps with events; the end of the turn, which must find no operand left; or
--- what no valid code meets.
+-- What one instruction does: on to the one behind it, perhaps with events; the end of the turn, which must find no
+-- operand left; or what no valid code meets.
 pub data Step : Type 0 where
   Falls : (operands : List Value) (state : State) → Step
   Emits : (events : List Event) (operands : List Value) (state : State) → Step

@@ -1,7 +1,7 @@
--- The ranges of a code's fields. They are this profile's. Variables, texts, procedures and instructions are told by their numbers, from 0.
-use Rattle.std.specs.Prelude.{◌≡◌, ◌≢◌, ℕ, ◌<◌, ◌≤◌, ◌^◌, ◌⊎◌, ◌==◌, ◌||◌, false, List, length, All, AllPairs, sum_by, if◌then◌else◌}
-use Rattle.stapl_lexer.specs.Names.{IsUpperName}
-use Rattle.stapl_lexer.specs.ReservedWords.{is_reserved_word}
+-- The ranges of a code's fields. They are this profile's. Variables, texts, procedures and instructions are told by
+-- their numbers, from 0.
+use Rattle.std.specs.Prelude.{◌≡◌, ◌≢◌, ℕ, ◌<◌, ◌≤◌, ◌^◌, ◌⊎◌, ◌==◌, ◌||◌, List, length, All, AllPairs, sum_by, if◌then◌else◌}
+use Rattle.stapl_syntax.specs.Contents.{IsFreeName}
 use Rattle.stapl_code.specs.declared.instr.PrintPart.{PrintPart}
 use Rattle.stapl_code.specs.declared.instr.PrintPart.TheVariants as parts
 use Rattle.stapl_code.specs.declared.instr.Instr.{Instr}
@@ -28,11 +28,6 @@ pub record AreVariables (variables : List VarDef) : Type 0 where
   pub each : All IsVariable variables
   pub integers : sum_by (elements_of 0 2) variables ≤ 1048576
   pub booleans : sum_by (elements_of 1 3) variables ≤ 16777216
-
--- a name that a block or an action may bear (JESD71, names)
-pub record IsFreeName (name : List ℕ) : Type 0 where
-  pub spelled : IsUpperName name
-  pub free : is_reserved_word name ≡ false
 
 -- there is a procedure, their names differ, and they begin one behind the other
 pub record AreProcedures (procedures : List ProcDef) : Type 0 where
@@ -61,7 +56,8 @@ abbrev pub IsPart : ℕ → PrintPart → Type 0
 IsPart texts (parts.Text n) = n < texts
 IsPart texts parts.Int = Unit {0}
 
--- an instruction, where there are so many variables and texts; of the operators `+` and `<` are there, which are 0 and 12
+-- an instruction, where there are so many variables and texts; of the operators `+` and `<` are there, which are 0 and
+-- 12
 abbrev pub IsInstr : ℕ → ℕ → Instr → Type 0
 IsInstr variables texts (Turn piece) = (1 ≤ piece) × (piece ≤ 100000)
 IsInstr variables texts (Load n) = n < variables

@@ -1,4 +1,5 @@
--- What holds of every run of a valid code. Source of the kinds of variables: JESD71, variables. The bounds are this profile's.
+-- What holds of every run of a valid code. Source of the kinds of variables: JESD71, variables. The bounds are this
+-- profile's.
 use Rattle.std.specs.Prelude.{◌≡◌, ◌≢◌, ℕ, ◌+◌, ◌*◌, ◌<◌, ◌≤◌, List, [], ◌∷◌, length, map}
 use Rattle.stapl_meaning.specs.declared.values.Held.{Held}
 use Rattle.stapl_meaning.specs.declared.values.Held.TheVariants as held
@@ -35,8 +36,8 @@ abbrev pub AllBelow : ℕ → List ℕ → Type 0
 AllBelow n [] = Unit {0}
 AllBelow n (p ∷ ps) = (p < n) × AllBelow n ps
 
--- A valid code never stops for want of an operand, at an operand of the wrong kind, or where no turn begins: whichever procedures are chosen,
--- whatever the variables hold, and however many turns there are.
+-- A valid code never stops for want of an operand, at an operand of the wrong kind, or where no turn begins: whichever
+-- procedures are chosen, whatever the variables hold, and however many turns there are.
 abbrev pub NeverStuck : Type 0
 NeverStuck =
     (code : CodeLists) → IsInRange code → IsValid code → (chosen : List ℕ) → AllBelow (length code.procedures) chosen →

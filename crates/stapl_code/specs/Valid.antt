@@ -1,9 +1,11 @@
 -- Which codes are valid. The rules are this profile's.
 --
--- The instructions before the first entry are the prologue. A procedure's instructions go from its entry to the next entry, or to the end of
--- the code. The rules are these, each with the definition that says it; that entries rise is a range of the fields.
+-- The instructions before the first entry are the prologue. A procedure's instructions go from its entry to the next
+-- entry, or to the end of the code. The rules are these, each with the definition that says it; that entries rise is a
+-- range of the fields.
 --   The prologue holds only Push and Store (sets_up), and leaves no operand (kinds_kept).
---   A procedure begins with a Turn (procedure_break), and ends with an EndProc, which stands nowhere else (stands_well).
+--   A procedure begins with a Turn (procedure_break), and ends with an EndProc, which stands nowhere else
+--   (stands_well).
 --   An instruction finds operands of its kinds, and variables of the kind that it wants (kinds_behind).
 --   No operand is left before a Turn, and behind a Jump, a JumpIfZero, an Exit and an EndProc (kinds_behind).
 --   A target is a Turn of the same procedure (is_target).
@@ -77,8 +79,8 @@ module _ (entry : ℕ) (procedure : List Instr) where
   leads_well (JumpIfZero to) = is_target to
   leads_well _ = true
 
-  -- An instruction stands well where it is a Turn if one has to stand there, it is an EndProc exactly if it is the last of the procedure,
-  -- and its target is a Turn of the procedure.
+  -- An instruction stands well where it is a Turn if one has to stand there, it is an EndProc exactly if it is the last
+  -- of the procedure, and its target is a Turn of the procedure.
   abbrev pub stands_well : Bool → Instr → Bool → Bool
   stands_well must_turn x last = (not must_turn || is_turn (Some x)) && agree (is_end x) last && leads_well x
 

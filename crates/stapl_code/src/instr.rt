@@ -10,7 +10,8 @@ pub enum PrintPart {
     Int,
 }
 
-/// One instruction. Variables, texts and procedures are told by their numbers, and targets are numbers of instructions, all from 0.
+/// One instruction. Variables, texts and procedures are told by their numbers, and targets are numbers of instructions,
+/// all from 0.
 #[derive(Drop)]
 pub enum Instr {
     /// The turn of a piece begins. Pieces are counted from 1.
@@ -29,7 +30,8 @@ pub enum Instr {
     JumpIfZero(u32),
     /// The procedure ends.
     EndProc,
-    /// Prints its joined parts as one line. It takes an operand for each part that is no text; the last part's is the topmost.
+    /// Prints its joined parts as one line. It takes an operand for each part that is no text; the last part's is the
+    /// topmost.
     Print(ItemList<PrintPart>),
     /// Takes an integer off the operands, and ends the play with it.
     Exit,

@@ -1,8 +1,8 @@
 //! Laws of the definitions.
 ghost use Rattle.stapl_code.specs.Safe.{NeverStuck, DepthIsKept, TurnsAreBounded, PlaysAreBounded};
 
-/// A valid code in range never gets stuck: where the chosen procedures exist and the variables hold what their kinds say, no play of it finds
-/// an operand missing or of the wrong kind, or goes to a place where no turn begins.
+/// A valid code in range never gets stuck: where the chosen procedures exist and the variables hold what their kinds
+/// say, no play of it finds an operand missing or of the wrong kind, or goes to a place where no turn begins.
 pub fn never_stuck()
     ensures { NeverStuck }
 {}

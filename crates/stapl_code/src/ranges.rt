@@ -1,6 +1,7 @@
 //! The test of the ranges of a code's fields.
 ghost use Rattle.std.specs.Prelude.{◌≡◌, ◌≢◌, ◌<◌, ◌≤◌, ◌↔◌, IsTrue, All, AllPairs, sum_by, length};
-ghost use Rattle.stapl_code.specs.Ranges.{IsVariable, elements_of, AreVariables, IsFreeName, AreProcedures, IsItem, IsAction, AreActions, IsPart, IsInstr, IsInRange};
+ghost use Rattle.stapl_syntax.specs.Contents.{IsFreeName};
+ghost use Rattle.stapl_code.specs.Ranges.{IsVariable, elements_of, AreVariables, AreProcedures, IsItem, IsAction, AreActions, IsPart, IsInstr, IsInRange};
 
 use crate::instr::{Instr, PrintPart};
 use crate::raw::{ActionDef, CodeLists, ItemDef, ProcDef, VarDef};

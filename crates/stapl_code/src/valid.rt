@@ -37,8 +37,8 @@ impl Model for Code {
     ghost invariant = { λ code. IsValid code.raw × (code.depth ≡ depth_of code.raw) };
 }
 
-/// Why a raw code is refused: `Invalid` with the number of its first instruction that breaks a rule, which is 0 where there is no instruction,
-/// or `Memory` for want of memory alone.
+/// Why a raw code is refused: `Invalid` with the number of its first instruction that breaks a rule, which is 0 where
+/// there is no instruction, or `Memory` for want of memory alone.
 #[derive(Clone, Copy, Debug, PartialEq, Eq, Error)]
 pub enum ValidateRefused {
     #[error("instruction {0} breaks a rule")]
@@ -108,7 +108,8 @@ fn leads_well(entry: usize, procedure: &[Instr], instr: &Instr) -> bool
     }
 }
 
-/// Does to the kinds what an instruction of the prologue does, and answers whether it found its operands and, as the last one, left none.
+/// Does to the kinds what an instruction of the prologue does, and answers whether it found its operands and, as the
+/// last one, left none.
 fn follow_prologue(
     variables: &[VarDef],
     instr: &Instr,
@@ -235,7 +236,8 @@ fn first_break(alloc: Global, code: &CodeLists) -> Result<Option<usize>, AllocEr
 
 /// The code, if it is valid. It reads each instruction twice.
 ///
-/// `Invalid` names exactly the first instruction that breaks a rule, and `Memory` comes only for want of memory. A refused code is dropped.
+/// `Invalid` names exactly the first instruction that breaks a rule, and `Memory` comes only for want of memory. A
+/// refused code is dropped.
 pub fn validate(alloc: Global, raw: RawCode) -> Result<Code, ValidateRefused>
     ensures same { IfOk result (λ code. code ≡ raw) }
     ensures valid { IfOk result (λ _. IsValid raw) }

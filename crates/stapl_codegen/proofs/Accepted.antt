@@ -1,12 +1,13 @@
 -- A built program gives the compiler what it asks for.
-use Rattle.std.proofs.Common.{ℕ, ◌≤◌, List, [], ◌∷◌, ◌++◌, length, arith, subst}
+use Rattle.std.proofs.Common.{ℕ, ◌≤◌, List, [], ◌∷◌, length, arith}
 use Rattle.std.specs.Prelude.{All}
 use Rattle.std.proofs.lemmas.List.Elements.{All-nil, All-cons, All-head, All-tail, All-append}
 use Rattle.stapl_lexer.specs.Pieces.{text_limit}
 use Rattle.stapl_syntax.specs.Trees.{PartTree, string, value, character, BodyTree, if_then, print, StmtTree}
-use Rattle.stapl_syntax.specs.Built.{IsBuilt, unlabelled, action_of, procedure_of}
+use Rattle.stapl_syntax.specs.Built.{IsBuilt}
 use Rattle.stapl_syntax.specs.Unbuilt.{IsBuiltProgram}
-use Rattle.stapl_syntax.specs.Shapes.{IsOneProcedure, HasFreeName, IsShortPart, PrintsShortStrings}
+use Rattle.stapl_syntax.specs.Contents.{IsWellNamed, IsShortPart, PrintsShortStrings}
+use Rattle.stapl_meaning.specs.Typed.{IsTyped}
 use Rattle.stapl_codegen.specs.Emit.{part_texts, body_texts, texts_of}
 use Rattle.stapl_codegen.specs.Accepted.{IsAccepted}
 
@@ -36,18 +37,11 @@ module _ (n : ℕ) where
 weaker : (n : ℕ) (texts : List (List ℕ)) → n ≤ text_limit → All (λ text. length text ≤ n) texts → All (λ text. length text ≤ text_limit) texts
 weaker n texts few all = λ k d below. let short = all k d below in omega arith
 
-pub accepted : (text : List ℕ) (program : List StmtTree) → IsBuiltProgram text program → IsOneProcedure program → All IsBuilt program →
-    All (λ (st : StmtTree). HasFreeName st.body) program → All (λ (st : StmtTree). PrintsShortStrings (length text) st.body) program → IsAccepted program
-accepted text program is shape built free short =
-    let P : StmtTree → Type 0 = λ st. HasFreeName st.body in
-    let first : StmtTree = unlabelled (action_of shape.name shape.run) in
-    let second : StmtTree = unlabelled (procedure_of shape.run) in
-    let own : List StmtTree = shape.inner ++ shape.last ∷ [] in
-    let all : All P (first ∷ second ∷ own) = subst (All P) shape.order free in
-    record {
-      built = built;
-      shape = shape;
-      free_action = All-head P first (second ∷ own) all;
-      free_procedure = All-head P second own (All-tail P first (second ∷ own) all);
-      texts = weaker (length text) (texts_of program) is.program.short (short_texts (length text) program short);
-    }
+pub accepted : (text : List ℕ) (program : List StmtTree) → IsBuiltProgram text program → IsTyped program → All IsBuilt program →
+    All (λ (st : StmtTree). IsWellNamed st.body) program → All (λ (st : StmtTree). PrintsShortStrings (length text) st.body) program → IsAccepted program
+accepted text program is typed built named short = record {
+  built = built;
+  typed = typed;
+  named = named;
+  texts = weaker (length text) (texts_of program) is.program.short (short_texts (length text) program short);
+}

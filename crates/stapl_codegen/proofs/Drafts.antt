@@ -1,15 +1,16 @@
 -- A piece more of a draft.
-use Rattle.std.proofs.Common.{◌≡◌, ℕ, zero, suc, ◌+◌, ◌-◌, ◌<◌, ◌≤◌, Bool, true, false, cond, List, [], ◌∷◌, ◌++◌, length, get_or, drop, take, arith, length-append, append_assoc, sym, ap, ◌∙◌, refl, ⊎_elim}
+use Rattle.std.proofs.Common.{◌≡◌, ℕ, zero, suc, ◌+◌, ◌-◌, ◌<◌, ◌≤◌, Bool, true, false, List, [], ◌∷◌, ◌++◌, Option, Some, None, map, length, get_or, drop, take, arith, length-append, append_assoc, sym, ap, ◌∙◌, refl, ⊎_elim}
 use Rattle.std.specs.Prelude.{if◌then◌else◌, slice_index}
-use Rattle.std.proofs.lemmas.List.{get_or_append_left, append-nil}
+use Rattle.std.proofs.lemmas.List.{get_or_append_left, append-nil, take-map}
 use Rattle.std.proofs.lemmas.Bool.{cases_lt}
 use Rattle.std.proofs.Math.Seq.{get_or-append_seam}
 use Rattle.stapl_syntax.specs.Trees.{StmtTree}
 use Rattle.stapl_syntax.specs.Statements.{is_outer}
-use Rattle.stapl_meaning.specs.Scopes.{begins_block, blocks_in, block_after}
+use Rattle.stapl_syntax.specs.Names.{numbered_from, numbered, inside_behind, inside_from, inside_after}
+use Rattle.stapl_meaning.specs.Scopes.{block_at}
 use Rattle.stapl_code.specs.declared.instr.Instr.{Instr}
 use Rattle.stapl_code.specs.Machine.{nowhere}
-use Rattle.stapl_codegen.specs.Emit.{body_texts, texts_of, piece_code, pieces_code, start_in, start_of, total_of, entries_from}
+use Rattle.stapl_codegen.specs.Emit.{body_texts, texts_of, piece_code, pieces_code, start_in, start_of, total_of}
 use Rattle.stapl_codegen.specs.Drafts.{StartsTo}
 use Rattle.stapl_codegen.proofs.Heads.{head_of, get_head}
 use Rattle.stapl_codegen.proofs.Lists.{piece_append}
@@ -23,28 +24,23 @@ take_more {A = A} i xs x rest e = let next : i + 1 ≡ suc i = omega arith in ap
     by_place (suc i) [] e = absurd cc
     by_place (suc i) (y ∷ ys) e = ap (λ l. y ∷ l) (by_place i ys e)
 
-blocks_behind : (xs : List StmtTree) (st : StmtTree) → blocks_in (xs ++ st ∷ []) ≡ block_after (blocks_in xs) st.body
-blocks_behind [] st = by (begins_block st.body)
-  where
-    by : (t : Bool) → cond t (suc 0) 0 ≡ cond t (0 + 1) 0
-    by true = refl
-    by false = refl
-blocks_behind (x ∷ xs) st = by (begins_block x.body) (begins_block st.body) (blocks_behind xs st)
-  where
-    by : (t u : Bool) → blocks_in (xs ++ st ∷ []) ≡ cond u (blocks_in xs + 1) (blocks_in xs) → cond t (suc (blocks_in (xs ++ st ∷ []))) (blocks_in (xs ++ st ∷ [])) ≡ cond u (cond t (suc (blocks_in xs)) (blocks_in xs) + 1) (cond t (suc (blocks_in xs)) (blocks_in xs))
-    by true true e = omega (arith, e)
-    by true false e = omega (arith, e)
-    by false true e = e
-    by false false e = e
+inside_append : (now : Option (List ℕ)) (n : ℕ) (xs : List StmtTree) (st : StmtTree) →
+    inside_from now (numbered_from n (map Some (xs ++ st ∷ []))) ≡ inside_behind (inside_from now (numbered_from n (map Some xs))) st.body
+inside_append now n [] st = refl
+inside_append now n (x ∷ xs) st = inside_append (inside_behind now x.body) (n + 1) xs st
 
 texts_behind : (xs : List StmtTree) (st : StmtTree) → texts_of (xs ++ st ∷ []) ≡ texts_of xs ++ body_texts st.body
 texts_behind [] st = append-nil (body_texts st.body)
 texts_behind (x ∷ xs) st = ap (λ l. body_texts x.body ++ l) (texts_behind xs st) ∙ sym (append_assoc (body_texts x.body) (texts_of xs) (body_texts st.body))
 
 module _ (program : List StmtTree) (i : ℕ) (st : StmtTree) (is : drop i program ≡ st ∷ drop (i + 1) program) where
-  pub blocks_more : (b b' : ℕ) → b ≡ blocks_in (take i program) → b' ≡ block_after b st.body → b' ≡ blocks_in (take (i + 1) program)
-  blocks_more b b' so_far after =
-      after ∙ ap (λ n. block_after n st.body) so_far ∙ sym (blocks_behind (take i program) st) ∙ sym (ap blocks_in (take_more i program st (drop (i + 1) program) is))
+  pub inside_more : (inside inside' : Option (List ℕ)) → inside ≡ block_at program i → inside' ≡ inside_behind inside st.body → inside' ≡ block_at program (i + 1)
+  inside_more inside inside' so_far after =
+      after
+      ∙ ap (λ o. inside_behind o st.body) (so_far ∙ ap (λ l. inside_after (numbered l)) (take-map Some i program))
+      ∙ sym (inside_append None 1 (take i program) st)
+      ∙ sym (ap (λ l. inside_after (numbered (map Some l))) (take_more i program st (drop (i + 1) program) is))
+      ∙ sym (ap (λ l. inside_after (numbered l)) (take-map Some (i + 1) program))
 
   pub texts_more : (texts texts' : List (List ℕ)) → texts ≡ texts_of (take i program) → texts' ≡ texts ++ body_texts st.body → texts' ≡ texts_of (take (i + 1) program)
   texts_more texts texts' so_far after =
@@ -84,20 +80,3 @@ starts_more program i start starts s e = record {
   all = omega (arith, s.all, length-append starts (start ∷ []));
   each = λ k h. each_more program i start starts s e k h;
 }
-
--- the entry of a procedure more
-entries_first : (place : ℕ → ℕ) (i : ℕ) (st : StmtTree) (rest : List StmtTree) → entries_from place i (st ∷ rest) ≡ entries_from place i (st ∷ []) ++ entries_from place (i + 1) rest
-entries_first place i st rest = by (begins_block st.body)
-  where
-    by : (t : Bool) → cond t (place (i + 1) ∷ entries_from place (i + 1) rest) (entries_from place (i + 1) rest) ≡ cond t (place (i + 1) ∷ []) [] ++ entries_from place (i + 1) rest
-    by true = refl
-    by false = refl
-
-pub entries_more : (place : ℕ → ℕ) (i : ℕ) (st : StmtTree) (rest all : List StmtTree) (entries entries' done : List ℕ) → all ≡ st ∷ rest →
-    entries' ≡ entries ++ entries_from place i (st ∷ []) → entries ++ entries_from place i all ≡ done → entries' ++ entries_from place (i + 1) rest ≡ done
-entries_more place i st rest all entries entries' done is after so_far =
-    ap (λ e. e ++ entries_from place (i + 1) rest) after
-    ∙ append_assoc entries (entries_from place i (st ∷ [])) (entries_from place (i + 1) rest)
-    ∙ ap (λ e. entries ++ e) (sym (entries_first place i st rest))
-    ∙ sym (ap (λ l. entries ++ entries_from place i l) is)
-    ∙ so_far

@@ -1,5 +1,5 @@
 -- The first element behind a front.
-use Rattle.std.proofs.Common.{◌≡◌, ℕ, zero, suc, ◌+◌, ◌<◌, List, [], ◌∷◌, map, drop, length, get_or, Option, Some, None, arith, refl, sym, ap, ◌∙◌}
+use Rattle.std.proofs.Common.{◌≡◌, ℕ, zero, suc, ◌+◌, ◌<◌, ◌≤◌, List, [], ◌∷◌, ◌++◌, map, drop, length, get_or, Option, Some, None, arith, refl, sym, ap, ◌∙◌}
 use Rattle.std.specs.Prelude.{slice_get}
 
 -- the first element, if there is one
@@ -17,6 +17,14 @@ pub drop_tail : {A : Type 0} (i : ℕ) (xs : List A) → drop (suc i) xs ≡ dro
 drop_tail zero xs = refl
 drop_tail (suc i) [] = refl
 drop_tail (suc i) (x ∷ xs) = drop_tail i xs
+
+-- what stands behind so many of the first elements
+pub drop_front : {A : Type 0} (k i : ℕ) (xs a b : List A) → drop i xs ≡ a ++ b → k ≤ length a → drop (i + k) xs ≡ drop k a ++ b
+drop_front zero i xs a b e few = ap (λ n. drop n xs) (omega arith) ∙ e
+drop_front (suc k) i xs [] b e few = absurd (omega (arith, few))
+drop_front (suc k) i xs (x ∷ a) b e few =
+    let next : i + suc k ≡ suc i + k = omega arith in
+    ap (λ n. drop n xs) next ∙ drop_front k (suc i) xs a b (drop_tail i xs ∙ ap (drop 1) e) (omega (arith, few))
 
 drop_at_place : {A B : Type 0} (f : A → B) (i : ℕ) (xs : List A) (d : A) → i < length xs → drop i (map f xs) ≡ f (get_or xs i d) ∷ drop (suc i) (map f xs)
 drop_at_place f zero [] d below = absurd (omega (arith, below))

@@ -1,5 +1,5 @@
 -- Code before other code, and code with other targets in it.
-use Rattle.std.proofs.Common.{◌≡◌, ℕ, zero, suc, ◌+◌, Bool, true, false, cond, List, [], ◌∷◌, ◌++◌, None, map, drop, arith, refl, ap, ◌∙◌}
+use Rattle.std.proofs.Common.{◌≡◌, ℕ, zero, suc, ◌+◌, Bool, true, false, cond, List, [], ◌∷◌, ◌++◌, None, length, map, drop, arith, refl, ap, ◌∙◌}
 use Rattle.stapl_syntax.specs.Trees.{ExprTree, number, scalar, binary, PartTree, string, value, character, BodyTree, end_procedure, integer, assign, goto, if_then, print, exit, StmtTree}
 use Rattle.stapl_syntax.specs.Statements.{is_outer}
 use Rattle.stapl_meaning.specs.Scopes.{Scope, scope_at}
@@ -99,3 +99,11 @@ module _ (program : List StmtTree) (place : ℕ → ℕ) where
       let r = pieces_split n (i + 1) rest in
       let e : i + 1 + n ≡ i + suc n = omega arith in
       (piece_code program place i st r.0, ap (piece_code program place i st) r.1 ∙ piece_append i st r.0 _ ∙ ap (λ j. piece_code program place i st r.0 ++ pieces_code program place j (drop n rest)) e)
+
+  -- the code of pieces and then of others
+  pub pieces_append : (i : ℕ) (a b : List StmtTree) → pieces_code program place i (a ++ b) ≡ pieces_code program place i a ++ pieces_code program place (i + length a) b
+  pieces_append i [] b = ap (λ j. pieces_code program place j b) (omega arith)
+  pieces_append i (st ∷ rest) b =
+      let next : i + 1 + length rest ≡ i + suc (length rest) = omega arith in
+      ap (piece_code program place i st) (pieces_append (i + 1) rest b ∙ ap (λ j. pieces_code program place (i + 1) rest ++ pieces_code program place j b) next)
+      ∙ piece_append i st (pieces_code program place (i + 1) rest) (pieces_code program place (i + suc (length rest)) b)

@@ -1,14 +1,15 @@
 -- Where the code of a piece stands.
-use Rattle.std.proofs.Common.{◌≡◌, ℕ, zero, suc, ◌+◌, ◌-◌, Bool, true, false, cond, List, [], ◌∷◌, ◌++◌, length, drop, Some, None, arith, length-append, sym, ap, ◌∙◌}
+use Rattle.std.proofs.Common.{◌≡◌, ℕ, zero, suc, ◌+◌, ◌-◌, true, false, cond, List, [], ◌∷◌, ◌++◌, length, drop, Some, None, arith, length-append, sym, ap, ◌∙◌}
 use Rattle.std.specs.Prelude.{slice_get, if◌then◌else◌}
 use Rattle.std.proofs.lemmas.List.{length-map, drop_at}
 use Rattle.std.proofs.lemmas.Option.{slice_get_past}
-use Rattle.stapl_syntax.specs.Trees.{StmtTree}
-use Rattle.stapl_syntax.specs.Statements.{is_outer}
-use Rattle.stapl_meaning.specs.Scopes.{begins_block, entry_from}
+use Rattle.stapl_syntax.specs.Trees.{BodyTree, procedure, StmtTree}
+use Rattle.stapl_syntax.specs.Statements.{is_outer, begins_procedure}
+use Rattle.stapl_meaning.specs.Scopes.{entry_from}
 use Rattle.stapl_code.specs.declared.instr.Instr.{Instr}
 use Rattle.stapl_code.specs.Machine.{nowhere, entry_of}
-use Rattle.stapl_codegen.specs.Emit.{pieces_code, program_code, total_of, start_in, start_of, entries_from, program_entries, retarget}
+use Rattle.stapl_code.specs.Safe.{entries_of}
+use Rattle.stapl_codegen.specs.Emit.{pieces_code, program_code, total_of, start_in, start_of, procedure_def, procedures_from, program_entries, retarget}
 use Rattle.stapl_codegen.proofs.Lists.{pieces_retarget, pieces_split}
 
 module _ (program : List StmtTree) where
@@ -48,18 +49,21 @@ module _ (program : List StmtTree) where
       ∙ drop_by (program_code program) r.0 (pieces_code program (start_of program) i (drop i program)) (r.1 ∙ ap (λ j. r.0 ++ pieces_code program (start_of program) j (drop i program)) e)
 
 -- the procedures begin behind their heads
-entries_at : (place : ℕ → ℕ) (i : ℕ) (sts : List StmtTree) (p : ℕ) → place (i + length sts) ≡ nowhere → entry_of (entries_from place i sts) p ≡ place (i + entry_from sts p)
+entries_at : (place : ℕ → ℕ) (i : ℕ) (sts : List StmtTree) (p : ℕ) → place (i + length sts) ≡ nowhere →
+    entry_of (entries_of (procedures_from place i sts)) p ≡ place (i + entry_from sts p)
 entries_at place i [] p e = sym e
-entries_at place i (st ∷ rest) zero e = by_head (entries_at place (i + 1) rest zero (ap place (omega arith) ∙ e)) (begins_block st.body)
+entries_at place i (st ∷ rest) zero e = by_head st.body (entries_at place (i + 1) rest zero (ap place (omega arith) ∙ e))
   where
-    by_head : entry_of (entries_from place (i + 1) rest) zero ≡ place (i + 1 + entry_from rest zero) → (b : Bool) → entry_of (cond b (place (i + 1) ∷ entries_from place (i + 1) rest) (entries_from place (i + 1) rest)) zero ≡ place (i + suc (cond b 0 (entry_from rest zero)))
-    by_head others true = ap place (omega arith)
-    by_head others false = others ∙ ap place (omega arith)
-entries_at place i (st ∷ rest) (suc p) e = by_head (λ q. entries_at place (i + 1) rest q (ap place (omega arith) ∙ e)) (begins_block st.body)
+    by_head : (b : BodyTree) → entry_of (entries_of (procedures_from place (i + 1) rest)) zero ≡ place (i + 1 + entry_from rest zero) →
+        entry_of (entries_of (procedure_def (place (i + 1)) b (procedures_from place (i + 1) rest))) zero ≡ place (i + suc (cond (begins_procedure b) 0 (entry_from rest zero)))
+    by_head (procedure name uses) others = ap place (omega arith)
+    by_head _ others = others ∙ ap place (omega arith)
+entries_at place i (st ∷ rest) (suc p) e = by_head st.body (λ q. entries_at place (i + 1) rest q (ap place (omega arith) ∙ e))
   where
-    by_head : ((q : ℕ) → entry_of (entries_from place (i + 1) rest) q ≡ place (i + 1 + entry_from rest q)) → (b : Bool) → entry_of (cond b (place (i + 1) ∷ entries_from place (i + 1) rest) (entries_from place (i + 1) rest)) (suc p) ≡ place (i + suc (cond b (entry_from rest p) (entry_from rest (suc p))))
-    by_head others true = others p ∙ ap place (omega arith)
-    by_head others false = others (suc p) ∙ ap place (omega arith)
+    by_head : (b : BodyTree) → ((q : ℕ) → entry_of (entries_of (procedures_from place (i + 1) rest)) q ≡ place (i + 1 + entry_from rest q)) →
+        entry_of (entries_of (procedure_def (place (i + 1)) b (procedures_from place (i + 1) rest))) (suc p) ≡ place (i + suc (cond (begins_procedure b) (entry_from rest p) (entry_from rest (suc p))))
+    by_head (procedure name uses) others = others p ∙ ap place (omega arith)
+    by_head _ others = others (suc p) ∙ ap place (omega arith)
 
 pub entry_is : (program : List StmtTree) (p : ℕ) → entry_of (program_entries program) p ≡ start_of program (entry_from program p)
 entry_is program p =

@@ -1,18 +1,21 @@
 -- The fields of the code of an accepted program are in their ranges.
-use Rattle.std.proofs.Common.{◌≡◌, ℕ, zero, suc, ◌+◌, ◌*◌, ◌<◌, ◌≤◌, inl, inr, List, [], ◌∷◌, length, length-append, replicate, Some, None, arith, refl, ap}
+use Rattle.std.proofs.Common.{◌≡◌, ℕ, zero, suc, ◌+◌, ◌*◌, ◌<◌, ◌≤◌, inl, inr, Bool, true, false, cond, List, [], ◌∷◌, ◌++◌, length, length-append, map, replicate, Option, Some, None, is_some, arith, refl, ap}
 use Rattle.std.specs.Prelude.{slice_get, All, sum_by}
 use Rattle.std.proofs.lemmas.List.Folds.{sum_by-replicate}
 use Rattle.stapl_lexer.specs.declared.terminal.BinOp.TheVariants.{Add, Less}
 use Rattle.stapl_syntax.specs.Trees.{ExprTree, number, scalar, binary, PartTree, string, value, character, BodyTree, end_procedure, integer, assign, goto, if_then, print, exit, StmtTree}
-use Rattle.stapl_meaning.specs.Scopes.{Scope, block_after, declared_by, variables_from}
+use Rattle.std.specs.List.{cons_option}
+use Rattle.std.specs.Map.{lookup}
+use Rattle.stapl_syntax.specs.Names.{Numbered, numbered_from, numbered, inside_behind, declared_from, declared, variable_of, firsts_behind, key_eq}
+use Rattle.stapl_meaning.specs.Scopes.{Scope, program_names}
 use Rattle.stapl_code.specs.declared.instr.Instr.{Instr}
 use Rattle.stapl_code.specs.declared.instr.Instr.TheVariants.{Store, Binary, JumpIfZero, Print, Exit}
-use Rattle.stapl_code.specs.declared.raw.VarDef.{VarDef}
 use Rattle.stapl_code.specs.declared.kinds.Kind.TheVariants as kinds
 use Rattle.stapl_code.specs.Kinds.{variable_kind}
 use Rattle.stapl_code.specs.Ranges.{IsVariable, elements_of, AreVariables, IsPart, IsInstr}
+use Rattle.stapl_codegen.specs.Generated.{integer_def}
 use Rattle.stapl_codegen.specs.Emit.{expr_code, values_code, print_parts, part_texts, body_texts, operator_number, body_code}
-use Rattle.stapl_codegen.proofs.Good.{IsInteger, IsBoolean, ArePrinted, IsGood}
+use Rattle.stapl_meaning.specs.Typed.{IsInteger, IsBoolean, ArePrinted, IsTypedBody}
 
 -- something is so of each element
 abbrev pub Each : {A : Type 0} → (A → Type 0) → List A → Type 0
@@ -23,9 +26,6 @@ pub each_all : {A : Type 0} (P : A → Type 0) (xs : List A) → Each P xs → A
 each_all P [] each k d below = absurd (omega (arith, below))
 each_all P (x ∷ xs) each zero d below = each.0
 each_all P (x ∷ xs) each (suc k) d below = each_all P xs each.1 k d (omega (arith, below))
-
-abbrev pub integer_def : VarDef
-integer_def = record { kind = 0; size = 1 }
 
 pub integer_is : IsVariable integer_def
 integer_is = record {
@@ -51,16 +51,34 @@ all_integers zero n below = absurd (omega (arith, below))
 all_integers (suc m) zero below = refl
 all_integers (suc m) (suc n) below = all_integers m n (omega (arith, below))
 
--- a statement declares at most one variable
-one_declared : (b : ℕ) (body : BodyTree) → length (declared_by b body) ≤ 1
-one_declared b (integer name start) = omega arith
-one_declared b _ = omega arith
+-- a program has at most as many variables as statements
+declared_few : {K V : Type 0} (declares : Option (List ℕ) → ℕ → StmtTree → Option (K × V)) (now : Option (List ℕ)) (pieces : List Numbered) →
+    length (declared_from declares now pieces) ≤ length pieces
+declared_few declares now [] = omega arith
+declared_few declares now (p ∷ rest) = by (declares now p.piece p.statement) (declared_few declares (inside_behind now p.statement.body) rest)
+  where
+    by : (o : Option _) → length (declared_from declares (inside_behind now p.statement.body) rest) ≤ length rest →
+        length (cons_option o (declared_from declares (inside_behind now p.statement.body) rest)) ≤ suc (length rest)
+    by None few = omega (arith, few)
+    by (Some e) few = omega (arith, few)
 
-pub few_variables : (b : ℕ) (sts : List StmtTree) → length (variables_from b sts) ≤ length sts
-few_variables b [] = omega arith
-few_variables b (st ∷ rest) =
-    let c = block_after b st.body in
-    omega (arith, length-append (declared_by c st.body) (variables_from c rest), one_declared c st.body, few_variables c rest)
+firsts_few : {K V : Type 0} (eq : K → K → Bool) (xs es : List (K × V)) → length (firsts_behind eq es xs) ≤ length es + length xs
+firsts_few eq [] es = omega arith
+firsts_few eq (x ∷ xs) es = by (is_some (lookup (eq x.0) es)) (λ zs. firsts_few eq xs zs)
+  where
+    by : (b : Bool) → ((zs : List (_ × _)) → length (firsts_behind eq zs xs) ≤ length zs + length xs) →
+        length (firsts_behind eq (cond b es (es ++ (x ∷ []))) xs) ≤ length es + suc (length xs)
+    by true few = let less = few es in omega (arith, less)
+    by false few = let less = few (es ++ (x ∷ [])) in omega (arith, less, length-append es (x ∷ []))
+
+numbered_length : (n : ℕ) (program : List StmtTree) → length (numbered_from n (map Some program)) ≡ length program
+numbered_length n [] = refl
+numbered_length n (st ∷ rest) = ap suc (numbered_length (n + 1) rest)
+
+pub few_variables : (program : List StmtTree) → length (program_names program).variables ≤ length program
+few_variables program =
+    let pieces = numbered (map Some program) in
+    omega (arith, firsts_few key_eq (declared variable_of pieces) [], declared_few variable_of None pieces, numbered_length 1 program)
 
 parts_range : (texts first : ℕ) (list : List PartTree) → first + length (part_texts list) ≤ texts → Each (IsPart texts) (print_parts first list)
 parts_range texts first [] few = tt
@@ -98,7 +116,7 @@ module _ (variables texts : ℕ) where
     values_range (character e ∷ list) rest good more = absurd good
 
   pub body_range : (Leads : List ℕ → Type 0) (scope : Scope) (place : ℕ → ℕ) (first : ℕ) (b : BodyTree) (rest : List Instr) →
-      IsGood scope.variable variables Leads b → first + length (body_texts b) ≤ texts → InRange rest → InRange (body_code scope place first b rest)
+      IsTypedBody scope.variable variables Leads b → first + length (body_texts b) ≤ texts → InRange rest → InRange (body_code scope place first b rest)
   body_range Leads scope place first end_procedure rest good few more = (tt, more)
   body_range Leads scope place first (integer name None) rest good few more = more
   body_range Leads scope place first (assign name e) rest good few more =
@@ -106,7 +124,7 @@ module _ (variables texts : ℕ) where
   body_range Leads scope place first (goto name) rest good few more = (tt, more)
   body_range Leads scope place first (if_then e b) rest good few more =
       boolean_range Leads scope.variable e (JumpIfZero (place scope.follow) ∷ body_code scope place first b rest) good.0
-      (tt, body_range Leads scope place first b rest good.1 few more)
+      (tt, body_range Leads scope place first b rest good.2 few more)
   body_range Leads scope place first (print list) rest good few more =
       let some : 1 ≤ length (print_parts first list) = omega (arith, parts_count first list, good.0) in
       values_range Leads scope.variable list (Print (print_parts first list) ∷ rest) good.1

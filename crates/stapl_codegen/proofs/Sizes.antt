@@ -3,15 +3,16 @@ use Rattle.std.proofs.Common.{◌≡◌, ◌≤◌, ◌<◌, ℕ, ◌+◌, ◌*�
 use Rattle.std.specs.Prelude.{All}
 use Rattle.std.proofs.lemmas.List.Elements.{All-head, All-tail, All-take}
 use Rattle.std.proofs.lemmas.List.{length-take}
-use Rattle.stapl_syntax.specs.Trees.{ExprTree, BodyTree, StmtTree}
+use Rattle.stapl_syntax.specs.Trees.{ExprTree, BodyTree, if_then, print, StmtTree}
 use Rattle.stapl_syntax.specs.Statements.{is_outer}
 use Rattle.stapl_syntax.specs.Programs.{piece_limit}
-use Rattle.stapl_syntax.specs.Built.{IsAtom, is_number, is_scalar, IsSum, is_atom, is_sum, IsSimple, is_assign, is_goto, is_print_string, is_print_value, is_exit, IsInner, is_end_procedure, is_integer, is_if, is_simple, IsBuilt, is_action, is_procedure, is_inner, is_labelled}
+use Rattle.stapl_syntax.specs.Built.{IsAtom, is_number, is_scalar, IsSum, is_atom, is_sum, IsSimple, is_assign, is_goto, is_print_string, is_print_value, is_exit, IsInner, is_end_procedure, is_integer, is_if, is_simple, is_built_outer, IsBuilt, is_outside, is_inside}
 use Rattle.stapl_meaning.specs.Scopes.{Scope, scope_at}
 use Rattle.stapl_code.specs.declared.instr.Instr.{Instr}
 use Rattle.stapl_code.specs.declared.instr.Instr.TheVariants.{Turn, Binary, Store, JumpIfZero, Print, Exit}
 use Rattle.stapl_code.specs.declared.instr.PrintPart.TheVariants as parts
 use Rattle.stapl_codegen.specs.Emit.{expr_code, body_code, body_texts, texts_of, first_text, piece_code, pieces_code, start_of, program_code}
+use Rattle.stapl_meaning.proofs.Resolved.{built_is_inner}
 use Rattle.stapl_codegen.proofs.Drafts.{texts_more}
 
 module _ (variable : List ℕ → ℕ) where
@@ -47,22 +48,16 @@ module _ (scope : Scope) (place : ℕ → ℕ) (first : ℕ) where
       omega arith
   inner_size _ rest (is_simple body simple) = let four = simple_size body rest simple in omega arith
 
-  built_size : (st : StmtTree) (rest : List Instr) → IsBuilt st → length (body_code scope place first st.body rest) ≤ 8 + length rest
-  built_size _ rest (is_action name run) = omega arith
-  built_size _ rest (is_procedure name) = omega arith
-  built_size _ rest (is_inner body inner) = inner_size body rest inner
-  built_size _ rest (is_labelled label body inner) = inner_size body rest inner
-
 module _ (program : List StmtTree) (place : ℕ → ℕ) where
   piece_size : (i : ℕ) (st : StmtTree) (rest : List Instr) → IsBuilt st → length (piece_code program place i st rest) ≤ 9 + length rest
-  piece_size i st rest built = by_case (is_outer st.body)
+  piece_size i st rest built = by_case (is_outer st.body) refl
     where
-      eight : length (body_code (scope_at program i) place (first_text program i) st.body rest) ≤ 8 + length rest
-      eight = built_size (scope_at program i) place (first_text program i) st rest built
+      eight : is_outer st.body ≡ false → length (body_code (scope_at program i) place (first_text program i) st.body rest) ≤ 8 + length rest
+      eight inside = inner_size (scope_at program i) place (first_text program i) st.body rest (built_is_inner st built inside)
 
-      by_case : (outer : Bool) → length (cond outer rest (Turn (i + 1) ∷ body_code (scope_at program i) place (first_text program i) st.body rest)) ≤ 9 + length rest
-      by_case true = omega arith
-      by_case false = omega (arith, eight)
+      by_case : (outer : Bool) → is_outer st.body ≡ outer → length (cond outer rest (Turn (i + 1) ∷ body_code (scope_at program i) place (first_text program i) st.body rest)) ≤ 9 + length rest
+      by_case true e = omega arith
+      by_case false e = let few = eight e in omega (arith, few)
 
   -- each piece has at most 9 instructions
   pub pieces_size : (i : ℕ) (sts : List StmtTree) → All IsBuilt sts → length (pieces_code program place i sts) ≤ 9 * length sts
@@ -89,12 +84,15 @@ inner_texts _ (is_integer name) = omega arith
 inner_texts _ (is_if x y body left right simple) = simple_texts body simple
 inner_texts _ (is_simple body simple) = simple_texts body simple
 
+outer_texts : (b : BodyTree) → is_built_outer b ≡ true → length (body_texts b) ≤ 1
+outer_texts (print list) h = absurd cc
+outer_texts (if_then e body) h = absurd cc
+outer_texts _ h = omega arith
+
 -- a piece has at most one text
 piece_texts : (st : StmtTree) → IsBuilt st → length (body_texts st.body) ≤ 1
-piece_texts _ (is_action name run) = omega arith
-piece_texts _ (is_procedure name) = omega arith
-piece_texts _ (is_inner body inner) = inner_texts body inner
-piece_texts _ (is_labelled label body inner) = inner_texts body inner
+piece_texts _ (is_outside st built) = outer_texts st.body built
+piece_texts _ (is_inside st inner) = inner_texts st.body inner
 
 pub texts_size : (sts : List StmtTree) → All IsBuilt sts → length (texts_of sts) ≤ length sts
 texts_size [] built = omega arith

@@ -1,56 +1,30 @@
--- The code of an accepted program is valid.
-use Rattle.std.proofs.Common.{◌≡◌, ℕ, zero, suc, ◌+◌, ◌-◌, ◌<◌, ◌≤◌, Bool, true, false, cond, not, ◌&&◌, List, [], ◌∷◌, ◌++◌, length, drop, Some, None, arith, refl, sym, ap, subst, ◌∙◌}
-use Rattle.std.specs.Prelude.{slice_get, slice_index_or, slice_range, All, nat_lt, if◌then◌else◌}
-use Rattle.std.specs.List.{list_all, list_any}
-use Rattle.std.proofs.lemmas.List.{take_all}
-use Rattle.std.proofs.Math.Dec.{leb-zero}
-use Rattle.std.proofs.lemmas.Bool.{lt-ltb, and_parts}
-use Rattle.stapl_syntax.specs.Trees.{end_procedure, StmtTree}
-use Rattle.stapl_syntax.specs.Statements.{is_outer}
+-- The code of a procedure of an accepted program breaks no rule.
+use Rattle.std.proofs.Common.{◌≡◌, ℕ, zero, suc, ◌+◌, ◌-◌, ◌<◌, ◌≤◌, Bool, true, false, cond, ◌&&◌, List, [], ◌∷◌, ◌++◌, length, length-append, replicate, drop, Option, Some, None, arith, refl, sym, ap, subst, ◌∙◌, add-one, nat_lt, true≢false}
+use Rattle.std.specs.Prelude.{slice_get, All, nat_le}
+use Rattle.std.proofs.lemmas.List.{length-replicate, drop_at}
+use Rattle.std.proofs.lemmas.Bool.{le-leb, ltb-true, ltb-false}
+use Rattle.std.proofs.lemmas.Option.{same_Some}
+use Rattle.stapl_syntax.specs.Trees.{BodyTree, procedure, data_block, end_data, end_procedure, StmtTree}
+use Rattle.stapl_syntax.specs.Statements.{is_outer, ends_procedure}
 use Rattle.stapl_syntax.specs.Built.{IsBuilt}
-use Rattle.stapl_syntax.specs.Declarations.{names_variables, names_labels}
-use Rattle.stapl_syntax.specs.Programs.{piece_limit}
-use Rattle.stapl_syntax.specs.Unbuilt.{is_inside, is_end}
-use Rattle.stapl_syntax.specs.Shapes.{declares_variable_in, bears_label, names_declared, is_between}
-use Rattle.stapl_meaning.specs.Scopes.{scope_at, block_at, number_of, label_from, variables_of}
+use Rattle.stapl_syntax.specs.Names.{inside_behind}
+use Rattle.stapl_meaning.specs.Scopes.{scope_at, block_at, program_names}
+use Rattle.stapl_meaning.specs.Typed.{IsTypedBody, IsInBlock, IsTyped}
 use Rattle.stapl_code.specs.declared.instr.Instr.{Instr}
 use Rattle.stapl_code.specs.declared.instr.Instr.TheVariants.{Turn, EndProc}
-use Rattle.stapl_code.specs.declared.kinds.Kind.TheVariants as kinds
 use Rattle.stapl_code.specs.declared.raw.VarDef.{VarDef}
-use Rattle.stapl_code.specs.declared.raw.ProcDef.{ProcDef}
-use Rattle.stapl_code.specs.declared.raw.ActionDef.{ActionDef}
-use Rattle.stapl_code.specs.Kinds.{variable_kind}
-use Rattle.stapl_code.specs.Ranges.{IsInstr}
-use Rattle.stapl_code.specs.Valid.{is_turn, is_last, is_target, rest_break, first_of, next_entry, procedures_break, entry_break, prologue_break, first_break}
-use Rattle.stapl_codegen.specs.Emit.{texts_of, body_code, first_text, pieces_code, program_code, start_of, entries_from, program_entries}
-use Rattle.stapl_codegen.proofs.Heads.{head_of, get_head, drop_tail}
-use Rattle.stapl_codegen.proofs.Good.{IsGood, inner_good}
+use Rattle.stapl_code.specs.Valid.{is_turn, is_last, is_target, procedure_break}
+use Rattle.stapl_codegen.specs.Emit.{body_code, first_text, pieces_code, program_code, start_of}
+use Rattle.stapl_codegen.specs.Generated.{integer_def}
+use Rattle.stapl_codegen.proofs.Heads.{head_of, get_head, drop_tail, drop_front}
+use Rattle.stapl_codegen.proofs.Lists.{pieces_split, pieces_append}
+use Rattle.stapl_codegen.proofs.Drafts.{inside_more}
+use Rattle.stapl_codegen.proofs.Ordered.{AreOwn}
+use Rattle.stapl_codegen.proofs.Opened.{IsProcedure, opened, once}
 use Rattle.stapl_codegen.proofs.WellKinded.{Fine, Follows, fine_step}
-use Rattle.stapl_codegen.proofs.WellPlaced.{IsBetween, body_last, body_fine, turn_stands}
-use Rattle.stapl_codegen.proofs.Shapes.{AreInner, not_true, inner_not_outer, inner_begins_none, inner_at, inner_between, inner_of, whole, variable_there, LeadsInside, label_there}
+use Rattle.stapl_codegen.proofs.WellPlaced.{body_last, body_fine, turn_stands}
 use Rattle.stapl_codegen.proofs.Pieces.{start_is, code_from}
-use Rattle.stapl_codegen.proofs.Texts.{texts_below}
-use Rattle.stapl_codegen.proofs.Ranges.{each_all, InRange, body_range}
-
--- the element at a place
-at_place : {A : Type 0} (k : ℕ) (xs : List A) (x d : A) (rest : List A) → drop k xs ≡ x ∷ rest → (k < length xs) × (slice_index_or xs k d ≡ x)
-at_place zero [] x d rest e = absurd cc
-at_place zero (y ∷ ys) x d rest e = let same : y ≡ x = cc in (omega arith, same)
-at_place (suc k) [] x d rest e = absurd cc
-at_place (suc k) (y ∷ ys) x d rest e = let more = at_place k ys x d rest e in (omega (arith, more.0), more.1)
-
--- what is so of each element is so of the one at a place
-all_at : {A : Type 0} (P : A → Type 0) (k : ℕ) (xs : List A) (x : A) (rest : List A) → All P xs → drop k xs ≡ x ∷ rest → P x
-all_at P k xs x rest all e = let at = at_place k xs x x rest e in subst P at.1 (all k x at.0)
-
-passes_at : {A : Type 0} (test : A → Bool) (k : ℕ) (xs : List A) (x : A) (rest : List A) → list_all test xs ≡ true → drop k xs ≡ x ∷ rest → test x ≡ true
-passes_at test zero [] x rest all e = absurd cc
-passes_at test zero (y ∷ ys) x rest all e = let same : y ≡ x = cc in ap test (sym same) ∙ (and_parts (test y) (list_all test ys) all).0
-passes_at test (suc k) [] x rest all e = absurd cc
-passes_at test (suc k) (y ∷ ys) x rest all e = passes_at test k ys x rest (and_parts (test y) (list_all test ys) all).1 e
-
-not_end_of : (st : StmtTree) → is_between st ≡ true → is_end st.body ≡ false
-not_end_of st between = not_true (is_end st.body) (and_parts (is_inside st.body) (not (is_end st.body)) between).1
+use Rattle.stapl_codegen.proofs.Ranges.{all_integers}
 
 -- a place below the length is that of an element
 pub record Stands {A : Type 0} (k : ℕ) (xs : List A) : Type 0 where
@@ -63,186 +37,315 @@ stands_at k [] below = absurd (omega (arith, below))
 stands_at zero (x ∷ xs) below = record { item = x; rest = xs; is = refl }
 stands_at (suc k) (x ∷ xs) below = let s = stands_at k xs (omega (arith, below)) in record { item = s.item; rest = s.rest; is = s.is }
 
--- an accepted program, by its parts
-module _ (name run : List ℕ) (own : List StmtTree) (are : AreInner own) (built : All IsBuilt own) (named : list_all (names_declared own) own ≡ true)
-    (variables : List VarDef) (many : length (variables_of (whole name run own are)) ≤ length variables)
-    (all_integers : (n : ℕ) → n < length variables → variable_kind (slice_get variables n) ≡ Some kinds.Int) where
-  abbrev program : List StmtTree
-  program = whole name run own are
+-- from such a place on stand fewer elements
+fewer : {A : Type 0} (k : ℕ) (xs : List A) (x : A) (rest : List A) → drop k xs ≡ x ∷ rest → length xs ≡ k + suc (length rest)
+fewer zero [] x rest e = absurd cc
+fewer zero (y ∷ ys) x rest e = omega (arith, ap length e)
+fewer (suc k) [] x rest e = absurd cc
+fewer (suc k) (y ∷ ys) x rest e = let more = fewer k ys x rest e in omega (arith, more)
 
-  abbrev code : List Instr
+no_items : {A : Type 0} (xs : List A) → length xs ≡ 0 → xs ≡ []
+no_items [] e = refl
+no_items (x ∷ xs) e = absurd (omega (arith, e))
+
+-- the statements of a procedure are inner ones, and no ENDPROC stands in front of the last
+own_inner : (own : List StmtTree) (k : ℕ) (st : StmtTree) (rest : List StmtTree) → AreOwn own → drop k own ≡ st ∷ rest → is_outer st.body ≡ false
+own_inner [] k st rest are e = absurd are
+own_inner (x ∷ []) zero st rest are e = let same : x ≡ st = cc in ap (λ (s : StmtTree). is_outer s.body) (sym same) ∙ are.0
+own_inner (x ∷ []) (suc zero) st rest are e = absurd cc
+own_inner (x ∷ []) (suc (suc k)) st rest are e = absurd cc
+own_inner (x ∷ y ∷ ys) zero st rest are e = let same : x ≡ st = cc in ap (λ (s : StmtTree). is_outer s.body) (sym same) ∙ are.0
+own_inner (x ∷ y ∷ ys) (suc k) st rest are e = own_inner (y ∷ ys) k st rest are.2 e
+
+own_goes_on : (own : List StmtTree) (k : ℕ) (st next : StmtTree) (rest : List StmtTree) → AreOwn own → drop k own ≡ st ∷ next ∷ rest → ends_procedure st.body ≡ false
+own_goes_on [] k st next rest are e = absurd are
+own_goes_on (x ∷ []) zero st next rest are e = absurd cc
+own_goes_on (x ∷ []) (suc zero) st next rest are e = absurd cc
+own_goes_on (x ∷ []) (suc (suc k)) st next rest are e = absurd cc
+own_goes_on (x ∷ y ∷ ys) zero st next rest are e = let same : x ≡ st = cc in ap (λ (s : StmtTree). ends_procedure s.body) (sym same) ∙ are.1
+own_goes_on (x ∷ y ∷ ys) (suc k) st next rest are e = own_goes_on (y ∷ ys) k st next rest are.2 e
+
+own_ends : (own : List StmtTree) (k : ℕ) (st : StmtTree) → AreOwn own → drop k own ≡ st ∷ [] → st.body ≡ end_procedure
+own_ends [] k st are e = absurd are
+own_ends (x ∷ []) zero st are e = let same : x ≡ st = cc in ap (λ (s : StmtTree). s.body) (sym same) ∙ are.1
+own_ends (x ∷ []) (suc zero) st are e = absurd cc
+own_ends (x ∷ []) (suc (suc k)) st are e = absurd cc
+own_ends (x ∷ y ∷ ys) zero st are e = absurd cc
+own_ends (x ∷ y ∷ ys) (suc k) st are e = own_ends (y ∷ ys) k st are.2 e
+
+pub own_some : (own : List StmtTree) → AreOwn own → 0 < length own
+own_some [] are = absurd are
+own_some (x ∷ xs) are = omega arith
+
+-- a statement that begins no block and ends none leaves the open one
+stays_inside : (b : BodyTree) (now : Option (List ℕ)) → is_outer b ≡ false → ends_procedure b ≡ false → inside_behind now b ≡ now
+stays_inside (procedure name uses) now inner goes = absurd cc
+stays_inside (data_block name) now inner goes = absurd cc
+stays_inside end_data now inner goes = absurd cc
+stays_inside end_procedure now inner goes = absurd cc
+stays_inside _ now inner goes = refl
+
+begun : (b : BodyTree) (name : List ℕ) (now : Option (List ℕ)) → IsProcedure name b → inside_behind now b ≡ Some name
+begun (procedure p uses) name now is = ap Some is
+begun _ name now is = absurd is
+
+module _ (program : List StmtTree) (built : All IsBuilt program) (typed : IsTyped program) where
+  abbrev pub code : List Instr
   code = program_code program
 
-  abbrev From : ℕ → List StmtTree → List Instr
+  abbrev pub From : ℕ → List StmtTree → List Instr
   From i sts = pieces_code program (start_of program) i sts
 
-  -- a piece of the procedure begins with its turn
+  abbrev pub count : ℕ
+  count = length (program_names program).variables
+
+  abbrev pub defs : List VarDef
+  defs = replicate count integer_def
+
+  -- a piece of a procedure begins with its turn
   begins_with_turn : (i : ℕ) (st : StmtTree) (rest : List StmtTree) → is_outer st.body ≡ false →
       From i (st ∷ rest) ≡ Turn (i + 1) ∷ body_code (scope_at program i) (start_of program) (first_text program i) st.body (From (i + 1) rest)
   begins_with_turn i st rest inner =
       ap (λ b. cond b (From (i + 1) rest) (Turn (i + 1) ∷ body_code (scope_at program i) (start_of program) (first_text program i) st.body (From (i + 1) rest))) inner
 
-  -- the place of a piece of the procedure is that of a turn
-  pub is_place : (k : ℕ) (st : StmtTree) (rest : List StmtTree) → drop k own ≡ st ∷ rest → is_target 0 code (start_of program (suc (suc k))) ≡ true
-  is_place k st rest e =
-      let inner = inner_not_outer st.body (inner_at k own st rest are e) in
-      let at : slice_get program (suc (suc k)) ≡ Some st = get_head (suc (suc k)) program ∙ ap head_of e in
-      let start = start_of program (suc (suc k)) in
-      let same : start - 0 ≡ start = omega arith in
-      let turn : slice_get code (start - 0) ≡ Some (Turn (suc (suc k) + 1)) =
-      ap (slice_get code) same ∙ get_head start code
-      ∙ ap head_of (code_from program (suc (suc k)) st at inner ∙ ap (From (suc (suc k))) e ∙ begins_with_turn (suc (suc k)) st rest inner) in
-      ap (λ b. b && is_turn (slice_get code (start - 0))) (leb-zero start) ∙ ap is_turn turn
+  -- where the code from a place on begins, if the statement there has code
+  pub start_from : (i : ℕ) (st : StmtTree) (rest : List StmtTree) → drop i program ≡ st ∷ rest → is_outer st.body ≡ false →
+      start_of program i ≡ length code - length (From i (st ∷ rest))
+  start_from i st rest e inner =
+      start_is program i st (get_head i program ∙ ap head_of e) inner ∙ ap (λ l. length code - length (From i l)) e
 
-  pub is_index : (j : ℕ) → j < length own → is_target 0 code (start_of program (suc (suc j))) ≡ true
-  is_index j below = let s = stands_at j own below in is_place j s.item s.rest s.is
+  pub code_within : (i : ℕ) (sts : List StmtTree) → drop i program ≡ sts → length (From i sts) ≤ length code
+  code_within i sts e =
+      let split = pieces_split program (start_of program) i 0 program in
+      let whole : length code ≡ length (split.0 ++ From (0 + i) (drop i program)) = ap length split.1 in
+      let from : length (From (0 + i) (drop i program)) ≡ length (From i sts) = ap (λ j. length (From j (drop i program))) (omega arith) ∙ ap (λ l. length (From i l)) e in
+      omega (arith, whole, from, length-append split.0 (From (0 + i) (drop i program)))
 
-  target_is : (k : ℕ) (label : List ℕ) → LeadsInside name run own are k label →
-      is_target 0 code (start_of program (label_from 0 program (block_at program (suc (suc k))) label)) ≡ true
-  target_is k label leads = ap (λ p. is_target 0 code (start_of program p)) leads.place ∙ is_index leads.index leads.below
+  -- a procedure: its head, its own statements, and what stands behind it
+  module _ (head : StmtTree) (name : List ℕ) (is_head : IsProcedure name head.body) (h : ℕ) (own back : List StmtTree)
+      (at : drop h program ≡ head ∷ own ++ back) (are : AreOwn own) where
+    pub own_at : drop (h + 1) program ≡ own ++ back
+    own_at = rw add-one (drop_tail h program ∙ ap (drop 1) at)
 
-  good_at : (k : ℕ) (st : StmtTree) (rest : List StmtTree) → drop k own ≡ st ∷ rest →
-      IsGood (λ x. number_of (block_at program (suc (suc k))) x (variables_of program)) (length variables) (LeadsInside name run own are k) st.body
-  good_at k st rest e =
-      let inner = inner_of st (all_at IsBuilt k own st rest built e) (inner_at k own st rest are e) in
-      let names = and_parts (names_variables (λ x. list_any (declares_variable_in x) own) st.body) (names_labels (λ x. list_any (bears_label x) own) st.body)
-      (passes_at (names_declared own) k own st rest named e) in
-      inner_good (λ x. number_of (block_at program (suc (suc k))) x (variables_of program)) (length variables) (LeadsInside name run own are k)
-      (λ x. list_any (declares_variable_in x) own) (λ x. list_any (bears_label x) own)
-      (λ x any. let below = variable_there name run own are k x any in omega (arith, below, many))
-      (λ x any. label_there name run own are k x any)
-      st.body inner names.0 names.1
+    abbrev pub procedure_code : List Instr
+    procedure_code = From (h + 1) own
 
-  between_at : (k : ℕ) (st : StmtTree) (rest : List StmtTree) → drop k own ≡ st ∷ rest → is_end st.body ≡ false → IsBetween st.body
-  between_at k st rest e not_end =
-      let inner = inner_of st (all_at IsBuilt k own st rest built e) (inner_at k own st rest are e) in
-      inner_between st.body inner not_end
+    abbrev pub entry : ℕ
+    entry = start_of program (h + 1)
 
-  -- where a piece of the procedure stands behind a piece, the code of the one leads to that of the other
-  some_from : (k : ℕ) (st : StmtTree) (rest : List StmtTree) → drop k own ≡ st ∷ rest → is_last (From (suc (suc k)) (st ∷ rest)) ≡ false
-  some_from k st rest e =
-      ap is_last (begins_with_turn (suc (suc k)) st rest (inner_not_outer st.body (inner_at k own st rest are e)))
+    -- a statement of the procedure, by its place in it
+    there : (k j : ℕ) (st : StmtTree) (rest : List StmtTree) → j ≡ h + 1 + k → drop k own ≡ st ∷ rest → drop j program ≡ st ∷ rest ++ back
+    there k j st rest is e =
+        let long = fewer k own st rest e in
+        ap (λ n. drop n program) is ∙ drop_front k (h + 1) program own back own_at (omega (arith, long)) ∙ ap (λ l. l ++ back) e
 
-  -- a piece that is not the last one
-  piece_fine : (k : ℕ) (st next : StmtTree) (rest : List StmtTree) → drop k own ≡ st ∷ next ∷ rest → is_end st.body ≡ false →
-      ((must : Bool) → Fine variables code all_integers must [] (From (suc (suc k) + 1) (next ∷ rest))) →
-      (must : Bool) → Fine variables code all_integers must [] (From (suc (suc k)) (st ∷ next ∷ rest))
-  piece_fine k st next rest e not_end more must =
-      let i = suc (suc k) in
-      let scope = scope_at program i in
-      let behind = From (i + 1) (next ∷ rest) in
-      let body = body_code scope (start_of program) (first_text program i) st.body behind in
-      let e' : drop (suc k) own ≡ next ∷ rest = drop_tail k own ∙ ap (drop 1) e in
-      let same : suc (suc k) + 1 ≡ suc (suc (suc k)) = omega arith in
-      let target = target_is k in
-      let next_is : is_target 0 code (start_of program (i + 1)) ≡ true = ap (λ p. is_target 0 code (start_of program p)) same ∙ is_place (suc k) next rest e' in
-      let some : is_last behind ≡ false = ap (λ p. is_last (From p (next ∷ rest))) same ∙ some_from (suc k) next rest e' in
-      let follows : Follows variables code all_integers scope.variable (LeadsInside name run own are k) behind = record { some = some; fine = more } in
-      subst (Fine variables code all_integers must []) (sym (begins_with_turn i st (next ∷ rest) (inner_not_outer st.body (inner_at k own st (next ∷ rest) are e))))
-      (fine_step variables code all_integers must (Turn (i + 1)) [] [] body refl
-      (turn_stands variables code all_integers must (i + 1) (is_last body)
-      (body_last variables code all_integers (LeadsInside name run own are k) scope (start_of program) (first_text program i) target next_is st.body behind some))
-      (body_fine variables code all_integers (LeadsInside name run own are k) scope (start_of program) (first_text program i) target next_is st.body behind
-      (good_at k st (next ∷ rest) e) (between_at k st (next ∷ rest) e not_end) follows))
+    got : (k j : ℕ) (st : StmtTree) (rest : List StmtTree) → j ≡ h + 1 + k → drop k own ≡ st ∷ rest → slice_get program j ≡ Some st
+    got k j st rest is e = get_head j program ∙ ap head_of (there k j st rest is e)
 
-  -- the last piece is ENDPROC
-  last_fine : (k : ℕ) (st : StmtTree) → drop k own ≡ st ∷ [] → st.body ≡ end_procedure → (must : Bool) → Fine variables code all_integers must [] (From (suc (suc k)) (st ∷ []))
-  last_fine k st e is must =
-      let i = suc (suc k) in
-      let scope = scope_at program i in
-      let code_is : From i (st ∷ []) ≡ Turn (i + 1) ∷ EndProc ∷ [] =
-      begins_with_turn i st [] (inner_not_outer st.body (inner_at k own st [] are e))
-      ∙ ap (λ b. Turn (i + 1) ∷ body_code scope (start_of program) (first_text program i) b []) is in
-      subst (Fine variables code all_integers must []) (sym code_is)
-      (fine_step variables code all_integers must (Turn (i + 1)) [] [] (EndProc ∷ []) refl (turn_stands variables code all_integers must (i + 1) false refl)
-      (fine_step variables code all_integers false EndProc [] [] [] refl refl (λ i. refl)))
+    head_there : slice_get program h ≡ Some head
+    head_there = get_head h program ∙ ap head_of at
 
-  pieces_fine : (front : List StmtTree) (last : StmtTree) (k : ℕ) → drop k own ≡ front ++ last ∷ [] → list_all is_between front ≡ true → last.body ≡ end_procedure →
-      (must : Bool) → Fine variables code all_integers must [] (From (suc (suc k)) (front ++ last ∷ []))
-  pieces_fine [] last k e between is must = last_fine k last e is must
-  pieces_fine (st ∷ []) last k e between is must =
-      let not_end = not_end_of st (and_parts (is_between st) true between).0 in
-      piece_fine k st last [] e not_end
-      (λ m. let same : suc (suc (suc k)) ≡ suc (suc k) + 1 = omega arith in
-      subst (λ (p : ℕ). Fine variables code all_integers m [] (From p (last ∷ []))) same (last_fine (suc k) last (drop_tail k own ∙ ap (drop 1) e) is m))
-      must
-  pieces_fine (st ∷ next ∷ rest) last k e between is must =
-      let both = and_parts (is_between st) (list_all is_between (next ∷ rest)) between in
-      piece_fine k st next (rest ++ last ∷ []) e (not_end_of st both.0)
-      (λ m. let same : suc (suc (suc k)) ≡ suc (suc k) + 1 = omega arith in
-      subst (λ (p : ℕ). Fine variables code all_integers m [] (From p (next ∷ rest ++ last ∷ []))) same
-      (pieces_fine (next ∷ rest) last (suc k) (drop_tail k own ∙ ap (drop 1) e) both.1 is m))
-      must
+    -- the block that is open in the procedure is the procedure
+    open_first : block_at program (h + 1) ≡ Some name
+    open_first =
+        sym (inside_more program h head (at ∙ ap (λ l. head ∷ l) (sym own_at)) (block_at program h) (inside_behind (block_at program h) head.body) refl refl)
+        ∙ begun head.body name (block_at program h) is_head
 
-  -- the code of the program breaks no rule, which is one procedure from its first instruction on
-  pub code_fine : (front : List StmtTree) (last : StmtTree) → own ≡ front ++ last ∷ [] → list_all is_between front ≡ true → last.body ≡ end_procedure →
-      (must : Bool) → Fine variables code all_integers must [] code
-  code_fine front last e between is must =
-      subst (λ (sts : List StmtTree). Fine variables code all_integers must [] (From (suc (suc 0)) sts)) (sym e) (pieces_fine front last 0 e between is must)
+    open_next : (k j : ℕ) (st next : StmtTree) (rest : List StmtTree) → j ≡ h + 1 + k → drop k own ≡ st ∷ next ∷ rest →
+        block_at program j ≡ Some name → block_at program (j + 1) ≡ Some name
+    open_next k j st next rest is e now =
+        let here : drop j program ≡ st ∷ next ∷ rest ++ back = there k j st (next ∷ rest) is e in
+        let after : drop (j + 1) program ≡ next ∷ rest ++ back = rw add-one (drop_tail j program ∙ ap (drop 1) here) in
+        sym (inside_more program j st (here ∙ ap (λ l. st ∷ l) (sym after)) (block_at program j) (inside_behind (block_at program j) st.body) refl refl)
+        ∙ stays_inside st.body (block_at program j) (own_inner own k st (next ∷ rest) are e) (own_goes_on own k st next rest are e)
+        ∙ now
 
-  start_is_zero : (st : StmtTree) (rest : List StmtTree) → own ≡ st ∷ rest → start_of program 2 ≡ 0
-  start_is_zero st rest e =
-      let inner = inner_not_outer st.body (inner_at 0 own st rest are e) in
-      let at : slice_get program 2 ≡ Some st = get_head 2 program ∙ ap head_of e in
-      let none : length code - length code ≡ 0 = omega arith in
-      start_is program 2 st at inner ∙ none
+    open_along : (n k j : ℕ) (sts : List StmtTree) (st : StmtTree) (rest : List StmtTree) → j ≡ h + 1 + k → drop k own ≡ sts → block_at program j ≡ Some name →
+        drop n sts ≡ st ∷ rest → block_at program (j + n) ≡ Some name
+    open_along zero k j sts st rest is e now found = ap (block_at program) (omega arith) ∙ now
+    open_along (suc n) k j [] st rest is e now found = absurd cc
+    open_along (suc n) k j (x ∷ []) st rest is e now found = absurd (omega (arith, fewer n [] st rest found))
+    open_along (suc n) k j (x ∷ y ∷ ys) st rest is e now found =
+        let next : j + 1 + n ≡ j + suc n = omega arith in
+        ap (block_at program) (sym next)
+        ∙ open_along n (suc k) (j + 1) (y ∷ ys) st rest (omega (arith, is)) (drop_tail k own ∙ ap (drop 1) e) (open_next k j x y ys is e now) found
 
-  no_more_entries : (place : ℕ → ℕ) (i : ℕ) (sts : List StmtTree) → AreInner sts → entries_from place i sts ≡ []
-  no_more_entries place i [] inner = refl
-  no_more_entries place i (st ∷ rest) inner =
-      ap (λ b. cond b (place (i + 1) ∷ entries_from place (i + 1) rest) (entries_from place (i + 1) rest)) (inner_begins_none st.body inner.0)
-      ∙ no_more_entries place (i + 1) rest inner.1
+    open_in : (k j : ℕ) (st : StmtTree) (rest : List StmtTree) → j ≡ h + 1 + k → drop k own ≡ st ∷ rest → block_at program j ≡ Some name
+    open_in k j st rest is e = ap (block_at program) is ∙ open_along k 0 (h + 1) own st rest (omega arith) refl open_first e
 
-  pub entries_are : (st : StmtTree) (rest : List StmtTree) → own ≡ st ∷ rest → program_entries program ≡ 0 ∷ []
-  entries_are st rest e =
-      ap (λ l. start_of program 2 ∷ l) (no_more_entries (start_of program) 2 own are)
-      ∙ ap (λ p. p ∷ []) (start_is_zero st rest e)
+    -- the code of a statement of the procedure, behind so many instructions of it
+    pub record IsBehind (k j : ℕ) (sts : List StmtTree) : Type 0 where
+      pub before : List Instr
+      pub split : procedure_code ≡ before ++ From j sts
+      pub starts : start_of program j ≡ entry + length before
 
-  pub code_some : (st : StmtTree) (rest : List StmtTree) → own ≡ st ∷ rest → 0 < length code
-  code_some st rest e =
-      let inner = inner_not_outer st.body (inner_at 0 own st rest are e) in
-      let is : code ≡ Turn (2 + 1) ∷ body_code (scope_at program 2) (start_of program) (first_text program 2) st.body (From (2 + 1) rest) =
-      ap (From 2) e ∙ begins_with_turn 2 st rest inner in
-      omega (arith, ap length is)
+    pub entry_is : entry ≡ length code - length (From (h + 1) (own ++ back))
+    entry_is = by own are refl
+      where
+        by : (sts : List StmtTree) → AreOwn sts → own ≡ sts → entry ≡ length code - length (From (h + 1) (own ++ back))
+        by [] are' same = absurd are'
+        by (st ∷ rest) are' same =
+            start_from (h + 1) st (rest ++ back) (own_at ∙ ap (λ l. l ++ back) same) (own_inner (st ∷ rest) 0 st rest are' refl)
+            ∙ sym (ap (λ l. length code - length (From (h + 1) (l ++ back))) same)
 
-  whole_range : slice_range code 0 (length code) ≡ code
-  whole_range = take_all (length code - 0) code (omega arith)
+    behind : (k j : ℕ) (st : StmtTree) (rest : List StmtTree) → j ≡ h + 1 + k → drop k own ≡ st ∷ rest → IsBehind k j (st ∷ rest)
+    behind k j st rest is e =
+        let split = pieces_split program (start_of program) k (h + 1) own in
+        let long = fewer k own st rest e in
+        let own_code : procedure_code ≡ split.0 ++ From j (st ∷ rest) =
+        split.1 ∙ ap (λ n. split.0 ++ From n (drop k own)) (sym is) ∙ ap (λ l. split.0 ++ From j l) e in
+        let all : From (h + 1) (own ++ back) ≡ procedure_code ++ From (h + 1 + length own) back = pieces_append program (start_of program) (h + 1) own back in
+        let some : From j (st ∷ rest ++ back) ≡ From j (st ∷ rest) ++ From (j + suc (length rest)) back = pieces_append program (start_of program) j (st ∷ rest) back in
+        let same : length (From (j + suc (length rest)) back) ≡ length (From (h + 1 + length own) back) = ap (λ n. length (From n back)) (omega (arith, is, long)) in
+        let start = start_from j st (rest ++ back) (there k j st rest is e) (own_inner own k st rest are e) in
+        let within = code_within (h + 1) (own ++ back) own_at in
+        record {
+          before = split.0;
+          split = own_code;
+          starts = omega (
+            arith,
+            start,
+            entry_is,
+            within,
+            same,
+            ap length all,
+            ap length some,
+            ap length own_code,
+            length-append split.0 (From j (st ∷ rest)),
+            length-append procedure_code (From (h + 1 + length own) back),
+            length-append (From j (st ∷ rest)) (From (j + suc (length rest)) back),
+          );
+        }
 
-  pub no_break : (front : List StmtTree) (last st : StmtTree) (rest : List StmtTree) (p : ProcDef) (vs : List VarDef) (ts : List (List ℕ)) (ps : List ProcDef) (acts : List ActionDef) (is' : List Instr) → own ≡ front ++ last ∷ [] → list_all is_between front ≡ true →
-      last.body ≡ end_procedure → own ≡ st ∷ rest → p.entry ≡ 0 → vs ≡ variables → ps ≡ p ∷ [] → is' ≡ code →
-      first_break (record { variables = vs; texts = ts; procedures = ps; actions = acts; instrs = is' }) ≡ None
-  no_break front last st rest p vs ts ps acts is' e between is some entry variables-are procedures-are code-is =
-      let prologue : prologue_break variables 0 [] (slice_range code 0 (next_entry (length code) (p ∷ []))) ≡ None =
-      ap (λ n. prologue_break variables 0 [] (slice_range code 0 n)) entry in
-      let procedures : procedures_break variables code (p ∷ []) ≡ None =
-      ap (λ n. first_of (rest_break variables n (slice_range code n (length code)) n true [] (slice_range code n (length code))) None) entry
-      ∙ ap (λ c. first_of (rest_break variables 0 c 0 true [] c) None) whole_range
-      ∙ ap (λ o. first_of o None) (code_fine front last e between is true 0) in
-      let entries : entry_break (length code) (p ∷ []) ≡ None =
-      ap (λ n. if nat_lt n (length code) && true then None else Some (length code - 1)) entry
-      ∙ ap (λ b. if b && true then None else Some (length code - 1)) (lt-ltb 0 (length code) (code_some st rest some)) in
-      ap (λ v. first_break (record { variables = v; texts = ts; procedures = ps; actions = acts; instrs = is' })) variables-are
-      ∙ ap (λ q. first_break (record { variables = variables; texts = ts; procedures = q; actions = acts; instrs = is' })) procedures-are
-      ∙ ap (λ c. first_break (record { variables = variables; texts = ts; procedures = p ∷ []; actions = acts; instrs = c })) code-is
-      ∙ ap (λ o. first_of o (first_of (procedures_break variables code (p ∷ [])) (entry_break (length code) (p ∷ [])))) prologue
-      ∙ ap (λ o. first_of o (entry_break (length code) (p ∷ []))) procedures
-      ∙ entries
+    -- the place of a statement of the procedure is that of a turn of it
+    is_place : (k j : ℕ) (st : StmtTree) (rest : List StmtTree) → j ≡ h + 1 + k → drop k own ≡ st ∷ rest → is_target entry procedure_code (start_of program j) ≡ true
+    is_place k j st rest is e =
+        let b = behind k j st rest is e in
+        let offset : start_of program j - entry ≡ length b.before = omega (arith, b.starts) in
+        let above : nat_le entry (start_of program j) ≡ true = le-leb entry (start_of program j) (omega (arith, b.starts)) in
+        let turn : slice_get procedure_code (start_of program j - entry) ≡ Some (Turn (j + 1)) =
+        get_head (start_of program j - entry) procedure_code
+        ∙ ap (λ l. head_of (drop (start_of program j - entry) l)) b.split
+        ∙ ap head_of (drop_at b.before (From j (st ∷ rest)) (start_of program j - entry) (sym offset))
+        ∙ ap head_of (begins_with_turn j st rest (own_inner own k st rest are e)) in
+        ap (λ t. t && is_turn (slice_get procedure_code (start_of program j - entry))) above ∙ ap is_turn turn
 
-  -- each instruction of the pieces from a place on is in its range
-  pieces_range : (sts : List StmtTree) (k : ℕ) → drop k own ≡ sts → length program ≤ piece_limit →
-      InRange (length variables) (length (texts_of program)) (From (suc (suc k)) sts)
-  pieces_range [] k e few = tt
-  pieces_range (st ∷ rest) k e few =
-      let i = suc (suc k) in
-      let same : suc (suc (suc k)) ≡ i + 1 = omega arith in
-      let at = at_place k own st st rest e in
-      let behind = subst (λ (p : ℕ). InRange (length variables) (length (texts_of program)) (From p rest)) same (pieces_range rest (suc k) (drop_tail k own ∙ ap (drop 1) e) few) in
-      let texts = texts_below i program st rest e in
-      subst (InRange (length variables) (length (texts_of program))) (sym (begins_with_turn i st rest (inner_not_outer st.body (inner_at k own st rest are e)))) (
-        (omega arith, omega (arith, at.0, few)),
-        body_range (length variables) (length (texts_of program)) (LeadsInside name run own are k) (scope_at program i) (start_of program) (first_text program i) st.body (From (i + 1) rest)
-            (good_at k st rest e) texts behind,
-      )
+    is_index : (k j : ℕ) → j ≡ h + 1 + k → k < length own → is_target entry procedure_code (start_of program j) ≡ true
+    is_index k j is below = let s = stands_at k own below in is_place k j s.item s.rest is s.is
 
-  pub code_range : length program ≤ piece_limit → All (IsInstr (length variables) (length (texts_of program))) code
-  code_range few = each_all (IsInstr (length variables) (length (texts_of program))) code (pieces_range own 0 refl few)
+    -- a place at which the procedure is open is that of one of its statements
+    pub record IsOwnPlace (j : ℕ) : Type 0 where
+      pub index : ℕ
+      pub below : index < length own
+      pub is : j ≡ h + 1 + index
+
+    not_past : (j : ℕ) → IsInBlock program name j → h < j → ((k : ℕ) (st : StmtTree) → suc h ≤ k → k < j → slice_get program k ≡ Some st → ends_procedure st.body ≡ false) → j < h + 1 + length own
+    not_past j in_block above none = by (nat_lt j (h + 1 + length own)) refl
+      where
+        by : (b : Bool) → nat_lt j (h + 1 + length own) ≡ b → j < h + 1 + length own
+        by true e = ltb-true j (h + 1 + length own) e
+        by false e =
+            let past = ltb-false j (h + 1 + length own) e in
+            let some = own_some own are in
+            let s = stands_at (length own - 1) own (omega (arith, some)) in
+            let long = fewer (length own - 1) own s.item s.rest s.is in
+            let last : s.rest ≡ [] = no_items s.rest (omega (arith, long, some)) in
+            let ends : s.item.body ≡ end_procedure = own_ends own (length own - 1) s.item are (s.is ∙ ap (λ l. s.item ∷ l) last) in
+            absurd (true≢false (sym (ap ends_procedure ends) ∙ none (h + 1 + (length own - 1)) s.item (omega arith) (omega (arith, past, some)) (got (length own - 1) (h + 1 + (length own - 1)) s.item s.rest refl s.is)))
+
+    own_place : (j : ℕ) → IsInBlock program name j → IsOwnPlace j
+    own_place j in_block =
+        let o = opened program j name built in_block.inside in
+        let same : o.at ≡ h = once program o.at h o.head head name typed.procedures_apart o.stands o.begins head_there is_head in
+        let above : h < j = omega (arith, o.below, same) in
+        let none = λ (k : ℕ) (st : StmtTree) (from : suc h ≤ k) (to : k < j) (there : slice_get program k ≡ Some st). o.none k st (omega (arith, same, from)) to there in
+        let below = not_past j in_block above none in
+        record { index = j - (h + 1); below = omega (arith, above, below); is = omega (arith, above) }
+
+    target : (block : List ℕ) (j : ℕ) → block ≡ name → IsInBlock program block j → is_target entry procedure_code (start_of program j) ≡ true
+    target block j same in_block =
+        let own_is = own_place j (subst (λ (b : List ℕ). IsInBlock program b j) same in_block) in
+        is_index own_is.index j own_is.is own_is.below
+
+    -- a statement of the procedure is typed
+    abbrev Leads : ℕ → List ℕ → Type 0
+    Leads j label = IsInBlock program name ((scope_at program j).label label)
+
+    pub typed_in : (k j : ℕ) (st : StmtTree) (rest : List StmtTree) → j ≡ h + 1 + k → drop k own ≡ st ∷ rest →
+        IsTypedBody (scope_at program j).variable (length defs) (Leads j) st.body
+    typed_in k j st rest is e =
+        let t = typed.statements j st (got k j st rest is e) (own_inner own k st rest are e) in
+        let same : t.block ≡ name = same_Some t.block name (sym t.inside ∙ open_in k j st rest is e) in
+        subst (λ (n : ℕ). IsTypedBody (scope_at program j).variable n (Leads j) st.body) (sym (length-replicate count integer_def))
+        (subst (λ (b : List ℕ). IsTypedBody (scope_at program j).variable count (λ label. IsInBlock program b ((scope_at program j).label label)) st.body) same t.typed)
+
+    leads_to : (j : ℕ) (label : List ℕ) → Leads j label → is_target entry procedure_code (start_of program ((scope_at program j).label label)) ≡ true
+    leads_to j label leads = target name ((scope_at program j).label label) refl leads
+
+    abbrev FineFrom : Bool → List Instr → Type 0
+    FineFrom must instrs = Fine defs entry procedure_code (all_integers count) must [] instrs
+
+    -- a piece that is not the last one
+    piece_fine : (k j : ℕ) (st next : StmtTree) (rest : List StmtTree) → j ≡ h + 1 + k → drop k own ≡ st ∷ next ∷ rest →
+        ((must : Bool) → FineFrom must (From (j + 1) (next ∷ rest))) → (must : Bool) → FineFrom must (From j (st ∷ next ∷ rest))
+    piece_fine k j st next rest is e more must =
+        let scope = scope_at program j in
+        let first = first_text program j in
+        let after = From (j + 1) (next ∷ rest) in
+        let body = body_code scope (start_of program) first st.body after in
+        let e' : drop (suc k) own ≡ next ∷ rest = drop_tail k own ∙ ap (drop 1) e in
+        let next_is : is_target entry procedure_code (start_of program (j + 1)) ≡ true = is_place (suc k) (j + 1) next rest (omega (arith, is)) e' in
+        let some : is_last after ≡ false = ap is_last (begins_with_turn (j + 1) next rest (own_inner own (suc k) next rest are e')) in
+        let follows : Follows defs entry procedure_code (all_integers count) scope.variable (Leads j) after = record { some = some; fine = more } in
+        subst (FineFrom must) (sym (begins_with_turn j st (next ∷ rest) (own_inner own k st (next ∷ rest) are e)))
+        (fine_step defs entry procedure_code (all_integers count) must (Turn (j + 1)) [] [] body refl
+        (turn_stands defs entry procedure_code (all_integers count) must (j + 1) (is_last body)
+        (body_last defs entry procedure_code (all_integers count) (Leads j) scope (start_of program) first (leads_to j) next_is st.body after some))
+        (body_fine defs entry procedure_code (all_integers count) (Leads j) scope (start_of program) first (leads_to j) next_is st.body after
+        (typed_in k j st (next ∷ rest) is e) (own_goes_on own k st next rest are e) follows))
+
+    -- the last piece is ENDPROC
+    last_fine : (k j : ℕ) (st : StmtTree) → drop k own ≡ st ∷ [] → (must : Bool) → FineFrom must (From j (st ∷ []))
+    last_fine k j st e must =
+        let code_is : From j (st ∷ []) ≡ Turn (j + 1) ∷ EndProc ∷ [] =
+        begins_with_turn j st [] (own_inner own k st [] are e)
+        ∙ ap (λ b. Turn (j + 1) ∷ body_code (scope_at program j) (start_of program) (first_text program j) b []) (own_ends own k st are e) in
+        subst (FineFrom must) (sym code_is)
+        (fine_step defs entry procedure_code (all_integers count) must (Turn (j + 1)) [] [] (EndProc ∷ []) refl
+        (turn_stands defs entry procedure_code (all_integers count) must (j + 1) false refl)
+        (fine_step defs entry procedure_code (all_integers count) false EndProc [] [] [] refl refl (λ i. refl)))
+
+    own_fine : (sts : List StmtTree) (k j : ℕ) → j ≡ h + 1 + k → drop k own ≡ sts → k < length own → (must : Bool) → FineFrom must (From j sts)
+    own_fine [] k j is e below must = let s = stands_at k own below in absurd (no_item s.item s.rest (sym e ∙ s.is))
+      where
+        no_item : (x : StmtTree) (xs : List StmtTree) → [] ≡ x ∷ xs → ⊥
+        no_item x xs f = absurd cc
+    own_fine (st ∷ []) k j is e below must = last_fine k j st e must
+    own_fine (st ∷ next ∷ rest) k j is e below must =
+        piece_fine k j st next rest is e
+        (own_fine (next ∷ rest) (suc k) (j + 1) (omega (arith, is)) (drop_tail k own ∙ ap (drop 1) e) (omega (arith, fewer k own st (next ∷ rest) e))) must
+
+    -- the procedure has code
+    pub code_some : 0 < length procedure_code
+    code_some = by own are refl
+      where
+        by : (sts : List StmtTree) → AreOwn sts → own ≡ sts → 0 < length procedure_code
+        by [] are' same = absurd are'
+        by (st ∷ rest) are' same =
+            let code_is = ap length (ap (From (h + 1)) same ∙ begins_with_turn (h + 1) st rest (own_inner (st ∷ rest) 0 st rest are' refl)) in
+            omega (arith, code_is)
+
+    -- what stands from its entry on
+    pub code_at : drop entry code ≡ From (h + 1) (own ++ back)
+    code_at = by own are refl
+      where
+        by : (sts : List StmtTree) → AreOwn sts → own ≡ sts → drop entry code ≡ From (h + 1) (own ++ back)
+        by [] are' same = absurd are'
+        by (st ∷ rest) are' same =
+            let first : drop (h + 1) program ≡ st ∷ rest ++ back = own_at ∙ ap (λ l. l ++ back) same in
+            code_from program (h + 1) st (get_head (h + 1) program ∙ ap head_of first) (own_inner (st ∷ rest) 0 st rest are' refl)
+            ∙ ap (From (h + 1)) own_at
+
+    -- the code of the procedure breaks no rule
+    pub procedure_fine : procedure_break defs entry procedure_code ≡ None
+    procedure_fine = own_fine own 0 (h + 1) (omega arith) refl (own_some own are) true entry

@@ -12,7 +12,7 @@ use Rattle.stapl_code.specs.Machine.{operand_count}
 use Rattle.stapl_code.specs.Kinds.{put_on, variable_kind, integers_off, kinds_behind, then_kinds, off}
 use Rattle.stapl_code.specs.Valid.{is_last, stands_well, departs, judged, rest_break}
 use Rattle.stapl_codegen.specs.Emit.{expr_code, values_code, print_parts, operator_number}
-use Rattle.stapl_codegen.proofs.Good.{IsInteger, IsBoolean, ArePrinted}
+use Rattle.stapl_meaning.specs.Typed.{IsInteger, IsBoolean, ArePrinted}
 
 pub expr_last : (v : List ℕ → ℕ) (e : ExprTree) (rest : List Instr) → is_last (expr_code v e rest) ≡ false
 expr_last v (number z) rest = refl
@@ -39,29 +39,29 @@ pub ints_off : (n : ℕ) (ks : List Kind) → integers_off n (ints n ks) ≡ Som
 ints_off zero ks = refl
 ints_off (suc n) ks = ap (λ l. then_kinds (off kinds.Int l) (integers_off n)) (ints_more n ks) ∙ ints_off n ks
 
--- the one procedure of a code begins with its first instruction; all variables are integers
-module _ (variables : List VarDef) (code : List Instr) (all_integers : (n : ℕ) → n < length variables → variable_kind (slice_get variables n) ≡ Some kinds.Int) where
+-- a procedure of a code, with the number of its first instruction; all variables are integers
+module _ (variables : List VarDef) (entry : ℕ) (code : List Instr) (all_integers : (n : ℕ) → n < length variables → variable_kind (slice_get variables n) ≡ Some kinds.Int) where
   -- these instructions break no rule, where the operands have these kinds
   abbrev pub Fine : Bool → List Kind → List Instr → Type 0
-  Fine must ks rest = (i : ℕ) → rest_break variables 0 code i must ks rest ≡ None
+  Fine must ks rest = (i : ℕ) → rest_break variables entry code i must ks rest ≡ None
 
   pub fine_step : (must : Bool) (x : Instr) (ks after : List Kind) (rest : List Instr) → kinds_behind variables x ks ≡ Some after →
-      stands_well 0 code must x (is_last rest) ≡ true → Fine (departs x) after rest → Fine must ks (x ∷ rest)
+      stands_well entry code must x (is_last rest) ≡ true → Fine (departs x) after rest → Fine must ks (x ∷ rest)
   fine_step must x ks after rest finds stands more i =
-      ap (λ o. judged o (stands_well 0 code must x (is_last rest)) i (λ ks. rest_break variables 0 code (i + 1) (departs x) ks rest)) finds
-      ∙ ap (λ b. judged (Some after) b i (λ ks. rest_break variables 0 code (i + 1) (departs x) ks rest)) stands
+      ap (λ o. judged o (stands_well entry code must x (is_last rest)) i (λ ks. rest_break variables entry code (i + 1) (departs x) ks rest)) finds
+      ∙ ap (λ b. judged (Some after) b i (λ ks. rest_break variables entry code (i + 1) (departs x) ks rest)) stands
       ∙ more (i + 1)
 
   module _ (v : List ℕ → ℕ) (Leads : List ℕ → Type 0) where
     pub expr_fine : (e : ExprTree) (ks : List Kind) (rest : List Instr) → IsInteger v (length variables) Leads e → is_last rest ≡ false →
         Fine false (kinds.Int ∷ ks) rest → Fine false ks (expr_code v e rest)
-    expr_fine (number z) ks rest good some more = fine_step false (Push z) ks (kinds.Int ∷ ks) rest refl (ap (stands_well 0 code false (Push z)) some) more
+    expr_fine (number z) ks rest good some more = fine_step false (Push z) ks (kinds.Int ∷ ks) rest refl (ap (stands_well entry code false (Push z)) some) more
     expr_fine (scalar name) ks rest good some more =
-        fine_step false (Load (v name)) ks (kinds.Int ∷ ks) rest (ap (λ k. put_on k ks) (all_integers (v name) good)) (ap (stands_well 0 code false (Load (v name))) some) more
+        fine_step false (Load (v name)) ks (kinds.Int ∷ ks) rest (ap (λ k. put_on k ks) (all_integers (v name) good)) (ap (stands_well entry code false (Load (v name))) some) more
     expr_fine (binary Add a b) ks rest good some more =
         expr_fine a ks (expr_code v b (Binary (operator_number Add) ∷ rest)) good.0 (expr_last v b (Binary (operator_number Add) ∷ rest))
         (expr_fine b (kinds.Int ∷ ks) (Binary (operator_number Add) ∷ rest) good.1 refl
-        (fine_step false (Binary (operator_number Add)) (kinds.Int ∷ kinds.Int ∷ ks) (kinds.Int ∷ ks) rest refl (ap (stands_well 0 code false (Binary (operator_number Add))) some) more))
+        (fine_step false (Binary (operator_number Add)) (kinds.Int ∷ kinds.Int ∷ ks) (kinds.Int ∷ ks) rest refl (ap (stands_well entry code false (Binary (operator_number Add))) some) more))
     expr_fine _ ks rest good some more = absurd good
 
     pub boolean_fine : (e : ExprTree) (ks : List Kind) (rest : List Instr) → IsBoolean v (length variables) Leads e → is_last rest ≡ false →
@@ -69,7 +69,7 @@ module _ (variables : List VarDef) (code : List Instr) (all_integers : (n : ℕ)
     boolean_fine (binary Less a b) ks rest good some more =
         expr_fine a ks (expr_code v b (Binary (operator_number Less) ∷ rest)) good.0 (expr_last v b (Binary (operator_number Less) ∷ rest))
         (expr_fine b (kinds.Int ∷ ks) (Binary (operator_number Less) ∷ rest) good.1 refl
-        (fine_step false (Binary (operator_number Less)) (kinds.Int ∷ kinds.Int ∷ ks) (kinds.Bit ∷ ks) rest refl (ap (stands_well 0 code false (Binary (operator_number Less))) some) more))
+        (fine_step false (Binary (operator_number Less)) (kinds.Int ∷ kinds.Int ∷ ks) (kinds.Bit ∷ ks) rest refl (ap (stands_well entry code false (Binary (operator_number Less))) some) more))
     boolean_fine _ ks rest good some more = absurd good
 
     pub values_fine : (first : ℕ) (list : List PartTree) (ks : List Kind) (x : Instr) (rest : List Instr) → ArePrinted v (length variables) Leads list →

@@ -26,8 +26,9 @@ IsClosed (st ∷ rest) =
     (is_outer st.body ≡ false → falls st.body ≡ true → GoesOn rest)
     × IsClosed rest
 
--- The code stands for the program: for each choice of procedures and each number of turns, the events, the ending and the variables are
--- equal. The code is told by where its procedures begin, its texts, its instructions, and what its variables hold at first.
+-- The code stands for the program: for each choice of procedures and each number of turns, the events, the ending and
+-- the variables are equal. The code is told by where its procedures begin, its texts, its instructions, and what its
+-- variables hold at first.
 pub record Stands (program : List StmtTree) (entries : List ℕ) (texts : List (List ℕ)) (code : List Instr) (variables : List Held) : Type 0 where
   pub same_events : (chosen : List ℕ) (n : ℕ) →
       (code_play entries texts code chosen variables n).events ≡ (play program chosen n).events

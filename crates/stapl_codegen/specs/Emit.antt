@@ -1,15 +1,19 @@
 -- The code of a program. How statements are written as instructions is this profile's.
-use Rattle.std.specs.Prelude.{ℕ, suc, ◌+◌, ◌-◌, List, [], ◌∷◌, ◌++◌, length, take, drop, Option, Some, None, if◌then◌else◌, slice_get}
+use Rattle.std.specs.Prelude.{ℕ, suc, ◌+◌, ◌-◌, List, [], ◌∷◌, ◌++◌, length, take, drop, map, Option, Some, None, if◌then◌else◌, slice_get}
 use Rattle.stapl_lexer.specs.declared.terminal.BinOp.{BinOp}
 use Rattle.stapl_lexer.specs.declared.terminal.BinOp.TheVariants.{Add, Less}
-use Rattle.stapl_syntax.specs.Trees.{ExprTree, number, scalar, binary, PartTree, string, value, character, BodyTree, end_procedure, integer, assign, goto, if_then, print, exit, StmtTree}
+use Rattle.stapl_syntax.specs.Trees.{ExprTree, number, scalar, binary, PartTree, string, value, character, ItemTree, BodyTree, action, procedure, end_procedure, integer, assign, goto, if_then, print, exit, StmtTree}
 use Rattle.stapl_syntax.specs.Statements.{is_outer}
-use Rattle.stapl_meaning.specs.Scopes.{Scope, scope_at, begins_block, number_of, variables_of}
+use Rattle.stapl_meaning.specs.Scopes.{Scope, scope_at, procedure_number}
 use Rattle.stapl_code.specs.declared.instr.PrintPart.{PrintPart}
 use Rattle.stapl_code.specs.declared.instr.PrintPart.TheVariants as parts
 use Rattle.stapl_code.specs.declared.instr.Instr.{Instr}
 use Rattle.stapl_code.specs.declared.instr.Instr.TheVariants.{Turn, Push, Load, Store, Binary, Jump, JumpIfZero, EndProc, Print, Exit}
+use Rattle.stapl_code.specs.declared.raw.ProcDef.{ProcDef}
+use Rattle.stapl_code.specs.declared.raw.ItemDef.{ItemDef}
+use Rattle.stapl_code.specs.declared.raw.ActionDef.{ActionDef}
 use Rattle.stapl_code.specs.Machine.{nowhere}
+use Rattle.stapl_code.specs.Safe.{entries_of}
 
 -- The number of no operator. No machine carries out a Binary with it, so it stands for what is not built.
 abbrev pub no_operator : ℕ
@@ -64,8 +68,8 @@ texts_of (st ∷ rest) = body_texts st.body ++ texts_of rest
 abbrev pub first_text : List StmtTree → ℕ → ℕ
 first_text program i = length (texts_of (take i program))
 
--- The code of a statement, whose first text has a number; place says where the code of a piece begins. A statement that is not built is
--- never carried out.
+-- The code of a statement, whose first text has a number; place says where the code of a piece begins. A statement that
+-- is not built is never carried out.
 abbrev pub body_code : Scope → (ℕ → ℕ) → ℕ → BodyTree → List Instr → List Instr
 body_code scope place first end_procedure rest = EndProc ∷ rest
 body_code scope place first (integer name None) rest = rest
@@ -104,21 +108,42 @@ start_of program i = start_in program i (slice_get program i)
 abbrev pub program_code : List StmtTree → List Instr
 program_code program = pieces_code program (start_of program) 0 program
 
--- where the procedures begin
-abbrev pub entries_from : (ℕ → ℕ) → ℕ → List StmtTree → List ℕ
-entries_from place i [] = []
-entries_from place i (st ∷ rest) =
-    if begins_block st.body then place (i + 1) ∷ entries_from place (i + 1) rest else entries_from place (i + 1) rest
+-- the procedure that a statement begins, if its code begins at this place, and then others
+abbrev pub procedure_def : ℕ → BodyTree → List ProcDef → List ProcDef
+procedure_def entry (procedure name uses) others = record { name = name; entry = entry } ∷ others
+procedure_def entry _ others = others
 
+-- the procedures of the pieces from a place on
+abbrev pub procedures_from : (ℕ → ℕ) → ℕ → List StmtTree → List ProcDef
+procedures_from place i [] = []
+procedures_from place i (st ∷ rest) = procedure_def (place (i + 1)) st.body (procedures_from place (i + 1) rest)
+
+abbrev pub procedures_of : List StmtTree → List ProcDef
+procedures_of program = procedures_from (start_of program) 0 program
+
+-- where the procedures begin
 abbrev pub program_entries : List StmtTree → List ℕ
-program_entries program = entries_from (start_of program) 0 program
+program_entries program = entries_of (procedures_of program)
+
+-- an item of an action, which always runs
+abbrev pub item_def : List StmtTree → ItemTree → ItemDef
+item_def program item = record { procedure = procedure_number program item.0; flag = 0 }
+
+-- the action that a statement is, and then others
+abbrev pub action_def : List StmtTree → BodyTree → List ActionDef → List ActionDef
+action_def program (action name text items) others = record { name = name; items = map (item_def program) items } ∷ others
+action_def program _ others = others
+
+-- the actions among some pieces of a program
+abbrev pub actions_from : List StmtTree → List StmtTree → List ActionDef
+actions_from program [] = []
+actions_from program (st ∷ rest) = action_def program st.body (actions_from program rest)
+
+abbrev pub actions_of : List StmtTree → List ActionDef
+actions_of program = actions_from program program
 
 -- an instruction with another target
 abbrev pub retarget : (ℕ → ℕ) → Instr → Instr
 retarget place (Jump to) = Jump (place to)
 retarget place (JumpIfZero to) = JumpIfZero (place to)
 retarget place i = i
-
--- the number of a variable of a block by its name
-abbrev pub variable_in : List StmtTree → ℕ → List ℕ → ℕ
-variable_in program block name = number_of block name (variables_of program)

@@ -1,36 +1,28 @@
 -- The lists of the code of a program.
-use Rattle.std.specs.Prelude.{◌≡◌, ℕ, List, [], ◌∷◌, length, replicate, Option, Some, None}
-use Rattle.stapl_syntax.specs.Trees.{BodyTree, action, procedure, StmtTree}
-use Rattle.stapl_meaning.specs.Scopes.{variables_of, zeros_of}
+use Rattle.std.specs.Prelude.{◌≡◌, List, length, replicate}
+use Rattle.stapl_syntax.specs.Trees.{StmtTree}
+use Rattle.stapl_meaning.specs.Scopes.{program_names, zeros_of}
+use Rattle.stapl_code.specs.declared.raw.VarDef.{VarDef}
 use Rattle.stapl_code.specs.declared.raw.CodeLists.{CodeLists}
-use Rattle.stapl_codegen.specs.Correct.{Stands}
 use Rattle.stapl_code.specs.Safe.{entries_of}
+use Rattle.stapl_codegen.specs.Emit.{texts_of, procedures_of, actions_of, program_code}
+use Rattle.stapl_codegen.specs.Correct.{Stands}
 
-abbrev pub action_name : BodyTree → Option (List ℕ)
-action_name (action name text items) = Some name
-action_name _ = None
+-- an INTEGER scalar
+abbrev pub integer_def : VarDef
+integer_def = record { kind = 0; size = 1 }
 
-abbrev pub procedure_name : BodyTree → Option (List ℕ)
-procedure_name (procedure name uses) = Some name
-procedure_name _ = None
+-- the lists of the code: each variable is an INTEGER scalar
+abbrev pub lists_of : List StmtTree → CodeLists
+lists_of program = record {
+  variables = replicate (length (program_names program).variables) integer_def;
+  texts = texts_of program;
+  procedures = procedures_of program;
+  actions = actions_of program;
+  instrs = program_code program;
+}
 
--- the action with which a program begins, and the procedure behind it
-abbrev pub first_action : List StmtTree → Option (List ℕ)
-first_action [] = None
-first_action (st ∷ rest) = action_name st.body
-
-abbrev pub second_procedure : List StmtTree → Option (List ℕ)
-second_procedure (first ∷ st ∷ rest) = procedure_name st.body
-second_procedure _ = None
-
--- The code of a program: it stands for the program. It has the program's procedure and its action, which runs that procedure always,
--- and an INTEGER scalar for each variable.
+-- The code of a program: it has its lists, and stands for it.
 pub record IsCodeOf (program : List StmtTree) (code : CodeLists) : Type 0 where
+  pub lists : code ≡ lists_of program
   pub stands : Stands program (entries_of code.procedures) code.texts code.instrs (zeros_of program)
-  pub action : List ℕ
-  pub procedure : List ℕ
-  pub action_is : first_action program ≡ Some action
-  pub procedure_is : second_procedure program ≡ Some procedure
-  pub variables : code.variables ≡ replicate (length (variables_of program)) (record { kind = 0; size = 1 })
-  pub procedures : code.procedures ≡ record { name = procedure; entry = 0 } ∷ []
-  pub actions : code.actions ≡ record { name = action; items = record { procedure = 0; flag = 0 } ∷ [] } ∷ []

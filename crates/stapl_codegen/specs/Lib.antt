@@ -1,6 +1,5 @@
 pub mod Emit
 pub mod Correct
-pub mod Tables
 pub mod Drafts
 pub mod Accepted
 pub mod Generated

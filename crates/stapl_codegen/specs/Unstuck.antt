@@ -2,7 +2,7 @@
 use Rattle.std.specs.Prelude.{◌≡◌, ◌≢◌, ℕ, List}
 use Rattle.stapl_syntax.specs.Trees.{StmtTree}
 use Rattle.stapl_meaning.specs.States.{State, Turned}
-use Rattle.stapl_meaning.specs.Scopes.{blocks_in}
+use Rattle.stapl_meaning.specs.Scopes.{procedures_in}
 use Rattle.stapl_meaning.specs.Turns.{IsTurn}
 use Rattle.stapl_meaning.specs.Plays.{Stopped, Going, play}
 use Rattle.stapl_code.specs.Safe.{AllBelow}
@@ -22,4 +22,4 @@ pub record IsNotStuck (program : List StmtTree) (chosen : List ℕ) (n : ℕ) : 
 -- No play of an accepted program gets stuck, whichever of its procedures are chosen, and however many turns there are.
 abbrev pub ProgramsAreNotStuck : Type 0
 ProgramsAreNotStuck =
-    (program : List StmtTree) → IsAccepted program → (chosen : List ℕ) → AllBelow (blocks_in program) chosen → (n : ℕ) → IsNotStuck program chosen n
+    (program : List StmtTree) → IsAccepted program → (chosen : List ℕ) → AllBelow (procedures_in program) chosen → (n : ℕ) → IsNotStuck program chosen n

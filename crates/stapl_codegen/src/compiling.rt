@@ -1,177 +1,88 @@
 //! The code of a program.
-ghost use Rattle.std.specs.Prelude.{◌≡◌, ◌<◌, ◌≤◌, ◌^◌, ◌-◌, [], ◌∷◌, length, map, replicate, OnOk, IfOk, Some};
-ghost use Rattle.stapl_lexer.specs.Names.{IsUpperName};
-ghost use Rattle.stapl_syntax.specs.Trees.{body_tree};
-ghost use Rattle.stapl_meaning.specs.Scopes.{variables_of, zeros_of};
+ghost use Rattle.std.specs.Prelude.{◌≡◌, ◌<◌, ◌≤◌, ◌^◌, length, IfOk};
+ghost use Rattle.std.specs.List.{range_with_len};
+ghost use Rattle.stapl_syntax.specs.Trees.{trees};
+ghost use Rattle.stapl_syntax.specs.ProgramValues.{trees_of};
+ghost use Rattle.stapl_syntax.specs.Programs.{piece_limit};
+ghost use Rattle.stapl_syntax.specs.Unbuilt.{IsBuiltProgram};
+ghost use Rattle.stapl_meaning.specs.Scopes.{program_names};
 ghost use Rattle.stapl_code.specs.Ranges.{IsInRange};
 ghost use Rattle.stapl_code.specs.Valid.{IsValid};
-ghost use Rattle.stapl_code.specs.Safe.{entries_of};
-ghost use Rattle.stapl_code.specs.declared.raw.CodeLists.{CodeLists};
-ghost use Rattle.stapl_codegen.specs.Emit.{program_code, program_entries, texts_of};
 ghost use Rattle.stapl_codegen.specs.Accepted.{IsAccepted};
-ghost use Rattle.stapl_codegen.specs.Generated.{action_name, procedure_name, first_action, second_procedure, IsCodeOf};
-ghost use Rattle.stapl_codegen.specs.Tables.{trees};
+ghost use Rattle.stapl_codegen.specs.Generated.{lists_of, IsCodeOf};
 
-use crate::draft::{Written, write_program};
-use crate::tables::Tables;
+use crate::definitions::{actions, integers, procedures};
+use crate::draft::write_program;
+use crate::laws::{accepted_code_is_valid, programs_are_accepted};
 use base::ItemList;
-use stapl_code::{
-    ActionDef, Code, CodeLists, ItemDef, ProcDef, RawCode, ValidateRefused, VarDef, validate,
-};
-use stapl_lexer::Name;
-use stapl_syntax::{Body, Stmt};
+use stapl_code::{Code, CodeLists, RawCode, ValidateRefused, validate};
+use stapl_names::{Names, collect};
+use stapl_syntax::{Program, Stmt};
 use std::alloc::{AllocError, Global};
 
-fn action_name(body: &Body) -> Option<Name>
-    ensures { result ≡ action_name (body_tree body.now) }
+// The numbers of so many pieces, from 1 on.
+fn piece_numbers(alloc: Global, count: usize) -> Result<Vec<u32>, AllocError>
+    requires { count < 2 ^ 31 }
+    ensures { IfOk result (λ numbers. numbers.items ≡ range_with_len 1 count) }
 {
-    match body {
-        Body::Action(name, _, _) => Some(*name),
-        _ => None,
+    let mut numbers = Vec::new(alloc);
+    for i in 0..count {
+        numbers.push(i as u32 + 1)?;
     }
+    Ok(numbers)
 }
 
-fn procedure_name(body: &Body) -> Option<Name>
-    ensures { result ≡ procedure_name (body_tree body.now) }
+// The names of a program.
+#[tactic(auto, using(crate::proofs::Numbers::all_pieces))]
+fn names_of_program(alloc: Global, program: &[Stmt]) -> Result<Names, AllocError>
+    requires { length program.now ≤ piece_limit }
+    ensures { IfOk result (λ names. names ≡ program_names (trees program.now)) }
 {
-    match body {
-        Body::Procedure(name, _) => Some(*name),
-        _ => None,
-    }
-}
-
-// The name of the action with which a program begins.
-fn first_action(program: &[Stmt]) -> Option<Name>
-    ensures { result ≡ first_action (trees program.now) }
-{
-    match program {
-        [first, ..] => action_name(&first.body),
-        [] => None,
-    }
-}
-
-// The name of the procedure behind it.
-fn second_procedure(program: &[Stmt]) -> Option<Name>
-    ensures { result ≡ second_procedure (trees program.now) }
-{
-    match program {
-        [_, second, ..] => procedure_name(&second.body),
-        _ => None,
-    }
-}
-
-// So many INTEGER scalars.
-fn integers(alloc: Global, count: u32) -> Result<Vec<VarDef>, AllocError>
-    ensures { IfOk result (λ variables. variables.items ≡ replicate count (record { kind = 0; size = 1 })) }
-{
-    let variables = vec![in alloc; VarDef { kind: 0, size: 1 }; count as usize]?;
-    Ok(variables)
-}
-
-// A list of one item.
-fn list_of_one<T: Drop>(alloc: Global, item: T) -> Result<ItemList<T>, AllocError>
-    ensures { IfOk result (λ list. list ≡ item ∷ []) }
-{
-    let mut items = Vec::new(alloc);
-    items.push(item)?;
-    Ok(ItemList::of(items))
-}
-
-// The lists of the code of a program: its one procedure begins at an entry, and its action always runs that.
-fn lists_of(
-    alloc: Global,
-    written: Written,
-    variables: u32,
-    action: Name,
-    procedure: Name,
-    entry: u32,
-) -> Result<CodeLists, AllocError>
-    ensures variables { IfOk result (λ lists. lists.variables ≡ replicate variables (record { kind = 0; size = 1 })) }
-    ensures texts { IfOk result (λ lists. lists.texts ≡ written.texts.items) }
-    ensures procedures { IfOk result (λ lists. lists.procedures ≡ record { name = procedure; entry = entry } ∷ []) }
-    ensures actions { IfOk result (λ lists. lists.actions ≡ record { name = action; items = record { procedure = 0; flag = 0 } ∷ [] } ∷ []) }
-    ensures instrs { IfOk result (λ lists. lists.instrs ≡ written.code.items) }
-{
-    let Written {
-        code,
-        texts,
-        entries: _,
-    } = written;
-    let variables = integers(alloc, variables)?;
-    let items = list_of_one(
-        alloc,
-        ItemDef {
-            procedure: 0,
-            flag: 0,
-        },
-    )?;
-    let actions = list_of_one(
-        alloc,
-        ActionDef {
-            name: action,
-            items,
-        },
-    )?;
-    let procedures = list_of_one(
-        alloc,
-        ProcDef {
-            name: procedure,
-            entry,
-        },
-    )?;
-    Ok(CodeLists {
-        variables: ItemList::of(variables),
-        texts: ItemList::of(texts),
-        procedures,
-        actions,
-        instrs: ItemList::of(code),
-    })
-}
-
-// Tells the proofs what `Name::bytes` says of a name: it is spelled in upper case.
-fn check_spelling(name: &Name)
-    ensures { IsUpperName name.now }
-{
-    let _bytes = name.bytes();
+    let numbers = piece_numbers(alloc, program.len())?;
+    let names = collect(alloc, &numbers, program)?;
+    Ok(names)
 }
 
 // The lists of the code of an accepted program.
 fn program_lists(alloc: Global, program: &[Stmt]) -> Result<CodeLists, AllocError>
     requires { IsAccepted (trees program.now) }
+    ensures { IfOk result (λ lists. lists ≡ lists_of (trees program.now)) }
+{
+    let names = names_of_program(alloc, program)?;
+    let written = write_program(alloc, program, &names)?;
+    let variables = integers(alloc, names.variables())?;
+    let procedures = procedures(alloc, program, &written.starts)?;
+    let actions = actions(alloc, program, &names)?;
+    Ok(CodeLists {
+        variables: ItemList::of(variables),
+        texts: ItemList::of(written.texts),
+        procedures: ItemList::of(procedures),
+        actions: ItemList::of(actions),
+        instrs: ItemList::of(written.code),
+    })
+}
+
+// The same lists, which are in their ranges and valid, and stand for the program.
+fn valid_lists(alloc: Global, program: &[Stmt]) -> Result<CodeLists, AllocError>
+    requires { IsAccepted (trees program.now) }
     ensures code { IfOk result (IsCodeOf (trees program.now)) }
     ensures in_range { IfOk result IsInRange }
     ensures valid { IfOk result IsValid }
 {
-    let tables = Tables::of(alloc, program)?;
-    let written = write_program(alloc, program, &tables)?;
-    let Some(action) = first_action(program) else {
-        unreachable!()
-    };
-    let Some(procedure) = second_procedure(program) else {
-        unreachable!()
-    };
-    check_spelling(&action);
-    check_spelling(&procedure);
-    let entry = written.entries[0];
-    let lists = lists_of(
-        alloc,
-        written,
-        tables.variables.count,
-        action,
-        procedure,
-        entry,
-    )?;
+    accepted_code_is_valid();
+    let lists = program_lists(alloc, program)?;
     Ok(lists)
 }
 
-/// The code of an accepted program, which stands for it.
+/// The code of a built program, which stands for it.
 ///
 /// `AllocError` comes only for want of memory.
-pub fn generate(alloc: Global, program: &[Stmt]) -> Result<Code, AllocError>
-    requires { IsAccepted (trees program.now) }
-    ensures { IfOk result (IsCodeOf (trees program.now)) }
+pub fn generate(alloc: Global, program: &Program) -> Result<Code, AllocError>
+    requires { IsBuiltProgram program.now.text (trees_of program.now) }
+    ensures { IfOk result (IsCodeOf (trees_of program.now)) }
 {
-    let lists = program_lists(alloc, program)?;
+    programs_are_accepted();
+    let lists = valid_lists(alloc, program.statements())?;
     match validate(alloc, RawCode::of(lists)) {
         Ok(code) => Ok(code),
         Err(ValidateRefused::Memory) => Err(AllocError),

@@ -1,19 +1,19 @@
 //! The instructions of a program: first with targets that are places of the program, then with numbers of instructions.
 ghost use Rattle.std.specs.Prelude.{◌≡◌, All, [], ◌∷◌, ◌++◌, ◌<◌, ◌≤◌, ◌^◌, ◌-◌, ◌+◌, length, map, OnOk, IfOk, if◌then◌else◌};
-ghost use Rattle.stapl_syntax.specs.Trees.{body_tree, stmt_tree};
+ghost use Rattle.stapl_syntax.specs.Trees.{body_tree, stmt_tree, trees};
 ghost use Rattle.stapl_syntax.specs.Statements.{is_outer};
 ghost use Rattle.stapl_syntax.specs.Built.{IsBuilt};
 ghost use Rattle.stapl_syntax.specs.Programs.{piece_limit};
-ghost use Rattle.stapl_meaning.specs.Scopes.{block_at};
+ghost use Rattle.stapl_meaning.specs.Scopes.{program_names, block_at};
 ghost use Rattle.stapl_code.specs.Machine.{nowhere};
-ghost use Rattle.stapl_codegen.specs.Emit.{first_text, body_texts, texts_of, piece_code, pieces_code, program_code, program_entries, entries_from, start_of, retarget};
-ghost use Rattle.stapl_codegen.specs.Tables.{trees, AreTables};
+ghost use Rattle.stapl_codegen.specs.Emit.{first_text, body_texts, texts_of, piece_code, pieces_code, program_code, start_of, retarget};
 ghost use Rattle.stapl_codegen.specs.Drafts.{AreStarts};
 
 use crate::emit::{emit_body, put};
-use crate::tables::{Tables, begins_block, block_behind};
 use stapl_code::Instr;
+use stapl_lexer::Name;
 use stapl_meaning::Text;
+use stapl_names::{Names, inside_behind};
 use stapl_syntax::Stmt;
 use std::alloc::{AllocError, Global};
 
@@ -32,13 +32,14 @@ fn emit_piece(
     code: &mut Vec<Instr>,
     texts: &mut Vec<Text>,
     program: &[Stmt],
-    tables: &Tables,
+    names: &Names,
     place: u32,
-    block: u32,
+    inside: &Option<Name>,
     st: &Stmt,
 ) -> Result<(), AllocError>
-    requires tables { AreTables (trees program.now) tables.now }
-    requires block { block ≡ block_at (trees program.now) place }
+    requires names { names.now ≡ program_names (trees program.now) }
+    requires inside { inside.now ≡ block_at (trees program.now) place }
+    requires short { length program.now < 2 ^ 32 }
     requires countable { place < 2 ^ 32 - 1 }
     requires first { length texts.old.items ≡ first_text (trees program.now) place }
     requires few { length texts.old.items + length (body_texts (body_tree st.now.body)) < 2 ^ 32 }
@@ -49,7 +50,7 @@ fn emit_piece(
         return Ok(());
     }
     put(code, Instr::Turn(place + 1))?;
-    emit_body(alloc, code, texts, program, tables, place, block, &st.body)?;
+    emit_body(alloc, code, texts, program, names, place, inside, &st.body)?;
     Ok(())
 }
 
@@ -64,8 +65,8 @@ fn start_at(before: usize, st: &Stmt) -> u32
     before as u32
 }
 
-fn draft_program(alloc: Global, program: &[Stmt], tables: &Tables) -> Result<Draft, AllocError>
-    requires tables { AreTables (trees program.now) tables.now }
+fn draft_program(alloc: Global, program: &[Stmt], names: &Names) -> Result<Draft, AllocError>
+    requires names { names.now ≡ program_names (trees program.now) }
     requires built { All IsBuilt (trees program.now) }
     requires few { length program.now ≤ piece_limit }
     ensures code { IfOk result (λ d. d.code.items ≡ pieces_code (trees program.now) (λ j. j) 0 (trees program.now)) }
@@ -75,14 +76,14 @@ fn draft_program(alloc: Global, program: &[Stmt], tables: &Tables) -> Result<Dra
     let mut code = Vec::new(alloc);
     let mut texts = Vec::new(alloc);
     let mut starts = Vec::new(alloc);
-    let mut block = 0;
+    let mut inside = None;
     for i in 0..program.len() {
         let st = &program[i];
         starts.push(start_at(code.len(), st))?;
-        block = block_behind(block, &st.body);
         emit_piece(
-            alloc, &mut code, &mut texts, program, tables, i as u32, block, st,
+            alloc, &mut code, &mut texts, program, names, i as u32, &inside, st,
         )?;
+        inside = inside_behind(&inside, &st.body);
     }
     Ok(Draft {
         code,
@@ -91,8 +92,8 @@ fn draft_program(alloc: Global, program: &[Stmt], tables: &Tables) -> Result<Dra
     })
 }
 
-// Where the code of a place of the program begins.
-fn start_of_place(program: &[Stmt], starts: &[u32], place: u32) -> u32
+/// Where the code of a place of the program begins.
+pub(crate) fn start_of_place(program: &[Stmt], starts: &[u32], place: u32) -> u32
     requires { AreStarts (trees program.now) starts.now }
     ensures { result ≡ start_of (trees program.now) place }
 {
@@ -131,70 +132,37 @@ fn retarget_all(
     Ok(code)
 }
 
-// Where the procedures begin.
-fn entries(alloc: Global, program: &[Stmt], starts: &[u32]) -> Result<Vec<u32>, AllocError>
-    requires starts { AreStarts (trees program.now) starts.now }
-    requires countable { length program.now < 2 ^ 32 - 1 }
-    ensures { IfOk result (λ entries. entries.items ≡ program_entries (trees program.now)) }
-{
-    let mut entries = Vec::new(alloc);
-    for i in 0..program.len() {
-        let st = &program[i];
-        put_entry(&mut entries, program, starts, i as u32, st)?;
-    }
-    Ok(entries)
-}
-
-// The entry of a procedure more, where a statement begins one.
-fn put_entry(
-    entries: &mut Vec<u32>,
-    program: &[Stmt],
-    starts: &[u32],
-    place: u32,
-    st: &Stmt,
-) -> Result<(), AllocError>
-    requires starts { AreStarts (trees program.now) starts.now }
-    requires countable { place < 2 ^ 32 - 1 }
-    ensures { OnOk result (entries.new.items ≡ entries.old.items ++ entries_from (start_of (trees program.now)) place (stmt_tree st.now ∷ [])) }
-{
-    if begins_block(&st.body) {
-        entries.push(start_of_place(program, starts, place + 1))?;
-    }
-    Ok(())
-}
-
-/// The instructions of a program, its texts, and where its procedures begin.
+/// The instructions of a program, its texts, and where the code of each place begins.
 #[derive(Drop)]
 pub(crate) struct Written {
     pub(crate) code: Vec<Instr>,
     pub(crate) texts: Vec<Text>,
-    pub(crate) entries: Vec<u32>,
+    pub(crate) starts: Vec<u32>,
 }
 
 /// Writes the instructions of a program.
 pub(crate) fn write_program(
     alloc: Global,
     program: &[Stmt],
-    tables: &Tables,
+    names: &Names,
 ) -> Result<Written, AllocError>
-    requires tables { AreTables (trees program.now) tables.now }
+    requires names { names.now ≡ program_names (trees program.now) }
     requires built { All IsBuilt (trees program.now) }
     requires few { length program.now ≤ piece_limit }
     ensures code { IfOk result (λ w. w.code.items ≡ program_code (trees program.now)) }
     ensures texts { IfOk result (λ w. w.texts.items ≡ texts_of (trees program.now)) }
-    ensures entries { IfOk result (λ w. w.entries.items ≡ program_entries (trees program.now)) }
+    ensures starts { IfOk result (λ w. AreStarts (trees program.now) w.starts.items) }
 {
-    let draft = draft_program(alloc, program, tables)?;
+    let draft = draft_program(alloc, program, names)?;
     let Draft {
         code,
         texts,
         starts,
     } = draft;
     let code = retarget_all(alloc, program, &starts, code)?;
-    let entries = entries(alloc, program, &starts)?;
     Ok(Written {
         code,
         texts,
-        entries,
+        starts,
     })
 }

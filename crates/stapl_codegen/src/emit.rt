@@ -1,17 +1,16 @@
 //! The instructions of statements. Their targets are places of the program.
 ghost use Rattle.std.specs.Prelude.{◌≡◌, [], ◌∷◌, ◌++◌, ◌<◌, ◌^◌, ◌-◌, ◌+◌, length, map, OnOk, IfOk};
-ghost use Rattle.stapl_syntax.specs.Trees.{expr_tree, part_tree, body_tree};
-ghost use Rattle.stapl_meaning.specs.Scopes.{scope_at, block_at};
+ghost use Rattle.stapl_syntax.specs.Trees.{expr_tree, part_tree, body_tree, trees};
+ghost use Rattle.stapl_meaning.specs.Scopes.{program_names, block_at, variable_from, label_from, scope_at};
 ghost use Rattle.stapl_code.specs.declared.instr.Instr.TheVariants.{Print};
-ghost use Rattle.stapl_codegen.specs.Emit.{operator_number, variable_in, expr_code, values_code, print_parts, part_texts, body_texts, body_code};
-ghost use Rattle.stapl_codegen.specs.Tables.{trees, AreTables};
+ghost use Rattle.stapl_codegen.specs.Emit.{operator_number, expr_code, values_code, print_parts, part_texts, body_texts, body_code};
 
-use crate::tables::Tables;
 use base::ItemList;
 use stapl_code::Instr;
 use stapl_lexer::{BinOp, Name};
 use stapl_meaning::Text;
-use stapl_syntax::{Body, Expr, PrintPart, Stmt};
+use stapl_names::Names;
+use stapl_syntax::{Body, Expr, Found, PrintPart, Stmt};
 use std::alloc::{AllocError, Global};
 
 /// The number of no operator. No machine carries out a Binary with it, so it stands for what is not built.
@@ -34,32 +33,45 @@ fn operator_number(op: BinOp) -> u8
     }
 }
 
-// The number of a variable.
-fn variable(program: &[Stmt], tables: &Tables, block: u32, name: Name) -> u32
-    requires { AreTables (trees program.now) tables.now }
-    ensures { result ≡ variable_in (trees program.now) block name }
+// The number of the variable that a name stands for where this block is open.
+fn variable(names: &Names, inside: &Option<Name>, name: &Name) -> u32
+    ensures { result ≡ variable_from names.now inside.now name.now }
 {
-    tables.variable(program, block, name)
+    match names.found(inside, name) {
+        Found::Variable(number) => number,
+        Found::Hidden | Found::Absent => names.variables(),
+    }
+}
+
+// The place of a label of the block that is open, or this place where it has none.
+fn label(names: &Names, none: u32, inside: &Option<Name>, name: &Name) -> u32
+    ensures { result ≡ label_from names.now none inside.now name.now }
+{
+    let Some(block) = inside else {
+        return none;
+    };
+    match names.label_in(block, name) {
+        Some(piece) => piece.saturating_sub(1),
+        None => none,
+    }
 }
 
 // An expression more.
 #[tactic(auto, using(crate::proofs::Lists::expr_before, std::proofs::Common::append_assoc))]
 fn emit_expr(
     code: &mut Vec<Instr>,
-    program: &[Stmt],
-    tables: &Tables,
-    block: u32,
+    names: &Names,
+    inside: &Option<Name>,
     e: &Expr,
 ) -> Result<(), AllocError>
-    requires { AreTables (trees program.now) tables.now }
-    ensures { OnOk result (code.new.items ≡ code.old.items ++ expr_code (variable_in (trees program.now) block) (expr_tree e.now) []) }
+    ensures { OnOk result (code.new.items ≡ code.old.items ++ expr_code (variable_from names.now inside.now) (expr_tree e.now) []) }
 {
     match e {
         Expr::Number(n) => put(code, Instr::Push(*n)),
-        Expr::Scalar(name) => put(code, Instr::Load(variable(program, tables, block, *name))),
+        Expr::Scalar(name) => put(code, Instr::Load(variable(names, inside, name))),
         Expr::Binary(op, a, b) => {
-            emit_expr(code, program, tables, block, a)?;
-            emit_expr(code, program, tables, block, b)?;
+            emit_expr(code, names, inside, a)?;
+            emit_expr(code, names, inside, b)?;
             put(code, Instr::Binary(operator_number(*op)))?;
             Ok(())
         }
@@ -70,17 +82,15 @@ fn emit_expr(
 // The value of a part more, where it has one.
 fn emit_part(
     code: &mut Vec<Instr>,
-    program: &[Stmt],
-    tables: &Tables,
-    block: u32,
+    names: &Names,
+    inside: &Option<Name>,
     part: &PrintPart,
 ) -> Result<(), AllocError>
-    requires { AreTables (trees program.now) tables.now }
-    ensures { OnOk result (code.new.items ≡ code.old.items ++ values_code (variable_in (trees program.now) block) (part_tree part.now ∷ []) []) }
+    ensures { OnOk result (code.new.items ≡ code.old.items ++ values_code (variable_from names.now inside.now) (part_tree part.now ∷ []) []) }
 {
     match part {
         PrintPart::Text(_) => Ok(()),
-        PrintPart::Value(e) => emit_expr(code, program, tables, block, e),
+        PrintPart::Value(e) => emit_expr(code, names, inside, e),
         PrintPart::Character(_) => put(code, Instr::Binary(NO_OPERATOR)),
     }
 }
@@ -88,17 +98,15 @@ fn emit_part(
 // The values of the parts of a PRINT more.
 fn emit_values(
     code: &mut Vec<Instr>,
-    program: &[Stmt],
-    tables: &Tables,
-    block: u32,
+    names: &Names,
+    inside: &Option<Name>,
     parts: &[PrintPart],
 ) -> Result<(), AllocError>
-    requires { AreTables (trees program.now) tables.now }
-    ensures { OnOk result (code.new.items ≡ code.old.items ++ values_code (variable_in (trees program.now) block) (map part_tree parts.now) []) }
+    ensures { OnOk result (code.new.items ≡ code.old.items ++ values_code (variable_from names.now inside.now) (map part_tree parts.now) []) }
 {
     for i in 0..parts.len() {
         let part = &parts[i];
-        emit_part(code, program, tables, block, part)?;
+        emit_part(code, names, inside, part)?;
     }
     Ok(())
 }
@@ -149,17 +157,15 @@ fn emit_print(
     alloc: Global,
     code: &mut Vec<Instr>,
     texts: &mut Vec<Text>,
-    program: &[Stmt],
-    tables: &Tables,
-    block: u32,
+    names: &Names,
+    inside: &Option<Name>,
     parts: &[PrintPart],
 ) -> Result<(), AllocError>
-    requires tables { AreTables (trees program.now) tables.now }
     requires few { length texts.old.items + length (part_texts (map part_tree parts.now)) < 2 ^ 32 }
-    ensures code { OnOk result (code.new.items ≡ code.old.items ++ values_code (variable_in (trees program.now) block) (map part_tree parts.now) (Print (print_parts (length texts.old.items) (map part_tree parts.now)) ∷ [])) }
+    ensures code { OnOk result (code.new.items ≡ code.old.items ++ values_code (variable_from names.now inside.now) (map part_tree parts.now) (Print (print_parts (length texts.old.items) (map part_tree parts.now)) ∷ [])) }
     ensures texts { OnOk result (texts.new.items ≡ texts.old.items ++ part_texts (map part_tree parts.now)) }
 {
-    emit_values(code, program, tables, block, parts)?;
+    emit_values(code, names, inside, parts)?;
     let list = put_parts(alloc, texts, parts)?;
     put(code, Instr::Print(ItemList::of(list)))?;
     Ok(())
@@ -172,13 +178,14 @@ pub(crate) fn emit_body(
     code: &mut Vec<Instr>,
     texts: &mut Vec<Text>,
     program: &[Stmt],
-    tables: &Tables,
+    names: &Names,
     place: u32,
-    block: u32,
+    inside: &Option<Name>,
     body: &Body,
 ) -> Result<(), AllocError>
-    requires tables { AreTables (trees program.now) tables.now }
-    requires block { block ≡ block_at (trees program.now) place }
+    requires names { names.now ≡ program_names (trees program.now) }
+    requires inside { inside.now ≡ block_at (trees program.now) place }
+    requires short { length program.now < 2 ^ 32 }
     requires countable { place < 2 ^ 32 - 1 }
     requires few { length texts.old.items + length (body_texts (body_tree body.now)) < 2 ^ 32 }
     ensures code { OnOk result (code.new.items ≡ code.old.items ++ body_code (scope_at (trees program.now) place) (λ j. j) (length texts.old.items) (body_tree body.now) []) }
@@ -191,26 +198,29 @@ pub(crate) fn emit_body(
             Ok(())
         }
         Body::Assign(name, e) => {
-            emit_expr(code, program, tables, block, e)?;
-            put(code, Instr::Store(variable(program, tables, block, *name)))?;
+            emit_expr(code, names, inside, e)?;
+            put(code, Instr::Store(variable(names, inside, name)))?;
             Ok(())
         }
         Body::Goto(name) => {
-            put(code, Instr::Jump(tables.label(program, block, *name)))?;
+            put(
+                code,
+                Instr::Jump(label(names, program.len() as u32, inside, name)),
+            )?;
             Ok(())
         }
         Body::If(e, inner) => {
-            emit_expr(code, program, tables, block, e)?;
+            emit_expr(code, names, inside, e)?;
             put(code, Instr::JumpIfZero(place + 1))?;
-            emit_body(alloc, code, texts, program, tables, place, block, inner)?;
+            emit_body(alloc, code, texts, program, names, place, inside, inner)?;
             Ok(())
         }
         Body::Print(parts) => {
-            emit_print(alloc, code, texts, program, tables, block, parts.as_slice())?;
+            emit_print(alloc, code, texts, names, inside, parts.as_slice())?;
             Ok(())
         }
         Body::Exit(e) => {
-            emit_expr(code, program, tables, block, e)?;
+            emit_expr(code, names, inside, e)?;
             put(code, Instr::Exit)?;
             Ok(())
         }

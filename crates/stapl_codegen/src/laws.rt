@@ -2,15 +2,16 @@
 ghost use Rattle.std.specs.Prelude.{ℕ, List};
 ghost use Rattle.stapl_syntax.specs.Trees.{StmtTree};
 ghost use Rattle.stapl_syntax.specs.Unbuilt.{IsBuiltProgram};
+ghost use Rattle.stapl_code.specs.Ranges.{IsInRange};
+ghost use Rattle.stapl_code.specs.Valid.{IsValid};
 ghost use Rattle.stapl_codegen.specs.Accepted.{IsAccepted};
 ghost use Rattle.stapl_codegen.specs.Correct.{CodeStands};
+ghost use Rattle.stapl_codegen.specs.Generated.{lists_of, IsCodeOf};
 ghost use Rattle.stapl_codegen.specs.Unstuck.{ProgramsAreNotStuck};
 
 use stapl_code::laws::never_stuck;
-use stapl_syntax::laws::{
-    a_program_is_one_procedure, names_of_blocks_are_free, programs_are_built,
-    texts_of_prints_are_short,
-};
+use stapl_meaning::laws::programs_are_typed;
+use stapl_syntax::laws::{blocks_are_well_named, programs_are_built, texts_of_prints_are_short};
 
 /// The code of a program does what the program does.
 pub fn code_stands()
@@ -21,13 +22,21 @@ pub fn code_stands()
 pub fn programs_are_accepted()
     ensures { (text : List ℕ) (program : List StmtTree) → IsBuiltProgram text program → IsAccepted program }
 {
-    a_program_is_one_procedure();
+    programs_are_typed();
     programs_are_built();
-    names_of_blocks_are_free();
+    blocks_are_well_named();
     texts_of_prints_are_short();
 }
 
-/// No play of an accepted program gets stuck: it has an ending after its turns, or it still goes on, and then there is exactly one turn.
+/// The lists of the code of an accepted program are in their ranges and valid, and they stand for the program.
+pub fn accepted_code_is_valid()
+    ensures in_range { (program : List StmtTree) → IsAccepted program → IsInRange (lists_of program) }
+    ensures valid { (program : List StmtTree) → IsAccepted program → IsValid (lists_of program) }
+    ensures code { (program : List StmtTree) → IsAccepted program → IsCodeOf program (lists_of program) }
+{}
+
+/// No play of an accepted program gets stuck: it has an ending after its turns, or it still goes on, and then there is
+/// exactly one turn.
 pub fn programs_are_not_stuck()
     ensures { ProgramsAreNotStuck }
 {

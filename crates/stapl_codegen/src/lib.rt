@@ -2,9 +2,9 @@
 #![tactic(auto)]
 
 mod compiling;
+mod definitions;
 mod draft;
 mod emit;
 pub mod laws;
-mod tables;
 
 pub use compiling::generate;

@@ -121,7 +121,8 @@ parsed_because text piece tokens result are answer reason e =
     subst (SmallestReason text piece) (sym refused_so.reason_is)
     (smallest_in_grammar text piece tokens are (λ st m. refused_so.none st.label st.body m))
 
--- The reasons that lie in the bytes and the tokens are smaller than those of the grammar, but for a bad token, after which the grammar has none.
+-- The reasons that lie in the bytes and the tokens are smaller than those of the grammar, but for a bad token, after
+-- which the grammar has none.
 module _ (text : List ℕ) (piece : Piece) (own : Reason) (smallest : IsSmallestTokenReason text piece own) where
   not_good : (tokens : List Token) → AreGoodTokens text piece tokens → own ≡ reasons.Syntax → ⊥
   not_good tokens good e = syntax_back tokens good e smallest.holds

@@ -180,7 +180,8 @@ part_at (either p q) s =
     if begins p s then (part_at p s >>= λ x. Some (inl x.0, x.1)) else (part_at q s >>= λ x. Some (inr x.0, x.1))
 part_at (listed t p) s = listed_by (part_at p) t s
 
--- What a step through states gave: the next state, nothing where the states end, or an error where a comma stands and no state behind it.
+-- What a step through states gave: the next state, nothing where the states end, or an error where a comma stands and
+-- no state behind it.
 abbrev pub StepsOn : Result (Option ℕ) Refused → List Symbol → List Symbol → Type 0
 StepsOn (Ok (Some k)) old new = (more_states_at old ≡ with_front (k ∷ []) (more_states_at new)) × (length new < length old)
 StepsOn (Ok None) old new = (more_states_at old ≡ Some ([], old)) × (new ≡ old)

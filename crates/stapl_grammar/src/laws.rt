@@ -17,8 +17,8 @@ pub fn a_piece_is_one_statement()
     ensures { (text : List ℕ) (piece : Piece) (a b : StmtTree) → IsPieceStatement text piece a → IsPieceStatement text piece b → a ≡ b }
 {}
 
-/// Symbols that mean a statement begin as a statement, and hold no word that the profile leaves out. So if one of these two reasons
-/// holds, the piece is not in the grammar.
+/// Symbols that mean a statement begin as a statement, and hold no word that the profile leaves out. So if one of these
+/// two reasons holds, the piece is not in the grammar.
 pub fn a_statement_is_known_and_supported()
     ensures known { (s : List Symbol) (statement : StmtTree) → Means s statement → is_unknown (behind_label s) ≡ false }
     ensures supported { (s : List Symbol) (statement : StmtTree) → Means s statement → holds_left_out s ≡ false }

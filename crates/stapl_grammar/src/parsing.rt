@@ -44,12 +44,13 @@ fn parse_tokens(alloc: Global, text: &[u8], tokens: &[Token]) -> Result<Stmt, Pa
     }
 }
 
-/// The statement that a piece of a text is, as `cut` gives the piece (JESD71, statements). Operators group from the left, the tightest
-/// first.
+/// The statement that a piece of a text is, as `cut` gives the piece (JESD71, statements). Operators group from the
+/// left, the tightest first.
 ///
-/// The answer is the statement exactly where nothing is wrong with the piece's bytes and single tokens, and its tokens are a statement by
-/// the grammar. Otherwise the error `Because` has the smallest of the piece's reasons from `Unterminated` to `Syntax`. `Memory` is want of
-/// memory. Each token is read a fixed number of times, and calls nest only as deep as the depth rule of pieces allows.
+/// The answer is the statement exactly where nothing is wrong with the piece's bytes and single tokens, and its tokens
+/// are a statement by the grammar. Otherwise the error `Because` has the smallest of the piece's reasons from
+/// `Unterminated` to `Syntax`. `Memory` is want of memory. Each token is read a fixed number of times, and calls nest
+/// only as deep as the depth rule of pieces allows.
 pub fn parse(alloc: Global, text: &[u8], piece: &Piece) -> Result<Stmt, ParseRefused>
     requires small { length text.now ≤ text_limit }
     requires lies { LiesIn text.now piece.now }

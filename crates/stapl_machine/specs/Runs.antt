@@ -35,7 +35,8 @@ begun_run code n t before = goes_on (begun (entries_of code.procedures) code.tex
 abbrev pub begun_ticks : CodeLists → ℕ → Turned → ℕ
 begun_ticks code n t = ticks_then (begun (entries_of code.procedures) code.texts t) (run_ticks_of code n)
 
--- the prologue and at most n turns of the chosen procedures, where the variables hold this, and how many instructions they take
+-- the prologue and at most n turns of the chosen procedures, where the variables hold this, and how many instructions
+-- they take
 abbrev pub play_from : CodeLists → List ℕ → List Held → ℕ → Run
 play_from code chosen variables n = code_play (entries_of code.procedures) code.texts code.instrs chosen variables n
 

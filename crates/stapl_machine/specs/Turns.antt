@@ -97,3 +97,8 @@ pub record DoesFront {K : Type 0} (written : K → Option (List ℕ)) (whole : T
 abbrev pub IfFault : Trouble → Type 0 → Type 0
 IfFault WriteFault cause = cause
 IfFault Memory cause = Unit {0}
+
+-- want of memory leaves this; a failed write says nothing
+abbrev pub IfMemory : Trouble → Type 0 → Type 0
+IfMemory WriteFault left = Unit {0}
+IfMemory Memory left = left

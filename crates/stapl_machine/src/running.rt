@@ -6,7 +6,7 @@ ghost use Rattle.tool_io.specs.Lines.{IsWhole, IsOverSame, SinkNeverFalls, sink_
 ghost use Rattle.stapl_meaning.specs.Plays.{ending_of};
 ghost use Rattle.stapl_meaning.specs.Texts.{event_line};
 ghost use Rattle.stapl_code.specs.Safe.{AllBelow};
-ghost use Rattle.stapl_machine.specs.Turns.{IfFault};
+ghost use Rattle.stapl_machine.specs.Turns.{IfFault, IfMemory};
 ghost use Rattle.stapl_machine.specs.Machines.{play_of, play_ticks_of, IsPrepared, variables_in};
 
 use crate::act::Workspace;
@@ -51,7 +51,7 @@ impl Machine {
     /// after these turns. Each instruction is one step.
     ///
     /// `WriteFault` comes only where the count of faults of the sink rose, or stands at its last value, and `Memory`
-    /// only for want of memory.
+    /// only for want of memory, before any call on the lines has failed.
     pub fn run<K: Sink, L: Ledger>(
         &mut self,
         code: &Code,
@@ -77,6 +77,7 @@ impl Machine {
         ensures kept { SinkNeverFalls K.faults K.is_last out.old out.new }
         ensures fault { IfErr result (λ trouble.
             IfFault trouble (HasRisen K.faults K.is_last (sink_of out.old) (sink_of out.new))) }
+        ensures memory { IfErr result (λ trouble. IfMemory trouble (IsWhole out.new)) }
     {
         never_stuck();
         plays_are_bounded();

@@ -3,7 +3,7 @@ ghost use Rattle.std.specs.Prelude.{◌≡◌, ◌<◌, ◌≤◌, ◌+◌, ◌^
 ghost use Rattle.tool_io.specs.Causes.{HasRisen};
 ghost use Rattle.tool_io.specs.Lines.{IsWhole, IsOverSame, SinkNeverFalls, sink_of};
 ghost use Rattle.stapl_meaning.specs.States.{State};
-ghost use Rattle.stapl_machine.specs.Turns.{state_from, ended_so, IsClean, IfFault};
+ghost use Rattle.stapl_machine.specs.Turns.{state_from, ended_so, IsClean, IfFault, IfMemory};
 ghost use Rattle.stapl_machine.specs.Runs.{run_of, run_ticks_of, chosen_run, chosen_ticks, begun_run, begun_ticks, play_from, play_ticks_from, RunsTo, RunsFront, LeavesVariables};
 
 use crate::act::Workspace;
@@ -46,6 +46,7 @@ fn run_turns<K: Sink, L: Ledger>(
         (state_from chosen.now next.old work.old)) }
     ensures kept { SinkNeverFalls K.faults K.is_last out.old out.new }
     ensures fault { IfErr result (λ e. IfFault e (HasRisen K.faults K.is_last (sink_of out.old) (sink_of out.new))) }
+    ensures memory { IfErr result (λ e. IfMemory e (IsWhole out.new)) }
 {
     let mut place = start;
     for _turn in 0..turns {
@@ -89,6 +90,7 @@ fn run_chosen<K: Sink, L: Ledger>(
         (state_from chosen.now next.old work.old)) }
     ensures kept { SinkNeverFalls K.faults K.is_last out.old out.new }
     ensures fault { IfErr result (λ e. IfFault e (HasRisen K.faults K.is_last (sink_of out.old) (sink_of out.new))) }
+    ensures memory { IfErr result (λ e. IfMemory e (IsWhole out.new)) }
 {
     match next_place(code, chosen, next) {
         Some(start) => match run_turns(code, chosen, next, start, work, out, turns, steps) {
@@ -128,6 +130,7 @@ fn run_behind<K: Sink, L: Ledger>(
         (ended_so code.now chosen.now end work.old)) }
     ensures kept { SinkNeverFalls K.faults K.is_last out.old out.new }
     ensures fault { IfErr result (λ e. IfFault e (HasRisen K.faults K.is_last (sink_of out.old) (sink_of out.new))) }
+    ensures memory { IfErr result (λ e. IfMemory e (IsWhole out.new)) }
 {
     let mut next = 0;
     match begin_next(code, chosen, &mut next, end) {
@@ -166,6 +169,7 @@ pub fn play<K: Sink, L: Ledger>(
         (steps.new ≤ steps.old + play_ticks_from code.now chosen.now work.old.variables.items turns) }
     ensures kept { SinkNeverFalls K.faults K.is_last out.old out.new }
     ensures fault { IfErr result (λ e. IfFault e (HasRisen K.faults K.is_last (sink_of out.old) (sink_of out.new))) }
+    ensures memory { IfErr result (λ e. IfMemory e (IsWhole out.new)) }
 {
     match rest_of_turn(code, 0, work, out, steps) {
         Ok(end) => match run_behind(code, chosen, end, work, out, turns, steps) {

@@ -13,7 +13,7 @@ ghost use Rattle.stapl_code.specs.Ticks.{tick_of, ticks_behind};
 ghost use Rattle.stapl_code.specs.Safe.{entries_of};
 ghost use Rattle.stapl_code.specs.Valid.{is_turn};
 ghost use Rattle.stapl_machine.specs.Acts.{state_of, stepped};
-ghost use Rattle.stapl_machine.specs.Turns.{rest_of, ticks_from, ended_so, IsClean, behind_it, ticks_behind_it, IsCleanBehind, turn_at, ticks_at, state_from, led_to, IsCleanOn, Began, Does, DoesFront, IfFault};
+ghost use Rattle.stapl_machine.specs.Turns.{rest_of, ticks_from, ended_so, IsClean, behind_it, ticks_behind_it, IsCleanBehind, turn_at, ticks_at, state_from, led_to, IsCleanOn, Began, Does, DoesFront, IfFault, IfMemory};
 
 use crate::act::{Moved, Stop, Workspace, act, entry};
 use crate::writing::put_print;
@@ -89,6 +89,7 @@ fn tell<K: Sink>(out: &mut Lines<K>, text: &[u8]) -> Result<(), Trouble>
     ensures front { OnErr result (PutsFront K.written out.old (event_line (Print text.now)) out.new) }
     ensures kept { SinkNeverFalls K.faults K.is_last out.old out.new }
     ensures fault { OnErr result (HasRisen K.faults K.is_last (sink_of out.old) (sink_of out.new)) }
+    ensures memory { IfErr result (λ e. IfMemory e (IsWhole out.new)) }
 {
     match put_print(out, text) {
         Ok(()) => Ok(()),
@@ -121,6 +122,7 @@ fn carry_out<K: Sink, L: Ledger>(
     ensures most { OnErr result ((chosen : List ℕ) → steps.new ≤ steps.old + ticks_from code.now i chosen work.old) }
     ensures kept { SinkNeverFalls K.faults K.is_last out.old out.new }
     ensures fault { IfErr result (λ e. IfFault e (HasRisen K.faults K.is_last (sink_of out.old) (sink_of out.new))) }
+    ensures memory { IfErr result (λ e. IfMemory e (IsWhole out.new)) }
 {
     let instr = &code.instrs.as_slice()[i];
     count(instr, steps);
@@ -160,6 +162,7 @@ pub fn rest_of_turn<K: Sink, L: Ledger>(
     ensures most { OnErr result ((chosen : List ℕ) → steps.new ≤ steps.old + ticks_from code.now from chosen work.old) }
     ensures kept { SinkNeverFalls K.faults K.is_last out.old out.new }
     ensures fault { IfErr result (λ e. IfFault e (HasRisen K.faults K.is_last (sink_of out.old) (sink_of out.new))) }
+    ensures memory { IfErr result (λ e. IfMemory e (IsWhole out.new)) }
 {
     for i in from..code.instrs.len() {
         match carry_out(code, i, work, out, steps) {
@@ -206,6 +209,7 @@ fn turn<K: Sink, L: Ledger>(
         steps.new ≤ steps.old + ticks_at code.now place (state_of chosen work.old)) }
     ensures kept { SinkNeverFalls K.faults K.is_last out.old out.new }
     ensures fault { IfErr result (λ e. IfFault e (HasRisen K.faults K.is_last (sink_of out.old) (sink_of out.new))) }
+    ensures memory { IfErr result (λ e. IfMemory e (IsWhole out.new)) }
 {
     if !begins_turn(code.instrs.as_slice(), place as usize) {
         return Ok(TurnEnd::Wrong);
@@ -281,6 +285,7 @@ pub fn turn_on<K: Sink, L: Ledger>(
         (state_from chosen.now next.old work.old)) }
     ensures kept { SinkNeverFalls K.faults K.is_last out.old out.new }
     ensures fault { IfErr result (λ e. IfFault e (HasRisen K.faults K.is_last (sink_of out.old) (sink_of out.new))) }
+    ensures memory { IfErr result (λ e. IfMemory e (IsWhole out.new)) }
 {
     match turn(code, place, work, out, steps) {
         Ok(end) => Ok(begin_next(code, chosen, next, end)),

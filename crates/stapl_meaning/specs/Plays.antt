@@ -9,7 +9,8 @@ use Rattle.stapl_meaning.specs.States.{State, Turned, Leads, Over, NoTurn, next_
 use Rattle.stapl_meaning.specs.Scopes.{entry_from, zeros_of}
 use Rattle.stapl_meaning.specs.Turns.{turn}
 
--- How a run stands: it has ended, it still goes on from a place, or it found nothing to do, which no accepted program meets.
+-- How a run stands: it has ended, it still goes on from a place, or it found nothing to do, which no accepted program
+-- meets.
 pub data Outcome : Type 0 where
   Ended : Ending → Outcome
   Going : (place : ℕ) → Outcome

@@ -1,76 +1,53 @@
--- What the names of a program stand for. Source: JESD71, procedures and variables. Places are those of pieces, counted from 0.
-use Rattle.std.specs.Prelude.{ℕ, zero, suc, pos, ◌+◌, ◌&&◌, nat_eq, Bool, true, false, List, [], ◌∷◌, ◌++◌, take, Option, Some, None, if◌then◌else◌, map}
+-- What the names of a program stand for. Source: JESD71, procedures and variables. Places are those of pieces, counted
+-- from 0.
+use Rattle.std.specs.Prelude.{ℕ, zero, suc, pos, ◌+◌, ◌-◌, List, [], ◌∷◌, take, length, Option, Some, None, if◌then◌else◌, map}
+use Rattle.std.specs.Option.{option_map_or}
+use Rattle.std.specs.Map.{lookup}
 use Rattle.std.specs.Str.{bytes_eq}
-use Rattle.stapl_syntax.specs.Trees.{ItemTree, BodyTree, procedure, integer, action, StmtTree}
+use Rattle.stapl_syntax.specs.declared.names.Found.{Found}
+use Rattle.stapl_syntax.specs.declared.names.Found.TheVariants as found
+use Rattle.stapl_syntax.specs.declared.names.Key.{Key}
+use Rattle.stapl_syntax.specs.declared.names.Variable.{Variable}
+use Rattle.stapl_syntax.specs.Trees.{ItemTree, BodyTree, procedure, action, StmtTree}
+use Rattle.stapl_syntax.specs.Statements.{begins_procedure}
+use Rattle.stapl_syntax.specs.Names.{Names, numbered, names_of, inside_after, key_in, key_eq, found_from}
 use Rattle.stapl_meaning.specs.declared.values.Held.{Held}
 use Rattle.stapl_meaning.specs.declared.values.Held.TheVariants as held
 
--- What a statement finds: the number of a variable by its name, the place of a label by its name, the place where the procedure
--- of a number begins, and the place behind the statement.
+-- What a statement finds: the number of a variable by its name, the place of a label by its name, the place where the
+-- procedure of a number begins, and the place behind the statement.
 pub record Scope : Type 0 where
   pub variable : List ℕ → ℕ
   pub label : List ℕ → ℕ
   pub entry : ℕ → ℕ
   pub follow : ℕ
 
--- the statement begins a block
-abbrev pub begins_block : BodyTree → Bool
-begins_block (procedure name uses) = true
-begins_block _ = false
+-- the names of a program
+abbrev pub program_names : List StmtTree → Names
+program_names program = names_of (numbered (map Some program))
 
--- how many blocks begin in these pieces
-abbrev pub blocks_in : List StmtTree → ℕ
-blocks_in [] = 0
-blocks_in (st ∷ rest) = if begins_block st.body then suc (blocks_in rest) else blocks_in rest
+-- the block that is open before the piece at a place
+abbrev pub block_at : List StmtTree → ℕ → Option (List ℕ)
+block_at program i = inside_after (numbered (take i (map Some program)))
 
--- the number of the block in which the piece at a place stands; blocks are counted from 1
-abbrev pub block_at : List StmtTree → ℕ → ℕ
-block_at program i = blocks_in (take (i + 1) program)
+-- the number of the variable that was found: the count of variables if none was
+abbrev pub number_found : Names → Found → ℕ
+number_found names (found.Variable n) = n
+number_found names _ = length names.variables
 
--- the number of the block behind a statement, where this one stood before it
-abbrev pub block_after : ℕ → BodyTree → ℕ
-block_after block body = if begins_block body then block + 1 else block
+-- the number of the variable that a name stands for inside a block
+abbrev pub variable_from : Names → Option (List ℕ) → List ℕ → ℕ
+variable_from names inside name = number_found names (found_from names inside name)
 
--- a variable, by its block and its name
-pub record Variable : Type 0 where
-  pub block : ℕ
-  pub name : List ℕ
+-- the place of a label of a block, or this one if the block has no such label
+abbrev pub label_from : Names → ℕ → Option (List ℕ) → List ℕ → ℕ
+label_from names none None name = none
+label_from names none (Some block) name = option_map_or (λ piece. piece - 1) (lookup (key_eq (key_in block name)) names.labels) none
 
--- the variable that a statement declares
-abbrev pub declared_by : ℕ → BodyTree → List Variable
-declared_by block (integer name start) = record { block = block; name = name } ∷ []
-declared_by block _ = []
-
--- the variables of these pieces in the order of their declarations, where the first piece stands behind this block's beginning
-abbrev pub variables_from : ℕ → List StmtTree → List Variable
-variables_from block [] = []
-variables_from block (st ∷ rest) =
-    declared_by (block_after block st.body) st.body ++ variables_from (block_after block st.body) rest
-
-abbrev pub variables_of : List StmtTree → List Variable
-variables_of program = variables_from 0 program
-
-abbrev pub is_variable : ℕ → List ℕ → Variable → Bool
-is_variable block name v = nat_eq block v.block && bytes_eq name v.name
-
--- the number of a variable among these: their count where it is none of them
-abbrev pub number_of : ℕ → List ℕ → List Variable → ℕ
-number_of block name [] = 0
-number_of block name (v ∷ vs) = if is_variable block name v then 0 else suc (number_of block name vs)
-
-abbrev pub is_name : Option (List ℕ) → List ℕ → Bool
-is_name None name = false
-is_name (Some label) name = bytes_eq name label
-
--- the statement bears this label
-abbrev pub bears : List ℕ → StmtTree → Bool
-bears name st = is_name st.label name
-
--- the place of a label of a block among these pieces: their count where none of them bears it
-abbrev pub label_from : ℕ → List StmtTree → ℕ → List ℕ → ℕ
-label_from before [] block name = 0
-label_from before (st ∷ rest) block name =
-    if nat_eq block (block_after before st.body) && bears name st then 0 else suc (label_from (block_after before st.body) rest block name)
+-- how many procedures begin in these pieces
+abbrev pub procedures_in : List StmtTree → ℕ
+procedures_in [] = 0
+procedures_in (st ∷ rest) = if begins_procedure st.body then suc (procedures_in rest) else procedures_in rest
 
 -- the number of a procedure by its name; procedures are counted from 0
 abbrev pub procedure_before : BodyTree → List ℕ → ℕ → ℕ
@@ -84,24 +61,28 @@ procedure_number (st ∷ rest) name = procedure_before st.body name (procedure_n
 -- the place behind the beginning of the procedure of a number
 abbrev pub entry_from : List StmtTree → ℕ → ℕ
 entry_from [] p = 0
-entry_from (st ∷ rest) zero = suc (if begins_block st.body then 0 else entry_from rest zero)
-entry_from (st ∷ rest) (suc p) = suc (if begins_block st.body then entry_from rest p else entry_from rest (suc p))
+entry_from (st ∷ rest) zero = suc (if begins_procedure st.body then 0 else entry_from rest zero)
+entry_from (st ∷ rest) (suc p) = suc (if begins_procedure st.body then entry_from rest p else entry_from rest (suc p))
 
--- what the statement at a place finds
-abbrev pub scope_at : List StmtTree → ℕ → Scope
-scope_at program i = record {
-  variable = λ name. number_of (block_at program i) name (variables_of program);
-  label = λ name. label_from 0 program (block_at program i) name;
-  entry = entry_from program;
+-- what a statement finds, from the names of a program of so many pieces, if this block is open
+abbrev pub scope_of : Names → (ℕ → ℕ) → ℕ → Option (List ℕ) → ℕ → Scope
+scope_of names entry count inside i = record {
+  variable = variable_from names inside;
+  label = label_from names count inside;
+  entry = entry;
   follow = i + 1;
 }
 
+-- what the statement at a place finds
+abbrev pub scope_at : List StmtTree → ℕ → Scope
+scope_at program i = scope_of (program_names program) (entry_from program) (length program) (block_at program i) i
+
 -- what the variables hold when a play starts
-abbrev pub zero_of : Variable → Held
+abbrev pub zero_of : Key × Variable → Held
 zero_of v = held.Int (pos 0)
 
 abbrev pub zeros_of : List StmtTree → List Held
-zeros_of program = map zero_of (variables_of program)
+zeros_of program = map zero_of (program_names program).variables
 
 -- the procedure that an item of an action names, by number
 abbrev pub item_procedure : List StmtTree → ItemTree → ℕ

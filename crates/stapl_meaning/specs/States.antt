@@ -14,8 +14,8 @@ pub record State : Type 0 where
   pub chosen : List ℕ
   pub variables : List Held
 
--- What a turn does: with its events it leads to a place, or it ends the run. A turn that no accepted program meets finds nothing to
--- do; it carries the events so far.
+-- What a turn does: with its events it leads to a place, or it ends the run. A turn that no accepted program meets
+-- finds nothing to do; it carries the events so far.
 pub data Turned : Type 0 where
   Leads : (events : List Event) (place : ℕ) (state : State) → Turned
   Over : (events : List Event) (ending : Ending) (state : State) → Turned

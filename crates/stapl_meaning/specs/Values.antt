@@ -1,4 +1,5 @@
--- Values of expressions. Source: JESD71, expressions. That sums wrap modulo 2 to the power of 32 is this profile's rule.
+-- Values of expressions. Source: JESD71, expressions. That sums wrap modulo 2 to the power of 32 is this profile's
+-- rule.
 use Rattle.std.specs.Prelude.{ℕ, ℤ, ◌+ℤ◌, int_lt, Bool, List, [], ◌∷◌, ◌++◌, Option, Some, slice_get}
 use Rattle.std.specs.Int.{int_wrap, w32}
 use Rattle.std.specs.Fmt.{signed_decimal}

@@ -1,9 +1,13 @@
 //! Laws of the definitions.
 ghost use Rattle.std.specs.Prelude.{◌≡◌, ℕ, ◌+◌, List};
 ghost use Rattle.stapl_syntax.specs.Trees.{StmtTree};
+ghost use Rattle.stapl_syntax.specs.Unbuilt.{IsBuiltProgram};
 ghost use Rattle.stapl_meaning.specs.States.{State, Turned};
 ghost use Rattle.stapl_meaning.specs.Turns.{IsTurn, turn, IsFound};
 ghost use Rattle.stapl_meaning.specs.Plays.{run, then_runs};
+ghost use Rattle.stapl_meaning.specs.Typed.{IsTyped};
+
+use stapl_syntax::laws::programs_are_built;
 
 /// A statement does what the function gives, and where the function finds something to do, the statement does that.
 pub fn turns_are_computed()
@@ -20,3 +24,10 @@ pub fn one_turn()
 pub fn runs_follow_each_other()
     ensures { (program : List StmtTree) (n m i : ℕ) (s : State) → run program (n + m) i s ≡ then_runs (run program n i s) (run program m) }
 {}
+
+/// Each built program is typed.
+pub fn programs_are_typed()
+    ensures { (text : List ℕ) (program : List StmtTree) → IsBuiltProgram text program → IsTyped program }
+{
+    programs_are_built();
+}

@@ -3,7 +3,12 @@ use Rattle.std.proofs.Common.{◌≡◌, ℕ, zero, suc, ◌+◌, ◌<◌, ◌�
 use Rattle.std.specs.List.{position_or_len}
 use Rattle.std.specs.Str.{bytes_eq}
 use Rattle.std.proofs.lemmas.Bool.{ltb-true, ltb-false}
-use Rattle.stapl_names.proofs.Keys.{name_same, name_itself}
+use Rattle.std.specs.Map.{keys_of}
+use Rattle.std.specs.Option.{option_map_or}
+use Rattle.indexmap.proofs.MapLemmas.{some_index}
+use Rattle.stapl_syntax.specs.declared.names.Block.{Block}
+use Rattle.stapl_syntax.specs.Names.{Names, block_named, found_in, found_from}
+use Rattle.stapl_names.proofs.Keys.{name_same, name_itself, none_from}
 
 module _ {X : Type 0} (test : X → Bool) where
   -- an item that is found passes
@@ -74,3 +79,14 @@ first_is_least name (x ∷ xs) (suc i) at = by (first_is_least name xs i at) (no
     by : position_or_len (bytes_eq name) xs ≤ i → (b : Bool) → cond b (1 + position_or_len (bytes_eq name) xs) 0 ≤ suc i
     by later true = omega (arith, later)
     by later false = omega arith
+
+-- a block that has no number is searched alone
+pub unlisted : (names : Names) (own name : List ℕ) → position (bytes_eq own) (keys_of names.blocks) ≡ None →
+    found_in names (own ∷ []) name ≡ found_from names (Some own) name
+unlisted names own name none = ap (λ o. found_in names (own ∷ option_map_or (λ (b : Block). b.uses) o []) name) (sym none_named)
+  where
+    some_none : is_some (block_named names own) ≡ false
+    some_none = sym (some_index (bytes_eq own) names.blocks) ∙ ap is_some none
+
+    none_named : block_named names own ≡ None
+    none_named = none_from (block_named names own) some_none

@@ -8,3 +8,4 @@ mod tables;
 mod variables;
 
 pub use names::{Names, collect};
+pub use tables::inside_behind;

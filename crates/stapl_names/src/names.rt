@@ -5,7 +5,7 @@ ghost use Rattle.std.specs.Map.{lookup, keys_of};
 ghost use Rattle.std.specs.Option.{option_map};
 ghost use Rattle.std.specs.Str.{bytes_eq};
 ghost use Rattle.stapl_syntax.specs.Trees.{stmt_tree};
-ghost use Rattle.stapl_syntax.specs.Names.{names_of, with_numbers, block_named, variable_number, found_in, found_from};
+ghost use Rattle.stapl_syntax.specs.Names.{names_of, with_numbers, key_in, key_eq, block_named, variable_number, found_in, found_from};
 ghost use Rattle.stapl_names.specs.Tables.{block_name, variable_of_block, label_of_block, numbers_from, StandsIn};
 
 use crate::tables::{Tables, inside_behind, number_of};
@@ -53,17 +53,17 @@ pub fn collect(alloc: Global, pieces: &[u32], stmts: &[Stmt]) -> Result<Names, A
 
 impl Names {
     /// How many blocks there are.
-    pub fn blocks(&self) -> usize
+    pub fn blocks(&self) -> u32
         ensures { result ≡ length self.now.blocks }
     {
-        self.tables.blocks.table.len()
+        self.tables.blocks.table.len() as u32
     }
 
     /// How many variables there are.
-    pub fn variables(&self) -> usize
+    pub fn variables(&self) -> u32
         ensures { result ≡ length self.now.variables }
     {
-        self.tables.variables.table.len()
+        self.tables.variables.table.len() as u32
     }
 
     /// The number of the block of this name, counted from 0 in the order of the first declarations.
@@ -152,6 +152,31 @@ impl Names {
         } else {
             Found::Absent
         }
+    }
+
+    /// What a name of a variable stands for inside the block of a name, or outside blocks.
+    #[tactic(auto, using(crate::proofs::Positions::unlisted))]
+    pub fn found(&self, inside: &Option<Name>, name: &Name) -> Found
+        ensures { result ≡ found_from self.now inside.now name.now }
+    {
+        let Some(own) = inside else {
+            return self.look_up_outside(name);
+        };
+        match self.block(own) {
+            Some(number) => self.look_up(number, name),
+            None => self.look_in(&[*own], 0, name),
+        }
+    }
+
+    /// The piece that declares the label of this name first in the block of a name, counted from 1.
+    pub fn label_in(&self, block: &Name, name: &Name) -> Option<u32>
+        ensures { result ≡ lookup (key_eq (key_in block.now name.now)) self.now.labels }
+    {
+        let key = Key {
+            block: *block,
+            name: *name,
+        };
+        self.tables.labels.get(&key).copied()
     }
 
     // The number of the variable of a name that the block of another name declares.

@@ -51,7 +51,7 @@ pub(crate) fn number_of<K: Eq + Hash + Drop, V: Drop>(map: &IndexMap<K, V>, key:
 }
 
 /// The block that is open after a statement, if this one was open before it.
-pub(crate) fn inside_behind(inside: &Option<Name>, body: &Body) -> Option<Name>
+pub fn inside_behind(inside: &Option<Name>, body: &Body) -> Option<Name>
     ensures { result ≡ inside_behind inside.now (body_tree body.now) }
 {
     match body {

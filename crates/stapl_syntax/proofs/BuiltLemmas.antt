@@ -1,10 +1,13 @@
 -- The statements of a program are built.
-use Rattle.std.proofs.Common.{◌≡◌, ℕ, List, [], ◌∷◌, true, not, ◌||◌, Option, None, Some}
+use Rattle.std.proofs.Common.{◌≡◌, ℕ, ◌+◌, List, [], ◌∷◌, Bool, true, false, cond, not, ◌||◌, None, Some, refl, sym, ap, ◌∙◌}
+use Rattle.std.specs.Prelude.{All}
+use Rattle.std.specs.List.{position_from}
 use Rattle.std.proofs.lemmas.Bool.{and_parts}
+use Rattle.std.proofs.lemmas.List.Elements.{All-nil, All-cons}
 use Rattle.stapl_lexer.specs.declared.terminal.BinOp.TheVariants as operators
-use Rattle.stapl_syntax.specs.Trees.{ExprTree, number, scalar, binary, PartTree, string, value, BodyTree, action, procedure, end_procedure, integer, assign, goto, if_then, print, exit, StmtTree}
-use Rattle.stapl_syntax.specs.Statements.{is_outer}
-use Rattle.stapl_syntax.specs.Built.{is_built_atom, is_built_sum, is_built_condition, is_built_print, is_built_simple, is_built_inner, is_built_outer, is_built, IsAtom, is_number, is_scalar, IsSum, is_atom, is_sum, IsSimple, is_assign, is_goto, is_print_string, is_print_value, is_exit, IsInner, is_end_procedure, is_integer, is_if, is_simple, IsBuilt, is_inner, is_labelled}
+use Rattle.stapl_syntax.specs.Trees.{ExprTree, number, scalar, binary, PartTree, string, value, BodyTree, end_procedure, integer, assign, goto, if_then, print, exit, StmtTree}
+use Rattle.stapl_syntax.specs.Built.{is_built_atom, is_built_sum, is_built_condition, is_built_print, is_built_simple, is_built_inner, is_built_outer, is_built, IsAtom, is_number, is_scalar, IsSum, is_atom, is_sum, IsSimple, is_assign, is_goto, is_print_string, is_print_value, is_exit, IsInner, is_end_procedure, is_integer, is_if, is_simple, IsBuilt, is_outside, is_inside}
+use Rattle.stapl_syntax.specs.Unbuilt.{is_unbuilt, first_unbuilt}
 
 atom : (x : ExprTree) → is_built_atom x ≡ true → IsAtom x
 atom (number z) h = is_number z
@@ -45,15 +48,26 @@ inner (print parts) h = is_simple (print parts) (simple (print parts) h)
 inner (exit x) h = is_simple (exit x) (simple (exit x) h)
 inner _ h = absurd cc
 
--- a statement that is built and may stand inside a procedure
-inside : (b : BodyTree) → is_built_outer b || is_built_inner b ≡ true → not (is_outer b) ≡ true → is_built_inner b ≡ true
-inside (action name text items) h k = absurd cc
-inside (procedure name uses) h k = absurd cc
-inside b h k = h
-
-pub built_inside : (st : StmtTree) → is_built st ≡ true → not (is_outer st.body) ≡ true → IsBuilt st
-built_inside st h k = by st.label st.body (inner st.body (inside st.body h k))
+built : (st : StmtTree) → is_built st ≡ true → IsBuilt st
+built st h = by (is_built_outer st.body) refl
   where
-    by : (label : Option (List ℕ)) (body : BodyTree) → IsInner body → IsBuilt (record { label = label; body = body })
-    by None body is = is_inner body is
-    by (Some label) body is = is_labelled label body is
+    by : (b : Bool) → is_built_outer st.body ≡ b → IsBuilt st
+    by true e = is_outside st e
+    by false e = is_inside st (inner st.body (sym (ap (λ (b : Bool). b || is_built_inner st.body) e) ∙ h))
+
+-- no statement passes the test, so each is built
+each_built : (n : ℕ) (statements : List StmtTree) → position_from is_unbuilt n statements ≡ None → All IsBuilt statements
+each_built n [] none = All-nil IsBuilt
+each_built n (st ∷ rest) none = by (is_built st) refl (each_built (n + 1) rest)
+  where
+    by : (b : Bool) → is_built st ≡ b → (position_from is_unbuilt (n + 1) rest ≡ None → All IsBuilt rest) → All IsBuilt (st ∷ rest)
+    by true e more =
+        let none_more : position_from is_unbuilt (n + 1) rest ≡ None =
+        sym (ap (λ (b : Bool). cond (not b) (Some n) (position_from is_unbuilt (n + 1) rest)) e) ∙ none in
+        All-cons IsBuilt st rest (built st e) (more none_more)
+    by false e more =
+        let here : Some n ≡ None = sym (ap (λ (b : Bool). cond (not b) (Some n) (position_from is_unbuilt (n + 1) rest)) e) ∙ none in
+        absurd cc
+
+pub all_built : (statements : List StmtTree) → first_unbuilt statements ≡ None → All IsBuilt statements
+all_built statements none = each_built 0 statements none

@@ -1,4 +1,3 @@
 pub mod ReasonLemmas
 pub mod BuiltLemmas
-pub mod ShapeLemmas
 pub mod SymbolLemmas

@@ -1,4 +1,5 @@
--- What holds of the symbols of a piece: a name is no reserved word, and a string is no longer than the text.
+-- What holds of the symbols of a piece: a name is spelled as one and is no reserved word, and a string is no longer
+-- than the text.
 use Rattle.std.proofs.Common.{◌≡◌, ◌↔◌, ℕ, ℤ, ◌-◌, ◌≤◌, Bool, true, false, List, [], ◌∷◌, ◌++◌, length, length-drop, drop, map, Option, Some, None, arith, refl, sym, ap, subst, ◌∙◌}
 use Rattle.std.specs.Prelude.{All, if◌then◌else◌}
 use Rattle.std.specs.Str.{str_to_ascii_uppercase}
@@ -11,20 +12,20 @@ use Rattle.stapl_lexer.specs.declared.terminal.JoinWord.TheVariants as joins
 use Rattle.stapl_lexer.specs.declared.token.Token.{Token}
 use Rattle.stapl_lexer.specs.declared.token.TokenKind.{TokenKind}
 use Rattle.stapl_lexer.specs.declared.token.TokenKind.TheVariants as kinds
-use Rattle.stapl_lexer.specs.Names.{is_name}
+use Rattle.stapl_lexer.specs.Names.{is_name, IsUpperName}
 use Rattle.stapl_lexer.specs.PieceFaults.{tokens_of, AreTokens}
 use Rattle.stapl_lexer.specs.PieceTokens.{token_bytes, terminal_of, first_word, Lexeme, HasLexemes}
 use Rattle.stapl_lexer.specs.ReservedWords.{word_terminal, is_reserved_word}
-use Rattle.stapl_lexer.proofs.NameLemmas.{upper_is_name, free_words}
+use Rattle.stapl_lexer.proofs.NameLemmas.{upper_is_name, upper_name, free_words}
 use Rattle.stapl_syntax.specs.declared.signs.Sign.{Sign}
 use Rattle.stapl_syntax.specs.declared.signs.Sign.TheVariants as signs
 use Rattle.stapl_syntax.specs.Symbols.{Symbol, Plain, Text, terminal_sign, word_sign, mark_sign, symbol_as, symbols_of}
 use Rattle.stapl_syntax.specs.Expressions.{name}
 use Rattle.stapl_syntax.specs.Trees.{PartTree, BodyTree, action, procedure, if_then, print, StmtTree}
-use Rattle.stapl_syntax.specs.Parts.{IsPart, Separated, IsPrintPart, of_string, of_value, of_character, a_print_part, comma, join}
+use Rattle.stapl_syntax.specs.Parts.{IsPart, Separated, IsPrintPart, of_string, of_value, of_character, a_print_part, item_part, comma, join}
 use Rattle.stapl_syntax.specs.Statements.{IsBody, IsLabelled}
 use Rattle.stapl_syntax.specs.Programs.{AreReadAs, IsProgram}
-use Rattle.stapl_syntax.specs.Shapes.{HasFreeName, IsShortPart, PrintsShortStrings}
+use Rattle.stapl_syntax.specs.Contents.{IsFreeName, IsWellNamed, IsShortPart, PrintsShortStrings}
 
 -- ---- names
 
@@ -81,8 +82,10 @@ seen_as_name own v = (
   (λ is. name_sign_of own v (record { name_spelled = is.0; free = is.1; upper = is.2 })),
 )
 
-free_word : (own v : List ℕ) (terminal : Option Terminal) → terminal ≡ word_terminal own → name_in (word_sign terminal own) ≡ Some v → is_reserved_word v ≡ false
-free_word own v terminal is e = let n = named own v terminal is e in ap is_reserved_word n.upper ∙ n.free
+free_word : (own v : List ℕ) (terminal : Option Terminal) → terminal ≡ word_terminal own → name_in (word_sign terminal own) ≡ Some v → IsFreeName v
+free_word own v terminal is e =
+    let n = named own v terminal is e in
+    record { spelled = subst IsUpperName (sym n.upper) (upper_name own n.name_spelled); free = ap is_reserved_word n.upper ∙ n.free }
 
 no_mark : (v : List ℕ) (terminal : Option Terminal) → name_in (mark_sign terminal) ≡ Some v → ⊥
 no_mark v (Some t) e = none_some (name_in (terminal_sign t)) v (terminal_no_name t) e
@@ -92,7 +95,7 @@ no_mark v None e = cc
 
 -- a name is free, and a string has at most so many bytes
 abbrev IsSound : ℕ → Symbol → Type 0
-IsSound n (Plain sign) = (v : List ℕ) → name_in sign ≡ Some v → is_reserved_word v ≡ false
+IsSound n (Plain sign) = (v : List ℕ) → name_in sign ≡ Some v → IsFreeName v
 IsSound n (Text bytes) = length bytes ≤ n
 IsSound n _ = Unit {0}
 
@@ -154,15 +157,19 @@ short_body n s (if_then e body) is sound =
     short_body n is.1 body is.6 (sound_right n is.0 (join joins.Then ∷ is.1) (subst (AreSound n) is.2 sound).1).1
 short_body n s _ is sound = tt
 
-free_name : (n : ℕ) (v : List ℕ) (w : Symbol) (a b r s : List Symbol) → s ≡ w ∷ r → r ≡ a ++ b → a ≡ name v ∷ [] → AreSound n s → is_reserved_word v ≡ false
+free_name : (n : ℕ) (v : List ℕ) (w : Symbol) (a b r s : List Symbol) → s ≡ w ∷ r → r ≡ a ++ b → a ≡ name v ∷ [] → AreSound n s → IsFreeName v
 free_name n v w a b r s first rest is sound =
     let second : AreSound n (a ++ b) = subst (AreSound n) rest (subst (AreSound n) first sound).1 in
     (subst (AreSound n) is (sound_left n a b second)).0 v refl
 
-free_body : (n : ℕ) (s : List Symbol) (body : BodyTree) → IsBody s body → AreSound n s → HasFreeName body
-free_body n s (action v text items) is sound = free_name n v _ is.2.0 is.2.1 is.0 s is.1 is.2.2 is.2.3 sound
-free_body n s (procedure v uses) is sound = free_name n v _ is.2.0 is.2.1 is.0 s is.1 is.2.2 is.2.3 sound
-free_body n s _ is sound = tt
+some_items : {A : Type 0} (P : A → List Symbol → Type 0) (t : Symbol) (xs : List A) (s : List Symbol) → Separated P t xs s → 1 ≤ length xs
+some_items P t [] s is = absurd is
+some_items P t (x ∷ xs) s is = omega arith
+
+well_named : (n : ℕ) (s : List Symbol) (body : BodyTree) → IsBody s body → AreSound n s → IsWellNamed body
+well_named n s (action v text items) is sound = (free_name n v _ is.2.0 is.2.1 is.0 s is.1 is.2.2 is.2.3 sound, some_items (IsPart item_part) comma items is.2.4.4.0 is.2.4.4.2)
+well_named n s (procedure v uses) is sound = free_name n v _ is.2.0 is.2.1 is.0 s is.1 is.2.2 is.2.3 sound
+well_named n s _ is sound = tt
 
 -- what is so of each body that sound symbols mean is so of those after a label
 of_labelled : (P : BodyTree → Type 0) (n : ℕ) → ((s : List Symbol) (body : BodyTree) → IsBody s body → AreSound n s → P body) →
@@ -180,8 +187,8 @@ of_pieces P text each (p ∷ ps) (st ∷ sts) read =
     let sound = sound_tokens text p own.tokens own.are in
     All-cons (λ (st : StmtTree). P st.body) st sts (of_labelled P (length text) each (symbols_of text own.tokens) st.label st.body own.means sound) (of_pieces P text each ps sts read.1)
 
-pub free_names : (text : List ℕ) (statements : List StmtTree) → IsProgram text statements → All (λ (st : StmtTree). HasFreeName st.body) statements
-free_names text statements program = of_pieces HasFreeName text (free_body (length text)) program.pieces statements program.read
+pub well_named_blocks : (text : List ℕ) (statements : List StmtTree) → IsProgram text statements → All (λ (st : StmtTree). IsWellNamed st.body) statements
+well_named_blocks text statements program = of_pieces IsWellNamed text (well_named (length text)) program.pieces statements program.read
 
 pub short_strings : (text : List ℕ) (statements : List StmtTree) → IsProgram text statements → All (λ (st : StmtTree). PrintsShortStrings (length text) st.body) statements
 short_strings text statements program = of_pieces (PrintsShortStrings (length text)) text (short_body (length text)) program.pieces statements program.read

@@ -1,7 +1,8 @@
 -- Which statements are built: those that the compiler takes. Which these are is this profile's, and grows.
-use Rattle.std.specs.Prelude.{ℕ, ℤ, List, [], ◌∷◌, Bool, true, false, ◌&&◌, ◌||◌, None, Some}
+use Rattle.std.specs.Prelude.{◌≡◌, ℕ, ℤ, List, [], ◌∷◌, Bool, true, false, ◌&&◌, ◌||◌, None, Some}
+use Rattle.std.specs.List.{list_all}
 use Rattle.stapl_lexer.specs.declared.terminal.BinOp.TheVariants as operators
-use Rattle.stapl_syntax.specs.Trees.{ExprTree, number, scalar, binary, ItemTree, PartTree, string, value, BodyTree, action, procedure, end_procedure, integer, assign, goto, if_then, print, exit, StmtTree}
+use Rattle.stapl_syntax.specs.Trees.{ExprTree, number, scalar, binary, ItemTree, PartTree, string, value, BodyTree, note, action, procedure, crc, end_procedure, integer, assign, goto, if_then, print, exit, StmtTree}
 
 -- a number or a scalar variable
 abbrev pub is_built_atom : ExprTree → Bool
@@ -40,15 +41,17 @@ is_built_inner (integer name None) = true
 is_built_inner (if_then x body) = is_built_condition x && is_built_simple body
 is_built_inner body = is_built_simple body
 
--- one procedure, which always runs
-abbrev pub is_built_list : List ItemTree → Bool
-is_built_list ((run, None) ∷ []) = true
-is_built_list _ = false
+-- a procedure that always runs
+abbrev pub is_built_item : ItemTree → Bool
+is_built_item (run, None) = true
+is_built_item (run, Some choice) = false
 
--- a statement outside procedures: an action without a text, or a procedure that uses no block
+-- a statement outside procedures: a DATA block is not built, and neither is a procedure that runs by choice
 abbrev pub is_built_outer : BodyTree → Bool
-is_built_outer (action name None items) = is_built_list items
-is_built_outer (procedure name None) = true
+is_built_outer (note key text) = true
+is_built_outer (action name text items) = list_all is_built_item items
+is_built_outer (procedure name uses) = true
+is_built_outer (crc n) = true
 is_built_outer _ = false
 
 -- the statement is built
@@ -78,24 +81,6 @@ pub data IsInner : BodyTree → Type 0 where
   is_if : (x y : ExprTree) (body : BodyTree) → IsAtom x → IsAtom y → IsSimple body → IsInner (if_then (binary operators.Less x y) body)
   is_simple : (body : BodyTree) → IsSimple body → IsInner body
 
--- a statement that bears no label
-abbrev pub unlabelled : BodyTree → StmtTree
-unlabelled body = record { label = None; body = body }
-
--- a statement after a label
-abbrev pub labelled : List ℕ → BodyTree → StmtTree
-labelled label body = record { label = Some label; body = body }
-
--- an action of one procedure, which always runs
-abbrev pub action_of : List ℕ → List ℕ → BodyTree
-action_of name run = action name None ((run, None) ∷ [])
-
--- a procedure that uses no block
-abbrev pub procedure_of : List ℕ → BodyTree
-procedure_of name = procedure name None
-
 pub data IsBuilt : StmtTree → Type 0 where
-  is_action : (name run : List ℕ) → IsBuilt (unlabelled (action_of name run))
-  is_procedure : (name : List ℕ) → IsBuilt (unlabelled (procedure_of name))
-  is_inner : (body : BodyTree) → IsInner body → IsBuilt (unlabelled body)
-  is_labelled : (label : List ℕ) (body : BodyTree) → IsInner body → IsBuilt (labelled label body)
+  is_outside : (st : StmtTree) → is_built_outer st.body ≡ true → IsBuilt st
+  is_inside : (st : StmtTree) → IsInner st.body → IsBuilt st

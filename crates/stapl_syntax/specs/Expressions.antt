@@ -1,5 +1,5 @@
--- How expressions and arrays are written (JESD71, expressions, Boolean arrays): one case for each production, and one for each level of
--- operators. A list of symbols may be split anywhere.
+-- How expressions and arrays are written (JESD71, expressions, Boolean arrays): one case for each production, and one
+-- for each level of operators. A list of symbols may be split anywhere.
 use Rattle.std.specs.Prelude.{◌≡◌, ℕ, suc, ℤ, Bool, List, [], ◌∷◌, ◌++◌}
 use Rattle.stapl_lexer.specs.declared.terminal.BinOp.{BinOp}
 use Rattle.stapl_lexer.specs.declared.terminal.BinOp.TheVariants.{Multiply, Divide, Remainder, Add, Subtract, ShiftLeft, ShiftRight, Less, AtMost, Greater, AtLeast, Equal, NotEqual, BitAnd, BitXor, BitOr, And, Or}
@@ -61,8 +61,8 @@ abbrev pub dots : Symbol
 dots = mark marks.Dots
 
 mutual
-  -- IsExpr n s e: the symbols s are the expression e, whose operators outside brackets are of levels up to n. Operators of one level
-  -- group from the left.
+  -- IsExpr n s e: the symbols s are the expression e, whose operators outside brackets are of levels up to n. Operators
+  -- of one level group from the left.
   pub data IsExpr : ℕ → List Symbol → ExprTree → Type 0 where
     of_unary : {s : List Symbol} {e : ExprTree} → IsUnary s e → IsExpr 0 s e
     tighter : {n : ℕ} {s : List Symbol} {e : ExprTree} → IsExpr n s e → IsExpr (suc n) s e

@@ -5,11 +5,11 @@ pub mod Parts
 pub mod Statements
 pub mod Reasons
 pub mod Built
-pub mod Declarations
 pub mod Names
 pub mod Kinds
 pub mod Mentions
 pub mod Rules
 pub mod Programs
 pub mod Unbuilt
-pub mod Shapes
+pub mod Contents
+pub mod ProgramValues

@@ -55,8 +55,8 @@ is_left_out _ = false
 abbrev pub holds_left_out : List Symbol → Bool
 holds_left_out s = list_any (λ t. is_left_out (sign_of t)) s
 
--- A reason why the piece is no statement, one case for each row of the table of reasons. What is said of the grammar is said of pieces
--- whose tokens are good.
+-- A reason why the piece is no statement, one case for each row of the table of reasons. What is said of the grammar is
+-- said of pieces whose tokens are good.
 pub data HasReason (text : List ℕ) (piece : Piece) : Reason → Type 0 where
   -- a reason that lies in the bytes or in single tokens, or a bad token
   in_tokens : {reason : Reason} → HasTokenReason text piece reason → HasReason text piece reason

@@ -1,4 +1,5 @@
--- Which tokens mean which statement, and why a piece is no statement (JESD71, statements). The reasons are this profile's.
+-- Which tokens mean which statement, and why a piece is no statement (JESD71, statements). The reasons are this
+-- profile's.
 use Rattle.std.specs.Prelude.{◌≡◌, ℕ, List, [], ◌∷◌, ◌++◌, Option, Some, None, Bool, true, false}
 use Rattle.stapl_lexer.specs.declared.piece.Piece.{Piece}
 use Rattle.stapl_lexer.specs.declared.token.Token.{Token}
@@ -43,6 +44,16 @@ is_outer (data_block v) = true
 is_outer end_data = true
 is_outer (crc n) = true
 is_outer _ = false
+
+-- PROCEDURE
+abbrev pub begins_procedure : BodyTree → Bool
+begins_procedure (procedure v uses) = true
+begins_procedure _ = false
+
+-- ENDPROC
+abbrev pub ends_procedure : BodyTree → Bool
+ends_procedure end_procedure = true
+ends_procedure _ = false
 
 -- ENDPROC or a declaration, which may not stand after THEN
 abbrev pub is_unconditional : BodyTree → Bool
@@ -108,8 +119,8 @@ IsLabelled s (Some v) body = (r : List Symbol) × (s ≡ name v ∷ mark marks.C
 abbrev pub Means : List Symbol → StmtTree → Type 0
 Means s st = IsLabelled s st.label st.body
 
--- The piece of the text is this statement: it has tokens, nothing is wrong with them, and what the grammar sees of them means the
--- statement.
+-- The piece of the text is this statement: it has tokens, nothing is wrong with them, and what the grammar sees of them
+-- means the statement.
 pub record IsPieceStatement (text : List ℕ) (piece : Piece) (st : StmtTree) : Type 0 where
   pub tokens : List Token
   pub are : AreTokens text piece tokens

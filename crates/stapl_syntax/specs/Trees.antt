@@ -169,3 +169,7 @@ body_tree (bodies.Frequency e) = frequency (option_map expr_tree e)
 
 abbrev pub stmt_tree : Stmt → StmtTree
 stmt_tree st = record { label = st.label; body = body_tree st.body }
+
+-- the trees of statements
+abbrev pub trees : List Stmt → List StmtTree
+trees statements = map stmt_tree statements

@@ -12,14 +12,7 @@ ghost use Rattle.stapl_syntax.specs.Reasons.{SmallestReason};
 ghost use Rattle.stapl_syntax.specs.Built.{IsBuilt};
 ghost use Rattle.stapl_syntax.specs.Programs.{IsProgram};
 ghost use Rattle.stapl_syntax.specs.Unbuilt.{IsBuiltProgram};
-ghost use Rattle.stapl_syntax.specs.Shapes.{IsOneProcedure, HasFreeName, PrintsShortStrings};
-
-/// The statements of a built program are an action, the one procedure that it names, and the statements of that up to
-/// its ENDPROC. Each variable and each label that one of them names is declared among them exactly once.
-pub fn a_program_is_one_procedure()
-    ensures { (text : List ℕ) (statements : List StmtTree) →
-        IsBuiltProgram text statements → IsOneProcedure statements }
-{}
+ghost use Rattle.stapl_syntax.specs.Contents.{IsWellNamed, PrintsShortStrings};
 
 /// Each statement of a built program has one of the shapes that are built.
 pub fn programs_are_built()
@@ -27,10 +20,11 @@ pub fn programs_are_built()
         IsBuiltProgram text statements → All IsBuilt statements }
 {}
 
-/// The name of an ACTION or a PROCEDURE of a program is no reserved word.
-pub fn names_of_blocks_are_free()
+/// The names of the ACTIONs and PROCEDUREs of a program are spelled as names and no reserved words, and each ACTION
+/// names a procedure.
+pub fn blocks_are_well_named()
     ensures { (text : List ℕ) (statements : List StmtTree) →
-        IsProgram text statements → All (λ st. HasFreeName st.body) statements }
+        IsProgram text statements → All (λ st. IsWellNamed st.body) statements }
 {}
 
 /// A string that a program prints is no longer than the text of the program.

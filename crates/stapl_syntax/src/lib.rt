@@ -3,10 +3,12 @@
 
 pub mod laws;
 mod names;
+mod program;
 mod signs;
 mod statement;
 
 pub use names::{Block, Declaration, Found, Key, Kind, VarKind, Variable};
+pub use program::Program;
 pub use signs::{Sign, UnOp};
 pub use statement::{
     ArrayExpr, Body, Compare, Exported, Expr, Item, ItemChoice, PrintPart, Scan, Stmt,

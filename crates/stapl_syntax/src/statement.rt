@@ -1,5 +1,5 @@
-//! Statements as trees, as they are kept (JESD71, statements). Contracts speak of them by `stmt_tree` and the other functions of
-//! `specs/Trees`.
+//! Statements as trees, as they are kept (JESD71, statements). Contracts speak of them by `stmt_tree` and the other
+//! functions of `specs/Trees`.
 use crate::names::{Declaration, VarKind};
 use crate::signs::UnOp;
 use base::ItemList;
@@ -93,8 +93,9 @@ pub struct Scan {
     pub compare: Option<Compare>,
 }
 
-/// A statement without its label (JESD71, statements). The fields stand in the written order. A string is kept by the bytes between its
-/// quotes, a state by its number. What is seldom and large lies behind a pointer, so that the other statements take little memory.
+/// A statement without its label (JESD71, statements). The fields stand in the written order. A string is kept by the
+/// bytes between its quotes, a state by its number. What is seldom and large lies behind a pointer, so that the other
+/// statements take little memory.
 #[derive(Drop)]
 pub enum Body {
     /// NOTE: key and text.

@@ -1,6 +1,12 @@
-use Rattle.std.proofs.Common.{◌∙◌}
+use Rattle.std.proofs.Common.{◌∙◌, arith}
 use Rattle.stapl_checker.proofs.CourseLemmas.{walk_on, reason_is, none_more, stops, listed_at}
 use Rattle.stapl_checker.proofs.way.walk.Goals as goal
+
+pub loop-i-init : goal.loop-i-init
+loop-i-init c = record {
+  none = λ k lt. absurd (omega (arith, lt));
+  course = c.first-course.ensures c.args.names.now;
+}
 
 pub returns-in-Some : goal.returns-in-Some
 returns-in-Some c =

@@ -2,12 +2,10 @@ use Rattle.std.proofs.Common.{sym, ◌∙◌, subst, ◌+◌, ap, arith, length,
 use Rattle.std.proofs.lemmas.List.{length-map}
 use Rattle.stapl_codegen.specs.Emit.{pieces_code}
 use Rattle.stapl_codegen.proofs.Sizes.{pieces_size, texts_so_far}
-use Rattle.stapl_syntax.specs.Trees.{stmt_tree, body_tree}
-use Rattle.stapl_codegen.specs.Tables.{trees}
+use Rattle.stapl_syntax.specs.Trees.{stmt_tree, trees}
 use Rattle.stapl_codegen.specs.Drafts.{StartsTo}
 use Rattle.stapl_codegen.proofs.Heads.{mapped_more}
-use Rattle.stapl_codegen.proofs.Collect.{block_few}
-use Rattle.stapl_codegen.proofs.Drafts.{blocks_more, texts_more, code_more, start_more, starts_more}
+use Rattle.stapl_codegen.proofs.Drafts.{inside_more, texts_more, code_more, start_more, starts_more}
 use Rattle.stapl_codegen.proofs.draft.draft_program.Goals as goal
 
 pub start_at-requires : goal.start_at-requires
@@ -24,13 +22,6 @@ start_at-requires c =
       ap length c.loop-i.invariant.code,
       length-append c.loop-i.code.items (pieces_code program (λ j. j) c.loop-i.i (drop c.loop-i.i program)),
     )
-
-pub emit_piece-requires-clause-block : goal.emit_piece-requires-clause-block
-emit_piece-requires-clause-block c =
-    let program = c.args.program.now in
-    let st = c.index-program-i.result in
-    blocks_more (trees program) c.loop-i.i (stmt_tree st) (mapped_more stmt_tree c.loop-i.i program st c.loop-i-test.true c.index-program-i.is)
-    c.loop-i.block _ c.loop-i.invariant.block c.block_behind-block.ensures
 
 pub emit_piece-requires-clause-few : goal.emit_piece-requires-clause-few
 emit_piece-requires-clause-few c =
@@ -53,6 +44,5 @@ loop-i-preserved c =
       code = code_more (trees program) i (stmt_tree st) is _ _ _ old.code ensures.code;
       texts = texts_more (trees program) i (stmt_tree st) is c.loop-i.texts.items _ old.texts ensures.texts;
       starts = subst (StartsTo (trees program) (i + 1)) (sym c.in_ok-push.ensures.items) starts;
-      block = blocks_more (trees program) i (stmt_tree st) is c.loop-i.block _ old.block c.block_behind-block.ensures;
-      few = block_few (body_tree st.body) c.loop-i.block _ i c.block_behind-block.ensures old.few;
+      inside = inside_more (trees program) i (stmt_tree st) is c.loop-i.inside _ old.inside c.inside_behind-inside.ensures;
     }

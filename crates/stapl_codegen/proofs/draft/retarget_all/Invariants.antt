@@ -1,6 +1,6 @@
 use Rattle.std.proofs.Common.{◌≡◌, ◌++◌, map}
 use Rattle.stapl_codegen.specs.Emit.{retarget, start_of}
-use Rattle.stapl_codegen.specs.Tables.{trees}
+use Rattle.stapl_syntax.specs.Trees.{trees}
 use Rattle.stapl_codegen.proofs.draft.retarget_all.Given as goal
 
 abbrev pub invariant-loop-instr : goal.invariant-loop-instr

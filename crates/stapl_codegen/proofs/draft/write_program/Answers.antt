@@ -1,6 +1,6 @@
 use Rattle.std.proofs.Common.{◌∙◌, ap, map}
 use Rattle.stapl_codegen.specs.Emit.{retarget, start_of}
-use Rattle.stapl_codegen.specs.Tables.{trees}
+use Rattle.stapl_syntax.specs.Trees.{trees}
 use Rattle.stapl_codegen.proofs.Lists.{pieces_retarget}
 use Rattle.stapl_codegen.proofs.draft.write_program.Goals as goal
 

@@ -1,7 +1,6 @@
 use Rattle.std.proofs.Common.{◌+◌, drop, map}
 use Rattle.stapl_syntax.specs.Trees.{part_tree}
-use Rattle.stapl_codegen.specs.Emit.{variable_in}
-use Rattle.stapl_codegen.specs.Tables.{trees}
+use Rattle.stapl_meaning.specs.Scopes.{variable_from}
 use Rattle.stapl_codegen.proofs.Heads.{mapped_more}
 use Rattle.stapl_codegen.proofs.Emits.{values_more}
 use Rattle.stapl_codegen.proofs.emit.emit_values.Goals as goal
@@ -13,4 +12,4 @@ loop-i-preserved c =
     let part = c.index-parts-i.result in
     values_more (part_tree part) (drop (i + 1) (map part_tree parts)) (drop i (map part_tree parts))
     (mapped_more part_tree i parts part c.loop-i-test.true c.index-parts-i.is)
-    (variable_in (trees c.args.program.now) c.args.block) _ _ _ c.in_ok-emit_part.ensures c.loop-i.invariant
+    (variable_from c.args.names.now c.args.inside.now) _ _ _ c.in_ok-emit_part.ensures c.loop-i.invariant

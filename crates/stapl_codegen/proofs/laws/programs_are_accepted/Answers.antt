@@ -3,5 +3,5 @@ use Rattle.stapl_codegen.proofs.laws.programs_are_accepted.Goals as goal
 
 pub returns : goal.returns
 returns c = λ text program is.
-    accepted text program is (c.a_program_is_one_procedure.ensures text program is) (c.programs_are_built.ensures text program is)
-    (c.names_of_blocks_are_free.ensures text program is.program) (c.texts_of_prints_are_short.ensures text program is.program)
+    accepted text program is (c.programs_are_typed.ensures text program is) (c.programs_are_built.ensures text program is)
+    (c.blocks_are_well_named.ensures text program is.program) (c.texts_of_prints_are_short.ensures text program is.program)

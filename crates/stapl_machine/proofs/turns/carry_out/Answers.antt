@@ -75,4 +75,5 @@ returns-in-Ok g c =
       most = tt;
       kept = kept_start _ _;
       fault = tt;
+      memory = tt;
     }
