@@ -1,5 +1,6 @@
 -- On the check word of a program, and on counts of its statements.
 use Rattle.std.proofs.Common.{◌≡◌, ◌-◌, ◌+◌, ℕ, List, [], ◌∷◌, length, map, take, Option, None, Some, refl, sym, ap, ◌∙◌, subst, arith, zero, suc, cond}
+use Rattle.std.proofs.lemmas.Option.{same_Some, none-some}
 use Rattle.std.proofs.lemmas.Bool.{ne_eqb}
 use Rattle.std.proofs.lemmas.List.Folds.{fold-map}
 use Rattle.std.specs.Prelude.{slice_get}
@@ -22,12 +23,6 @@ use Rattle.play_tool.specs.declared.checking.StatementKind.{StatementKind}
 use Rattle.play_tool.specs.declared.checking.CheckWords.{CheckWords}
 use Rattle.play_tool.specs.Checks.{word_of, stored_word, count_of, is_of_kind, has_kind, BeginsLastPiece, HasCheckWords, holds_none, holds_one, differing_line, compared_line}
 
-some_back : {A : Type 0} (x y : A) → Some x ≡ Some y → x ≡ y
-some_back x y e = cc
-
-none_some : {A : Type 0} (x : A) → None ≡ Some x → ⊥
-none_some x e = cc
-
 -- The last piece of a text begins with at most one token.
 
 -- a piece, and its first token
@@ -45,7 +40,7 @@ last_of {text = text} pieces cut b =
 
 one_begin : {text : List ℕ} {v w : Token} → BeginsLastPiece text v → BeginsLastPiece text w → v ≡ w
 one_begin {text = text} {v = v} {w = w} a b =
-    let same : a.piece ≡ b.piece = some_back a.piece b.piece (sym (last_of b.pieces b.cut a) ∙ b.last) in
+    let same : a.piece ≡ b.piece = same_Some a.piece b.piece (sym (last_of b.pieces b.cut a) ∙ b.last) in
     same_tokens text b.piece v w a.behind b.behind (subst (λ (p : Piece). AreTokens text p (v ∷ a.behind)) same a.tokens) b.tokens
 
 same_words : (text : List ℕ) (n m : ℕ) (v w : Token) → n ≡ m → v ≡ w →
@@ -55,10 +50,10 @@ same_words text n m v w e f = rw (e, f) refl
 -- a program has at most one answer about its check word
 pub one_word : {text : List ℕ} {program : List StmtTree} {a b : Option CheckWords} → HasCheckWords text program a → HasCheckWords text program b → a ≡ b
 one_word (holds_none e) (holds_none f) = refl
-one_word (holds_none e) (holds_one stored word f begins) = absurd (none_some stored (sym e ∙ f))
-one_word (holds_one stored word e begins) (holds_none f) = absurd (none_some stored (sym f ∙ e))
+one_word (holds_none e) (holds_one stored word f begins) = absurd (none-some stored (sym e ∙ f))
+one_word (holds_one stored word e begins) (holds_none f) = absurd (none-some stored (sym f ∙ e))
 one_word {text = text} (holds_one stored word e begins) (holds_one other token f also) =
-    same_words text stored other word token (some_back stored other (sym e ∙ f)) (one_begin begins also)
+    same_words text stored other word token (same_Some stored other (sym e ∙ f)) (one_begin begins also)
 
 -- A program that holds a check word has a last piece with a token.
 
@@ -70,11 +65,11 @@ record IsPieceOf (text : List ℕ) (pieces : List Piece) (i : ℕ) (st : StmtTre
 
 piece_at : (text : List ℕ) (pieces : List Piece) (program : List StmtTree) (i : ℕ) (st : StmtTree) → AreReadAs text pieces (map Some program) →
     slice_get program i ≡ Some st → IsPieceOf text pieces i st
-piece_at text [] [] i st read e = absurd (none_some st e)
+piece_at text [] [] i st read e = absurd (none-some st e)
 piece_at text [] (s ∷ program) i st read e = absurd read
-piece_at text (p ∷ pieces) [] i st read e = absurd (none_some st e)
+piece_at text (p ∷ pieces) [] i st read e = absurd (none-some st e)
 piece_at text (p ∷ pieces) (s ∷ program) zero st read e =
-    record { piece = p; at = refl; is = subst (IsPieceStatement text p) (some_back s st e) read.0 }
+    record { piece = p; at = refl; is = subst (IsPieceStatement text p) (same_Some s st e) read.0 }
 piece_at text (p ∷ pieces) (s ∷ program) (suc i) st read e =
     let found = piece_at text pieces program i st read.1 e in record { piece = found.piece; at = found.at; is = found.is }
 
@@ -87,7 +82,7 @@ as_many text (p ∷ pieces) (s ∷ program) read = let e = as_many text pieces p
 -- the CRC statement has a token
 not_empty : (body : BodyTree) (n : ℕ) → word_of body ≡ Some n → IsBody [] body → ⊥
 not_empty (crc k) n e is = let f = is.1 in cc
-not_empty _ n e is = absurd (none_some n e)
+not_empty _ n e is = absurd (none-some n e)
 
 not_blank : (st : StmtTree) (n : ℕ) → word_of st.body ≡ Some n → Means [] st → ⊥
 not_blank st n e means = by_label st.label means
@@ -104,7 +99,7 @@ begins_with text pieces st n (word ∷ behind) cut found e are means =
 
 holding : (text : List ℕ) (program : List StmtTree) (is : IsProgram text program) (n : ℕ) (last : Option StmtTree) → slice_get program (length program - 1) ≡ last →
     option_map_or (λ st. word_of st.body) last None ≡ Some n → (word : Token) × BeginsLastPiece text word
-holding text program is n None e f = absurd (none_some n f)
+holding text program is n None e f = absurd (none-some n f)
 holding text program is n (Some st) e f =
     let same : length program - 1 ≡ length is.pieces - 1 = ap (λ (k : ℕ). k - 1) (sym (as_many text is.pieces program is.read)) in
     let found = piece_at text is.pieces program (length is.pieces - 1) st is.read (subst (λ (k : ℕ). slice_get program k ≡ Some st) same e) in
@@ -117,11 +112,11 @@ program_begins {text = text} {program = program} n is e = holding text program i
 -- A text whose last piece begins with a token has a last piece, which has tokens, and no reason against them.
 
 pub has_last : {text : List ℕ} {word : Token} (pieces : List Piece) → IsCut text pieces → BeginsLastPiece text word → slice_get pieces (length pieces - 1) ≡ None → ⊥
-has_last pieces cut b e = none_some b.piece (sym e ∙ last_of pieces cut b)
+has_last pieces cut b e = none-some b.piece (sym e ∙ last_of pieces cut b)
 
 the_piece : {text : List ℕ} {word : Token} (pieces : List Piece) (piece : Piece) → IsCut text pieces → (b : BeginsLastPiece text word) →
     slice_get pieces (length pieces - 1) ≡ Some piece → b.piece ≡ piece
-the_piece pieces piece cut b e = some_back b.piece piece (sym (last_of pieces cut b) ∙ e)
+the_piece pieces piece cut b e = same_Some b.piece piece (sym (last_of pieces cut b) ∙ e)
 
 some_tokens : (text : List ℕ) (piece : Piece) (word : Token) (behind : List Token) → AreTokens text piece (word ∷ behind) → AreTokens text piece [] → ⊥
 some_tokens text piece word behind x y = let e = one_list text piece (word ∷ behind) [] x.good y.good in cc
@@ -130,7 +125,7 @@ pub has_token : {text : List ℕ} {word : Token} (pieces : List Piece) (piece : 
     slice_get pieces (length pieces - 1) ≡ Some piece → AreTokens text piece tokens → slice_get tokens 0 ≡ None → ⊥
 has_token {text = text} {word = word} pieces piece [] cut b e are none =
     some_tokens text piece word b.behind (subst (λ (p : Piece). AreTokens text p (word ∷ b.behind)) (the_piece pieces piece cut b e) b.tokens) are
-has_token pieces piece (first ∷ tokens) cut b e are none = none_some first (sym none)
+has_token pieces piece (first ∷ tokens) cut b e are none = none-some first (sym none)
 
 pub has_no_reason : {text : List ℕ} {word : Token} (pieces : List Piece) (piece : Piece) (reason : Reason) → IsCut text pieces → BeginsLastPiece text word →
     slice_get pieces (length pieces - 1) ≡ Some piece → IsSmallestTokenReason text piece reason → ⊥
@@ -140,14 +135,14 @@ has_no_reason {text = text} {word = word} pieces piece reason cut b e r =
 
 pub begins_last : {text : List ℕ} (pieces : List Piece) (piece : Piece) (tokens : List Token) (word : Token) → IsCut text pieces →
     slice_get pieces (length pieces - 1) ≡ Some piece → AreTokens text piece tokens → slice_get tokens 0 ≡ Some word → BeginsLastPiece text word
-begins_last pieces piece [] word cut e are f = absurd (none_some word f)
+begins_last pieces piece [] word cut e are f = absurd (none-some word f)
 begins_last {text = text} pieces piece (v ∷ behind) word cut e are f = record {
   pieces = pieces;
   cut = cut;
   piece = piece;
   last = e;
   behind = behind;
-  tokens = subst (λ (w : Token). AreTokens text piece (w ∷ behind)) (some_back v word f) are;
+  tokens = subst (λ (w : Token). AreTokens text piece (w ∷ behind)) (same_Some v word f) are;
 }
 
 -- Statements are counted by their trees.

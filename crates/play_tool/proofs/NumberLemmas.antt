@@ -1,5 +1,6 @@
 -- On numbers in words.
-use Rattle.std.proofs.Common.{◌≡◌, ◌<◌, ◌^◌, ℕ, List, [], ◌∷◌, length, refl, arith, rules, Bool, true, false, ◌&&◌, not, ◌==◌}
+use Rattle.std.proofs.Common.{◌≡◌, ◌<◌, ◌^◌, ℕ, List, [], ◌∷◌, length, arith, rules, true, ◌&&◌, not, ◌==◌}
+use Rattle.std.proofs.lemmas.Bool.{and_parts}
 use Rattle.std.proofs.lemmas.Str.Parse.{IsNumeralModel, numerals_by_value, without_leading_plus_none, not_in_digits}
 use Rattle.std.specs.Char.{is_ascii_digit}
 use Rattle.std.specs.List.{list_all}
@@ -9,14 +10,6 @@ use Rattle.play_tool.specs.Words.{is_decimal, SpellsTurns}
 own : IsNumeralModel (λ ds. list_all is_ascii_digit ds ≡ true) (digits_value 10)
 own = numerals_by_value _ (search rules)
 
-both_left : (a b : Bool) → (a && b) ≡ true → a ≡ true
-both_left true b h = refl
-both_left false b h = absurd cc
-
-both_right : (a b : Bool) → (a && b) ≡ true → b ≡ true
-both_right true b h = h
-both_right false b h = absurd cc
-
 not_empty : (spelling : List ℕ) → not (length spelling == 0) ≡ true → 0 < length spelling
 not_empty [] h = absurd cc
 not_empty (b ∷ bytes) h = omega arith
@@ -24,8 +17,9 @@ not_empty (b ∷ bytes) h = omega arith
 -- what is spelled as a decimal number has digits alone, and one at least
 digits_of : (spelling : List ℕ) → is_decimal spelling ≡ true → (list_all is_ascii_digit spelling ≡ true) × (0 < length spelling)
 digits_of spelling h =
-    let front = both_left (not (length spelling == 0) && list_all is_ascii_digit spelling) _ h in
-    (both_right (not (length spelling == 0)) _ front, not_empty spelling (both_left _ (list_all is_ascii_digit spelling) front))
+    let front = (and_parts (not (length spelling == 0) && list_all is_ascii_digit spelling) _ h).0 in
+    let both = and_parts (not (length spelling == 0)) (list_all is_ascii_digit spelling) front in
+    (both.1, not_empty spelling both.0)
 
 no_plus : (spelling : List ℕ) → list_all is_ascii_digit spelling ≡ true → 0 < length spelling → without_leading_plus spelling ≡ spelling
 no_plus spelling digits some =

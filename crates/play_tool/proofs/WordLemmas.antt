@@ -1,5 +1,6 @@
 -- On words that are read from the first one on.
 use Rattle.std.proofs.Common.{◌≡◌, ◌≢◌, ◌<◌, ◌≤◌, ◌+◌, ℕ, List, [], ◌∷◌, ◌++◌, length, sym, refl, ap, ◌∙◌, arith, subst, suc, zero, get_or, map, codes, Option, None, Some, inl, inr, Bool, true, false, ◌&&◌, not}
+use Rattle.std.proofs.lemmas.Bool.{and_parts}
 use Rattle.std.proofs.lemmas.List.{get_or-map}
 use Rattle.std.proofs.lemmas.Bool.{cases_lt}
 use Rattle.std.specs.Option.{option_map}
@@ -273,14 +274,6 @@ key_missing : (words : List (List ℕ)) (key : WordKey) (found : Option Part) �
 key_missing words key None give e g = give g.part g.of_key g.given
 key_missing words key (Some part) give e g = cc
 
-both_left : (a b : Bool) → (a && b) ≡ true → a ≡ true
-both_left true b h = refl
-both_left false b h = absurd cc
-
-both_right : (a b : Bool) → (a && b) ≡ true → b ≡ true
-both_right true b h = h
-both_right false b h = absurd cc
-
 mapped_some : {A B : Type 0} (f : A → B) (found : Option A) → is_some (option_map f found) ≡ true → is_some found ≡ true
 mapped_some f None e = e
 mapped_some f (Some x) e = refl
@@ -293,12 +286,12 @@ not_lacking false some h e = absurd cc
 -- if no needed key is missing, each needed key is given
 is_there : (values : Values) (key : WordKey) → is_complete values ≡ true → needs values.mode key ≡ true → is_some (given_of values key) ≡ true
 is_there values Program h e =
-    let two = both_left (not (lacks values Program) && not (lacks values Action)) _ h in
-    not_lacking _ _ (both_left (not (lacks values Program)) _ two) e
+    let two = (and_parts (not (lacks values Program) && not (lacks values Action)) _ h).0 in
+    not_lacking _ _ (and_parts (not (lacks values Program)) _ two).0 e
 is_there values Action h e =
-    let two = both_left (not (lacks values Program) && not (lacks values Action)) _ h in
-    not_lacking _ _ (both_right (not (lacks values Program)) _ two) e
-is_there values Turns h e = not_lacking _ _ (both_right (not (lacks values Program) && not (lacks values Action)) _ h) e
+    let two = (and_parts (not (lacks values Program) && not (lacks values Action)) _ h).0 in
+    not_lacking _ _ (and_parts (not (lacks values Program)) _ two).1 e
+is_there values Turns h e = not_lacking _ _ (and_parts (not (lacks values Program) && not (lacks values Action)) _ h).1 e
 
 -- and so the request has it
 request_has : (values : Values) (request : Request) (key : WordKey) → HasValues values request → is_some (given_of values key) ≡ true → has_key request key ≡ true

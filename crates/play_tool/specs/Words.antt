@@ -5,8 +5,7 @@ use Rattle.std.specs.List.{list_all, list_any}
 use Rattle.std.specs.Option.{option_map}
 use Rattle.std.specs.Str.{str_to_ascii_uppercase}
 use Rattle.std.specs.Str.Parse.{digits_value}
-use Rattle.stapl_lexer.specs.Names.{is_name}
-use Rattle.stapl_lexer.specs.ReservedWords.{is_reserved_word}
+use Rattle.stapl_lexer.specs.ReservedWords.{is_free_name}
 use Rattle.play_tool.specs.declared.mode.Mode.{Mode}
 use Rattle.play_tool.specs.declared.mode.Mode.TheVariants as modes
 use Rattle.play_tool.specs.declared.mode.WordKey.{WordKey}
@@ -76,9 +75,8 @@ NamesProgram word path = (word ≡ codes "program=" ++ path) × (path ≢ [])
 
 -- the bytes spell this name, in either case of its letters, and it is not reserved
 pub record SpellsFreeName (spelling name : List ℕ) : Type 0 where
-  pub spelled : is_name spelling ≡ true
+  pub spelled : is_free_name spelling ≡ true
   pub upper : name ≡ str_to_ascii_uppercase spelling
-  pub free : is_reserved_word name ≡ false
 
 -- the word names this action
 pub record NamesAction (word action : List ℕ) : Type 0 where

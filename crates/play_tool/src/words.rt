@@ -2,7 +2,7 @@
 ghost use Rattle.std.specs.Prelude.{◌≡◌, ◌≤◌, ◌<◌, ◌+◌, ℕ, List, [], length, map, codes, string_bytes, is_some, None, IfSome, IfNone, IfOk, IfErr};
 ghost use Rattle.std.specs.Char.{is_ascii_digit};
 ghost use Rattle.std.specs.List.{list_all};
-ghost use Rattle.play_tool.specs.Words.{mode_word, ProgramIn, ActionNamed, TurnsAtMost, is_decimal, NamesProgram, SpellsFreeName, NamesAction, SpellsTurns, NamesTurns, HasMode, IsRequest, IsFirstUnread, IsWordsRefused};
+ghost use Rattle.play_tool.specs.Words.{mode_word, ProgramIn, ActionNamed, TurnsAtMost, is_decimal, NamesProgram, NamesAction, SpellsTurns, NamesTurns, HasMode, IsRequest, IsFirstUnread, IsWordsRefused};
 ghost use Rattle.play_tool.specs.GivenParts.{values_of, given_of, Adds, Refuses, AddsWord, AddsNothing, AreReadUpTo, lacks, is_complete, HasValues};
 ghost use Rattle.play_tool.specs.declared.mode.Mode.{Mode};
 
@@ -197,24 +197,13 @@ fn program_path(word: &str) -> Option<&str>
     }
 }
 
-// The name that some bytes spell, where it is not reserved.
-fn free_name(spelling: &[u8]) -> Option<Name>
-    ensures some { IfSome result (SpellsFreeName spelling.now) }
-    ensures none { IfNone result ((name : List ℕ) → SpellsFreeName spelling.now name → ⊥) }
-{
-    match Name::read(spelling) {
-        Some(name) if !name.is_reserved() => Some(name),
-        _ => None,
-    }
-}
-
 // The name that a word gives for the action.
 fn action_name(word: &str) -> Option<Name>
     ensures some { IfSome result (NamesAction word.now) }
     ensures none { IfNone result ((action : List ℕ) → NamesAction word.now action → ⊥) }
 {
     match word.strip_prefix("action=") {
-        Some(spelling) => free_name(spelling.as_bytes()),
+        Some(spelling) => Name::read_free(spelling.as_bytes()),
         None => None,
     }
 }

@@ -2,6 +2,7 @@
 //! and Boolean arrays).
 ghost use Rattle.std.specs.Prelude.{◌≡◌, if◌then◌else◌};
 ghost use Rattle.std.specs.List.{list_all};
+ghost use Rattle.std.specs.Box.{box_value};
 ghost use Rattle.std.specs.Option.{option_map};
 ghost use Rattle.stapl_syntax.specs.Trees.{expr_tree, array_tree, item_tree, part_tree, export_tree, compare_tree, scan_tree, body_tree};
 ghost use Rattle.stapl_syntax.specs.Kinds.{is_int, is_bit, is_bit_alone, scalar_kind, element_kind, is_bit_array, is_integer, if_ints, if_bits, if_alike, if_equal, binary_kind, unary_kind, number_kind, indexed_kind, expr_kind, is_array, wants_int, wants_bit, has_kind, suits, part_suits, export_suits, compare_suits, if_given, operands_suit};
@@ -233,8 +234,8 @@ fn has_kind(scope: &Scope, expr: &Expr) -> bool
 }
 
 // Whether an expression that may be missing is an integer where it is given.
-fn is_int_if_given(scope: &Scope, expr: &Option<Expr>) -> bool
-    ensures { result ≡ if_given (wants_int (known_of scope.now).kind) (option_map expr_tree expr.now) }
+fn is_int_if_given(scope: &Scope, expr: &Option<Box<Expr>>) -> bool
+    ensures { result ≡ if_given (wants_int (known_of scope.now).kind) (option_map (λ e. expr_tree (box_value e)) expr.now) }
 {
     match expr {
         Some(expr) => wants_int(scope, expr),
@@ -242,8 +243,8 @@ fn is_int_if_given(scope: &Scope, expr: &Option<Expr>) -> bool
     }
 }
 
-fn is_array_if_given(scope: &Scope, array: &Option<ArrayExpr>) -> bool
-    ensures { result ≡ if_given (is_array (known_of scope.now).kind) (option_map array_tree array.now) }
+fn is_array_if_given(scope: &Scope, array: &Option<Box<ArrayExpr>>) -> bool
+    ensures { result ≡ if_given (is_array (known_of scope.now).kind) (option_map (λ a. array_tree (box_value a)) array.now) }
 {
     match array {
         Some(array) => is_array(scope, array),
@@ -287,8 +288,8 @@ fn export_suits(scope: &Scope, exported: &Exported) -> bool
     }
 }
 
-fn compare_suits(scope: &Scope, compare: &Option<Compare>) -> bool
-    ensures { result ≡ if_given (compare_suits (known_of scope.now).kind) (option_map compare_tree compare.now) }
+fn compare_suits(scope: &Scope, compare: &Option<Box<Compare>>) -> bool
+    ensures { result ≡ if_given (compare_suits (known_of scope.now).kind) (option_map (λ c. compare_tree (box_value c)) compare.now) }
 {
     match compare {
         Some(compare) => {

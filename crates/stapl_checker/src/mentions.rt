@@ -1,6 +1,7 @@
 //! Which names of a statement are not declared, or not visible (JESD71, variables, CALL, USES, ACTION, GOTO).
 ghost use Rattle.std.specs.Prelude.{◌≡◌, fold};
 ghost use Rattle.std.specs.List.{list_any};
+ghost use Rattle.std.specs.Box.{box_value};
 ghost use Rattle.std.specs.Option.{option_map};
 ghost use Rattle.stapl_syntax.specs.Trees.{expr_tree, array_tree, part_tree, export_tree, item_tree, compare_tree, scan_tree, body_tree};
 ghost use Rattle.stapl_syntax.specs.Mentions.{expr_variables, array_variables, part_variables, export_variables, compare_variables, variables_named, item_name, procedures_named, blocks_used, labels_named};
@@ -120,8 +121,8 @@ fn export_faults(scope: &Scope, exported: &Exported) -> NameFaults
 
 // What is wrong with the variables of an expression that may be missing.
 #[tactic(auto, using(crate::proofs::MentionLemmas::joined_names))]
-fn given_expr_faults(scope: &Scope, expr: &Option<Expr>) -> NameFaults
-    ensures { result ≡ given_faults (known_of scope.now) expr_variables (option_map expr_tree expr.now) }
+fn given_expr_faults(scope: &Scope, expr: &Option<Box<Expr>>) -> NameFaults
+    ensures { result ≡ given_faults (known_of scope.now) expr_variables (option_map (λ e. expr_tree (box_value e)) expr.now) }
 {
     match expr {
         Some(expr) => expr_faults(scope, expr),
@@ -130,8 +131,8 @@ fn given_expr_faults(scope: &Scope, expr: &Option<Expr>) -> NameFaults
 }
 
 #[tactic(auto, using(crate::proofs::MentionLemmas::joined_names))]
-fn given_array_faults(scope: &Scope, array: &Option<ArrayExpr>) -> NameFaults
-    ensures { result ≡ given_faults (known_of scope.now) array_variables (option_map array_tree array.now) }
+fn given_array_faults(scope: &Scope, array: &Option<Box<ArrayExpr>>) -> NameFaults
+    ensures { result ≡ given_faults (known_of scope.now) array_variables (option_map (λ a. array_tree (box_value a)) array.now) }
 {
     match array {
         Some(array) => array_faults(scope, array),
@@ -140,8 +141,8 @@ fn given_array_faults(scope: &Scope, array: &Option<ArrayExpr>) -> NameFaults
 }
 
 #[tactic(auto, using(crate::proofs::MentionLemmas::joined_names))]
-fn compare_faults(scope: &Scope, compare: &Option<Compare>) -> NameFaults
-    ensures { result ≡ given_faults (known_of scope.now) compare_variables (option_map compare_tree compare.now) }
+fn compare_faults(scope: &Scope, compare: &Option<Box<Compare>>) -> NameFaults
+    ensures { result ≡ given_faults (known_of scope.now) compare_variables (option_map (λ c. compare_tree (box_value c)) compare.now) }
 {
     match compare {
         Some(compare) => array_faults(scope, &compare.expected)

@@ -1,5 +1,7 @@
 //! In which order statements stand (JESD71, program structure).
 ghost use Rattle.std.specs.Prelude.{◌≡◌};
+ghost use Rattle.std.specs.Box.{box_value};
+ghost use Rattle.std.specs.Option.{option_map};
 ghost use Rattle.stapl_syntax.specs.Trees.{body_tree};
 ghost use Rattle.stapl_syntax.specs.Rules.{is_outside, may_stand_inside, may_stand};
 ghost use Rattle.stapl_checker.specs.Places.{place_of};
@@ -31,8 +33,8 @@ impl Place {
     }
 
     // Whether a statement of procedures may stand there. A declaration without a label may stand in a DATA block too.
-    fn may_stand_inside(self, label: &Option<Name>, is_declaration: bool) -> bool
-        ensures { result ≡ may_stand_inside (place_of self) label.now is_declaration }
+    fn may_stand_inside(self, label: &Option<Box<Name>>, is_declaration: bool) -> bool
+        ensures { result ≡ may_stand_inside (place_of self) (option_map box_value label.now) is_declaration }
     {
         if label.is_none() && is_declaration {
             self.in_procedure || self.in_data
@@ -42,8 +44,8 @@ impl Place {
     }
 
     /// Whether a statement with this label may stand there.
-    pub(crate) fn may_stand(self, label: &Option<Name>, body: &Body) -> bool
-        ensures { result ≡ may_stand (place_of self) label.now (body_tree body.now) }
+    pub(crate) fn may_stand(self, label: &Option<Box<Name>>, body: &Body) -> bool
+        ensures { result ≡ may_stand (place_of self) (option_map box_value label.now) (body_tree body.now) }
     {
         match body {
             Body::Note(_, _) => {

@@ -1,5 +1,7 @@
 //! Which statements declare again what an earlier piece declares (JESD71, PROCEDURE, DATA, ACTION, variables, labels).
 ghost use Rattle.std.specs.Prelude.{◌≡◌};
+ghost use Rattle.std.specs.Box.{box_value};
+ghost use Rattle.std.specs.Option.{option_map};
 ghost use Rattle.stapl_syntax.specs.Trees.{body_tree, stmt_tree};
 ghost use Rattle.stapl_syntax.specs.Names.{declaration, block_of_body, action_of_body, variable_in, label_in};
 ghost use Rattle.stapl_syntax.specs.Rules.{is_again, declares_again};
@@ -40,8 +42,8 @@ fn declares_variable_again(scope: &Scope, number: u32, body: &Body) -> bool
 }
 
 #[tactic(auto, using(crate::proofs::ScopeLemmas::label_again, crate::proofs::ScopeLemmas::no_label))]
-fn declares_label_again(scope: &Scope, number: u32, label: &Option<Name>) -> bool
-    ensures { result ≡ is_again (declared_below scope.now.names number).label (label_in scope.now.inside 0 label.now) }
+fn declares_label_again(scope: &Scope, number: u32, label: &Option<Box<Name>>) -> bool
+    ensures { result ≡ is_again (declared_below scope.now.names number).label (label_in scope.now.inside 0 (option_map box_value label.now)) }
 {
     match label {
         Some(name) => scope.has_earlier_label(number, name),

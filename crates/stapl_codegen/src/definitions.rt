@@ -99,7 +99,7 @@ fn put_action(
     if let Body::Action(name, _, items) = body {
         let items = item_defs(alloc, program, names, items.as_slice())?;
         actions.push(ActionDef {
-            name: *name,
+            name: **name,
             items: ItemList::of(items),
         })?;
     }

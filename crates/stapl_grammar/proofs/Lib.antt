@@ -18,3 +18,4 @@ pub mod ParsingLemmas
 pub mod BodyClean
 pub mod LawLemmas
 pub mod Answered
+pub mod SignLemmas

@@ -1,5 +1,7 @@
 -- What the parser answers for symbols.
 use Rattle.std.specs.Prelude.{◌≡◌, ℕ, List, Option, Result, Ok, Err, if◌then◌else◌}
+use Rattle.std.specs.Box.{box_value}
+use Rattle.std.specs.Option.{option_map}
 use Rattle.stapl_lexer.specs.declared.reason.Reason.{Reason}
 use Rattle.stapl_lexer.specs.declared.reason.Reason.TheVariants as reasons
 use Rattle.stapl_syntax.specs.declared.statement.Stmt.{Stmt}
@@ -24,6 +26,6 @@ pub record IsRefused (s : List Symbol) (reason : Reason) : Type 0 where
 
 -- the symbols are the statement, or they are none for this reason, or memory ran out
 abbrev pub AnswersFor : List Symbol → Result Stmt ParseRefused → Type 0
-AnswersFor s (Ok st) = IsLabelled s st.label (body_tree st.body)
+AnswersFor s (Ok st) = IsLabelled s (option_map box_value st.label) (body_tree st.body)
 AnswersFor s (Err (Because reason)) = IsRefused s reason
 AnswersFor s (Err Memory) = Unit {0}

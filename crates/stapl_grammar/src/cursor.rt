@@ -1,11 +1,8 @@
 //! The tokens of a piece that are still to be read.
 use crate::contents::{binary_bits, check_number, hexadecimal_bits};
-use crate::looks::{
-    choice_of, is_assign_sign, is_character, is_hz, is_join, is_mark, is_minus, is_state, level,
-    operator_of,
-};
+use crate::looks::{choice_of, is_assign_sign, is_character, is_hz, is_minus, is_state, level};
 use crate::refused::Refused;
-use crate::sign::sign_of;
+use crate::sign::{is_join_token, is_mark_token, operator_of_token, sign_of};
 use base::ItemList;
 use bit_list::Bits;
 use stapl_lexer::{BinOp, JoinWord, Mark, Name, Token, TokenKind};
@@ -92,8 +89,8 @@ impl<'a> Cursor<'a> {
         ensures read { MatchBool result (after_mark mark self.old ≡ Some self.new) ((after_mark mark self.old ≡ None) × (self.new ≡ self.old)) }
         ensures shorter { OnTrue result (length self.new < length self.old) }
     {
-        match self.peek() {
-            Some(first) if is_mark(first, mark) => {
+        match self.rest.first() {
+            Some(first) if is_mark_token(first, mark) => {
                 self.rest = &self.rest[1..];
                 true
             }
@@ -107,8 +104,8 @@ impl<'a> Cursor<'a> {
         ensures read { MatchBool result (after_join word self.old ≡ Some self.new) ((after_join word self.old ≡ None) × (self.new ≡ self.old)) }
         ensures shorter { OnTrue result (length self.new < length self.old) }
     {
-        match self.peek() {
-            Some(first) if is_join(first, word) => {
+        match self.rest.first() {
+            Some(first) if is_join_token(first, word) => {
                 self.rest = &self.rest[1..];
                 true
             }
@@ -123,7 +120,7 @@ impl<'a> Cursor<'a> {
         ensures none { IfNone result ((next_operator most self.old ≡ None) × (self.new ≡ self.old)) }
         ensures shorter { OnSome result (length self.new < length self.old) }
     {
-        let op = operator_of(self.peek()?)?;
+        let op = operator_of_token(self.rest.first()?)?;
         if level(op) <= most {
             self.rest = &self.rest[1..];
             Some(op)

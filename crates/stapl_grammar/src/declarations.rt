@@ -9,6 +9,8 @@ use std::alloc::Global;
 
 impl<'a> Cursor<'a> {
     ghost use Rattle.std.specs.Prelude.{◌≡◌};
+    ghost use Rattle.std.specs.Box.{box_value};
+    ghost use Rattle.std.specs.Option.{option_map};
     ghost use Rattle.stapl_syntax.specs.Trees.{body_tree};
     ghost use Rattle.stapl_syntax.specs.Parts.{bit_part, bits_part, signed_part, signed_list_part};
     ghost use Rattle.stapl_grammar.specs.Given.{Gives};
@@ -29,14 +31,14 @@ impl<'a> Cursor<'a> {
 
     // ["=" literal]
     #[tactic(auto, unfolding(crate::specs::PartReading::part_at))]
-    fn start_bits(&mut self, alloc: Global) -> Result<Option<Bits>, Refused>
-        ensures { Gives (λ start. (start, self.new)) result (part_at bits_part self.old) }
+    fn start_bits(&mut self, alloc: Global) -> Result<Option<Box<Bits>>, Refused>
+        ensures { Gives (λ start. (option_map box_value start, self.new)) result (part_at bits_part self.old) }
     {
         if !self.take_mark(Mark::Equals) {
             return Ok(None);
         }
         let bits = self.literal(alloc)?;
-        Ok(Some(bits))
+        Ok(Some(Box::new(alloc, bits)?))
     }
 
     // ["=" signed]
@@ -53,14 +55,14 @@ impl<'a> Cursor<'a> {
 
     // ["=" signed {"," signed}]
     #[tactic(auto, unfolding(crate::specs::PartReading::part_at))]
-    fn start_values(&mut self, alloc: Global) -> Result<Option<ItemList<i32>>, Refused>
-        ensures { Gives (λ start. (start, self.new)) result (part_at signed_list_part self.old) }
+    fn start_values(&mut self, alloc: Global) -> Result<Option<Box<ItemList<i32>>>, Refused>
+        ensures { Gives (λ start. (option_map box_value start, self.new)) result (part_at signed_list_part self.old) }
     {
         if !self.take_mark(Mark::Equals) {
             return Ok(None);
         }
         let values = self.signed_list(alloc)?;
-        Ok(Some(values))
+        Ok(Some(Box::new(alloc, values)?))
     }
 
     // BOOLEAN name, and then "[" number "]" ["=" literal] | ["=" bit]

@@ -8,6 +8,8 @@ use std::alloc::Global;
 
 impl<'a> Cursor<'a> {
     ghost use Rattle.std.specs.Prelude.{◌≡◌};
+    ghost use Rattle.std.specs.Box.{box_value};
+    ghost use Rattle.std.specs.Option.{option_map};
     ghost use Rattle.stapl_syntax.specs.Trees.{body_tree};
     ghost use Rattle.stapl_syntax.specs.Parts.{note_part, action_part, procedure_part, uses_part, maybe, a_text};
     ghost use Rattle.stapl_grammar.specs.Given.{Gives};
@@ -45,19 +47,19 @@ impl<'a> Cursor<'a> {
         let text = self.optional_text(alloc)?;
         self.expect_mark(Mark::Equals)?;
         let items = self.items(alloc)?;
-        Ok(Body::Action(name, text, items))
+        Ok(Body::Action(Box::new(alloc, name)?, text, Box::new(alloc, items)?))
     }
 
     // [USES name {"," name}]
     #[tactic(auto, unfolding(crate::specs::PartReading::part_at))]
-    fn uses(&mut self, alloc: Global) -> Result<Option<ItemList<Name>>, Refused>
-        ensures { Gives (λ names. (names, self.new)) result (part_at uses_part self.old) }
+    fn uses(&mut self, alloc: Global) -> Result<Option<Box<ItemList<Name>>>, Refused>
+        ensures { Gives (λ names. (option_map box_value names, self.new)) result (part_at uses_part self.old) }
     {
         if !self.take_join(JoinWord::Uses) {
             return Ok(None);
         }
         let names = self.names(alloc)?;
-        Ok(Some(names))
+        Ok(Some(Box::new(alloc, names)?))
     }
 
     // PROCEDURE name [USES name {"," name}]

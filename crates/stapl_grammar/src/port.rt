@@ -8,6 +8,7 @@ use std::alloc::Global;
 impl<'a> Cursor<'a> {
     ghost use Rattle.std.specs.Prelude.{◌≡◌};
     ghost use Rattle.std.specs.Option.{option_map};
+    ghost use Rattle.std.specs.Box.{box_value};
     ghost use Rattle.stapl_syntax.specs.Trees.{expr_tree, array_tree, compare_tree, body_tree, frequency};
     ghost use Rattle.stapl_syntax.specs.Parts.{capture_part, compared_part, compare_part, scan_part, pad_part, last_part, usec_part, first_part, frequency_part};
     ghost use Rattle.stapl_grammar.specs.Given.{Gives};
@@ -16,14 +17,14 @@ impl<'a> Cursor<'a> {
 
     // ["," CAPTURE target]
     #[tactic(auto, unfolding(crate::specs::PartReading::part_at, crate::specs::Looks::after_comma_join))]
-    fn capture(&mut self, alloc: Global) -> Result<Option<ArrayExpr>, Refused>
-        ensures { Gives (λ a. (option_map array_tree a, self.new)) result (part_at capture_part self.old) }
+    fn capture(&mut self, alloc: Global) -> Result<Option<Box<ArrayExpr>>, Refused>
+        ensures { Gives (λ a. (option_map (λ a. array_tree (box_value a)) a, self.new)) result (part_at capture_part self.old) }
     {
         if !self.take_comma_join(JoinWord::Capture) {
             return Ok(None);
         }
         let target = self.target(alloc)?;
-        Ok(Some(target))
+        Ok(Some(Box::new(alloc, target)?))
     }
 
     // array "," array "," cell
@@ -45,14 +46,14 @@ impl<'a> Cursor<'a> {
 
     // ["," COMPARE array "," array "," cell]
     #[tactic(auto, unfolding(crate::specs::PartReading::part_at, crate::specs::Looks::after_comma_join))]
-    fn compare(&mut self, alloc: Global) -> Result<Option<Compare>, Refused>
-        ensures { Gives (λ c. (option_map compare_tree c, self.new)) result (part_at compare_part self.old) }
+    fn compare(&mut self, alloc: Global) -> Result<Option<Box<Compare>>, Refused>
+        ensures { Gives (λ c. (option_map (λ c. compare_tree (box_value c)) c, self.new)) result (part_at compare_part self.old) }
     {
         if !self.take_comma_join(JoinWord::Compare) {
             return Ok(None);
         }
         let parts = self.compare_parts(alloc)?;
-        Ok(Some(parts))
+        Ok(Some(Box::new(alloc, parts)?))
     }
 
     // (DRSCAN | IRSCAN) expr "," array ["," CAPTURE target] ["," COMPARE array "," array "," cell]
@@ -85,7 +86,11 @@ impl<'a> Cursor<'a> {
             return Ok(Body::Pad(padding, Box::new(alloc, count)?, None));
         }
         let bits = self.array(alloc)?;
-        Ok(Body::Pad(padding, Box::new(alloc, count)?, Some(bits)))
+        Ok(Body::Pad(
+            padding,
+            Box::new(alloc, count)?,
+            Some(Box::new(alloc, bits)?),
+        ))
     }
 
     // [state ","]
@@ -115,8 +120,8 @@ impl<'a> Cursor<'a> {
 
     // ["," expr USEC]
     #[tactic(auto, unfolding(crate::specs::PartReading::part_at))]
-    fn usec(&mut self, alloc: Global) -> Result<Option<Expr>, Refused>
-        ensures { Gives (λ e. (option_map expr_tree e, self.new)) result (part_at usec_part self.old) }
+    fn usec(&mut self, alloc: Global) -> Result<Option<Box<Expr>>, Refused>
+        ensures { Gives (λ e. (option_map (λ e. expr_tree (box_value e)) e, self.new)) result (part_at usec_part self.old) }
     {
         if !self.begins_count() {
             return Ok(None);
@@ -124,7 +129,7 @@ impl<'a> Cursor<'a> {
         self.expect_mark(Mark::Comma)?;
         let count = self.expr(alloc)?;
         self.expect_join(JoinWord::Usec)?;
-        Ok(Some(count))
+        Ok(Some(Box::new(alloc, count)?))
     }
 
     // WAIT [state ","] expr, and then CYCLES ["," expr USEC] ["," state] | USEC ["," state]
@@ -154,7 +159,7 @@ impl<'a> Cursor<'a> {
         }
         let count = self.expr(alloc)?;
         self.pass_hz();
-        Ok(Body::Frequency(Some(count)))
+        Ok(Body::Frequency(Some(Box::new(alloc, count)?)))
     }
 
     // A statement that drives the test access port, behind its first word.

@@ -1,11 +1,14 @@
 //! What the grammar sees of a token.
-ghost use Rattle.std.specs.Prelude.{◌≡◌, length};
+ghost use Rattle.std.specs.Prelude.{◌≡◌, ℕ, List, length};
 ghost use Rattle.std.specs.Str.{str_to_ascii_uppercase};
 ghost use Rattle.stapl_lexer.specs.PieceTokens.{token_bytes, LiesBetween};
 ghost use Rattle.stapl_syntax.specs.Symbols as symbols;
 ghost use Rattle.stapl_grammar.specs.Seen.{seen_as};
+ghost use Rattle.stapl_grammar.specs.Looks as looks;
+ghost use Rattle.stapl_grammar.specs.Reading as reading;
 
-use stapl_lexer::{Name, Terminal, Token, TokenKind};
+use crate::looks::{is_join, is_mark, operator_of};
+use stapl_lexer::{BinOp, JoinWord, Mark, Name, Terminal, Token, TokenKind};
 use stapl_syntax::Sign;
 
 // A reserved word or a mark.
@@ -58,6 +61,48 @@ fn mark_sign(token: &Token) -> Sign
     match token.terminal {
         Some(terminal) => terminal_sign(terminal),
         None => Sign::Other,
+    }
+}
+
+// Whether a token is this mark. No name is read for that.
+#[tactic(auto, using(crate::proofs::SignLemmas::no_name_is_mark), unfolding(crate::specs::Seen::seen_as, crate::specs::Looks::is_mark))]
+pub(crate) fn is_mark_token(token: &Token, mark: Mark) -> bool
+    ensures { (text : List ℕ) → result ≡ looks.is_mark (symbols.sign_of (seen_as text token.now)) mark }
+{
+    match token.kind {
+        TokenKind::Word | TokenKind::Mark => match token.terminal {
+            Some(terminal) => is_mark(terminal_sign(terminal), mark),
+            None => false,
+        },
+        _ => false,
+    }
+}
+
+// Whether a token is this word. No name is read for that.
+#[tactic(auto, using(crate::proofs::SignLemmas::no_name_is_join), unfolding(crate::specs::Seen::seen_as, crate::specs::Looks::is_join))]
+pub(crate) fn is_join_token(token: &Token, word: JoinWord) -> bool
+    ensures { (text : List ℕ) → result ≡ looks.is_join (symbols.sign_of (seen_as text token.now)) word }
+{
+    match token.kind {
+        TokenKind::Word | TokenKind::Mark => match token.terminal {
+            Some(terminal) => is_join(terminal_sign(terminal), word),
+            None => false,
+        },
+        _ => false,
+    }
+}
+
+// The operator with two operands that a token is. No name is read for that.
+#[tactic(auto, using(crate::proofs::SignLemmas::no_name_is_operator), unfolding(crate::specs::Seen::seen_as, crate::specs::Reading::operator_of))]
+pub(crate) fn operator_of_token(token: &Token) -> Option<BinOp>
+    ensures { (text : List ℕ) → result ≡ reading.operator_of (symbols.sign_of (seen_as text token.now)) }
+{
+    match token.kind {
+        TokenKind::Word | TokenKind::Mark => match token.terminal {
+            Some(terminal) => operator_of(terminal_sign(terminal)),
+            None => None,
+        },
+        _ => None,
     }
 }
 

@@ -8,6 +8,7 @@ use std::alloc::Global;
 impl<'a> Cursor<'a> {
     ghost use Rattle.std.specs.Prelude.{◌≡◌, ◌<◌, length};
     ghost use Rattle.std.specs.Option.{option_map};
+    ghost use Rattle.std.specs.Box.{box_value};
     ghost use Rattle.stapl_syntax.specs.Trees.{expr_tree, body_tree, print};
     ghost use Rattle.stapl_syntax.specs.Parts.{step_part, for_part, print_part, export_part};
     ghost use Rattle.stapl_grammar.specs.Given.{Gives};
@@ -24,12 +25,17 @@ impl<'a> Cursor<'a> {
             self.expect_mark(Mark::RightSquare)?;
             self.expect_mark(Mark::Equals)?;
             let array = self.array(alloc)?;
-            return Ok(Body::AssignRange(v, Box::new(alloc, first)?, Box::new(alloc, low)?, array));
+            return Ok(Body::AssignRange(
+                Box::new(alloc, v)?,
+                Box::new(alloc, first)?,
+                Box::new(alloc, low)?,
+                Box::new(alloc, array)?,
+            ));
         }
         self.expect_mark(Mark::RightSquare)?;
         self.expect_mark(Mark::Equals)?;
         let value = self.expr(alloc)?;
-        Ok(Body::AssignElement(v, Box::new(alloc, first)?, value))
+        Ok(Body::AssignElement(v, Box::new(alloc, first)?, Box::new(alloc, value)?))
     }
 
     // Behind a name and its bracket: "]" "=" array | expr ".." expr "]" "=" array | expr "]" "=" expr
@@ -40,7 +46,7 @@ impl<'a> Cursor<'a> {
         if self.take_mark(Mark::RightSquare) {
             self.expect_mark(Mark::Equals)?;
             let array = self.array(alloc)?;
-            return Ok(Body::AssignArray(v, array));
+            return Ok(Body::AssignArray(v, Box::new(alloc, array)?));
         }
         let first = self.expr(alloc)?;
         self.range_or_element(alloc, v, first)
@@ -53,7 +59,7 @@ impl<'a> Cursor<'a> {
     {
         if self.take_mark(Mark::Equals) {
             let value = self.expr(alloc)?;
-            return Ok(Body::Assign(v, value));
+            return Ok(Body::Assign(v, Box::new(alloc, value)?));
         }
         self.expect_mark(Mark::LeftSquare)?;
         self.indexed(alloc, v)
@@ -61,14 +67,14 @@ impl<'a> Cursor<'a> {
 
     // [STEP expr]
     #[tactic(auto, unfolding(crate::specs::PartReading::part_at))]
-    fn step(&mut self, alloc: Global) -> Result<Option<Expr>, Refused>
-        ensures { Gives (λ e. (option_map expr_tree e, self.new)) result (part_at step_part self.old) }
+    fn step(&mut self, alloc: Global) -> Result<Option<Box<Expr>>, Refused>
+        ensures { Gives (λ e. (option_map (λ e. expr_tree (box_value e)) e, self.new)) result (part_at step_part self.old) }
     {
         if !self.take_join(JoinWord::Step) {
             return Ok(None);
         }
         let step = self.expr(alloc)?;
-        Ok(Some(step))
+        Ok(Some(Box::new(alloc, step)?))
     }
 
     // FOR name "=" expr TO expr [STEP expr]
@@ -82,7 +88,12 @@ impl<'a> Cursor<'a> {
         self.expect_join(JoinWord::To)?;
         let to = self.expr(alloc)?;
         let step = self.step(alloc)?;
-        Ok(Body::For(name, Box::new(alloc, from)?, Box::new(alloc, to)?, step))
+        Ok(Body::For(
+            Box::new(alloc, name)?,
+            Box::new(alloc, from)?,
+            Box::new(alloc, to)?,
+            step,
+        ))
     }
 
     // EXPORT string "," (expr | array)
@@ -93,7 +104,7 @@ impl<'a> Cursor<'a> {
         let key = self.text(alloc)?;
         self.expect_mark(Mark::Comma)?;
         let exported = self.exported(alloc)?;
-        Ok(Body::Export(key, exported))
+        Ok(Body::Export(key, Box::new(alloc, exported)?))
     }
 
     // PRINT part {"," part}

@@ -7,6 +7,8 @@ use std::alloc::Global;
 
 impl<'a> Cursor<'a> {
     ghost use Rattle.std.specs.Prelude.{◌≡◌};
+    ghost use Rattle.std.specs.Box.{box_value};
+    ghost use Rattle.std.specs.Option.{option_map};
     ghost use Rattle.stapl_syntax.specs.Trees.{body_tree};
     ghost use Rattle.stapl_grammar.specs.Given.{Gives};
     ghost use Rattle.stapl_grammar.specs.BodyReading.{labelled_from, labelled_at, any_from, any_at, label_at, with_label_at, statement_of};
@@ -76,13 +78,13 @@ impl<'a> Cursor<'a> {
     // The statement with this label, behind it, or with none.
     #[tactic(auto, unfolding(crate::specs::BodyReading::behind_label_at))]
     fn with_label(&mut self, alloc: Global, label: Option<Name>) -> Result<Stmt, Refused>
-        ensures { Gives (λ st. ((st.label, body_tree st.body), self.new)) result (with_label_at label self.old) }
+        ensures { Gives (λ st. ((option_map box_value st.label, body_tree st.body), self.new)) result (with_label_at label self.old) }
     {
         match label {
             Some(name) => {
                 let body = self.labelled(alloc)?;
                 Ok(Stmt {
-                    label: Some(name),
+                    label: Some(Box::new(alloc, name)?),
                     body,
                 })
             }
@@ -96,7 +98,7 @@ impl<'a> Cursor<'a> {
     // A statement with its label, and nothing behind it.
     #[tactic(auto, unfolding(crate::specs::BodyReading::statement_of))]
     pub(crate) fn statement(&mut self, alloc: Global) -> Result<Stmt, Refused>
-        ensures { Gives (λ st. (st.label, body_tree st.body)) result (statement_of self.old) }
+        ensures { Gives (λ st. (option_map box_value st.label, body_tree st.body)) result (statement_of self.old) }
     {
         let label = self.label();
         let statement = self.with_label(alloc, label)?;

@@ -153,7 +153,7 @@ impl<'a> Cursor<'a> {
         }
         let index = self.level_expr(alloc, LOOSEST)?;
         self.expect_mark(Mark::RightSquare)?;
-        Ok(Expr::Element(v, Box::new(alloc, index)?))
+        Ok(Expr::Element(Box::new(alloc, v)?, Box::new(alloc, index)?))
     }
 
     // An array.
@@ -220,6 +220,10 @@ impl<'a> Cursor<'a> {
         self.expect_mark(Mark::Dots)?;
         let low = self.level_expr(alloc, LOOSEST)?;
         self.expect_mark(Mark::RightSquare)?;
-        Ok(ArrayExpr::Range(v, Box::new(alloc, high)?, Box::new(alloc, low)?))
+        Ok(ArrayExpr::Range(
+            Box::new(alloc, v)?,
+            Box::new(alloc, high)?,
+            Box::new(alloc, low)?,
+        ))
     }
 }

@@ -1,14 +1,19 @@
 -- On what is wrong with the bytes of a piece.
-use Rattle.std.proofs.Common.{◌≡◌, ◌≢◌, ◌≤◌, ◌+◌, ◌-◌, ℕ, List, [], ◌∷◌, ◌++◌, length, take, drop, get_or, refl, sym, ap, ◌∙◌, Bool, true, false, ◌&&◌, ◌||◌, ◌==◌, not, arith, subst, append-nil, slice_range}
+use Rattle.std.proofs.Common.{◌≡◌, ◌≢◌, ◌≤◌, ◌<◌, ◌+◌, ◌-◌, ℕ, List, [], ◌∷◌, ◌++◌, length, take, drop, get_or, refl, sym, ap, ◌∙◌, Bool, true, false, ◌&&◌, ◌||◌, ◌==◌, not, arith, subst, append-nil, slice_range, suc}
 use Rattle.std.proofs.Math.ListN.{drop_of_length-le}
+use Rattle.std.proofs.Math.Seq.{drop-cons}
 use Rattle.std.proofs.lemmas.Bool.Decides.{nat_tests}
 use Rattle.std.proofs.lemmas.List.{length-drop, drop-drop, length-append}
 use Rattle.std.specs.List.{list_any}
 use Rattle.stapl_lexer.specs.Cutting.{BeginsWithSegment}
 use Rattle.stapl_lexer.specs.Segments.{Segment, Plain, Closed, Open, Comment, spelled, IsSegment, Divides}
-use Rattle.stapl_lexer.specs.PieceFaults.{is_language_byte, is_foreign, is_open_string, is_compressed}
+use Rattle.stapl_lexer.specs.Names.{is_name_byte}
+use Rattle.stapl_lexer.specs.Pieces.{is_white}
+use Rattle.stapl_lexer.specs.PieceFaults.{is_mark_byte, is_language_byte, is_foreign, is_open_string, is_compressed}
 use Rattle.stapl_lexer.specs.TokenReading.{is_open_spelling, IsSearchedUpTo, AreSearched}
 use Rattle.stapl_lexer.proofs.CutLemmas.{divides_more}
+use Rattle.stapl_lexer.proofs.PieceTokenLemmas.{clash}
+use Rattle.stapl_lexer.proofs.SegmentLemmas.{plain_begins}
 use Rattle.stapl_lexer.proofs.FrontLemmas.{closed_by, take_front}
 
 any_last : (p : Segment → Bool) (xs : List Segment) (y : Segment) → list_any p (xs ++ y ∷ []) ≡ (list_any p xs || p y)
@@ -86,6 +91,34 @@ own_bytes bytes at n foreign unclosed compressed foreign_too unclosed_too compre
     (subst (λ (b : Bool). IsSearchedUpTo bytes (foreign || not (is_language_byte (get_or own 0 0))) b compressed_too (at + n)) (sym f)
     (subst (λ (b : Bool). IsSearchedUpTo bytes (foreign || not (is_language_byte (get_or own 0 0))) (unclosed || is_open_spelling own) b (at + n)) (sym g)
     (search_more bytes own foreign unclosed compressed at n before next (ap (λ (k : ℕ). take k (drop at bytes)) count))))
+
+-- a byte of a name is a segment of its own, and nothing is wrong with it
+name_byte_is_plain : (b : ℕ) → is_name_byte b ≡ true → (b ≢ 34) × ((b ≢ 39) × (b ≢ 64))
+name_byte_is_plain b e =
+    (λ is. clash (is_name_byte b) e (ap is_name_byte is), (λ is. clash (is_name_byte b) e (ap is_name_byte is), λ is. clash (is_name_byte b) e (ap is_name_byte is)))
+
+no_at_sign : (b : ℕ) → b ≢ 64 → (b == 64) ≡ false
+no_at_sign b ne = grind (arith, nat_tests, ne)
+
+nothing_more : (b : Bool) → b ≡ (b || false)
+nothing_more true = refl
+nothing_more false = refl
+
+pub search_name_byte : (bytes : List ℕ) (foreign unclosed compressed : Bool) (at : ℕ) → IsSearchedUpTo bytes foreign unclosed compressed at →
+    at < length bytes → is_name_byte (get_or bytes at 0) ≡ true → IsSearchedUpTo bytes foreign unclosed compressed (at + 1)
+search_name_byte bytes foreign unclosed compressed at before lt named =
+    let b = get_or bytes at 0 in
+    let plain = name_byte_is_plain b named in
+    let parts : drop at bytes ≡ b ∷ drop (suc at) bytes = drop-cons bytes at 0 lt in
+    let count : at + 1 - at ≡ 1 = omega arith in
+    let own : slice_range bytes at (at + 1) ≡ b ∷ [] = ap (λ (k : ℕ). take k (drop at bytes)) count ∙ ap (take 1) parts in
+    let next : BeginsWithSegment (drop at bytes) 1 =
+    subst (λ (v : List ℕ). BeginsWithSegment v 1) (sym parts) (plain_begins (b ∷ drop (suc at) bytes) (omega arith) plain.0 plain.1.0) in
+    own_bytes bytes at 1 foreign unclosed compressed foreign unclosed compressed before next
+    (nothing_more foreign ∙ ap (λ (v : Bool). foreign || not (v || is_white b || is_mark_byte b)) (sym named)
+    ∙ ap (λ (v : List ℕ). foreign || not (is_language_byte (get_or v 0 0))) (sym own))
+    (nothing_more unclosed ∙ ap (λ (v : Bool). unclosed || v) (sym (no_quote_first b _ plain.0)) ∙ ap (λ (v : List ℕ). unclosed || is_open_spelling v) (sym own))
+    (nothing_more compressed ∙ ap (λ (v : Bool). compressed || v) (sym (no_at_sign b plain.1.1)) ∙ ap (λ (v : List ℕ). compressed || get_or v 0 0 == 64) (sym own))
 
 -- all is searched
 pub all_searched : (bytes : List ℕ) (foreign unclosed compressed : Bool) (at : ℕ) → IsSearchedUpTo bytes foreign unclosed compressed at → length bytes ≤ at →

@@ -2,6 +2,7 @@
 use Rattle.std.proofs.Common.{◌≡◌, ◌≢◌, ◌≤◌, ◌<◌, ◌+◌, ℕ, List, [], ◌∷◌, ◌++◌, length, take, drop, get_or, refl, sym, ap, ◌∙◌, Bool, true, false, ◌&&◌, ◌||◌, ◌==◌, not, cond, if◌then◌else◌, arith, add-one, append_assoc, suc, subst, count_by, Option, None, Some, unwrap_or, zero-add}
 use Rattle.std.proofs.lemmas.Bool.{and_parts, ne_eqb}
 use Rattle.std.specs.List.{list_all, take_while, slice_split, onto_first}
+use Rattle.std.specs.Prelude.{is_some}
 use Rattle.std.proofs.Math.ListN.{drop_of_length-le}
 use Rattle.std.proofs.Math.Seq.{drop-cons, take-add, take-append_seam}
 use Rattle.std.proofs.lemmas.List.{drop-drop, append-nil, length-append, get_or-drop}
@@ -12,7 +13,9 @@ use Rattle.stapl_lexer.specs.declared.piece.Piece.{Piece}
 use Rattle.stapl_lexer.specs.declared.cutting.Progress.{Progress}
 use Rattle.stapl_lexer.specs.Segments.{Segment, Plain, Closed, Open, Comment, spelled, spelling, IsSegment, HasNone, ends_string, ends_comment, Divides}
 use Rattle.stapl_lexer.specs.Pieces.{is_white, is_blank, is_semicolon, line_at, piece_of, pieces_from, IsCut}
+use Rattle.stapl_lexer.specs.Names.{is_name_byte}
 use Rattle.stapl_lexer.specs.Cutting.{BeginsWithSegment, IsCutUpTo, gather, with_piece, open_piece}
+use Rattle.stapl_lexer.proofs.SegmentLemmas.{plain_begins}
 
 -- one segment more
 pub divides_more : (done : List Segment) (text : List ℕ) (s : Segment) (rest : List ℕ) → Divides done text (spelled s ++ rest) → IsSegment s rest →
@@ -284,6 +287,31 @@ last_piece text start at line group first false all place line_is first_is =
 with_piece_is : (pieces : List Piece) (more : Option Piece) → with_piece pieces more ≡ pieces ++ with_piece [] more
 with_piece_is pieces None = sym (append-nil pieces)
 with_piece_is pieces (Some piece) = refl
+
+same_first : (is_blank : Bool) (first : Option ℕ) (line : ℕ) → is_some first ≡ true → first ≡ (if is_blank then first else Some (unwrap_or first line))
+same_first true first line e = refl
+same_first false (Some k) line e = refl
+same_first false None line e = absurd cc
+
+-- a byte of a name goes to a piece that has a byte that is neither white space nor comment
+pub cut_name_byte : (text : List ℕ) (progress : Progress) (pieces : List Piece) → IsCutUpTo text progress pieces → progress.at < length text →
+    is_some progress.first ≡ true → is_name_byte (get_or text progress.at 0) ≡ true →
+    IsCutUpTo text (record { at = progress.at + 1; line = progress.line; start = progress.start; first = progress.first }) pieces
+cut_name_byte text progress pieces s lt begun named =
+    let b = get_or text progress.at 0 in
+    let other : (c : ℕ) → is_name_byte c ≡ false → b ≢ c = λ c no is. absurd_by (is_name_byte b) named (ap is_name_byte is ∙ no) in
+    let parts : drop progress.at text ≡ b ∷ drop (suc progress.at) text = drop-cons text progress.at 0 lt in
+    let next : BeginsWithSegment (drop progress.at text) 1 =
+    subst (λ (v : List ℕ). BeginsWithSegment v 1) (sym parts) (plain_begins (b ∷ drop (suc progress.at) text) (omega arith) (other 34 refl) (other 39 refl)) in
+    let same : progress.line ≡ progress.line + 0 = omega arith in
+    let no_feed : progress.line ≡ progress.line + (if b == 10 then 1 else 0) =
+    same ∙ ap (λ (q : Bool). progress.line + (if q then 1 else 0)) (sym (ne_eqb b 10 (other 10 refl))) in
+    cut_pass text progress (record { at = progress.at + 1; line = progress.line; start = progress.start; first = progress.first }) pieces 1 b s lt next refl
+    (other 59 refl) refl refl no_feed (same_first (is_white b || b == 39) progress.first progress.line begun)
+  where
+    absurd_by : (q : Bool) → q ≡ true → q ≡ false → ⊥
+    absurd_by true e f = cc
+    absurd_by false e f = cc
 
 -- the text is read
 pub cut_all : (text : List ℕ) (progress : Progress) (pieces : List Piece) → IsCutUpTo text progress pieces → length text ≤ progress.at →

@@ -8,7 +8,7 @@ use Rattle.std.proofs.lemmas.Bool.Decides.{nat_tests}
 use Rattle.std.proofs.lemmas.Slice.Eq.{bytes_eq-Decides}
 use Rattle.std.specs.Char.{eq_ignore_ascii_case}
 use Rattle.std.specs.List.{list_all, list_any}
-use Rattle.std.specs.Prelude.{is_some}
+use Rattle.std.specs.Prelude.{is_some, codes}
 use Rattle.std.specs.Str.{bytes_eq}
 use Rattle.stapl_lexer.specs.declared.terminal.Terminal.{Terminal}
 use Rattle.stapl_lexer.specs.Marks.{mark_table, mark_terminal, is_mark_spelling}
@@ -145,6 +145,35 @@ none_in spells test only (row ∷ rows) none =
     by true false rest p q e more = absurd (clash (test row.0) (only row.0 p) q)
     by false true rest p q e more = absurd cc
     by false false rest p q e more = more e
+
+-- bytes of length 1 are their first byte alone
+pub one_byte : (own : List ℕ) → length own ≡ 1 → (get_or own 0 0 ∷ []) ≡ own
+one_byte [] e = absurd cc
+one_byte (b ∷ []) e = refl
+one_byte (b ∷ c ∷ own) e = absurd cc
+
+-- a byte that is no mark alone
+pub no_single_mark : (b : ℕ) → IsNoneOf b (42 ∷ 47 ∷ 37 ∷ 43 ∷ 45 ∷ 60 ∷ 62 ∷ 38 ∷ 94 ∷ 124 ∷ 126 ∷ 33 ∷ 40 ∷ 41 ∷ 91 ∷ 93 ∷ 44 ∷ 61 ∷ 58 ∷ []) →
+    mark_terminal (b ∷ []) ≡ None
+no_single_mark b h =
+    mark_by_length (b ∷ []) 1 refl
+    ∙ none_in (λ mark. bytes_eq mark (b ∷ [])) (λ mark. get_or mark 0 0 == b)
+    (λ mark e. ap (λ (v : List ℕ). get_or v 0 0 == b) ((bytes_eq-Decides mark (b ∷ [])).0 e) ∙ eq-eqb b b refl) (rows_of_length 1 mark_table)
+    (none_of b (42 ∷ 47 ∷ 37 ∷ 43 ∷ 45 ∷ 60 ∷ 62 ∷ 38 ∷ 94 ∷ 124 ∷ 126 ∷ 33 ∷ 40 ∷ 41 ∷ 91 ∷ 93 ∷ 44 ∷ 61 ∷ 58 ∷ []) h)
+
+-- a byte that ends no mark of two bytes
+pub no_double_mark : (a b : ℕ) → list_any (λ mark. mark == b) (codes "<>=&|.") ≡ false → is_mark_spelling (a ∷ b ∷ []) ≡ false
+no_double_mark a b h =
+    ap is_some (mark_by_length (a ∷ b ∷ []) 2 refl
+    ∙ none_in (λ mark. bytes_eq mark (a ∷ b ∷ [])) (λ mark. get_or mark 1 0 == b)
+    (λ mark e. ap (λ (v : List ℕ). get_or v 1 0 == b) ((bytes_eq-Decides mark (a ∷ b ∷ [])).0 e) ∙ eq-eqb b b refl) (rows_of_length 2 mark_table)
+    (each (60 == b) (62 == b) (61 == b) _ h))
+  where
+    each : (c d e rest : Bool) → c || (d || (e || rest)) ≡ false → c || (d || (e || (e || (e || (e || rest))))) ≡ false
+    each false false false rest h = h
+    each false false true rest h = absurd cc
+    each false true e rest h = absurd cc
+    each true d e rest h = absurd cc
 
 -- no mark has a byte 0 in the second place
 pub no_zero_mark : (a : ℕ) → is_mark_spelling (a ∷ 0 ∷ []) ≡ false

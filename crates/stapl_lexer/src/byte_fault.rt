@@ -9,12 +9,37 @@ use crate::front::ends_in_quote;
 use crate::name::is_name_byte;
 use crate::{Piece, Reason, segment_len};
 
-static MARK_BYTES: &str = ";:,=[]()+-*/%&|^~<>!.#$@\"'";
-
 fn is_mark_byte(byte: u8) -> bool
     ensures { result ≡ is_mark_byte byte }
 {
-    MARK_BYTES.as_bytes().iter().any(|mark| *mark == byte)
+    matches!(
+        byte,
+        b';' | b':'
+            | b','
+            | b'='
+            | b'['
+            | b']'
+            | b'('
+            | b')'
+            | b'+'
+            | b'-'
+            | b'*'
+            | b'/'
+            | b'%'
+            | b'&'
+            | b'|'
+            | b'^'
+            | b'~'
+            | b'<'
+            | b'>'
+            | b'!'
+            | b'.'
+            | b'#'
+            | b'$'
+            | b'@'
+            | b'"'
+            | b'\''
+    )
 }
 
 // Whether a byte is one of the language.
@@ -58,7 +83,7 @@ impl ByteFaults {
 }
 
 // What is wrong with the segments of some bytes.
-#[tactic(auto, using(crate::proofs::ByteFaultLemmas::all_searched))]
+#[tactic(auto, using(crate::proofs::ByteFaultLemmas::all_searched, crate::proofs::ByteFaultLemmas::search_name_byte))]
 fn byte_faults(bytes: &[u8]) -> ByteFaults
     requires { length bytes.now ≤ text_limit }
     ensures { AreSearched bytes.now result.foreign result.unclosed result.compressed }
@@ -70,9 +95,14 @@ fn byte_faults(bytes: &[u8]) -> ByteFaults
     };
     let mut at = 0;
     'segments: while at < bytes.len() {
-        let n = segment_len(&bytes[at..]);
-        faults.add(&bytes[at..at + n]);
-        at += n;
+        if is_name_byte(bytes[at]) {
+            // Most bytes stand in names and numbers, and nothing is wrong with those.
+            at += 1;
+        } else {
+            let n = segment_len(&bytes[at..]);
+            faults.add(&bytes[at..at + n]);
+            at += n;
+        }
     }
     faults
 }

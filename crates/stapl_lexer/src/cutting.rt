@@ -7,6 +7,7 @@ ghost use Rattle.stapl_lexer.specs.Pieces.{IsCut, is_white, LiesIn, LieInOrder, 
 ghost use Rattle.stapl_lexer.specs.Cutting.{BeginsWithSegment, with_piece};
 
 use crate::Piece;
+use crate::name::is_name_byte;
 use std::alloc::{AllocError, Global};
 
 /// The most bytes of a text.
@@ -171,6 +172,11 @@ impl Progress {
         let byte = text[self.at];
         if byte == b';' {
             return Some(self.close());
+        }
+        if self.first.is_some() && is_name_byte(byte) {
+            // Most bytes stand in names and numbers.
+            self.at += 1;
+            return None;
         }
         let n = segment_len(&text[self.at..]);
         self.pass(byte, n);

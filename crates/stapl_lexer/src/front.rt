@@ -1,6 +1,7 @@
 //! The token that stands in front of some bytes.
 ghost use Rattle.std.specs.Prelude.{◌≡◌, ℕ, ◌≤◌, ◌<◌, ◌∷◌, [], ◌&&◌, ◌==◌, ◌-◌, codes, nat_le, true, false, length, slice_index, take, Option};
 ghost use Rattle.std.specs.Char.{is_ascii_alphabetic, is_ascii_digit};
+ghost use Rattle.std.specs.List.{list_any};
 ghost use Rattle.stapl_lexer.specs.declared.token.TokenKind.TheVariants as kinds;
 ghost use Rattle.stapl_lexer.specs.PieceTokens.{AreBlanks, kind_of, kind_at};
 ghost use Rattle.stapl_lexer.specs.Marks.{is_mark_spelling};
@@ -136,11 +137,19 @@ fn hexadecimal_front(bytes: &[u8]) -> Front
     }
 }
 
+// Whether a mark of two bytes may end with this byte.
+fn ends_double_mark(byte: u8) -> bool
+    ensures { result ≡ list_any (λ mark. mark == byte) (codes "<>=&|.") }
+{
+    matches!(byte, b'<' | b'>' | b'=' | b'&' | b'|' | b'.')
+}
+
 // Whether two bytes are a mark. A byte 0 is in none.
+#[tactic(auto, using(crate::proofs::SpellingLemmas::no_double_mark))]
 fn is_double_mark(first: u8, second: u8) -> bool
     ensures { result ≡ is_mark_spelling (first ∷ second ∷ []) }
 {
-    mark_terminal(&[first, second]).is_some()
+    ends_double_mark(second) && mark_terminal(&[first, second]).is_some()
 }
 
 fn is_single_mark(byte: u8) -> bool

@@ -31,8 +31,8 @@ pub fn every_text_has_pieces()
     ensures { (text : List ℕ) → (pieces : List Piece) × IsCut text pieces }
 {}
 
-/// The bytes between two places of a text have tokens, good and bad ones, whether the first word of the piece is known or
-/// not.
+/// The bytes between two places of a text have tokens, good and bad ones, whether the first word of the piece is known
+/// or not.
 pub fn all_bytes_have_tokens()
     ensures { (text : List ℕ) (first : Option Bool) (at limit : ℕ) → at ≤ limit → limit ≤ length text
         → (lexemes : List Lexeme) × HasLexemes text first at limit lexemes }

@@ -25,6 +25,9 @@ fn next_digit(kind: TokenKind, bytes: &[u8]) -> Option<usize>
     ensures some { IfSome result (IsNextDigit kind bytes.now) }
     ensures none { IfNone result (HasNoDigit kind bytes.now) }
 {
+    if is_literal_digit(kind, byte_at(bytes, 0)) {
+        return Some(0);
+    }
     let n = blank_len(bytes);
     if !is_literal_digit(kind, byte_at(bytes, n)) {
         return None;

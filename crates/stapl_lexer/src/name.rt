@@ -23,7 +23,7 @@ const MAX_LEN: usize = 32;
 pub struct Name {
     // The name in upper case, and zeros behind it.
     bytes: [u8; MAX_LEN],
-    len: usize,
+    len: u8,
 }
 
 impl Model for Name {
@@ -84,7 +84,7 @@ impl Name {
         }
         Some(Name {
             bytes: upper,
-            len: bytes.len(),
+            len: bytes.len() as u8,
         })
     }
 
@@ -106,7 +106,7 @@ impl Name {
         ensures value { result.now ≡ self.now }
         ensures name { IsUpperName self.now }
     {
-        &self.bytes[..self.len]
+        &self.bytes[..self.len as usize]
     }
 
     /// Whether the name is a reserved word of the language, which no block, variable, label or action may bear.

@@ -99,6 +99,9 @@ fn first_word(is_crc: Option<bool>, kind: TokenKind, own: &[u8]) -> Option<bool>
     }
 }
 
+// Most pieces have no more tokens, and get their room at once.
+const ROOM: usize = 16;
+
 /// The tokens between two places of a text.
 #[derive(Drop)]
 pub(crate) struct Lexed {
@@ -138,7 +141,7 @@ pub(crate) fn read_lexemes(
     ensures lie { IfOk result (λ lexed. All (LiesBetween start limit) lexed.tokens.items) }
 {
     let mut lexed = Lexed {
-        tokens: Vec::new(alloc),
+        tokens: Vec::with_capacity(alloc, ROOM)?,
         good: true,
         large: false,
     };

@@ -1,5 +1,5 @@
 //! Words and marks by their spelling.
-ghost use Rattle.std.specs.Prelude.{◌≡◌, ℕ, map};
+ghost use Rattle.std.specs.Prelude.{◌≡◌, ℕ, ◌∷◌, [], map};
 ghost use Rattle.std.specs.Str.{bytes_eq};
 ghost use Rattle.stapl_lexer.specs.Marks.{mark_terminal};
 ghost use Rattle.stapl_lexer.specs.ReservedWords.{spells_word, word_terminal};
@@ -120,28 +120,6 @@ static WORDS_OF_11: [(&str, Terminal); 1] = [(
     Terminal::Join(JoinWord::Recommended),
 )];
 
-static SINGLE_MARKS: [(&str, Terminal); 19] = [
-    ("*", Terminal::Operator(BinOp::Multiply)),
-    ("/", Terminal::Operator(BinOp::Divide)),
-    ("%", Terminal::Operator(BinOp::Remainder)),
-    ("+", Terminal::Operator(BinOp::Add)),
-    ("-", Terminal::Operator(BinOp::Subtract)),
-    ("<", Terminal::Operator(BinOp::Less)),
-    (">", Terminal::Operator(BinOp::Greater)),
-    ("&", Terminal::Operator(BinOp::BitAnd)),
-    ("^", Terminal::Operator(BinOp::BitXor)),
-    ("|", Terminal::Operator(BinOp::BitOr)),
-    ("~", Terminal::Mark(Mark::Tilde)),
-    ("!", Terminal::Mark(Mark::Exclamation)),
-    ("(", Terminal::Mark(Mark::LeftRound)),
-    (")", Terminal::Mark(Mark::RightRound)),
-    ("[", Terminal::Mark(Mark::LeftSquare)),
-    ("]", Terminal::Mark(Mark::RightSquare)),
-    (",", Terminal::Mark(Mark::Comma)),
-    ("=", Terminal::Mark(Mark::Equals)),
-    (":", Terminal::Mark(Mark::Colon)),
-];
-
 static DOUBLE_MARKS: [(&str, Terminal); 9] = [
     ("<<", Terminal::Operator(BinOp::ShiftLeft)),
     (">>", Terminal::Operator(BinOp::ShiftRight)),
@@ -196,12 +174,41 @@ fn mark_in(marks: &[(&str, Terminal)], own: &[u8]) -> Option<Terminal>
     None
 }
 
+// What mark a single byte is.
+#[tactic(auto, unfolding(crate::specs::Marks::mark_terminal))]
+fn single_mark(byte: u8) -> Option<Terminal>
+    ensures { result ≡ mark_terminal (byte ∷ []) }
+{
+    match byte {
+        b'*' => Some(Terminal::Operator(BinOp::Multiply)),
+        b'/' => Some(Terminal::Operator(BinOp::Divide)),
+        b'%' => Some(Terminal::Operator(BinOp::Remainder)),
+        b'+' => Some(Terminal::Operator(BinOp::Add)),
+        b'-' => Some(Terminal::Operator(BinOp::Subtract)),
+        b'<' => Some(Terminal::Operator(BinOp::Less)),
+        b'>' => Some(Terminal::Operator(BinOp::Greater)),
+        b'&' => Some(Terminal::Operator(BinOp::BitAnd)),
+        b'^' => Some(Terminal::Operator(BinOp::BitXor)),
+        b'|' => Some(Terminal::Operator(BinOp::BitOr)),
+        b'~' => Some(Terminal::Mark(Mark::Tilde)),
+        b'!' => Some(Terminal::Mark(Mark::Exclamation)),
+        b'(' => Some(Terminal::Mark(Mark::LeftRound)),
+        b')' => Some(Terminal::Mark(Mark::RightRound)),
+        b'[' => Some(Terminal::Mark(Mark::LeftSquare)),
+        b']' => Some(Terminal::Mark(Mark::RightSquare)),
+        b',' => Some(Terminal::Mark(Mark::Comma)),
+        b'=' => Some(Terminal::Mark(Mark::Equals)),
+        b':' => Some(Terminal::Mark(Mark::Colon)),
+        _ => None,
+    }
+}
+
 // What mark the bytes are.
 pub(crate) fn mark_terminal(own: &[u8]) -> Option<Terminal>
     ensures { result ≡ mark_terminal own.now }
 {
     match own.len() {
-        1 => mark_in(&SINGLE_MARKS, own),
+        1 => single_mark(own[0]),
         2 => mark_in(&DOUBLE_MARKS, own),
         _ => None,
     }

@@ -4,10 +4,12 @@ use Rattle.std.specs.List.{position_or_len}
 use Rattle.std.specs.Str.{bytes_eq}
 use Rattle.std.proofs.lemmas.Bool.{ltb-true, ltb-false}
 use Rattle.std.specs.Map.{keys_of}
-use Rattle.std.specs.Option.{option_map_or}
+use Rattle.std.specs.Option.{option_map, option_map_or}
+use Rattle.std.proofs.lemmas.Option.{slice_get-map, same_Some}
 use Rattle.indexmap.proofs.MapLemmas.{some_index}
 use Rattle.stapl_syntax.specs.declared.names.Block.{Block}
-use Rattle.stapl_syntax.specs.Names.{Names, block_named, found_in, found_from}
+use Rattle.stapl_syntax.specs.Names.{Names, block_named, found_in}
+use Rattle.stapl_names.specs.Tables.{block_name, blocks_used}
 use Rattle.stapl_names.proofs.Keys.{name_same, name_itself, none_from}
 
 module _ {X : Type 0} (test : X → Bool) where
@@ -80,13 +82,25 @@ first_is_least name (x ∷ xs) (suc i) at = by (first_is_least name xs i at) (no
     by later true = omega (arith, later)
     by later false = omega arith
 
--- a block that has no number is searched alone
+-- a block that has no number uses none
 pub unlisted : (names : Names) (own name : List ℕ) → position (bytes_eq own) (keys_of names.blocks) ≡ None →
-    found_in names (own ∷ []) name ≡ found_from names (Some own) name
-unlisted names own name none = ap (λ o. found_in names (own ∷ option_map_or (λ (b : Block). b.uses) o []) name) (sym none_named)
+    found_in names [] name ≡ found_in names (blocks_used names own) name
+unlisted names own name none = ap (λ o. found_in names (option_map_or (λ (b : Block). b.uses) o []) name) (sym none_named)
   where
     some_none : is_some (block_named names own) ≡ false
     some_none = sym (some_index (bytes_eq own) names.blocks) ∙ ap is_some none
 
     none_named : block_named names own ≡ None
     none_named = none_from (block_named names own) some_none
+
+-- the block with the number of a name is the block of that name
+pub used_by : (names : Names) (own : List ℕ) (number : ℕ) (block : Block) → block_name names number ≡ Some own →
+    slice_get names.blocks number ≡ Some (block.name, block) → block_named names block.name ≡ Some block → blocks_used names own ≡ block.uses
+used_by names own number block named entry is =
+    ap (blocks_used names) (sym same) ∙ ap (λ o. option_map_or (λ (b : Block). b.uses) o []) is
+  where
+    at : slice_get (keys_of names.blocks) number ≡ Some block.name
+    at = slice_get-map (λ e. e.0) names.blocks number ∙ ap (option_map (λ e. e.0)) entry
+
+    same : block.name ≡ own
+    same = same_Some block.name own (sym at ∙ named)

@@ -1,7 +1,7 @@
 -- What the tables of a program's names hold.
 use Rattle.std.specs.Prelude.{◌≡◌, ℕ, ◌+◌, ◌<◌, ◌^◌, Bool, if◌then◌else◌, List, [], ◌∷◌, ◌++◌, All, length, position, slice_get, Option, unwrap_or}
 use Rattle.std.specs.Map.{lookup, keys_of}
-use Rattle.std.specs.Option.{option_and_then}
+use Rattle.std.specs.Option.{option_and_then, option_map_or}
 use Rattle.std.specs.Str.{bytes_eq}
 use Rattle.indexmap.specs.IndexMap.{IndexMap}
 use Rattle.stapl_syntax.specs.declared.names.Block.{Block}
@@ -10,7 +10,7 @@ use Rattle.stapl_syntax.specs.declared.names.Found.TheVariants as found
 use Rattle.stapl_syntax.specs.declared.names.Key.{Key}
 use Rattle.stapl_syntax.specs.declared.names.Variable.{Variable}
 use Rattle.stapl_syntax.specs.Trees.{StmtTree}
-use Rattle.stapl_syntax.specs.Names.{Names, key_eq, key_in, put_option, variable_number, block_of, action_of, variable_of, label_of}
+use Rattle.stapl_syntax.specs.Names.{Names, block_named, key_eq, key_in, put_option, variable_number, block_of, action_of, variable_of, label_of}
 use Rattle.stapl_names.specs.declared.blocks.Blocks.{Blocks}
 use Rattle.stapl_names.specs.declared.tables.Tables.{Tables}
 use Rattle.stapl_names.specs.declared.variables.Variables.{Variables}
@@ -18,6 +18,10 @@ use Rattle.stapl_names.specs.declared.variables.Variables.{Variables}
 -- the name of the block with this number
 abbrev pub block_name : Names → ℕ → Option (List ℕ)
 block_name names number = slice_get (keys_of names.blocks) number
+
+-- the blocks that the block of this name uses
+abbrev pub blocks_used : Names → List ℕ → List (List ℕ)
+blocks_used names own = option_map_or (λ (b : Block). b.uses) (block_named names own) []
 
 -- the number of the variable of this name that the block with this number declares
 abbrev pub variable_of_block : Names → ℕ → List ℕ → Option ℕ

@@ -2,6 +2,8 @@
 ghost use Rattle.std.specs.Prelude.{◌≡◌, Some, [], unwrap_or, OnOk, IfOk};
 ghost use Rattle.std.specs.List.{position_or_len};
 ghost use Rattle.std.specs.Map.{lookup};
+ghost use Rattle.std.specs.Box.{box_value};
+ghost use Rattle.std.specs.Option.{option_map};
 ghost use Rattle.std.specs.Str.{bytes_eq};
 ghost use Rattle.stapl_syntax.specs.Trees.{body_tree};
 ghost use Rattle.stapl_syntax.specs.Names.{block_of_body, key_eq, firsts_behind};
@@ -23,8 +25,11 @@ pub(crate) struct Blocks {
 }
 
 // The names after USES.
-fn copied_uses(alloc: Global, uses: &Option<ItemList<Name>>) -> Result<ItemList<Name>, AllocError>
-    ensures { IfOk result (λ names. names ≡ unwrap_or uses.now []) }
+fn copied_uses(
+    alloc: Global,
+    uses: &Option<Box<ItemList<Name>>>,
+) -> Result<ItemList<Name>, AllocError>
+    ensures { IfOk result (λ names. names ≡ unwrap_or (option_map box_value uses.now) []) }
 {
     match uses {
         Some(names) => {

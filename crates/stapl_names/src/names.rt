@@ -6,7 +6,7 @@ ghost use Rattle.std.specs.Option.{option_map};
 ghost use Rattle.std.specs.Str.{bytes_eq};
 ghost use Rattle.stapl_syntax.specs.Trees.{stmt_tree};
 ghost use Rattle.stapl_syntax.specs.Names.{names_of, with_numbers, key_in, key_eq, block_named, variable_number, found_in, found_from};
-ghost use Rattle.stapl_names.specs.Tables.{block_name, variable_of_block, label_of_block, numbers_from, StandsIn};
+ghost use Rattle.stapl_names.specs.Tables.{block_name, blocks_used, variable_of_block, label_of_block, numbers_from, StandsIn};
 
 use crate::tables::{Tables, inside_behind, number_of};
 use stapl_lexer::Name;
@@ -154,17 +154,17 @@ impl Names {
         }
     }
 
-    /// What a name of a variable stands for inside the block of a name, or outside blocks.
-    #[tactic(auto, using(crate::proofs::Positions::unlisted))]
+    /// What a name of a variable stands for inside the block of a name, or outside blocks. It takes as many steps as
+    /// `look_up`.
     pub fn found(&self, inside: &Option<Name>, name: &Name) -> Found
         ensures { result ≡ found_from self.now inside.now name.now }
     {
         let Some(own) = inside else {
             return self.look_up_outside(name);
         };
-        match self.block(own) {
-            Some(number) => self.look_up(number, name),
-            None => self.look_in(&[*own], 0, name),
+        match self.number_in(own, name) {
+            Some(number) => Found::Variable(number),
+            None => self.found_in_used(own, name),
         }
     }
 
@@ -214,6 +214,17 @@ impl Names {
             }
         }
         self.look_up_outside(name)
+    }
+
+    // What a name stands for in the blocks that the block of a name uses.
+    #[tactic(auto, using(crate::proofs::Positions::unlisted, crate::proofs::Positions::used_by))]
+    fn found_in_used(&self, own: &Name, name: &Name) -> Found
+        ensures { result ≡ found_in self.now (blocks_used self.now own.now) name.now }
+    {
+        match self.block(own) {
+            Some(number) => self.look_in_used(self.block_at(number), name),
+            None => self.look_up_outside(name),
+        }
     }
 
     // The numbers of the variables of a name, whatever their blocks.

@@ -1,6 +1,8 @@
 //! The tables of names, and what a statement puts into them.
 ghost use Rattle.std.specs.Prelude.{◌≡◌, ◌<◌, ◌^◌, length, position, [], OnOk, IfSome};
 ghost use Rattle.std.specs.Map.{keys_of};
+ghost use Rattle.std.specs.Box.{box_value};
+ghost use Rattle.std.specs.Option.{option_map};
 ghost use Rattle.std.specs.Str.{bytes_eq};
 ghost use Rattle.stapl_syntax.specs.Trees.{body_tree, stmt_tree};
 ghost use Rattle.stapl_syntax.specs.Names.{inside_behind, action_of_body, label_in, key_eq, put_first};
@@ -69,7 +71,7 @@ fn put_action(actions: &mut IndexMap<Name, u32>, number: u32, body: &Body) -> Re
 {
     match body {
         Body::Action(name, _, _) => {
-            put(actions, *name, number)?;
+            put(actions, **name, number)?;
             Ok(())
         }
         _ => Ok(()),
@@ -81,9 +83,9 @@ fn put_label(
     labels: &mut IndexMap<Key, u32>,
     inside: &Option<Name>,
     number: u32,
-    label: &Option<Name>,
+    label: &Option<Box<Name>>,
 ) -> Result<(), AllocError>
-    ensures { OnOk result (HasPut key_eq labels.old (label_in inside.now number label.now) labels.new) }
+    ensures { OnOk result (HasPut key_eq labels.old (label_in inside.now number (option_map box_value label.now)) labels.new) }
 {
     let Some(block) = inside else {
         return Ok(());
@@ -95,7 +97,7 @@ fn put_label(
         labels,
         Key {
             block: *block,
-            name: *name,
+            name: **name,
         },
         number,
     )?;

@@ -30,7 +30,8 @@ fn spell(
 {
     let mut numbers = match spelled.swap_remove(&name) {
         Some(numbers) => numbers.into_items(),
-        None => Vec::new(alloc),
+        // Most names are those of one variable, for which a vector that grows by itself takes room for four.
+        None => Vec::with_capacity(alloc, 1)?,
     };
     numbers.push(number)?;
     spelled.insert(name, ItemList::of(numbers))?;

@@ -103,7 +103,7 @@ abbrev mutual
   pub expr_tree : Expr → ExprTree
   expr_tree (exprs.Number n) = number n
   expr_tree (exprs.Scalar v) = scalar v
-  expr_tree (exprs.Element' v p e) = element v (expr_tree e)
+  expr_tree (exprs.Element' v p e) = element (box_value v) (expr_tree e)
   expr_tree (exprs.Unary' op p e) = unary op (expr_tree e)
   expr_tree (exprs.Binary' op p a q b) = binary op (expr_tree a) (expr_tree b)
   expr_tree (exprs.Abs' p e) = abs (expr_tree e)
@@ -112,7 +112,7 @@ abbrev mutual
   pub array_tree : ArrayExpr → ArrayTree
   array_tree (arrays.Literal bits) = literal bits
   array_tree (arrays.Whole v) = whole v
-  array_tree (arrays.Range' v p a q b) = range v (expr_tree a) (expr_tree b)
+  array_tree (arrays.Range' v p a q b) = range (box_value v) (expr_tree a) (expr_tree b)
   array_tree (arrays.OfInt' p e) = of_int (expr_tree e)
 
 abbrev pub item_tree : Item → ItemTree
@@ -131,44 +131,44 @@ abbrev pub compare_tree : Compare → CompareTree
 compare_tree c = (array_tree c.expected, (array_tree c.mask, expr_tree c.cell))
 
 abbrev pub scan_tree : Scan → BodyTree
-scan_tree s = scan s.register (expr_tree s.length) (array_tree s.source) (option_map array_tree s.target) (option_map compare_tree s.compare)
+scan_tree s = scan s.register (expr_tree s.length) (array_tree s.source) (option_map (λ a. array_tree (box_value a)) s.target) (option_map (λ c. compare_tree (box_value c)) s.compare)
 
 abbrev pub body_tree : Body → BodyTree
 body_tree (bodies.Note key text) = note key text
-body_tree (bodies.Action v text items) = action v text (map item_tree items)
-body_tree (bodies.Procedure v uses) = procedure v uses
+body_tree (bodies.Action v text items) = action (box_value v) text (map item_tree (box_value items))
+body_tree (bodies.Procedure v uses) = procedure v (option_map box_value uses)
 body_tree (bodies.Data v) = data_block v
 body_tree bodies.EndData = end_data
 body_tree (bodies.Crc n) = crc n
 body_tree bodies.EndProcedure = end_procedure
 body_tree (bodies.Boolean v start) = boolean v start
-body_tree (bodies.BooleanArray v n bits) = boolean_array v n bits
+body_tree (bodies.BooleanArray v n bits) = boolean_array v n (option_map box_value bits)
 body_tree (bodies.Integer v start) = integer v start
-body_tree (bodies.IntegerArray v n values) = integer_array v n values
-body_tree (bodies.Assign v e) = assign v (expr_tree e)
-body_tree (bodies.AssignElement v i e) = assign_element v (expr_tree (box_value i)) (expr_tree e)
-body_tree (bodies.AssignArray v a) = assign_array v (array_tree a)
-body_tree (bodies.AssignRange v h l a) = assign_range v (expr_tree (box_value h)) (expr_tree (box_value l)) (array_tree a)
+body_tree (bodies.IntegerArray v n values) = integer_array v n (option_map box_value values)
+body_tree (bodies.Assign v e) = assign v (expr_tree (box_value e))
+body_tree (bodies.AssignElement v i e) = assign_element v (expr_tree (box_value i)) (expr_tree (box_value e))
+body_tree (bodies.AssignArray v a) = assign_array v (array_tree (box_value a))
+body_tree (bodies.AssignRange v h l a) = assign_range (box_value v) (expr_tree (box_value h)) (expr_tree (box_value l)) (array_tree (box_value a))
 body_tree (bodies.Call v) = call v
 body_tree (bodies.Goto v) = goto v
 body_tree (bodies.If' e p b) = if_then (expr_tree e) (body_tree b)
-body_tree (bodies.For v a b c) = for_loop v (expr_tree (box_value a)) (expr_tree (box_value b)) (option_map expr_tree c)
+body_tree (bodies.For v a b c) = for_loop (box_value v) (expr_tree (box_value a)) (expr_tree (box_value b)) (option_map (λ e. expr_tree (box_value e)) c)
 body_tree (bodies.Next v) = next v
 body_tree (bodies.Push e) = push (expr_tree e)
 body_tree (bodies.Pop e) = pop (expr_tree e)
 body_tree (bodies.Print list) = print (map part_tree list)
-body_tree (bodies.Export key x) = export key (export_tree x)
+body_tree (bodies.Export key x) = export key (export_tree (box_value x))
 body_tree (bodies.Exit e) = exit (expr_tree e)
 body_tree (bodies.Scan s) = scan_tree (box_value s)
 body_tree (bodies.Stop k state) = stop k state
-body_tree (bodies.Pad k e a) = pad k (expr_tree (box_value e)) (option_map array_tree a)
+body_tree (bodies.Pad k e a) = pad k (expr_tree (box_value e)) (option_map (λ a. array_tree (box_value a)) a)
 body_tree (bodies.State states) = state_list states
-body_tree (bodies.WaitCycles k e u l) = wait_cycles k (expr_tree (box_value e)) (option_map expr_tree u) l
+body_tree (bodies.WaitCycles k e u l) = wait_cycles k (expr_tree (box_value e)) (option_map (λ e. expr_tree (box_value e)) u) l
 body_tree (bodies.WaitUsec k e l) = wait_usec k (expr_tree e) l
-body_tree (bodies.Frequency e) = frequency (option_map expr_tree e)
+body_tree (bodies.Frequency e) = frequency (option_map (λ e. expr_tree (box_value e)) e)
 
 abbrev pub stmt_tree : Stmt → StmtTree
-stmt_tree st = record { label = st.label; body = body_tree st.body }
+stmt_tree st = record { label = option_map box_value st.label; body = body_tree st.body }
 
 -- the trees of statements
 abbrev pub trees : List Stmt → List StmtTree

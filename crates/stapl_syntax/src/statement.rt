@@ -15,7 +15,7 @@ pub enum Expr {
     /// A scalar variable.
     Scalar(Name),
     /// An element of an array variable, and its index.
-    Element(Name, Box<Expr>),
+    Element(Box<Name>, Box<Expr>),
     Unary(UnOp, Box<Expr>),
     Binary(BinOp, Box<Expr>, Box<Expr>),
     /// ABS.
@@ -32,7 +32,7 @@ pub enum ArrayExpr {
     /// A whole array variable.
     Whole(Name),
     /// A range of an array variable, and its two indexes in the written order.
-    Range(Name, Box<Expr>, Box<Expr>),
+    Range(Box<Name>, Box<Expr>, Box<Expr>),
     /// BOOL, the bits of an integer.
     OfInt(Box<Expr>),
 }
@@ -89,21 +89,21 @@ pub struct Scan {
     /// What is shifted in.
     pub source: ArrayExpr,
     /// Where what comes out goes.
-    pub target: Option<ArrayExpr>,
-    pub compare: Option<Compare>,
+    pub target: Option<Box<ArrayExpr>>,
+    pub compare: Option<Box<Compare>>,
 }
 
 /// A statement without its label (JESD71, statements). The fields stand in the written order. A string is kept by the
-/// bytes between its quotes, a state by its number. What is seldom and large lies behind a pointer, so that the other
-/// statements take little memory.
+/// bytes between its quotes, a state by its number. What would make the largest variants larger lies behind a pointer,
+/// so that each statement takes little memory.
 #[derive(Drop)]
 pub enum Body {
     /// NOTE: key and text.
     Note(ItemList<u8>, ItemList<u8>),
     /// ACTION: its name, its text, and its items.
-    Action(Name, Option<ItemList<u8>>, ItemList<Item>),
+    Action(Box<Name>, Option<ItemList<u8>>, Box<ItemList<Item>>),
     /// PROCEDURE: its name, and the names behind USES.
-    Procedure(Name, Option<ItemList<Name>>),
+    Procedure(Name, Option<Box<ItemList<Name>>>),
     /// DATA.
     Data(Name),
     /// ENDDATA.
@@ -115,19 +115,19 @@ pub enum Body {
     /// BOOLEAN: a scalar, and its initial value.
     Boolean(Name, Option<bool>),
     /// BOOLEAN: an array, its size, and its initial value.
-    BooleanArray(Name, i32, Option<Bits>),
+    BooleanArray(Name, i32, Option<Box<Bits>>),
     /// INTEGER: a scalar, and its initial value.
     Integer(Name, Option<i32>),
     /// INTEGER: an array, its size, and its initial values.
-    IntegerArray(Name, i32, Option<ItemList<i32>>),
+    IntegerArray(Name, i32, Option<Box<ItemList<i32>>>),
     /// An assignment to a scalar.
-    Assign(Name, Expr),
+    Assign(Name, Box<Expr>),
     /// An assignment to an element.
-    AssignElement(Name, Box<Expr>, Expr),
+    AssignElement(Name, Box<Expr>, Box<Expr>),
     /// An assignment to a whole array.
-    AssignArray(Name, ArrayExpr),
+    AssignArray(Name, Box<ArrayExpr>),
     /// An assignment to a range of an array.
-    AssignRange(Name, Box<Expr>, Box<Expr>, ArrayExpr),
+    AssignRange(Box<Name>, Box<Expr>, Box<Expr>, Box<ArrayExpr>),
     /// CALL.
     Call(Name),
     /// GOTO.
@@ -135,7 +135,7 @@ pub enum Body {
     /// IF .. THEN.
     If(Expr, Box<Body>),
     /// FOR: its variable, the first and the last value, and the step.
-    For(Name, Box<Expr>, Box<Expr>, Option<Expr>),
+    For(Box<Name>, Box<Expr>, Box<Expr>, Option<Box<Expr>>),
     /// NEXT.
     Next(Name),
     /// PUSH.
@@ -145,7 +145,7 @@ pub enum Body {
     /// PRINT.
     Print(ItemList<PrintPart>),
     /// EXPORT: the key, and what is exported.
-    Export(ItemList<u8>, Exported),
+    Export(ItemList<u8>, Box<Exported>),
     /// EXIT.
     Exit(Expr),
     /// DRSCAN, IRSCAN.
@@ -153,15 +153,15 @@ pub enum Body {
     /// DRSTOP, IRSTOP.
     Stop(Register, u8),
     /// PREDR, POSTDR, PREIR, POSTIR: the length, and the bits.
-    Pad(Padding, Box<Expr>, Option<ArrayExpr>),
+    Pad(Padding, Box<Expr>, Option<Box<ArrayExpr>>),
     /// STATE: the states to go through.
     State(ItemList<u8>),
     /// WAIT for cycles, and for a time: where to wait, how many cycles, how many microseconds, and where to go then.
-    WaitCycles(Option<u8>, Box<Expr>, Option<Expr>, Option<u8>),
+    WaitCycles(Option<u8>, Box<Expr>, Option<Box<Expr>>, Option<u8>),
     /// WAIT for a time alone: where to wait, how many microseconds, and where to go then.
     WaitUsec(Option<u8>, Expr, Option<u8>),
     /// FREQUENCY.
-    Frequency(Option<Expr>),
+    Frequency(Option<Box<Expr>>),
 }
 
 impl Body {
@@ -204,7 +204,7 @@ impl Body {
 #[derive(Drop)]
 pub struct Stmt {
     /// The name of the label before it.
-    pub label: Option<Name>,
+    pub label: Option<Box<Name>>,
     /// The statement behind the label.
     pub body: Body,
 }

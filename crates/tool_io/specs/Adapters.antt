@@ -1,5 +1,5 @@
--- The adapters over the files and the output of a system. Through the traits they tell nothing but their faults; what they stand on
--- is told as far as std's reader or writer tells it. The rules are the tool's own.
+-- The adapters over the files and the output of a system. Through the traits they tell nothing but their faults; what
+-- they stand on is told as far as std's reader or writer tells it. The rules are the tool's own.
 use Rattle.std.specs.Prelude.{ℕ, List, Option, IsSome}
 use Rattle.std.specs.Option.{option_and_then}
 use Rattle.tool_io.specs.declared.std_edge.FileShelf.{FileShelf}

@@ -1,5 +1,5 @@
--- What a sink has taken, where it tells: all bytes in the order in which they were written. Nothing is said of a sink that tells
--- nothing, but that it goes on to do so. The rules are the tool's own.
+-- What a sink has taken, where it tells: all bytes in the order in which they were written. Nothing is said of a sink
+-- that tells nothing, but that it goes on to do so. The rules are the tool's own.
 use Rattle.std.specs.Prelude.{◌≡◌, ℕ, List, ◌++◌, Option}
 use Rattle.std.specs.Option.{option_map}
 

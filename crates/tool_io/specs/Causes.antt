@@ -1,9 +1,9 @@
--- Counts of faults. An object counts its calls that failed. A count never falls, and a call that fails has raised it, or it
--- stands at its last value: a count that is kept in a number of the machine ends there, and which value is the last is said by
--- the object. All of this is the tool's own.
+-- Counts of faults. An object counts its calls that failed. A count never falls, and a call that fails has raised it,
+-- or it stands at its last value: a count that is kept in a number of the machine ends there, and which value is the
+-- last is said by the object. All of this is the tool's own.
 --
--- The records speak of the counts alone, so that an object that stands on another, or whose count is a sum of two, meets them by
--- what the objects under it say. The words below them speak of an object before and after a call.
+-- The records speak of the counts alone, so that an object that stands on another, or whose count is a sum of two,
+-- meets them by what the objects under it say. The words below them speak of an object before and after a call.
 use Rattle.std.specs.Prelude.{◌≡◌, ℕ, ◌+◌, ◌-◌, ◌^◌, ◌<◌, ◌≤◌, ◌⊎◌, min, List, Result, OnErr}
 
 -- the count rose, or stands at its last value now

@@ -4,8 +4,9 @@ use Rattle.std.specs.List.{zip}
 use Rattle.std.specs.Str.{bytes_eq}
 use Rattle.tool_io.specs.Causes.{IsSaturated, raised_count}
 
--- the names and their files, how often calls on each name and, at the end, on all others have failed, the numbers of the calls
--- that fail, the number of the last call, from 1, or 0, the place of the file that is read, and how many of its bytes were read
+-- the names and their files, how often calls on each name and, at the end, on all others have failed, the numbers of
+-- the calls that fail, the number of the last call, from 1, or 0, the place of the file that is read, and how many of
+-- its bytes were read
 pub record ShelfState : Type 0 where
   pub names : List (List ℕ)
   pub files : List (List ℕ)

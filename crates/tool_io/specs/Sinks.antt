@@ -2,8 +2,8 @@
 use Rattle.std.specs.Prelude.{◌≡◌, ℕ, ◌+◌, ◌-◌, ◌^◌, ◌<◌, ◌⊎◌, ◌↔◌, min, List, ◌++◌, take, length, Contains, Result, IsErr, IfOk, OnErr}
 use Rattle.tool_io.specs.Causes.{IsSaturated, raised_count}
 
--- what was written, the room in all, the most that one write takes, the numbers of the writes that fail, the number of the last
--- write, from 1, or 0, and how often a write has failed
+-- what was written, the room in all, the most that one write takes, the numbers of the writes that fail, the number of
+-- the last write, from 1, or 0, and how often a write has failed
 pub record MemState : Type 0 where
   pub written : List ℕ
   pub room : ℕ

@@ -10,9 +10,9 @@ use itoa::Buffer;
 
 /// Bytes on their way to a sink: 4,096 are gathered before they are written. It takes no memory from an allocator.
 ///
-/// What is put has been written whole only after `finish`. Once a call has failed, no further one may be made on this value.
-/// `Failed` comes only where the sink's count of faults rose, or stands at its last value; what was written then is a front of all
-/// that was put, with the bytes of the failed call.
+/// What is put has been written whole only after `finish`. Once a call has failed, no further one may be made on this
+/// value. `Failed` comes only where the sink's count of faults rose, or stands at its last value; what was written then
+/// is a front of all that was put, with the bytes of the failed call.
 #[derive(Drop)]
 pub struct Lines<'a, K: Sink> {
     sink: &'a mut K,
@@ -51,7 +51,8 @@ impl<'a, K: Sink> Lines<'a, K> {
         }
     }
 
-    /// Puts the bytes behind all that was put before. The sink is not touched while all that is gathered fits into 4,096 bytes.
+    /// Puts the bytes behind all that was put before. The sink is not touched while all that is gathered fits into
+    /// 4,096 bytes.
     ///
     /// `Failed` as of the sink.
     pub fn put(&mut self, bytes: &[u8]) -> Result<(), Failed>

@@ -11,9 +11,10 @@ use std::marker::Model;
 
 /// A store of files in memory, whose calls with the listed numbers fail.
 ///
-/// It tells its files. Picks and reads are numbered together, from 1, and the number stays at 4,294,967,295 once it is reached. A
-/// call fails exactly where its number is listed, or a pick asks for a name that is not held. Each held name has a count of faults,
-/// and all other names share one; a failed call raises that of its name by one, up to the last value of 64 bits.
+/// It tells its files. Picks and reads are numbered together, from 1, and the number stays at 4,294,967,295 once it is
+/// reached. A call fails exactly where its number is listed, or a pick asks for a name that is not held. Each held name
+/// has a count of faults, and all other names share one; a failed call raises that of its name by one, up to the last
+/// value of 64 bits.
 #[derive(Drop)]
 pub struct MemShelf {
     names: Vec<String>,

@@ -11,9 +11,10 @@ use std::marker::Model;
 
 /// A sink in memory, with a fixed room, whose writes with the listed numbers fail.
 ///
-/// It tells what was written. Writes are numbered from 1, and the number stays at 4,294,967,295 once it is reached. A write takes as
-/// many bytes as its bite and the room that is left allow. It fails exactly where its number is listed, or it has bytes and no room is
-/// left; then it takes none, and raises the count of faults by one, up to the last value of 64 bits. A flush never fails.
+/// It tells what was written. Writes are numbered from 1, and the number stays at 4,294,967,295 once it is reached. A
+/// write takes as many bytes as its bite and the room that is left allow. It fails exactly where its number is listed,
+/// or it has bytes and no room is left; then it takes none, and raises the count of faults by one, up to the last value
+/// of 64 bits. A flush never fails.
 #[derive(Drop)]
 pub struct MemSink {
     taken: Vec<u8>,

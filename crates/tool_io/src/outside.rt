@@ -13,8 +13,8 @@ pub struct Failed;
 
 /// A store of named files, of which one at a time is read.
 ///
-/// A shelf tells its files to contracts, as one in memory does, or tells nothing, as one over the files of a system; either
-/// way it stays so, and a told file never changes. It has a count of faults for each name, which never falls.
+/// A shelf tells its files to contracts, as one in memory does, or tells nothing, as one over the files of a system;
+/// either way it stays so, and a told file never changes. It has a count of faults for each name, which never falls.
 pub trait Shelf {
     /// The names and their bytes, where the shelf tells them.
     ghost told: { Self → Option (List (List ℕ × List ℕ)) };
@@ -55,8 +55,8 @@ pub trait Shelf {
 
 /// A sink of bytes.
 ///
-/// A sink tells what was written to contracts, as one in memory does, or tells nothing, as standard output; either way it stays
-/// so. It has a count of faults, which never falls.
+/// A sink tells what was written to contracts, as one in memory does, or tells nothing, as standard output; either way
+/// it stays so. It has a count of faults, which never falls.
 pub trait Sink {
     /// All bytes that were written, where the sink tells them.
     ghost written: { Self → Option (List ℕ) };

@@ -1,4 +1,5 @@
-// The real files and the real output. Through the traits nothing is told of them; the calls say what std's reader and writer did.
+// The real files and the real output. Through the traits nothing is told of them; the calls say what std's reader and
+// writer did.
 ghost use Rattle.std.specs.Prelude.{◌≡◌, ◌<◌, ◌≤◌, ℕ, List, [], None, length, IfOk, OnErr};
 ghost use Rattle.std.specs.Io.KnownBytes.{Keeps, ReadConsumes, WriteAppends};
 ghost use Rattle.tool_io.specs.Bytes.{MovesFront};
@@ -84,8 +85,8 @@ impl<R: Files> Shelf for FileShelf<'_, R> {
 
 /// A writer of std, as standard output. It tells nothing.
 ///
-/// A write that takes none of the bytes that it is given is a fault. Each failure raises the count by one, up to the last value of 64
-/// bits.
+/// A write that takes none of the bytes that it is given is a fault. Each failure raises the count by one, up to the
+/// last value of 64 bits.
 #[derive(Drop)]
 pub struct StdSink<W: Write + Drop> {
     to: W,

@@ -1,5 +1,6 @@
 -- On answers to the words of a command.
 use Rattle.std.proofs.Common.{◌≡◌, ℕ, List, Option, None, Some, IfSome, sym, ◌∙◌}
+use Rattle.std.proofs.lemmas.Option.{none-some}
 use Rattle.play_tool.specs.declared.status.Status.{Status}
 use Rattle.play_tool.proofs.WrittenLemmas.{IsWithin}
 use Rattle.zanutero.specs.Commands.{text_asked, CommandAnswer, shown, done}
@@ -13,12 +14,9 @@ for_some (Some x) f = f x
 pub tool_answers : (A : List ℕ → Status → Type 0) (words : List (List ℕ)) → text_asked words ≡ None → IsWithin A (CommandAnswer A words)
 tool_answers A words none = record { to = λ text status a. done text status none a }
 
-none_some : {T : Type 0} (x : T) → None ≡ Some x → ⊥
-none_some x e = cc
-
 the_tools : {A : List ℕ → Status → Type 0} {words : List (List ℕ)} {text : List ℕ} {status : Status} → text_asked words ≡ None →
     CommandAnswer A words text status → A text status
-the_tools none (shown text e) = absurd (none_some text (sym none ∙ e))
+the_tools none (shown text e) = absurd (none-some text (sym none ∙ e))
 the_tools none (done text status e a) = a
 
 pub answers_tool : (A : List ℕ → Status → Type 0) (words : List (List ℕ)) → text_asked words ≡ None → IsWithin (CommandAnswer A words) A
