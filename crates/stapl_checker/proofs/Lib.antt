@@ -7,6 +7,5 @@ pub mod StopLemmas
 pub mod ScopeLemmas
 pub mod CourseLemmas
 pub mod FaultLemmas
-pub mod MappedLists
 pub mod UniqueLemmas
 pub mod Answered

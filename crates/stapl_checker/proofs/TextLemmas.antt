@@ -85,30 +85,3 @@ program_is text pieces whats statements short cut are free same =
       sound = subst (λ (z : List (Option StmtTree)). NoneBefore text pieces z (length pieces + 1)) same
           (none_before text pieces whats (length pieces + 1) are (λ k lt. free.none k (omega arith)));
     }
-
-read_length : (text : List ℕ) (pieces : List Piece) (read : List (Option StmtTree)) → AreReadAs text pieces read → length read ≡ length pieces
-read_length text [] [] a = refl
-read_length text [] (r ∷ read) a = absurd a
-read_length text (p ∷ pieces) [] a = absurd a
-read_length text (p ∷ pieces) (r ∷ read) a = let h = read_length text pieces read a.1 in cc
-
--- a program has no piece too many
-few_pieces : (text : List ℕ) (statements : List StmtTree) → IsProgram text statements → length statements ≤ piece_limit
-few_pieces text statements program = by (cases_lt piece_limit (length statements))
-  where
-    late : (at : Option Piece) → (piece : Piece) × (at ≡ Some piece) → HasReasonAt text (map Some statements) piece_limit at reasons.TooManyPieces
-    late at found = subst (λ (p : Option Piece). HasReasonAt text (map Some statements) piece_limit p reasons.TooManyPieces) (sym found.1) (one_too_many found.0 (omega arith))
-
-    by : (piece_limit < length statements) ⊎ (length statements ≤ piece_limit) → length statements ≤ piece_limit
-    by (inr le) = le
-    by (inl lt) =
-        let long = read_length text program.pieces (map Some statements) program.read in
-        let mapped = length-map statements Some in
-        absurd (program.sound piece_limit (omega (arith, long, mapped, lt)) reasons.TooManyPieces
-        (late (slice_get program.pieces piece_limit) (get_or program.pieces piece_limit no_piece, slice_get-get_or program.pieces piece_limit no_piece (omega (arith, long, mapped, lt)))))
-
-pub few_statements_of : (text : List ℕ) (statements : List Stmt) → IsProgram text (map stmt_tree statements) → length statements ≤ piece_limit
-few_statements_of text statements program =
-    let few = few_pieces text (map stmt_tree statements) program in
-    let mapped = length-map statements stmt_tree in
-    omega (arith, few, mapped)

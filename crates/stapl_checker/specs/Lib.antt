@@ -1,4 +1,3 @@
-pub mod Verdicts
 pub mod Judgements
 pub mod Earlier
 pub mod Readings

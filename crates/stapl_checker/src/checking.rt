@@ -9,11 +9,10 @@ ghost use Rattle.stapl_checker.specs.Readings.{stmt_trees, IsReading};
 ghost use Rattle.stapl_checker.specs.Answers.{IsVerdict, IsCause};
 
 use crate::faults::first_fault;
-use crate::lines::line_of_index;
 use crate::reading::{Reading, read_pieces};
 use stapl_lexer::{Piece, Reason, TEXT_LIMIT, cut};
 use stapl_names::{Names, collect};
-use stapl_syntax::{Program, Stmt};
+use stapl_syntax::{Program, Stmt, line_of_index};
 use std::alloc::{AllocError, Global};
 use thiserror::Error;
 

@@ -311,7 +311,7 @@ fn scan_suits(scope: &Scope, scan: &Scan) -> bool
 }
 
 // Whether no rule of kinds is broken in the expressions and variables of a statement.
-#[tactic(auto, using(crate::proofs::MappedLists::mapped_lists))]
+#[tactic(auto, using(stapl_syntax::proofs::MappedLists::mapped_lists))]
 fn operands_suit(scope: &Scope, body: &Body) -> bool
     ensures { result ≡ operands_suit (known_of scope.now).kind (body_tree body.now) }
 {
@@ -361,7 +361,7 @@ fn has_no_data_item(scope: &Scope, items: &[Item]) -> bool
 }
 
 // Whether no DATA block stands where a statement names a procedure.
-#[tactic(auto, using(crate::proofs::MappedLists::mapped_lists))]
+#[tactic(auto, using(stapl_syntax::proofs::MappedLists::mapped_lists))]
 fn names_no_data(scope: &Scope, body: &Body) -> bool
     ensures { result ≡ list_all (is_no_data (known_of scope.now)) (procedures_named (body_tree body.now)) }
 {

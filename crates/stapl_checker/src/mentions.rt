@@ -220,7 +220,7 @@ fn has_unknown_block(scope: &Scope, names: &[Name]) -> bool
 }
 
 // Whether a statement names a procedure that is no block.
-#[tactic(auto, using(crate::proofs::MappedLists::mapped_lists))]
+#[tactic(auto, using(stapl_syntax::proofs::MappedLists::mapped_lists))]
 fn names_unknown_procedure(scope: &Scope, body: &Body) -> bool
     ensures { result ≡ list_any (is_no_block (known_of scope.now)) (procedures_named (body_tree body.now)) }
 {
@@ -254,7 +254,7 @@ fn names_unknown_label(scope: &Scope, body: &Body) -> bool
 }
 
 /// What is wrong with the names that a statement mentions.
-#[tactic(auto, using(crate::proofs::MappedLists::joined_lists), unfolding(crate::specs::Mentioned::faults_in))]
+#[tactic(auto, using(stapl_syntax::proofs::MappedLists::joined_lists), unfolding(crate::specs::Mentioned::faults_in))]
 pub(crate) fn name_faults(scope: &Scope, body: &Body) -> NameFaults
     ensures undefined { result.undefined ≡ names_undefined (known_of scope.now) (body_tree body.now) }
     ensures hidden { result.hidden ≡ names_hidden (known_of scope.now) (body_tree body.now) }

@@ -1,3 +1,3 @@
 pub mod ReasonLemmas
-pub mod BuiltLemmas
 pub mod SymbolLemmas
+pub mod MappedLists

@@ -4,12 +4,10 @@ pub mod Expressions
 pub mod Parts
 pub mod Statements
 pub mod Reasons
-pub mod Built
 pub mod Names
 pub mod Kinds
 pub mod Mentions
 pub mod Rules
 pub mod Programs
-pub mod Unbuilt
 pub mod Contents
 pub mod ProgramValues

@@ -9,16 +9,8 @@ ghost use Rattle.stapl_syntax.specs.declared.signs.Sign.TheVariants as signs;
 ghost use Rattle.stapl_syntax.specs.Symbols.{word_sign};
 ghost use Rattle.stapl_syntax.specs.Trees.{StmtTree};
 ghost use Rattle.stapl_syntax.specs.Reasons.{SmallestReason};
-ghost use Rattle.stapl_syntax.specs.Built.{IsBuilt};
 ghost use Rattle.stapl_syntax.specs.Programs.{IsProgram};
-ghost use Rattle.stapl_syntax.specs.Unbuilt.{IsBuiltProgram};
 ghost use Rattle.stapl_syntax.specs.Contents.{IsWellNamed, PrintsShortStrings};
-
-/// Each statement of a built program has one of the shapes that are built.
-pub fn programs_are_built()
-    ensures { (text : List ℕ) (statements : List StmtTree) →
-        IsBuiltProgram text statements → All IsBuilt statements }
-{}
 
 /// The names of the ACTIONs and PROCEDUREs of a program are spelled as names and no reserved words, and each ACTION
 /// names a procedure.

@@ -2,11 +2,13 @@
 #![tactic(auto)]
 
 pub mod laws;
+mod lines;
 mod names;
 mod program;
 mod signs;
 mod statement;
 
+pub use lines::line_of_index;
 pub use names::{Block, Declaration, Found, Key, Kind, VarKind, Variable};
 pub use program::Program;
 pub use signs::{Sign, UnOp};

@@ -2,7 +2,7 @@
 ghost use Rattle.std.specs.Prelude.{◌≡◌, map};
 ghost use Rattle.std.specs.List.{list_all};
 ghost use Rattle.stapl_syntax.specs.Trees.{expr_tree, item_tree, part_tree, body_tree, stmt_tree};
-ghost use Rattle.stapl_syntax.specs.Built.{is_built_atom, is_built_sum, is_built_condition, is_built_print, is_built_simple, is_built_inner, is_built_item, is_built_outer, is_built};
+ghost use Rattle.stapl_built.specs.Built.{is_arithmetic, is_comparison, is_built_atom, is_built_integer, is_built_condition, is_built_print, is_built_simple, is_built_inner, is_built_item, is_built_outer, is_built};
 
 use stapl_lexer::BinOp;
 use stapl_syntax::{Body, Expr, Item, PrintPart, Stmt};
@@ -14,33 +14,64 @@ fn is_atom(expr: &Expr) -> bool
     matches!(expr, Expr::Number(_) | Expr::Scalar(_))
 }
 
-// An atom, or the sum of two.
-fn is_sum(expr: &Expr) -> bool
-    ensures { result ≡ is_built_sum (expr_tree expr.now) }
+// An operator that makes an integer of two.
+fn is_arithmetic(operator: BinOp) -> bool
+    ensures { result ≡ is_arithmetic operator }
+{
+    matches!(
+        operator,
+        BinOp::Multiply
+            | BinOp::Divide
+            | BinOp::Remainder
+            | BinOp::Add
+            | BinOp::Subtract
+            | BinOp::ShiftLeft
+            | BinOp::ShiftRight
+    )
+}
+
+// An operator that compares two integers by their order.
+fn is_comparison(operator: BinOp) -> bool
+    ensures { result ≡ is_comparison operator }
+{
+    matches!(
+        operator,
+        BinOp::Less | BinOp::AtMost | BinOp::Greater | BinOp::AtLeast
+    )
+}
+
+// An atom, or two with an operator between them that makes an integer.
+fn is_integer(expr: &Expr) -> bool
+    ensures { result ≡ is_built_integer (expr_tree expr.now) }
 {
     match expr {
-        Expr::Binary(BinOp::Add, left, right) => is_atom(left) && is_atom(right),
+        Expr::Binary(operator, left, right) => {
+            is_arithmetic(*operator) && is_atom(left) && is_atom(right)
+        }
         _ => is_atom(expr),
     }
 }
 
-// One atom is less than another.
+// Two atoms are compared.
 fn is_condition(expr: &Expr) -> bool
     ensures { result ≡ is_built_condition (expr_tree expr.now) }
 {
     match expr {
-        Expr::Binary(BinOp::Less, left, right) => is_atom(left) && is_atom(right),
+        Expr::Binary(operator, left, right) => {
+            is_comparison(*operator) && is_atom(left) && is_atom(right)
+        }
         _ => false,
     }
 }
 
-// One string or one atom.
+// One string, one atom or one character.
 fn is_print(parts: &[PrintPart]) -> bool
     ensures { result ≡ is_built_print (map part_tree parts.now) }
 {
     match parts {
         [PrintPart::Text(_)] => true,
         [PrintPart::Value(expr)] => is_atom(expr),
+        [PrintPart::Character(expr)] => is_atom(expr),
         _ => false,
     }
 }
@@ -50,7 +81,7 @@ fn is_simple(body: &Body) -> bool
     ensures { result ≡ is_built_simple (body_tree body.now) }
 {
     match body {
-        Body::Assign(_, expr) => is_sum(expr),
+        Body::Assign(_, expr) => is_integer(expr),
         Body::Goto(_) => true,
         Body::Print(parts) => is_print(parts.as_slice()),
         Body::Exit(expr) => is_atom(expr),
@@ -84,7 +115,7 @@ fn all_items_are_built(items: &[Item]) -> bool
 }
 
 // A statement outside procedures.
-#[tactic(auto, using(crate::proofs::MappedLists::mapped_lists))]
+#[tactic(auto, using(stapl_syntax::proofs::MappedLists::mapped_lists))]
 fn is_built_outer(body: &Body) -> bool
     ensures { result ≡ is_built_outer (body_tree body.now) }
 {

@@ -3,13 +3,12 @@ ghost use Rattle.std.specs.Prelude.{◌≡◌, ◌≤◌, ◌<◌, length, map, 
 ghost use Rattle.stapl_syntax.specs.Trees.{stmt_tree};
 ghost use Rattle.stapl_syntax.specs.Programs.{piece_limit};
 ghost use Rattle.stapl_syntax.specs.ProgramValues.{trees_of};
-ghost use Rattle.stapl_syntax.specs.Unbuilt.{first_unbuilt};
-ghost use Rattle.stapl_checker.specs.Verdicts.{IsFirstUnbuilt};
+ghost use Rattle.stapl_built.specs.Unbuilt.{first_unbuilt};
+ghost use Rattle.stapl_built.specs.Verdicts.{IsFirstUnbuilt};
 
 use crate::building::is_built;
-use crate::lines::line_of_index;
 use stapl_lexer::cut;
-use stapl_syntax::{Program, Stmt};
+use stapl_syntax::{Program, Stmt, line_of_index};
 use std::alloc::{AllocError, Global};
 
 // The index of the first statement that is not built.

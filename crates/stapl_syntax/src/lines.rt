@@ -15,7 +15,7 @@ fn line_of_end(text: &[u8]) -> u32
 }
 
 /// The line of the piece at an index, or that of the end of the text.
-pub(crate) fn line_of_index(text: &[u8], pieces: &[Piece], index: usize) -> u32
+pub fn line_of_index(text: &[u8], pieces: &[Piece], index: usize) -> u32
     requires { length text.now ≤ text_limit }
     ensures { result ≡ line_of_index text.now pieces.now index }
 {

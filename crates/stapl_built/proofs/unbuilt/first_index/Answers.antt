@@ -5,9 +5,9 @@ use Rattle.std.proofs.lemmas.Iterator.Adapters.{position_from-zero}
 use Rattle.std.proofs.lemmas.Iterator.Search.{position_from_yields_List}
 use Rattle.stapl_syntax.specs.declared.statement.Stmt.{Stmt}
 use Rattle.stapl_syntax.specs.Trees.{stmt_tree}
-use Rattle.stapl_syntax.specs.Unbuilt.{is_unbuilt}
-use Rattle.stapl_checker.proofs.MappedLists.{position_mapped}
-use Rattle.stapl_checker.proofs.unbuilt.first_index.Goals as goal
+use Rattle.stapl_built.specs.Unbuilt.{is_unbuilt}
+use Rattle.stapl_syntax.proofs.MappedLists.{position_mapped}
+use Rattle.stapl_built.proofs.unbuilt.first_index.Goals as goal
 
 pub returns-clause-first : goal.returns-clause-first
 returns-clause-first c =

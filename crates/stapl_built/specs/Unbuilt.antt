@@ -5,7 +5,7 @@ use Rattle.std.specs.List.{position_from}
 use Rattle.stapl_lexer.specs.declared.piece.Piece.{Piece}
 use Rattle.stapl_lexer.specs.Pieces.{IsCut}
 use Rattle.stapl_syntax.specs.Trees.{StmtTree}
-use Rattle.stapl_syntax.specs.Built.{is_built}
+use Rattle.stapl_built.specs.Built.{is_built}
 use Rattle.stapl_syntax.specs.Programs.{line_of_index, IsProgram}
 
 -- the statement is not built

@@ -1,41 +1,45 @@
 -- The statements of a program are built.
-use Rattle.std.proofs.Common.{◌≡◌, ℕ, ◌+◌, List, [], ◌∷◌, Bool, true, false, cond, not, ◌||◌, None, Some, refl, sym, ap, ◌∙◌}
+use Rattle.std.proofs.Common.{◌≡◌, ℕ, ◌+◌, List, [], ◌∷◌, Bool, true, false, cond, not, ◌&&◌, ◌||◌, None, Some, refl, sym, ap, ◌∙◌}
 use Rattle.std.specs.Prelude.{All}
 use Rattle.std.specs.List.{position_from}
 use Rattle.std.proofs.lemmas.Bool.{and_parts}
 use Rattle.std.proofs.lemmas.List.Elements.{All-nil, All-cons}
-use Rattle.stapl_lexer.specs.declared.terminal.BinOp.TheVariants as operators
-use Rattle.stapl_syntax.specs.Trees.{ExprTree, number, scalar, binary, PartTree, string, value, BodyTree, end_procedure, integer, assign, goto, if_then, print, exit, StmtTree}
-use Rattle.stapl_syntax.specs.Built.{is_built_atom, is_built_sum, is_built_condition, is_built_print, is_built_simple, is_built_inner, is_built_outer, is_built, IsAtom, is_number, is_scalar, IsSum, is_atom, is_sum, IsSimple, is_assign, is_goto, is_print_string, is_print_value, is_exit, IsInner, is_end_procedure, is_integer, is_if, is_simple, IsBuilt, is_outside, is_inside}
-use Rattle.stapl_syntax.specs.Unbuilt.{is_unbuilt, first_unbuilt}
+use Rattle.stapl_syntax.specs.Trees.{ExprTree, number, scalar, binary, PartTree, string, value, character, BodyTree, end_procedure, integer, assign, goto, if_then, print, exit, StmtTree}
+use Rattle.stapl_built.specs.Built.{is_built_atom, is_arithmetic, is_comparison, is_built_integer, is_built_condition, is_built_print, is_built_simple, is_built_inner, is_built_outer, is_built, IsAtom, is_number, is_scalar, IsBuiltInteger, is_atom, is_operated, IsSimple, is_assign, is_goto, is_print_string, is_print_value, is_print_character, is_exit, IsInner, is_end_procedure, is_integer, is_if, is_simple, IsBuilt, is_outside, is_inside}
+use Rattle.stapl_built.specs.Unbuilt.{is_unbuilt, first_unbuilt}
 
 atom : (x : ExprTree) → is_built_atom x ≡ true → IsAtom x
 atom (number z) h = is_number z
 atom (scalar name) h = is_scalar name
 atom _ h = absurd cc
 
-sum : (x : ExprTree) → is_built_sum x ≡ true → IsSum x
-sum (number z) h = is_atom (number z) (is_number z)
-sum (scalar name) h = is_atom (scalar name) (is_scalar name)
-sum (binary operators.Add x y) h =
-    let both = and_parts (is_built_atom x) (is_built_atom y) h in is_sum x y (atom x both.0) (atom y both.1)
-sum _ h = absurd cc
+integer_is : (x : ExprTree) → is_built_integer x ≡ true → IsBuiltInteger x
+integer_is (number z) h = is_atom (number z) (is_number z)
+integer_is (scalar name) h = is_atom (scalar name) (is_scalar name)
+integer_is (binary op x y) h =
+    let most = and_parts (is_arithmetic op && is_built_atom x) (is_built_atom y) h in
+    let first = and_parts (is_arithmetic op) (is_built_atom x) most.0 in
+    is_operated op x y first.0 (atom x first.1) (atom y most.1)
+integer_is _ h = absurd cc
 
 simple : (b : BodyTree) → is_built_simple b ≡ true → IsSimple b
-simple (assign name x) h = is_assign name x (sum x h)
+simple (assign name x) h = is_assign name x (integer_is x h)
 simple (goto name) h = is_goto name
 simple (print parts) h = printed parts h
   where
     printed : (parts : List PartTree) → is_built_print parts ≡ true → IsSimple (print parts)
     printed (string bytes ∷ []) h = is_print_string bytes
     printed (value x ∷ []) h = is_print_value x (atom x h)
+    printed (character x ∷ []) h = is_print_character x (atom x h)
     printed _ h = absurd cc
 simple (exit x) h = is_exit x (atom x h)
 simple _ h = absurd cc
 
 condition : (x : ExprTree) (b : BodyTree) → is_built_condition x ≡ true → is_built_simple b ≡ true → IsInner (if_then x b)
-condition (binary operators.Less x y) b h k =
-    let both = and_parts (is_built_atom x) (is_built_atom y) h in is_if x y b (atom x both.0) (atom y both.1) (simple b k)
+condition (binary op x y) b h k =
+    let most = and_parts (is_comparison op && is_built_atom x) (is_built_atom y) h in
+    let first = and_parts (is_comparison op) (is_built_atom x) most.0 in
+    is_if op x y b first.0 (atom x first.1) (atom y most.1) (simple b k)
 condition _ b h k = absurd cc
 
 inner : (b : BodyTree) → is_built_inner b ≡ true → IsInner b
