@@ -16,7 +16,7 @@ use Rattle.stapl_syntax.specs.declared.names.Found.TheVariants as found
 use Rattle.stapl_syntax.specs.declared.names.Key.{Key}
 use Rattle.stapl_syntax.specs.Trees.{ExprTree, ItemTree, BodyTree, note, action, procedure, data_block, crc, StmtTree}
 use Rattle.stapl_syntax.specs.Statements.{is_outer, begins_procedure, ends_procedure}
-use Rattle.stapl_syntax.specs.Built.{is_built_outer, IsAtom, is_number, is_scalar, IsSum, is_atom, is_sum, IsSimple, is_assign, is_goto, is_print_string, is_print_value, is_exit, IsInner, is_end_procedure, is_integer, is_if, is_simple, IsBuilt, is_outside, is_inside}
+use Rattle.stapl_built.specs.Built.{is_built_outer, IsAtom, is_number, is_scalar, IsBuiltInteger, is_atom, is_operated, IsSimple, is_assign, is_goto, is_print_string, is_print_value, is_print_character, is_exit, IsInner, is_end_procedure, is_integer, is_if, is_simple, IsBuilt, is_outside, is_inside}
 use Rattle.stapl_syntax.specs.Names.{Names, numbered, block_of, block_of_body, label_of, label_in, key_in, key_eq, declared, block_named, is_declared, variable_number, found_in, blocks_seen, found_from, has_label}
 use Rattle.stapl_syntax.specs.Mentions.{expr_variables, variables_named, item_name, procedures_named, blocks_used, labels_named}
 use Rattle.stapl_syntax.specs.Rules.{is_absent, is_hidden, Known, known_from, names_undefined}
@@ -53,15 +53,17 @@ module _ (variable : List ℕ → ℕ) (count : ℕ) (Leads : List ℕ → Type 
     atom_is_integer y b (rest_holds (λ name. variable name < count) (expr_variables x) (expr_variables y) there),
   )
 
-  sum_is_integer : (x : ExprTree) → IsSum x → AreThere (expr_variables x) → IsInteger variable count Leads x
-  sum_is_integer _ (is_atom x atom) there = atom_is_integer x atom there
-  sum_is_integer _ (is_sum x y a b) there = atoms_are_integers x y a b there
+  built_is_integer : (x : ExprTree) → IsBuiltInteger x → AreThere (expr_variables x) → IsInteger variable count Leads x
+  built_is_integer _ (is_atom x atom) there = atom_is_integer x atom there
+  built_is_integer _ (is_operated op x y made a b) there = let both = atoms_are_integers x y a b there in (made, both.0, both.1)
 
   simple_is_typed : (body : BodyTree) → IsSimple body → AreThere (variables_named body) → AllByRecursion Leads (labels_named body) → IsTypedBody variable count Leads body
-  simple_is_typed _ (is_assign name x sum) there leads = (there.0, sum_is_integer x sum there.1)
+  simple_is_typed _ (is_assign name x built) there leads = (there.0, built_is_integer x built there.1)
   simple_is_typed _ (is_goto label) there leads = leads.0
   simple_is_typed _ (is_print_string bytes) there leads = (omega arith, tt)
   simple_is_typed _ (is_print_value x atom) there leads =
+      (omega arith, (atom_is_integer x atom (front_holds (λ name. variable name < count) (expr_variables x) [] there), tt))
+  simple_is_typed _ (is_print_character x atom) there leads =
       (omega arith, (atom_is_integer x atom (front_holds (λ name. variable name < count) (expr_variables x) [] there), tt))
   simple_is_typed _ (is_exit x atom) there leads = atom_is_integer x atom there
 
@@ -70,13 +72,14 @@ module _ (variable : List ℕ → ℕ) (count : ℕ) (Leads : List ℕ → Type 
   simple_goes_on _ (is_goto label) = refl
   simple_goes_on _ (is_print_string bytes) = refl
   simple_goes_on _ (is_print_value x atom) = refl
+  simple_goes_on _ (is_print_character x atom) = refl
   simple_goes_on _ (is_exit x atom) = refl
 
   inner_is_typed : (body : BodyTree) → IsInner body → AreThere (variables_named body) → AllByRecursion Leads (labels_named body) → IsTypedBody variable count Leads body
   inner_is_typed _ is_end_procedure there leads = tt
   inner_is_typed _ (is_integer name) there leads = tt
-  inner_is_typed _ (is_if x y body a b simple) there leads = (
-    atoms_are_integers x y a b (front_holds (λ name. variable name < count) (expr_variables x ++ expr_variables y) (variables_named body) there),
+  inner_is_typed _ (is_if op x y body made a b simple) there leads = (
+    (let both = atoms_are_integers x y a b (front_holds (λ name. variable name < count) (expr_variables x ++ expr_variables y) (variables_named body) there) in (made, both.0, both.1)),
     simple_goes_on body simple,
     simple_is_typed body simple (rest_holds (λ name. variable name < count) (expr_variables x ++ expr_variables y) (variables_named body) there) leads,
   )

@@ -2,7 +2,7 @@
 use Rattle.std.proofs.Common.{◌≡◌, ℕ, zero, suc, ◌+◌, List, ◌++◌, refl, sym, ap, arith, ◌∙◌, append_assoc}
 use Rattle.stapl_syntax.specs.Trees.{StmtTree}
 use Rattle.stapl_meaning.specs.declared.events.Event.{Event}
-use Rattle.stapl_meaning.specs.States.{State, Turned, Leads, Over, NoTurn, next_chosen}
+use Rattle.stapl_meaning.specs.States.{State, Turned, Leads, Over, Broken, NoTurn, next_chosen}
 use Rattle.stapl_meaning.specs.Scopes.{entry_from, zeros_of}
 use Rattle.stapl_meaning.specs.Turns.{turn}
 use Rattle.stapl_meaning.specs.Plays.{Outcome, Ended, Going, Stopped, Run, after, goes_on, run, continued, then_runs, start, play}
@@ -22,6 +22,7 @@ on_turn program n m s (Leads events place t) more =
     ap (after events) (more place t)
     ∙ sym (continued_after (run program n place t).outcome events (run program n place t) (run program m))
 on_turn program n m s (Over events ending t) more = refl
+on_turn program n m s (Broken events k t) more = refl
 on_turn program n m s (NoTurn events) more = refl
 
 pub runs_add : (program : List StmtTree) (n m i : ℕ) (s : State) → run program (n + m) i s ≡ then_runs (run program n i s) (run program m)

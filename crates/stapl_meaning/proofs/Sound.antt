@@ -1,6 +1,5 @@
 -- No reason holds against a piece of a program, nor against its end: so no piece breaks a rule.
-use Rattle.std.proofs.Common.{◌≡◌, ℕ, zero, suc, ◌<◌, ◌≤◌, Bool, true, false, List, [], ◌∷◌, length, take, map, slice_get, Some, None, is_some, refl, sym, ap, subst, arith, nat_lt}
-use Rattle.std.proofs.lemmas.Bool.{ltb-true, ltb-false}
+use Rattle.std.proofs.Common.{◌≡◌, ℕ, zero, suc, ◌<◌, ◌≤◌, Bool, true, false, List, [], ◌∷◌, length, take, map, slice_get, Some, None, is_some, refl, sym, subst, arith}
 use Rattle.std.proofs.lemmas.Option.{same_Some, none-some, slice_get_past, slice_get_within}
 use Rattle.stapl_lexer.specs.declared.piece.Piece.{Piece}
 use Rattle.stapl_lexer.specs.declared.reason.Reason.{Reason}
@@ -9,7 +8,8 @@ use Rattle.stapl_syntax.specs.Trees.{StmtTree}
 use Rattle.stapl_syntax.specs.Statements.{IsPieceStatement}
 use Rattle.stapl_syntax.specs.Names.{numbered, inside_after}
 use Rattle.stapl_syntax.specs.Rules.{is_action, any_body, breaks}
-use Rattle.stapl_syntax.specs.Programs.{piece_limit, AreReadAs, facts_at, HasReasonAt, one_too_many, breaks_rule, not_closed, nothing_to_do, IsProgram}
+use Rattle.stapl_syntax.specs.Programs.{piece_limit, AreReadAs, facts_at, HasReasonAt, breaks_rule, not_closed, nothing_to_do, IsProgram}
+use Rattle.stapl_built.proofs.Counts.{same_length, few_pieces}
 
 -- What follows of each piece, and of the end.
 pub record IsSound (program : List StmtTree) : Type 0 where
@@ -18,12 +18,6 @@ pub record IsSound (program : List StmtTree) : Type 0 where
   pub closed : is_some (inside_after (numbered (take (length program) (map Some program)))) ≡ false
   pub acts : any_body is_action (numbered (take (length program) (map Some program))) ≡ true
 
-same_length : (text : List ℕ) (pieces : List Piece) (statements : List StmtTree) → AreReadAs text pieces (map Some statements) → length pieces ≡ length statements
-same_length text [] [] read = refl
-same_length text [] (st ∷ sts) read = absurd read
-same_length text (p ∷ ps) [] read = absurd read
-same_length text (p ∷ ps) (st ∷ sts) read = ap suc (same_length text ps sts read.1)
-
 piece_of : (text : List ℕ) (pieces : List Piece) (statements : List StmtTree) (i : ℕ) (st : StmtTree) → AreReadAs text pieces (map Some statements) →
     slice_get statements i ≡ Some st → (piece : Piece) × (slice_get pieces i ≡ Some piece) × IsPieceStatement text piece st
 piece_of text [] [] i st read at = absurd (none-some st at)
@@ -31,11 +25,6 @@ piece_of text [] (s ∷ sts) i st read at = absurd read
 piece_of text (p ∷ ps) [] i st read at = absurd read
 piece_of text (p ∷ ps) (s ∷ sts) zero st read at = (p, refl, subst (IsPieceStatement text p) (same_Some s st at) read.0)
 piece_of text (p ∷ ps) (s ∷ sts) (suc i) st read at = piece_of text ps sts i st read.1 at
-
-piece_there : (pieces : List Piece) (i : ℕ) → i < length pieces → (piece : Piece) × (slice_get pieces i ≡ Some piece)
-piece_there [] i lt = absurd (omega (arith, lt))
-piece_there (p ∷ ps) zero lt = (p, refl)
-piece_there (p ∷ ps) (suc i) lt = piece_there ps i (omega (arith, lt))
 
 module _ (text : List ℕ) (program : List StmtTree) (is : IsProgram text program) where
   keeps : (i : ℕ) (st : StmtTree) (reason : Reason) → slice_get program i ≡ Some st → breaks (facts_at (map Some program) i) st reason ≡ false
@@ -48,18 +37,6 @@ module _ (text : List ℕ) (program : List StmtTree) (is : IsProgram text progra
           let lt : i < length is.pieces = slice_get_within is.pieces i own.0 own.1 in
           absurd (is.sound i (omega (arith, lt)) reason
           (subst (λ o. HasReasonAt text (map Some program) i o reason) (sym own.1) (breaks_rule own.0 st reason own.2 e)))
-
-  few : length program ≤ piece_limit
-  few = by (nat_lt piece_limit (length program)) refl
-    where
-      by : (b : Bool) → nat_lt piece_limit (length program) ≡ b → length program ≤ piece_limit
-      by false e = ltb-false piece_limit (length program) e
-      by true e =
-          let over : piece_limit < length program = ltb-true piece_limit (length program) e in
-          let same = same_length text is.pieces program is.read in
-          let own = piece_there is.pieces piece_limit (omega (arith, over, same)) in
-          absurd (is.sound piece_limit (omega (arith, over, same)) reasons.TooManyPieces
-          (subst (λ o. HasReasonAt text (map Some program) piece_limit o reasons.TooManyPieces) (sym own.1) (one_too_many own.0 (omega arith))))
 
   none_at_end : (reason : Reason) → HasReasonAt text (map Some program) (length program) None reason → ⊥
   none_at_end reason has =
@@ -82,4 +59,4 @@ module _ (text : List ℕ) (program : List StmtTree) (is : IsProgram text progra
       by false e = absurd (none_at_end reasons.NothingToDo (nothing_to_do e))
 
   pub sound : IsSound program
-  sound = record { few = few; keeps = keeps; closed = closed; acts = acts }
+  sound = record { few = few_pieces text program is; keeps = keeps; closed = closed; acts = acts }

@@ -1,109 +1,122 @@
 -- A statement does one thing: what it does as a relation is what it does as a function.
-use Rattle.std.proofs.Common.{◌≡◌, ℕ, true, false, List, [], ◌∷◌, Option, Some, None, refl, sym, ap, ◌∙◌, if◌then◌else◌, slice_get}
-use Rattle.stapl_syntax.specs.Trees.{PartTree, BodyTree, end_procedure, integer, assign, goto, if_then, print, exit, StmtTree}
-use Rattle.stapl_meaning.specs.declared.events.Event.TheVariants.{Print}
-use Rattle.stapl_meaning.specs.declared.events.Ending.TheVariants.{Exit}
+use Rattle.std.proofs.Common.{◌≡◌, ℕ, ◌+◌, List, [], ◌∷◌, Option, Some, None, refl, sym, ap, subst, ◌∙◌, slice_get}
+use Rattle.stapl_syntax.specs.Trees.{BodyTree, StmtTree}
+use Rattle.stapl_meaning.specs.declared.events.Event.{Event}
 use Rattle.stapl_meaning.specs.declared.values.Value.{Value}
-use Rattle.stapl_meaning.specs.declared.values.Value.TheVariants.{Int, Bit}
-use Rattle.stapl_meaning.specs.Values.{Got, Known, Stuck, value_of, part_values, joined, integer_of, truth_of}
-use Rattle.stapl_meaning.specs.States.{State, Turned, Leads, Over, with_got, assigned, next_chosen}
+use Rattle.stapl_meaning.specs.Values.{Got, Known, Faults, Stuck}
+use Rattle.stapl_meaning.specs.Operands.{values_of}
+use Rattle.stapl_meaning.specs.States.{State, Did, Falls, Jumps, Returns, Ends, Turned, Leads, Over, Broken, NoTurn, with_got, preceded, turn_of_piece, next_chosen, jumps_to, led}
 use Rattle.stapl_meaning.specs.Scopes.{Scope, scope_at}
-use Rattle.stapl_meaning.specs.Turns.{Does, declares, assigns, jumps, holds, holds_not, prints, exits, begins_next, ends, IsTurn, done, turn_of, turn, IsFound}
+use Rattle.stapl_meaning.specs.Turns.{operands, effect, target, rows, HasEffect, Does, follows, operand_faults, effect_faults, falls, jumps, returns, ends, IsTurn, carried, rows_done, done, turn_of, turn, IsFound}
 
--- what an assignment goes on with
-abbrev assigning : Scope → State → List ℕ → Value → Turned
-assigning scope s name v = with_got (assigned (scope.variable name) s v) (λ t. Leads [] scope.follow t)
+found_preceded : (events : List Event) (t : Turned) → IsFound t → IsFound (preceded events t)
+found_preceded events (Leads es place s) h = tt
+found_preceded events (Over es ending s) h = tt
+found_preceded events (Broken es k s) h = tt
+found_preceded events (NoTurn es) h = absurd h
 
-abbrev choosing : Scope → State → BodyTree → Value → Turned
-choosing scope s body v = with_got (truth_of v) (λ b. if b then done scope s body else Leads [] scope.follow s)
+found_behind : (events : List Event) (t : Turned) → IsFound (preceded events t) → IsFound t
+found_behind events (Leads es place s) h = tt
+found_behind events (Over es ending s) h = tt
+found_behind events (Broken es k s) h = tt
+found_behind events (NoTurn es) h = absurd h
 
-abbrev printing : Scope → State → List PartTree → List Value → Turned
-printing scope s parts vs = with_got (joined parts vs) (λ text. Leads (Print text ∷ []) scope.follow s)
+found_of_piece : (piece : ℕ) (t : Turned) → IsFound t → IsFound (turn_of_piece piece t)
+found_of_piece piece (Leads es place s) h = tt
+found_of_piece piece (Over es ending s) h = tt
+found_of_piece piece (Broken es k s) h = tt
+found_of_piece piece (NoTurn es) h = absurd h
 
-abbrev exiting : State → Value → Turned
-exiting s v = with_got (integer_of v) (λ code. Over [] (Exit code) s)
+found_in_piece : (piece : ℕ) (t : Turned) → IsFound (turn_of_piece piece t) → IsFound t
+found_in_piece piece (Leads es place s) h = tt
+found_in_piece piece (Over es ending s) h = tt
+found_in_piece piece (Broken es k s) h = tt
+found_in_piece piece (NoTurn es) h = absurd h
 
-pub does_done : (scope : Scope) (s : State) (body : BodyTree) (turned : Turned) → Does scope s body turned → done scope s body ≡ turned
-does_done scope s _ _ (declares name) = refl
-does_done scope s _ _ (assigns name e v t value-is assigned-is) =
-    ap (λ g. with_got g (assigning scope s name)) value-is ∙ ap (λ g. with_got g (λ t. Leads [] scope.follow t)) assigned-is
-does_done scope s _ _ (jumps name) = refl
-does_done scope s _ _ (holds e body turned value-is does) =
-    ap (λ g. with_got g (choosing scope s body)) value-is ∙ does_done scope s body turned does
-does_done scope s _ _ (holds_not e body value-is) = ap (λ g. with_got g (choosing scope s body)) value-is
-does_done scope s _ _ (prints parts vs text values-are text-is) =
-    ap (λ g. with_got g (printing scope s parts)) values-are ∙ ap (λ g. with_got g (λ text. Leads (Print text ∷ []) scope.follow s)) text-is
-does_done scope s _ _ (exits e code value-is) = ap (λ g. with_got g (exiting s)) value-is
-does_done scope s _ _ (begins_next p ps chosen-is) = ap (next_chosen scope.entry s) chosen-is
-does_done scope s _ _ (ends chosen-is) = ap (next_chosen scope.entry s) chosen-is
+found_chosen : (entry : ℕ → ℕ) (s : State) (chosen : List ℕ) → IsFound (next_chosen entry s chosen)
+found_chosen entry s [] = tt
+found_chosen entry s (p ∷ ps) = tt
 
-pub done_does : (scope : Scope) (s : State) (body : BodyTree) → IsFound (done scope s body) → Does scope s body (done scope s body)
-done_does scope s end_procedure found = at_end s.chosen refl found
-  where
-    at_end : (chosen : List ℕ) → s.chosen ≡ chosen → IsFound (next_chosen scope.entry s chosen) → Does scope s end_procedure (next_chosen scope.entry s chosen)
-    at_end [] e found = ends e
-    at_end (p ∷ ps) e found = begins_next p ps e
-done_does scope s (integer name None) found = declares name
-done_does scope s (assign name e) found = with_value (value_of scope.variable s.variables e) refl found
-  where
-    with_state : (v : Value) (g : Got State) → value_of scope.variable s.variables e ≡ Known v → assigned (scope.variable name) s v ≡ g → IsFound (with_got g (λ t. Leads [] scope.follow t)) → Does scope s (assign name e) (with_got g (λ t. Leads [] scope.follow t))
-    with_state v (Known t) p q found = assigns name e v t p q
-    with_state v Stuck p q found = absurd found
+module _ (scope : Scope) where
+  -- what follows the values of a row
+  abbrev behind : BodyTree → State → (State → Turned) → List Value → Turned
+  behind b s go values = with_got (effect scope b values s) s (λ did. led scope.entry (target scope b) did go)
 
-    with_value : (g : Got Value) → value_of scope.variable s.variables e ≡ g → IsFound (with_got g (assigning scope s name)) → Does scope s (assign name e) (with_got g (assigning scope s name))
-    with_value (Known v) p found = with_state v (assigned (scope.variable name) s v) p refl found
-    with_value Stuck p found = absurd found
-done_does scope s (goto name) found = jumps name
-done_does scope s (if_then e body) found =
-    with_value (value_of scope.variable s.variables e) refl found (done_does scope s body)
-  where
-    with_value : (g : Got Value) → value_of scope.variable s.variables e ≡ g → IsFound (with_got g (choosing scope s body)) → (IsFound (done scope s body) → Does scope s body (done scope s body)) → Does scope s (if_then e body) (with_got g (choosing scope s body))
-    with_value (Known (Int z)) p found inner = absurd found
-    with_value (Known (Bit true)) p found inner = holds e body (done scope s body) p (inner found)
-    with_value (Known (Bit false)) p found inner = holds_not e body p
-    with_value Stuck p found inner = absurd found
-done_does scope s (print parts) found = with_values (part_values scope.variable s.variables parts) refl found
-  where
-    with_text : (vs : List Value) (g : Got (List ℕ)) → part_values scope.variable s.variables parts ≡ Known vs → joined parts vs ≡ g → IsFound (with_got g (λ text. Leads (Print text ∷ []) scope.follow s)) → Does scope s (print parts) (with_got g (λ text. Leads (Print text ∷ []) scope.follow s))
-    with_text vs (Known text) p q found = prints parts vs text p q
-    with_text vs Stuck p q found = absurd found
+  has_effect : (b : BodyTree) (s : State) (did : Got Did) (go : State → Turned) → HasEffect scope b s did →
+      carried scope b s go ≡ with_got did s (λ did. led scope.entry (target scope b) did go)
+  has_effect b s did go has =
+      ap (λ g. with_got g s (behind b s go)) has.are
+      ∙ ap (λ g. with_got g s (λ did. led scope.entry (target scope b) did go)) has.is
 
-    with_values : (g : Got (List Value)) → part_values scope.variable s.variables parts ≡ g → IsFound (with_got g (printing scope s parts)) → Does scope s (print parts) (with_got g (printing scope s parts))
-    with_values (Known vs) p found = with_text vs (joined parts vs) p refl found
+  does_done : (bs : List BodyTree) (s : State) (turned : Turned) → Does scope bs s turned → rows_done scope bs s ≡ turned
+  does_done _ _ _ (follows s) = refl
+  does_done _ _ _ (operand_faults b rest s k e) = ap (λ g. with_got g s (behind b s (rows_done scope rest))) e
+  does_done _ _ _ (effect_faults b rest s k has) = has_effect b s (Faults k) (rows_done scope rest) has
+  does_done _ _ _ (falls b rest s t events turned has more) =
+      has_effect b s (Known (Falls events t)) (rows_done scope rest) has ∙ ap (preceded events) (does_done rest t turned more)
+  does_done _ _ _ (jumps b rest s t place has e) =
+      has_effect b s (Known (Jumps t)) (rows_done scope rest) has ∙ ap (λ o. jumps_to o t) e
+  does_done _ _ _ (returns b rest s t has) = has_effect b s (Known (Returns t)) (rows_done scope rest) has
+  does_done _ _ _ (ends b rest s t ending has) = has_effect b s (Known (Ends ending t)) (rows_done scope rest) has
+
+  -- the other rows do what the function gives
+  abbrev OthersDo : List BodyTree → Type 0
+  OthersDo rest = (t : State) → IsFound (rows_done scope rest t) → Does scope rest t (rows_done scope rest t)
+
+  module _ (b : BodyTree) (rest : List BodyTree) (s : State) (others : OthersDo rest) where
+    with_target : (values : List Value) (t : State) (to : Option ℕ) → values_of scope.variable s.store.variables (operands b) ≡ Known values →
+        effect scope b values s ≡ Known (Jumps t) → target scope b ≡ to → IsFound (jumps_to to t) → Does scope (b ∷ rest) s (jumps_to to t)
+    with_target values t None p q e found = absurd found
+    with_target values t (Some place) p q e found = jumps b rest s t place (record { values = values; are = p; is = q }) e
+
+    with_effect : (values : List Value) (g : Got Did) → values_of scope.variable s.store.variables (operands b) ≡ Known values → effect scope b values s ≡ g →
+        IsFound (with_got g s (λ did. led scope.entry (target scope b) did (rows_done scope rest))) →
+        Does scope (b ∷ rest) s (with_got g s (λ did. led scope.entry (target scope b) did (rows_done scope rest)))
+    with_effect values (Known (Falls events t)) p q found =
+        falls b rest s t events (rows_done scope rest t) (record { values = values; are = p; is = q }) (others t (found_behind events (rows_done scope rest t) found))
+    with_effect values (Known (Jumps t)) p q found = with_target values t (target scope b) p q refl found
+    with_effect values (Known (Returns t)) p q found = returns b rest s t (record { values = values; are = p; is = q })
+    with_effect values (Known (Ends ending t)) p q found = ends b rest s t ending (record { values = values; are = p; is = q })
+    with_effect values (Faults k) p q found = effect_faults b rest s k (record { values = values; are = p; is = q })
+    with_effect values Stuck p q found = absurd found
+
+    with_values : (g : Got (List Value)) → values_of scope.variable s.store.variables (operands b) ≡ g →
+        IsFound (with_got g s (behind b s (rows_done scope rest))) → Does scope (b ∷ rest) s (with_got g s (behind b s (rows_done scope rest)))
+    with_values (Known values) p found = with_effect values (effect scope b values s) p refl found
+    with_values (Faults k) p found = operand_faults b rest s k p
     with_values Stuck p found = absurd found
-done_does scope s (exit e) found = with_value (value_of scope.variable s.variables e) refl found
-  where
-    with_value : (g : Got Value) → value_of scope.variable s.variables e ≡ g → IsFound (with_got g (exiting s)) → Does scope s (exit e) (with_got g (exiting s))
-    with_value (Known (Int z)) p found = exits e z p
-    with_value (Known (Bit b)) p found = absurd found
-    with_value Stuck p found = absurd found
-done_does scope s _ found = absurd found
 
-is_found : (scope : Scope) (s : State) (body : BodyTree) (turned : Turned) → Does scope s body turned → IsFound turned
-is_found scope s _ _ (declares name) = tt
-is_found scope s _ _ (assigns name e v t p q) = tt
-is_found scope s _ _ (jumps name) = tt
-is_found scope s _ _ (holds e body turned p does) = is_found scope s body turned does
-is_found scope s _ _ (holds_not e body p) = tt
-is_found scope s _ _ (prints parts vs text p q) = tt
-is_found scope s _ _ (exits e code p) = tt
-is_found scope s _ _ (begins_next p ps e) = tt
-is_found scope s _ _ (ends e) = tt
+  done_does : (bs : List BodyTree) (s : State) → IsFound (rows_done scope bs s) → Does scope bs s (rows_done scope bs s)
+  done_does [] s found = follows s
+  done_does (b ∷ rest) s found = with_values b rest s (done_does rest) (values_of scope.variable s.store.variables (operands b)) refl found
+
+  is_found : (bs : List BodyTree) (s : State) (turned : Turned) → Does scope bs s turned → IsFound turned
+  is_found _ _ _ (follows s) = tt
+  is_found _ _ _ (operand_faults b rest s k e) = tt
+  is_found _ _ _ (effect_faults b rest s k has) = tt
+  is_found _ _ _ (falls b rest s t events turned has more) = found_preceded events turned (is_found rest t turned more)
+  is_found _ _ _ (jumps b rest s t place has e) = tt
+  is_found _ _ _ (returns b rest s t has) = found_chosen scope.entry t t.chosen
+  is_found _ _ _ (ends b rest s t ending has) = tt
 
 -- a turn of a program is what the function gives, where it finds something to do
 pub turn_is : (program : List StmtTree) (i : ℕ) (s : State) (turned : Turned) → IsTurn program i s turned → (turn program i s ≡ turned) × IsFound turned
-turn_is program i s turned at = (
-  ap (turn_of (scope_at program i) s) at.stands ∙ does_done (scope_at program i) s at.statement.body turned at.does,
-  is_found (scope_at program i) s at.statement.body turned at.does,
-)
+turn_is program i s turned at =
+    let scope = scope_at program i in
+    let bs = rows at.statement.body in (
+      ap (turn_of scope (i + 1) s) at.stands ∙ ap (turn_of_piece (i + 1)) (does_done scope bs s at.done at.does) ∙ sym at.is,
+      subst IsFound (sym at.is) (found_of_piece (i + 1) at.done (is_found scope bs s at.done at.does)),
+    )
 
 pub is_turn : (program : List StmtTree) (i : ℕ) (s : State) → IsFound (turn program i s) → IsTurn program i s (turn program i s)
 is_turn program i s found = at_statement (slice_get program i) refl found
   where
-    at_statement : (o : Option StmtTree) → slice_get program i ≡ o → IsFound (turn_of (scope_at program i) s o) → IsTurn program i s (turn_of (scope_at program i) s o)
+    at_statement : (o : Option StmtTree) → slice_get program i ≡ o → IsFound (turn_of (scope_at program i) (i + 1) s o) → IsTurn program i s (turn_of (scope_at program i) (i + 1) s o)
     at_statement None e found = absurd found
     at_statement (Some st) e found =
-        record { statement = st; stands = e; does = done_does (scope_at program i) s st.body found }
+        let scope = scope_at program i in
+        let does = done_does scope (rows st.body) s (found_in_piece (i + 1) (done scope s st.body) found) in
+        record { statement = st; stands = e; done = done scope s st.body; does = does; is = refl }
 
 pub one_turn : (program : List StmtTree) (i : ℕ) (s : State) (a b : Turned) → IsTurn program i s a → IsTurn program i s b → a ≡ b
 one_turn program i s a b p q = sym (turn_is program i s a p).0 ∙ (turn_is program i s b q).0

@@ -1,5 +1,7 @@
 pub mod Values
+pub mod Operands
 pub mod States
+pub mod Effects
 pub mod Scopes
 pub mod Turns
 pub mod Typed

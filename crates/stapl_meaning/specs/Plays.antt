@@ -5,7 +5,7 @@ use Rattle.stapl_meaning.specs.declared.events.Event.{Event}
 use Rattle.stapl_meaning.specs.declared.events.Ending.{Ending}
 use Rattle.stapl_meaning.specs.declared.events.Ending.TheVariants.{Spent}
 use Rattle.stapl_meaning.specs.declared.values.Held.{Held}
-use Rattle.stapl_meaning.specs.States.{State, Turned, Leads, Over, NoTurn, next_chosen}
+use Rattle.stapl_meaning.specs.States.{State, Turned, Leads, Over, Broken, NoTurn, next_chosen}
 use Rattle.stapl_meaning.specs.Scopes.{entry_from, zeros_of}
 use Rattle.stapl_meaning.specs.Turns.{turn}
 
@@ -30,6 +30,7 @@ after events run = record run { events = events ++ run.events }
 abbrev pub goes_on : Turned → State → (ℕ → State → Run) → Run
 goes_on (Leads events place t) s go = after events (go place t)
 goes_on (Over events ending t) s go = record { events = events; outcome = Ended ending; state = t }
+goes_on (Broken events k t) s go = record { events = events; outcome = Stopped; state = s }
 goes_on (NoTurn events) s go = record { events = events; outcome = Stopped; state = s }
 
 -- at most n turns from a place and a state on
@@ -48,7 +49,7 @@ then_runs r go = continued r.outcome r go
 
 -- the state when a play of these procedures starts
 abbrev pub start : List ℕ → List Held → State
-start chosen variables = record { chosen = chosen; variables = variables }
+start chosen variables = record { chosen = chosen; store = record { variables = variables } }
 
 -- the play of the chosen procedures, for at most n turns; beginning it takes no turn
 abbrev pub play : List StmtTree → List ℕ → ℕ → Run

@@ -1,57 +1,70 @@
--- What a run keeps from one turn to the next, and what a turn leads to.
-use Rattle.std.specs.Prelude.{ℕ, pos, List, [], ◌∷◌, Option, Some, None, slice_get, slice_set}
+-- What a run keeps from one turn to the next, what a statement does, and what a turn leads to.
+use Rattle.std.specs.Prelude.{ℕ, pos, List, [], ◌∷◌, ◌++◌, Option, Some, None}
 use Rattle.stapl_meaning.specs.declared.events.Event.{Event}
+use Rattle.stapl_meaning.specs.declared.events.RunFault.{RunFault}
 use Rattle.stapl_meaning.specs.declared.events.Ending.{Ending}
-use Rattle.stapl_meaning.specs.declared.events.Ending.TheVariants.{Exit}
-use Rattle.stapl_meaning.specs.declared.values.Value.{Value}
-use Rattle.stapl_meaning.specs.declared.values.Value.TheVariants.{Int, Bit}
+use Rattle.stapl_meaning.specs.declared.events.Ending.TheVariants.{Exit, Fault}
 use Rattle.stapl_meaning.specs.declared.values.Held.{Held}
-use Rattle.stapl_meaning.specs.declared.values.Held.TheVariants as held
-use Rattle.stapl_meaning.specs.Values.{Got, Known, Stuck}
+use Rattle.stapl_meaning.specs.Values.{Got, Known, Faults, Stuck}
 
--- The procedures still to run, by number, and the variables, in the order of their declarations.
-pub record State : Type 0 where
-  pub chosen : List ℕ
+-- the variables, in the order of their declarations
+pub record Store : Type 0 where
   pub variables : List Held
 
--- What a turn does: with its events it leads to a place, or it ends the run. A turn that no accepted program meets
--- finds nothing to do; it carries the events so far.
+-- the procedures still to run, by number, and the store
+pub record State : Type 0 where
+  pub chosen : List ℕ
+  pub store : Store
+
+-- What a statement does: with its events it goes on to what follows, it jumps to its target, it ends its procedure, or it
+-- ends the run.
+pub data Did : Type 0 where
+  Falls : (events : List Event) (state : State) → Did
+  Jumps : (state : State) → Did
+  Returns : (state : State) → Did
+  Ends : (ending : Ending) (state : State) → Did
+
+-- What a turn does: with its events it leads to a place, it ends the run, or a fault breaks it. A turn that no accepted
+-- program meets finds nothing to do; it carries the events so far.
 pub data Turned : Type 0 where
   Leads : (events : List Event) (place : ℕ) (state : State) → Turned
   Over : (events : List Event) (ending : Ending) (state : State) → Turned
+  Broken : (events : List Event) (fault : RunFault) (state : State) → Turned
   NoTurn : (events : List Event) → Turned
 
--- goes on with what was asked for
-abbrev pub with_got : {A : Type 0} → Got A → (A → Turned) → Turned
-with_got (Known x) go = go x
-with_got Stuck go = NoTurn []
+-- goes on with what was asked for; a fault leaves the state as it is
+abbrev pub with_got : {A : Type 0} → Got A → State → (A → Turned) → Turned
+with_got (Known x) s go = go x
+with_got (Faults k) s go = Broken [] k s
+with_got Stuck s go = NoTurn []
 
--- a scalar with another value of its kind
-abbrev pub with_scalar : Held → Value → Got Held
-with_scalar (held.Int old) (Int z) = Known (held.Int z)
-with_scalar (held.Bit old) (Bit b) = Known (held.Bit b)
-with_scalar _ _ = Stuck
+-- events before those of a turn
+abbrev pub preceded : List Event → Turned → Turned
+preceded before (Leads events place s) = Leads (before ++ events) place s
+preceded before (Over events ending s) = Over (before ++ events) ending s
+preceded before (Broken events k s) = Broken (before ++ events) k s
+preceded before (NoTurn events) = NoTurn (before ++ events)
 
--- the variables with another one in the place of number n
-abbrev pub replaced : List Held → ℕ → Got Held → Got (List Held)
-replaced variables n (Known h) = Known (slice_set variables n h)
-replaced variables n Stuck = Stuck
-
--- the variables after a write to the scalar of number n, which holds this
-abbrev pub scalar_written : List Held → ℕ → Option Held → Value → Got (List Held)
-scalar_written variables n None v = Stuck
-scalar_written variables n (Some h) v = replaced variables n (with_scalar h v)
-
--- the state with these variables
-abbrev pub with_variables : State → Got (List Held) → Got State
-with_variables s (Known variables) = Known (record s { variables = variables })
-with_variables s Stuck = Stuck
-
--- the state after an assignment to the scalar of number n
-abbrev pub assigned : ℕ → State → Value → Got State
-assigned n s v = with_variables s (scalar_written s.variables n (slice_get s.variables n) v)
+-- the turn of a piece: a fault ends the run, and names the piece
+abbrev pub turn_of_piece : ℕ → Turned → Turned
+turn_of_piece piece (Leads events place s) = Leads events place s
+turn_of_piece piece (Over events ending s) = Over events ending s
+turn_of_piece piece (Broken events k s) = Over events (Fault k piece) s
+turn_of_piece piece (NoTurn events) = NoTurn events
 
 -- The next chosen procedure begins at its entry; where there is none, the run ends with code 0.
 abbrev pub next_chosen : (ℕ → ℕ) → State → List ℕ → Turned
 next_chosen entry s [] = Over [] (Exit (pos 0)) (record s { chosen = [] })
 next_chosen entry s (p ∷ ps) = Leads [] (entry p) (record s { chosen = ps })
+
+-- a jump to a target, if there is one
+abbrev pub jumps_to : Option ℕ → State → Turned
+jumps_to None s = NoTurn []
+jumps_to (Some place) s = Leads [] place s
+
+-- what a statement with a target does, and then what follows it
+abbrev pub led : (ℕ → ℕ) → Option ℕ → Did → (State → Turned) → Turned
+led entry to (Falls events s) go = preceded events (go s)
+led entry to (Jumps s) go = jumps_to to s
+led entry to (Returns s) go = next_chosen entry s s.chosen
+led entry to (Ends ending s) go = Over [] ending s

@@ -1,11 +1,13 @@
 -- The written text of a play: a line for each event, and one for its ending. The format is this profile's.
-use Rattle.std.specs.Prelude.{ℕ, ◌+◌, ◌/◌, ◌%◌, List, [], ◌∷◌, ◌++◌, Bool, ◌&&◌, ◌==◌, nat_le, nat_lt, not, codes, if◌then◌else◌}
+use Rattle.std.specs.Prelude.{ℕ, pos, ◌+◌, ◌/◌, ◌%◌, List, [], ◌∷◌, ◌++◌, Bool, ◌&&◌, ◌==◌, nat_le, nat_lt, not, codes, if◌then◌else◌}
 use Rattle.std.specs.List.{flat_map}
 use Rattle.std.specs.Fmt.{signed_decimal}
 use Rattle.stapl_meaning.specs.declared.events.Event.{Event}
 use Rattle.stapl_meaning.specs.declared.events.Event.TheVariants.{Print}
+use Rattle.stapl_meaning.specs.declared.events.RunFault.{RunFault}
+use Rattle.stapl_meaning.specs.declared.events.RunFault.TheVariants.{DivideByZero, ShiftCount, BadChar}
 use Rattle.stapl_meaning.specs.declared.events.Ending.{Ending}
-use Rattle.stapl_meaning.specs.declared.events.Ending.TheVariants.{Exit, Spent}
+use Rattle.stapl_meaning.specs.declared.events.Ending.TheVariants.{Exit, Fault, Spent}
 
 -- an upper-case hexadecimal digit, for a number below 16
 abbrev pub hex_digit : ℕ → ℕ
@@ -25,8 +27,14 @@ escaped bytes = flat_map escaped_byte bytes
 abbrev pub event_line : Event → List ℕ
 event_line (Print bytes) = codes "P " ++ escaped bytes ++ 10 ∷ []
 
+abbrev pub fault_name : RunFault → List ℕ
+fault_name DivideByZero = codes "DivideByZero"
+fault_name ShiftCount = codes "ShiftCount"
+fault_name BadChar = codes "BadChar"
+
 abbrev pub ending_line : Ending → List ℕ
 ending_line (Exit k) = codes "E exit " ++ signed_decimal k ++ 10 ∷ []
+ending_line (Fault k piece) = codes "E fault " ++ fault_name k ++ codes " at " ++ signed_decimal (pos piece) ++ 10 ∷ []
 ending_line Spent = codes "E spent" ++ 10 ∷ []
 
 -- the text of a play that has ended

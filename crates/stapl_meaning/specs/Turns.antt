@@ -1,60 +1,107 @@
--- Turns: the execution of one piece. Source: JESD71, statements.
-use Rattle.std.specs.Prelude.{◌≡◌, ℕ, ℤ, pos, true, false, List, [], ◌∷◌, Option, Some, None, if◌then◌else◌, slice_get}
-use Rattle.stapl_syntax.specs.Trees.{ExprTree, PartTree, BodyTree, end_procedure, integer, assign, goto, if_then, print, exit, StmtTree}
-use Rattle.stapl_meaning.specs.declared.events.Event.TheVariants.{Print}
-use Rattle.stapl_meaning.specs.declared.events.Ending.TheVariants.{Exit}
+-- Turns: the execution of one piece. Source: JESD71, statements. Statements are rows of a table with three columns: the
+-- operands, what their values do, and where the statement leads if it does not go on to what follows.
+use Rattle.std.specs.Prelude.{◌≡◌, ℕ, ◌+◌, List, [], ◌∷◌, Option, Some, None, slice_get}
+use Rattle.stapl_syntax.specs.Trees.{BodyTree, end_procedure, integer, assign, goto, if_then, print, exit, StmtTree}
+use Rattle.stapl_meaning.specs.declared.events.Event.{Event}
+use Rattle.stapl_meaning.specs.declared.events.RunFault.{RunFault}
+use Rattle.stapl_meaning.specs.declared.events.Ending.{Ending}
 use Rattle.stapl_meaning.specs.declared.values.Value.{Value}
-use Rattle.stapl_meaning.specs.declared.values.Value.TheVariants.{Int, Bit}
-use Rattle.stapl_meaning.specs.Values.{Known, value_of, part_values, joined, integer_of, truth_of}
-use Rattle.stapl_meaning.specs.States.{State, Turned, Leads, Over, NoTurn, with_got, assigned, next_chosen}
+use Rattle.stapl_meaning.specs.Values.{Got, Known, Faults, Stuck}
+use Rattle.stapl_meaning.specs.Operands.{Operand, an_integer, a_boolean, part_operands, values_of}
+use Rattle.stapl_meaning.specs.States.{State, Did, Falls, Jumps, Returns, Ends, Turned, Leads, Over, Broken, NoTurn, with_got, preceded, turn_of_piece, next_chosen, led}
+use Rattle.stapl_meaning.specs.Effects.{assigned, jumped, parted, returned, exited, joined, printed}
 use Rattle.stapl_meaning.specs.Scopes.{Scope, scope_at}
 
--- What a statement does in a state, one case each: it leads to a place, with its events, or it ends the run.
-pub data Does (scope : Scope) (s : State) : BodyTree → Turned → Type 0 where
-  declares : (name : List ℕ) → Does scope s (integer name None) (Leads [] scope.follow s)
-  assigns : (name : List ℕ) (e : ExprTree) (v : Value) (t : State) → value_of scope.variable s.variables e ≡ Known v →
-      assigned (scope.variable name) s v ≡ Known t → Does scope s (assign name e) (Leads [] scope.follow t)
-  jumps : (name : List ℕ) → Does scope s (goto name) (Leads [] (scope.label name) s)
-  holds : (e : ExprTree) (body : BodyTree) (turned : Turned) → value_of scope.variable s.variables e ≡ Known (Bit true) →
-      Does scope s body turned → Does scope s (if_then e body) turned
-  holds_not : (e : ExprTree) (body : BodyTree) → value_of scope.variable s.variables e ≡ Known (Bit false) →
-      Does scope s (if_then e body) (Leads [] scope.follow s)
-  prints : (parts : List PartTree) (values : List Value) (text : List ℕ) → part_values scope.variable s.variables parts ≡ Known values →
-      joined parts values ≡ Known text → Does scope s (print parts) (Leads (Print text ∷ []) scope.follow s)
-  exits : (e : ExprTree) (code : ℤ) → value_of scope.variable s.variables e ≡ Known (Int code) →
-      Does scope s (exit e) (Over [] (Exit code) s)
-  begins_next : (p : ℕ) (ps : List ℕ) → s.chosen ≡ p ∷ ps →
-      Does scope s end_procedure (Leads [] (scope.entry p) (record s { chosen = ps }))
-  ends : s.chosen ≡ [] → Does scope s end_procedure (Over [] (Exit (pos 0)) (record s { chosen = [] }))
+-- The table. A statement that is not built has no operands, and finds nothing to do.
+
+-- its operands, in the written order
+abbrev pub operands : BodyTree → List Operand
+operands (assign name e) = an_integer e ∷ []
+operands (if_then e body) = a_boolean e ∷ []
+operands (print parts) = part_operands parts
+operands (exit e) = an_integer e ∷ []
+operands _ = []
+
+-- what their values do
+abbrev pub effect : Scope → BodyTree → List Value → State → Got Did
+effect scope end_procedure values s = returned values s
+effect scope (assign name e) values s = assigned (scope.variable name) values s
+effect scope (goto name) values s = jumped values s
+effect scope (if_then e body) values s = parted values s
+effect scope (print parts) values s = printed (joined parts values) s
+effect scope (exit e) values s = exited values s
+effect scope _ values s = Stuck
+
+-- where it leads if it does not go on to what follows
+abbrev pub target : Scope → BodyTree → Option ℕ
+target scope (goto name) = Some (scope.label name)
+target scope (if_then e body) = Some scope.follow
+target scope _ = None
+
+-- The rows of a statement, which are carried out one after the other. An IF has its own, which decides whether those of
+-- its inner statement follow. A declaration has none.
+abbrev pub rows : BodyTree → List BodyTree
+rows (integer name None) = []
+rows (if_then e body) = if_then e body ∷ rows body
+rows body = body ∷ []
+
+-- the values of the operands of a row are these, and have this effect
+pub record HasEffect (scope : Scope) (b : BodyTree) (s : State) (did : Got Did) : Type 0 where
+  pub values : List Value
+  pub are : values_of scope.variable s.store.variables (operands b) ≡ Known values
+  pub is : effect scope b values s ≡ did
+
+-- The rule, as a relation: what rows do in a state, by cases.
+pub data Does (scope : Scope) : List BodyTree → State → Turned → Type 0 where
+  -- no row is left
+  follows : (s : State) → Does scope [] s (Leads [] scope.follow s)
+  -- an operand faults, or what the values do
+  operand_faults : (b : BodyTree) (rest : List BodyTree) (s : State) (k : RunFault) →
+      values_of scope.variable s.store.variables (operands b) ≡ Faults k → Does scope (b ∷ rest) s (Broken [] k s)
+  effect_faults : (b : BodyTree) (rest : List BodyTree) (s : State) (k : RunFault) → HasEffect scope b s (Faults k) →
+      Does scope (b ∷ rest) s (Broken [] k s)
+  -- the row is done, and the others follow
+  falls : (b : BodyTree) (rest : List BodyTree) (s t : State) (events : List Event) (turned : Turned) →
+      HasEffect scope b s (Known (Falls events t)) → Does scope rest t turned → Does scope (b ∷ rest) s (preceded events turned)
+  -- the row is done, and the turn is over
+  jumps : (b : BodyTree) (rest : List BodyTree) (s t : State) (place : ℕ) → HasEffect scope b s (Known (Jumps t)) →
+      target scope b ≡ Some place → Does scope (b ∷ rest) s (Leads [] place t)
+  returns : (b : BodyTree) (rest : List BodyTree) (s t : State) → HasEffect scope b s (Known (Returns t)) →
+      Does scope (b ∷ rest) s (next_chosen scope.entry t t.chosen)
+  ends : (b : BodyTree) (rest : List BodyTree) (s t : State) (ending : Ending) → HasEffect scope b s (Known (Ends ending t)) →
+      Does scope (b ∷ rest) s (Over [] ending t)
 
 -- a turn of a program at a place
 pub record IsTurn (program : List StmtTree) (i : ℕ) (s : State) (turned : Turned) : Type 0 where
   pub statement : StmtTree
   pub stands : slice_get program i ≡ Some statement
-  pub does : Does (scope_at program i) s statement.body turned
+  pub done : Turned
+  pub does : Does (scope_at program i) (rows statement.body) s done
+  pub is : turned ≡ turn_of_piece (i + 1) done
 
--- The same as a function: what a statement does in a state. A statement that is not built finds nothing to do.
+-- The same as a function.
+
+-- a row, and then what follows
+abbrev pub carried : Scope → BodyTree → State → (State → Turned) → Turned
+carried scope b s go =
+    with_got (values_of scope.variable s.store.variables (operands b)) s
+    (λ values. with_got (effect scope b values s) s (λ did. led scope.entry (target scope b) did go))
+
+abbrev pub rows_done : Scope → List BodyTree → State → Turned
+rows_done scope [] s = Leads [] scope.follow s
+rows_done scope (b ∷ rest) s = carried scope b s (rows_done scope rest)
+
+-- what a statement does in a state
 abbrev pub done : Scope → State → BodyTree → Turned
-done scope s end_procedure = next_chosen scope.entry s s.chosen
-done scope s (integer name None) = Leads [] scope.follow s
-done scope s (assign name e) =
-    with_got (value_of scope.variable s.variables e) (λ v. with_got (assigned (scope.variable name) s v) (λ t. Leads [] scope.follow t))
-done scope s (goto name) = Leads [] (scope.label name) s
-done scope s (if_then e body) =
-    with_got (value_of scope.variable s.variables e) (λ v. with_got (truth_of v) (λ b. if b then done scope s body else Leads [] scope.follow s))
-done scope s (print parts) =
-    with_got (part_values scope.variable s.variables parts) (λ vs. with_got (joined parts vs) (λ text. Leads (Print text ∷ []) scope.follow s))
-done scope s (exit e) =
-    with_got (value_of scope.variable s.variables e) (λ v. with_got (integer_of v) (λ code. Over [] (Exit code) s))
-done scope s _ = NoTurn []
+done scope s body = rows_done scope (rows body) s
 
-abbrev pub turn_of : Scope → State → Option StmtTree → Turned
-turn_of scope s None = NoTurn []
-turn_of scope s (Some st) = done scope s st.body
+abbrev pub turn_of : Scope → ℕ → State → Option StmtTree → Turned
+turn_of scope piece s None = NoTurn []
+turn_of scope piece s (Some st) = turn_of_piece piece (done scope s st.body)
 
 -- the turn at a place
 abbrev pub turn : List StmtTree → ℕ → State → Turned
-turn program i s = turn_of (scope_at program i) s (slice_get program i)
+turn program i s = turn_of (scope_at program i) (i + 1) s (slice_get program i)
 
 -- the turn finds something to do
 abbrev pub IsFound : Turned → Type 0

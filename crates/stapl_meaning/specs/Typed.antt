@@ -1,11 +1,11 @@
 -- Programs whose names are resolved and whose statements are typed. Source: JESD71, program structure, variables,
--- labels and expressions. Of expressions, these are integers: numbers, INTEGER scalars and sums; and these are
--- Booleans: comparisons of two integers.
+-- labels and expressions. Of expressions, these are integers: numbers, INTEGER scalars, and two integers with an
+-- arithmetic operator between them; and these are Booleans: two integers that are compared.
 use Rattle.std.specs.Prelude.{◌≡◌, ◌≢◌, ℕ, ◌<◌, ◌≤◌, Bool, true, false, not, List, [], ◌∷◌, All, AllPairs, None, Some, length, slice_get}
-use Rattle.stapl_lexer.specs.declared.terminal.BinOp.TheVariants.{Add, Less}
-use Rattle.stapl_syntax.specs.Trees.{ExprTree, number, scalar, binary, ItemTree, PartTree, string, value, BodyTree, action, procedure, end_procedure, integer, assign, goto, if_then, print, exit, StmtTree}
+use Rattle.stapl_syntax.specs.Trees.{ExprTree, number, scalar, binary, ItemTree, PartTree, string, value, character, BodyTree, action, procedure, end_procedure, integer, assign, goto, if_then, print, exit, StmtTree}
 use Rattle.stapl_syntax.specs.Statements.{is_outer, begins_procedure, ends_procedure}
 use Rattle.stapl_syntax.specs.Programs.{piece_limit}
+use Rattle.stapl_built.specs.Built.{is_arithmetic, is_comparison}
 use Rattle.stapl_meaning.specs.Scopes.{program_names, block_at, procedures_in, procedure_number, scope_at}
 
 -- where a name stands for the variable of a number, there are so many variables, and some labels are known
@@ -14,19 +14,19 @@ module _ (variable : List ℕ → ℕ) (count : ℕ) (Leads : List ℕ → Type 
   abbrev pub IsInteger : ExprTree → Type 0
   IsInteger (number z) = Unit {0}
   IsInteger (scalar name) = variable name < count
-  IsInteger (binary Add a b) = IsInteger a × IsInteger b
+  IsInteger (binary op a b) = (is_arithmetic op ≡ true) × IsInteger a × IsInteger b
   IsInteger _ = ⊥
 
   -- an expression is a comparison of integers
   abbrev pub IsBoolean : ExprTree → Type 0
-  IsBoolean (binary Less a b) = IsInteger a × IsInteger b
+  IsBoolean (binary op a b) = (is_comparison op ≡ true) × IsInteger a × IsInteger b
   IsBoolean _ = ⊥
 
   abbrev pub ArePrinted : List PartTree → Type 0
   ArePrinted [] = Unit {0}
   ArePrinted (string bytes ∷ parts) = ArePrinted parts
   ArePrinted (value e ∷ parts) = IsInteger e × ArePrinted parts
-  ArePrinted _ = ⊥
+  ArePrinted (character e ∷ parts) = IsInteger e × ArePrinted parts
 
   -- A statement of a procedure is typed: what it names is there, and its expressions have the kinds that it wants.
   -- ENDPROC stands nowhere inside another statement.

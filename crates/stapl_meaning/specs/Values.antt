@@ -1,31 +1,104 @@
--- Values of expressions. Source: JESD71, expressions. That sums wrap modulo 2 to the power of 32 is this profile's
--- rule.
-use Rattle.std.specs.Prelude.{ℕ, ℤ, ◌+ℤ◌, int_lt, Bool, List, [], ◌∷◌, ◌++◌, Option, Some, slice_get}
-use Rattle.std.specs.Int.{int_wrap, w32}
-use Rattle.std.specs.Fmt.{signed_decimal}
+-- Values of expressions. Source: JESD71, expressions. That integers wrap modulo 2 to the power of 32, and what faults,
+-- are this profile's rules.
+use Rattle.std.specs.Prelude.{ℕ, zero, suc, ◌^◌, nat_lt, if◌then◌else◌, Bool, true, false, not, ◌&&◌, ◌||◌, List, [], ◌∷◌, Option, Some, slice_get}
+use Rattle.std.specs.Prelude.{ℤ, pos, negsuc, ◌+ℤ◌, ◌-ℤ◌, ◌*ℤ◌, int_lt, int_le, int_div, int_rem}
+use Rattle.std.specs.Int.{int_wrap, int_div_euclid, w32}
+use Rattle.std.specs.Bool.{beq}
+use Rattle.std.specs.Ordering.{int_eq}
+use Rattle.bit_list.specs.Integers.{int_of, bits_of_int}
 use Rattle.stapl_lexer.specs.declared.terminal.BinOp.{BinOp}
-use Rattle.stapl_lexer.specs.declared.terminal.BinOp.TheVariants.{Add, Less}
-use Rattle.stapl_syntax.specs.Trees.{ExprTree, number, scalar, binary, PartTree, string, value, character}
+use Rattle.stapl_lexer.specs.declared.terminal.BinOp.TheVariants.{Multiply, Divide, Remainder, Add, Subtract}
+use Rattle.stapl_lexer.specs.declared.terminal.BinOp.TheVariants.{ShiftLeft, ShiftRight, BitAnd, BitXor, BitOr, And, Or}
+use Rattle.stapl_lexer.specs.declared.terminal.BinOp.TheVariants.{Less, AtMost, Greater, AtLeast, Equal, NotEqual}
+use Rattle.stapl_syntax.specs.Trees.{ExprTree, number, scalar, binary}
+use Rattle.stapl_meaning.specs.declared.events.RunFault.{RunFault}
+use Rattle.stapl_meaning.specs.declared.events.RunFault.TheVariants.{DivideByZero, ShiftCount}
+use Rattle.stapl_meaning.specs.declared.values.ValueKind.{ValueKind}
+use Rattle.stapl_meaning.specs.declared.values.ValueKind.TheVariants as kinds
 use Rattle.stapl_meaning.specs.declared.values.Value.{Value}
 use Rattle.stapl_meaning.specs.declared.values.Value.TheVariants.{Int, Bit}
 use Rattle.stapl_meaning.specs.declared.values.Held.{Held}
 use Rattle.stapl_meaning.specs.declared.values.Held.TheVariants as held
 
--- what is asked for, or stuck, which no accepted program meets
+-- what is asked for, or the fault in its place; or stuck, which no accepted program meets
 pub data Got (A : Type 0) : Type 0 where
   Known : A → Got A
+  Faults : RunFault → Got A
   Stuck : Got A
 
--- goes on with what was asked for
+-- goes on with what was asked for; the first fault is that of the whole
 abbrev pub then_get : {A B : Type 0} → Got A → (A → Got B) → Got B
 then_get (Known x) go = go x
+then_get (Faults k) go = Faults k
 then_get Stuck go = Stuck
 
--- the value of two values with an operator between them, which may be one that is not built
+-- an integer, of which 32 bits are left
+abbrev pub wrapped : ℤ → Got Value
+wrapped z = Known (Int (int_wrap w32 z))
+
+-- the outcome of a division by this integer
+abbrev pub divided_by : ℤ → ℤ → Got Value
+divided_by (pos zero) outcome = Faults DivideByZero
+divided_by (pos (suc n)) outcome = Known (Int outcome)
+divided_by (negsuc n) outcome = Known (Int outcome)
+
+-- the outcome of a shift by this count
+abbrev pub shifted_by : ℤ → (ℕ → ℤ) → Got Value
+shifted_by (pos n) outcome = if nat_lt n 32 then Known (Int (outcome n)) else Faults ShiftCount
+shifted_by (negsuc n) outcome = Faults ShiftCount
+
+-- the two Booleans are not the same
+abbrev pub differ : Bool → Bool → Bool
+differ a b = not (beq a b)
+
+-- two lists of bits, combined place by place
+abbrev pub combined_bits : (Bool → Bool → Bool) → List Bool → List Bool → List Bool
+combined_bits f (x ∷ xs) (y ∷ ys) = f x y ∷ combined_bits f xs ys
+combined_bits f _ _ = []
+
+-- the integer whose bits in two's complement are those of two integers, combined place by place
+unfoldable pub bitwise : (Bool → Bool → Bool) → ℤ → ℤ → ℤ
+bitwise f a b = int_of (combined_bits f (bits_of_int a) (bits_of_int b))
+
+-- The value of two integers with an operator between them. A quotient is rounded toward zero, and a remainder has the
+-- sign of the first integer. A shift to the left multiplies by a power of two, and one to the right divides by it and
+-- rounds down: `int_div_euclid` is the quotient that leaves no negative remainder.
+abbrev pub combined_integers : BinOp → ℤ → ℤ → Got Value
+combined_integers Multiply a b = wrapped (a *ℤ b)
+combined_integers Divide a b = divided_by b (int_wrap w32 (int_div a b))
+combined_integers Remainder a b = divided_by b (int_rem a b)
+combined_integers Add a b = wrapped (a +ℤ b)
+combined_integers Subtract a b = wrapped (a -ℤ b)
+combined_integers ShiftLeft a b = shifted_by b (λ n. int_wrap w32 (a *ℤ pos (2 ^ n)))
+combined_integers ShiftRight a b = shifted_by b (λ n. int_div_euclid a (pos (2 ^ n)))
+combined_integers Less a b = Known (Bit (int_lt a b))
+combined_integers AtMost a b = Known (Bit (int_le a b))
+combined_integers Greater a b = Known (Bit (int_lt b a))
+combined_integers AtLeast a b = Known (Bit (int_le b a))
+combined_integers Equal a b = Known (Bit (int_eq a b))
+combined_integers NotEqual a b = Known (Bit (not (int_eq a b)))
+combined_integers BitAnd a b = Known (Int (bitwise ◌&&◌ a b))
+combined_integers BitXor a b = Known (Int (bitwise differ a b))
+combined_integers BitOr a b = Known (Int (bitwise ◌||◌ a b))
+combined_integers And a b = Stuck
+combined_integers Or a b = Stuck
+
+-- the value of two Booleans with an operator between them
+abbrev pub combined_booleans : BinOp → Bool → Bool → Got Value
+combined_booleans Equal a b = Known (Bit (beq a b))
+combined_booleans NotEqual a b = Known (Bit (differ a b))
+combined_booleans BitAnd a b = Known (Bit (a && b))
+combined_booleans BitXor a b = Known (Bit (differ a b))
+combined_booleans BitOr a b = Known (Bit (a || b))
+combined_booleans And a b = Known (Bit (a && b))
+combined_booleans Or a b = Known (Bit (a || b))
+combined_booleans _ a b = Stuck
+
+-- the value of two values with an operator between them
 abbrev pub combined : BinOp → Value → Value → Got Value
-combined Add (Int a) (Int b) = Known (Int (int_wrap w32 (a +ℤ b)))
-combined Less (Int a) (Int b) = Known (Bit (int_lt a b))
-combined _ _ _ = Stuck
+combined op (Int a) (Int b) = combined_integers op a b
+combined op (Bit a) (Bit b) = combined_booleans op a b
+combined op _ _ = Stuck
 
 -- the value of a scalar variable
 abbrev pub scalar_of : Option Held → Got Value
@@ -33,41 +106,29 @@ scalar_of (Some (held.Int z)) = Known (Int z)
 scalar_of (Some (held.Bit b)) = Known (Bit b)
 scalar_of _ = Stuck
 
-module _ (variable : List ℕ → ℕ) (variables : List Held) where
-  -- The value of an expression, where a name stands for the variable of a number. Operands are taken from left to
-  -- right. An expression that is not built is stuck.
-  abbrev pub value_of : ExprTree → Got Value
-  value_of (number z) = Known (Int z)
-  value_of (scalar name) = scalar_of (slice_get variables (variable name))
-  value_of (binary op a b) = then_get (value_of a) (λ x. then_get (value_of b) (λ y. combined op x y))
-  value_of _ = Stuck
+-- the value of a number where a value of a kind is wanted
+abbrev pub literal : ValueKind → ℤ → Got Value
+literal kinds.Int z = Known (Int z)
+literal kinds.Bit (pos zero) = Known (Bit false)
+literal kinds.Bit (pos (suc zero)) = Known (Bit true)
+literal kinds.Bit _ = Stuck
 
-  -- the values of the parts of a PRINT that have one, from left to right
-  abbrev pub part_values : List PartTree → Got (List Value)
-  part_values [] = Known []
-  part_values (string bytes ∷ parts) = part_values parts
-  part_values (value e ∷ parts) = then_get (value_of e) (λ v. then_get (part_values parts) (λ vs. Known (v ∷ vs)))
-  part_values (character e ∷ parts) = Stuck
+-- the kind of the sides of an operator
+abbrev pub side : BinOp → ValueKind
+side And = kinds.Bit
+side Or = kinds.Bit
+side _ = kinds.Int
+
+module _ (variable : List ℕ → ℕ) (variables : List Held) where
+  -- The value of an expression where one of a kind is wanted, and where a name stands for the variable of a number.
+  -- Operands are taken from left to right. An expression that is not built is stuck.
+  abbrev pub value_of : ValueKind → ExprTree → Got Value
+  value_of kind (number z) = literal kind z
+  value_of kind (scalar name) = scalar_of (slice_get variables (variable name))
+  value_of kind (binary op a b) = then_get (value_of (side op) a) (λ x. then_get (value_of (side op) b) (λ y. combined op x y))
+  value_of kind _ = Stuck
 
 -- the integer that a value is
 abbrev pub integer_of : Value → Got ℤ
 integer_of (Int z) = Known z
 integer_of (Bit b) = Stuck
-
--- the Boolean that a value is
-abbrev pub truth_of : Value → Got Bool
-truth_of (Int z) = Stuck
-truth_of (Bit b) = Known b
-
--- an integer in front of a text
-abbrev pub after_integer : Value → Got (List ℕ) → Got (List ℕ)
-after_integer v rest = then_get (integer_of v) (λ z. then_get rest (λ bytes. Known (signed_decimal z ++ bytes)))
-
--- the joined bytes of the parts of a PRINT with these values
-abbrev pub joined : List PartTree → List Value → Got (List ℕ)
-joined [] [] = Known []
-joined [] (v ∷ vs) = Stuck
-joined (string bytes ∷ parts) vs = then_get (joined parts vs) (λ rest. Known (bytes ++ rest))
-joined (value e ∷ parts) [] = Stuck
-joined (value e ∷ parts) (v ∷ vs) = after_integer v (joined parts vs)
-joined (character e ∷ parts) vs = Stuck

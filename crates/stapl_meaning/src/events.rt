@@ -1,4 +1,7 @@
 //! What a play gives.
+ghost use Rattle.std.specs.Prelude.{◌≡◌};
+ghost use Rattle.stapl_meaning.specs.Texts.{fault_name};
+
 use base::ItemList;
 
 /// A text, by its bytes.
@@ -11,11 +14,37 @@ pub enum Event {
     Print(Text),
 }
 
+/// What goes wrong in a turn, and ends the play. The rules are this profile's.
+#[derive(Clone, Copy, Debug, PartialEq, Eq)]
+pub enum RunFault {
+    /// The right side of `/` or `%` is 0.
+    DivideByZero,
+    /// A shift count is not in 0 to 31.
+    ShiftCount,
+    /// The number of a character is not in 0 to 255.
+    BadChar,
+}
+
+impl RunFault {
+    /// The name of the fault, as it is written.
+    pub fn name(&self) -> &'static [u8]
+        ensures { result.now ≡ fault_name self.now }
+    {
+        match self {
+            RunFault::DivideByZero => b"DivideByZero",
+            RunFault::ShiftCount => b"ShiftCount",
+            RunFault::BadChar => b"BadChar",
+        }
+    }
+}
+
 /// How a play ends.
 #[derive(Clone, Copy, Debug, PartialEq, Eq)]
 pub enum Ending {
     /// It ends with this code.
     Exit(i32),
+    /// A fault ends it, in the turn of this piece. Pieces are counted from 1.
+    Fault(RunFault, u32),
     /// It still goes on after the turns that it was given.
     Spent,
 }

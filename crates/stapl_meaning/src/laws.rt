@@ -1,13 +1,13 @@
 //! Laws of the definitions.
 ghost use Rattle.std.specs.Prelude.{◌≡◌, ℕ, ◌+◌, List};
 ghost use Rattle.stapl_syntax.specs.Trees.{StmtTree};
-ghost use Rattle.stapl_syntax.specs.Unbuilt.{IsBuiltProgram};
+ghost use Rattle.stapl_built.specs.Unbuilt.{IsBuiltProgram};
 ghost use Rattle.stapl_meaning.specs.States.{State, Turned};
 ghost use Rattle.stapl_meaning.specs.Turns.{IsTurn, turn, IsFound};
 ghost use Rattle.stapl_meaning.specs.Plays.{run, then_runs};
 ghost use Rattle.stapl_meaning.specs.Typed.{IsTyped};
 
-use stapl_syntax::laws::programs_are_built;
+use stapl_built::laws::programs_are_built;
 
 /// A statement does what the function gives, and where the function finds something to do, the statement does that.
 pub fn turns_are_computed()

@@ -5,5 +5,5 @@ mod events;
 pub mod laws;
 mod values;
 
-pub use events::{Ending, Event, Text};
-pub use values::{Held, Value};
+pub use events::{Ending, Event, RunFault, Text};
+pub use values::{Held, Value, ValueKind};

@@ -2,6 +2,15 @@
 use base::ItemList;
 use bit_list::Bits;
 
+/// The kind of a value.
+#[derive(Clone, Copy, Debug, PartialEq, Eq)]
+pub enum ValueKind {
+    /// An integer.
+    Int,
+    /// A Boolean.
+    Bit,
+}
+
 /// A value of an expression.
 #[derive(Clone, Copy, Debug, PartialEq, Eq)]
 pub enum Value {

@@ -1,0 +1,88 @@
+-- What values do to the state. Statements and instructions share these. Source: JESD71, statements.
+use Rattle.std.specs.Prelude.{ℕ, nat_abs, Bool, true, false, List, [], ◌∷◌, ◌++◌, Option, Some, None, slice_get, slice_set}
+use Rattle.std.specs.Fmt.{signed_decimal}
+use Rattle.stapl_syntax.specs.Trees.{PartTree, string, value, character}
+use Rattle.stapl_meaning.specs.declared.events.Event.TheVariants.{Print}
+use Rattle.stapl_meaning.specs.declared.events.Ending.TheVariants.{Exit}
+use Rattle.stapl_meaning.specs.declared.values.Value.{Value}
+use Rattle.stapl_meaning.specs.declared.values.Value.TheVariants.{Int, Bit}
+use Rattle.stapl_meaning.specs.declared.values.Held.{Held}
+use Rattle.stapl_meaning.specs.declared.values.Held.TheVariants as held
+use Rattle.stapl_meaning.specs.Values.{Got, Known, Stuck, then_get, integer_of}
+use Rattle.stapl_meaning.specs.Operands.{character_of}
+use Rattle.stapl_meaning.specs.States.{State, Did, Falls, Jumps, Returns, Ends}
+
+-- a scalar with another value of its kind
+abbrev pub with_scalar : Held → Value → Got Held
+with_scalar (held.Int old) (Int z) = Known (held.Int z)
+with_scalar (held.Bit old) (Bit b) = Known (held.Bit b)
+with_scalar _ _ = Stuck
+
+-- the variables with another one in the place of number n
+abbrev pub replaced : List Held → ℕ → Got Held → Got (List Held)
+replaced variables n held = then_get held (λ h. Known (slice_set variables n h))
+
+-- the variables after a write to the scalar of number n, which holds this
+abbrev pub scalar_written : List Held → ℕ → Option Held → Value → Got (List Held)
+scalar_written variables n None v = Stuck
+scalar_written variables n (Some h) v = replaced variables n (with_scalar h v)
+
+-- the state with these variables
+abbrev pub with_variables : State → List Held → State
+with_variables s variables = record s { store = record { variables = variables } }
+
+-- these are the variables from now on
+abbrev pub written : State → Got (List Held) → Got Did
+written s variables = then_get variables (λ list. Known (Falls [] (with_variables s list)))
+
+-- a value is assigned to the scalar of number n
+abbrev pub assigned : ℕ → List Value → State → Got Did
+assigned n (v ∷ []) s = written s (scalar_written s.store.variables n (slice_get s.store.variables n) v)
+assigned n _ s = Stuck
+
+-- to the target
+abbrev pub jumped : List Value → State → Got Did
+jumped [] s = Known (Jumps s)
+jumped _ s = Stuck
+
+-- to what follows where a Boolean is 1, else to the target
+abbrev pub way_of : Bool → State → Did
+way_of true s = Falls [] s
+way_of false s = Jumps s
+
+abbrev pub parted : List Value → State → Got Did
+parted (Bit b ∷ []) s = Known (way_of b s)
+parted _ s = Stuck
+
+-- the procedure is over
+abbrev pub returned : List Value → State → Got Did
+returned [] s = Known (Returns s)
+returned _ s = Stuck
+
+-- the play is over, with a code
+abbrev pub exited : List Value → State → Got Did
+exited (Int code ∷ []) s = Known (Ends (Exit code) s)
+exited _ s = Stuck
+
+-- an integer in front of a text
+abbrev pub after_integer : Value → Got (List ℕ) → Got (List ℕ)
+after_integer v rest = then_get (integer_of v) (λ z. then_get rest (λ bytes. Known (signed_decimal z ++ bytes)))
+
+-- a character in front of a text
+abbrev pub after_character : Value → Got (List ℕ) → Got (List ℕ)
+after_character v rest =
+    then_get (character_of v) (λ w. then_get (integer_of w) (λ z. then_get rest (λ bytes. Known (nat_abs z ∷ bytes))))
+
+-- the joined bytes of the parts of a PRINT with these values
+abbrev pub joined : List PartTree → List Value → Got (List ℕ)
+joined [] [] = Known []
+joined [] (v ∷ vs) = Stuck
+joined (string bytes ∷ parts) vs = then_get (joined parts vs) (λ rest. Known (bytes ++ rest))
+joined (value e ∷ parts) [] = Stuck
+joined (value e ∷ parts) (v ∷ vs) = after_integer v (joined parts vs)
+joined (character e ∷ parts) [] = Stuck
+joined (character e ∷ parts) (v ∷ vs) = after_character v (joined parts vs)
+
+-- a text is printed
+abbrev pub printed : Got (List ℕ) → State → Got Did
+printed text s = then_get text (λ bytes. Known (Falls (Print bytes ∷ []) s))
