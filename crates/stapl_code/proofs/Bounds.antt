@@ -2,11 +2,11 @@
 use Rattle.std.proofs.Common.{ℕ, zero, suc, ◌+◌, ◌-◌, ◌*◌, ◌≤◌, List, [], ◌∷◌, length, drop, arith, length-drop}
 use Rattle.stapl_meaning.specs.declared.values.Value.{Value}
 use Rattle.stapl_meaning.specs.declared.values.Held.{Held}
-use Rattle.stapl_meaning.specs.States.{State, Turned, Leads, Over, NoTurn}
+use Rattle.stapl_meaning.specs.States.{State, Turned, Leads, Over, Broken, NoTurn}
 use Rattle.stapl_meaning.specs.Plays.{start}
 use Rattle.stapl_code.specs.declared.instr.Instr.{Instr}
 use Rattle.stapl_code.specs.declared.instr.Instr.TheVariants.{Turn}
-use Rattle.stapl_code.specs.Machine.{Step, Falls, Emits, Stops, Wrong, step, stretch, code_turn, begun}
+use Rattle.stapl_code.specs.Machine.{Step, Falls, Emits, Stops, Faulted, Wrong, step, stretch, code_turn, begun}
 use Rattle.stapl_code.specs.Ticks.{ticks_behind, tick_of, ticks_then, ticks, begin_ticks, turn_ticks, run_ticks, play_ticks}
 
 one_at_most : (x : Instr) → tick_of x ≤ 1
@@ -17,11 +17,13 @@ behind_at_most : (n : ℕ) (st : Step) (go : List Value → State → ℕ) → (
 behind_at_most n (Falls ops s) go h = h ops s
 behind_at_most n (Emits events ops s) go h = h ops s
 behind_at_most n (Stops ops t) go h = omega arith
+behind_at_most n (Faulted k s) go h = omega arith
 behind_at_most n Wrong go h = omega arith
 
 then_at_most : (n : ℕ) (t : Turned) (go : ℕ → State → ℕ) → ((place : ℕ) (s : State) → go place s ≤ n) → ticks_then t go ≤ n
 then_at_most n (Leads events place s) go h = h place s
 then_at_most n (Over events ending s) go h = omega arith
+then_at_most n (Broken events k s) go h = omega arith
 then_at_most n (NoTurn events) go h = omega arith
 
 module _ (entries : List ℕ) (texts : List (List ℕ)) where

@@ -1,7 +1,11 @@
 pub mod Bounds
+pub mod Operands
+pub mod OperatorKinds
 pub mod OneStep
 pub mod ValidRuns
 pub mod Pairs
 pub mod KindCounts
+pub mod PartsTaken
 pub mod DepthSteps
+pub mod BreakSteps
 pub mod Preceded

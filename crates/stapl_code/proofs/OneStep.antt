@@ -1,33 +1,36 @@
--- One instruction of a valid code: it finds its operands, and keeps what holds of the state.
-use Rattle.std.proofs.Common.{◌≡◌, ℕ, zero, suc, ◌+◌, ◌<◌, true, false, List, [], ◌∷◌, ◌++◌, Option, Some, None, length, arith, refl, sym, ap, subst, inl, inr}
-use Rattle.std.specs.Prelude.{ℤ, slice_get, slice_set, ◌⊎◌, All}
+-- One instruction of a valid code finds its operands, and keeps what holds of the state: a line for each instruction,
+-- and one rule.
+use Rattle.std.proofs.Common.{◌≡◌, ℕ, zero, suc, ◌+◌, ◌<◌, ◌≤◌, Bool, true, false, List, [], ◌∷◌, ◌++◌, Option, Some, None, length, arith, refl, sym, ap, ◌∙◌, subst}
+use Rattle.std.specs.Prelude.{ℤ, nat_abs, slice_get, slice_set, All}
+use Rattle.std.proofs.lemmas.List.{append-nil}
+use Rattle.stapl_meaning.specs.declared.events.Event.{Event}
+use Rattle.stapl_meaning.specs.declared.events.RunFault.TheVariants.{BadChar}
 use Rattle.stapl_meaning.specs.declared.values.Held.{Held}
 use Rattle.stapl_meaning.specs.declared.values.Held.TheVariants as held
 use Rattle.stapl_meaning.specs.declared.values.Value.{Value}
 use Rattle.stapl_meaning.specs.declared.values.Value.TheVariants.{Int, Bit}
-use Rattle.stapl_meaning.specs.declared.events.Event.TheVariants as events
-use Rattle.stapl_meaning.specs.Values.{Got, Known, Stuck, then_get, scalar_of, after_integer}
-use Rattle.stapl_meaning.specs.States.{State, Turned, Leads, Over, NoTurn, scalar_written, with_variables, next_chosen}
-use Rattle.stapl_code.specs.declared.kinds.Kind.{Kind}
-use Rattle.stapl_code.specs.declared.kinds.Kind.TheVariants as kinds
+use Rattle.stapl_meaning.specs.declared.values.ValueKind.{ValueKind}
+use Rattle.stapl_meaning.specs.declared.values.ValueKind.TheVariants as kinds
+use Rattle.stapl_meaning.specs.Values.{Got, Known, Faults, Stuck, then_get, combined, integer_of, scalar_of}
+use Rattle.stapl_meaning.specs.Operands.{is_index, passed}
+use Rattle.stapl_meaning.specs.States.{State, Turned, Leads, Over, Broken, NoTurn, next_chosen, jumps_to}
+use Rattle.stapl_meaning.specs.States as did
+use Rattle.stapl_meaning.specs.Effects.{scalar_written, written, way_of, after_integer, printed}
 use Rattle.stapl_code.specs.declared.raw.VarDef.{VarDef}
+use Rattle.stapl_code.specs.declared.operators.Operator.{Operator}
 use Rattle.stapl_code.specs.declared.instr.PrintPart.{PrintPart}
 use Rattle.stapl_code.specs.declared.instr.PrintPart.TheVariants as parts
 use Rattle.stapl_code.specs.declared.instr.Instr.{Instr}
-use Rattle.stapl_code.specs.declared.instr.Instr.TheVariants.{Turn, Push, Load, Store, Binary, Jump, JumpIfZero, EndProc, Print, Exit}
-use Rattle.stapl_code.specs.Machine.{Step, Falls, Emits, Stops, Wrong, on_got, operated, taken_onto, taken, on_taken, operand_count, known_text, parts_text, entry_of, step}
+use Rattle.stapl_code.specs.declared.instr.Instr.TheVariants.{Turn, Push, PushBit, Load, Store, Binary, Jump, JumpIfZero, EndProc, Print, CheckChar, Exit}
+use Rattle.stapl_code.specs.Operators.{operator_table}
+use Rattle.stapl_code.specs.Machine.{Made, Puts, Does, puts, does, two, bit_of, operated_by, Slot, Of, OfScalar, sides_of, result_of, part_slots, takes, gives, known_text, parts_text, made, lands, Step, Falls, Emits, Stops, Faulted, Wrong, taken_onto, taken, on_taken, emitted, entry_of, on_made, step}
 use Rattle.stapl_code.specs.Ranges.{IsPart, IsInstr}
-use Rattle.stapl_code.specs.Kinds.{integers_off, none_left, scalar_kind, variable_kind, result_kind, put_on, taken_off, kinds_behind}
+use Rattle.stapl_code.specs.Kinds.{then_kinds, scalar_kind, variable_kind, put_on, left_by, clears, slot_kind, all_off, all_on, kinds_behind}
 use Rattle.stapl_code.specs.Valid.{is_turn, is_target, leads_well}
 use Rattle.stapl_code.specs.Safe.{Fits, AllFit, AllBelow}
-
-abbrev pub kind_of : Value → Kind
-kind_of (Int z) = kinds.Int
-kind_of (Bit b) = kinds.Bit
-
-abbrev pub kinds_of : List Value → List Kind
-kinds_of [] = []
-kinds_of (v ∷ vs) = kind_of v ∷ kinds_of vs
+use Rattle.stapl_code.proofs.KindCounts.{then_some}
+use Rattle.stapl_code.proofs.Operands.{kind_of, kinds_of, EachOf, each_of, each_more, Each, each_at, each_map, taken_as}
+use Rattle.stapl_code.proofs.OperatorKinds.{GotOf, CombinesAt, combined_good}
 
 -- a variable beside what it holds
 abbrev FitAt : Option VarDef → Option Held → Type 0
@@ -41,173 +44,275 @@ fit_at (v ∷ vs) (h ∷ hs) zero f = f.0
 fit_at (v ∷ vs) (h ∷ hs) (suc n) f = fit_at vs hs n f.1
 fit_at _ _ n f = absurd f
 
-fit_set : (vs : List VarDef) (hs : List Held) (n : ℕ) (v : VarDef) (h : Held) → AllFit vs hs → slice_get vs n ≡ Some v → Fits v h → AllFit vs (slice_set hs n h)
+fit_set : (vs : List VarDef) (hs : List Held) (n : ℕ) (v : VarDef) (h : Held) → AllFit vs hs → slice_get vs n ≡ Some v →
+    Fits v h → AllFit vs (slice_set hs n h)
 fit_set (u ∷ us) (g ∷ gs) zero v h f e k = let same : u ≡ v = cc in (subst (λ w. Fits w h) (sym same) k, f.1)
 fit_set (u ∷ us) (g ∷ gs) (suc n) v h f e k = (f.0, fit_set us gs n v h f.1 e k)
 fit_set [] [] n v h f e k = tt
 fit_set _ _ n v h f e k = absurd f
 
-none_are_left : (ops : List Value) (after : List Kind) → none_left (kinds_of ops) ≡ Some after → ops ≡ []
+none_are_left : (ops : List Value) (after : List ValueKind) → left_by true (kinds_of ops) ≡ Some after → ops ≡ []
 none_are_left [] after e = refl
 none_are_left (v ∷ ops) after e = absurd cc
 
-kinds_left : (ops : List Value) (after : List Kind) → none_left (kinds_of ops) ≡ Some after → kinds_of ops ≡ after
-kinds_left [] after e = cc
-kinds_left (v ∷ ops) after e = absurd cc
+are_left : (clear : Bool) (ks after : List ValueKind) → left_by clear ks ≡ Some after → ks ≡ after
+are_left true [] after e = cc
+are_left true (k ∷ ks) after e = absurd cc
+are_left false ks after e = cc
 
-abbrev IsKnown : {A : Type 0} → Got A → Type 0
-IsKnown (Known x) = Unit {0}
-IsKnown Stuck = ⊥
+abbrev TextGood : Got (List ℕ) → Type 0
+TextGood (Known bytes) = Unit {0}
+TextGood (Faults k) = Unit {0}
+TextGood Stuck = ⊥
 
-abbrev AreIntegers : List Value → Type 0
-AreIntegers [] = Unit {0}
-AreIntegers (Int z ∷ vs) = AreIntegers vs
-AreIntegers (Bit b ∷ vs) = ⊥
+abbrev IsThere : Option (List ℕ) → Type 0
+IsThere None = ⊥
+IsThere (Some text) = Unit {0}
 
--- operands that were taken off
-record Taken (n : ℕ) (before done : List Value) (after : List Kind) : Type 0 where
-  values : List Value
-  rest : List Value
-  are_taken : taken_onto n done before ≡ Some (values, rest)
-  integers : AreIntegers values
-  count : length values ≡ n + length done
-  kinds : kinds_of rest ≡ after
-
-integers_taken : (n : ℕ) (ops done : List Value) (after : List Kind) → integers_off n (kinds_of ops) ≡ Some after → AreIntegers done → Taken n ops done after
-integers_taken zero ops done after e i = record { values = done; rest = ops; are_taken = refl; integers = i; count = omega arith; kinds = cc }
-integers_taken (suc n) [] done after e i = absurd cc
-integers_taken (suc n) (Bit b ∷ ops) done after e i = absurd cc
-integers_taken (suc n) (Int z ∷ ops) done after e i =
-    let t = integers_taken n ops (Int z ∷ done) after e i in
-    record {
-      values = t.values;
-      rest = t.rest;
-      are_taken = t.are_taken;
-      integers = t.integers;
-      count = omega (arith, t.count);
-      kinds = t.kinds;
-    }
-
-text_there : (n : ℕ) (texts : List (List ℕ)) → n < length texts → IsKnown (known_text (slice_get texts n))
+text_there : (n : ℕ) (texts : List (List ℕ)) → n < length texts → IsThere (slice_get texts n)
 text_there n [] h = absurd (omega arith)
 text_there zero (t ∷ texts) h = tt
 text_there (suc n) (t ∷ texts) h = text_there n texts (omega arith)
 
-joined_known : (g more : Got (List ℕ)) → IsKnown g → IsKnown more → IsKnown (then_get g (λ bytes. then_get more (λ rest. Known (bytes ++ rest))))
-joined_known (Known a) (Known b) i j = tt
-joined_known Stuck more i j = absurd i
-joined_known (Known a) Stuck i j = absurd j
+text_good : (o : Option (List ℕ)) (more : Got (List ℕ)) → IsThere o → TextGood more →
+    TextGood (then_get (known_text o) (λ bytes. then_get more (λ rest. Known (bytes ++ rest))))
+text_good None more there h = absurd there
+text_good (Some bytes) (Known rest) there h = tt
+text_good (Some bytes) (Faults k) there h = tt
+text_good (Some bytes) Stuck there h = absurd h
 
-after_known : (z : ℤ) (more : Got (List ℕ)) → IsKnown more → IsKnown (after_integer (Int z) more)
-after_known z (Known b) j = tt
-after_known z Stuck j = absurd j
+integer_good : (z : ℤ) (more : Got (List ℕ)) → TextGood more → TextGood (after_integer (Int z) more)
+integer_good z (Known rest) h = tt
+integer_good z (Faults k) h = tt
+integer_good z Stuck h = absurd h
 
-module _ (variables : List VarDef) (procedures : ℕ) (entries : List ℕ) (texts : List (List ℕ)) (IsPlace : ℕ → Type 0) where
-  text_known : (list : List PrintPart) (vs : List Value) → All (IsPart (length texts)) list → AreIntegers vs → length vs ≡ operand_count list → IsKnown (parts_text entries texts list vs)
-  text_known [] [] r i n = tt
-  text_known [] (v ∷ vs) r i n = absurd (omega arith)
-  text_known (parts.Text k ∷ rest) vs r i n =
-      joined_known (known_text (slice_get texts k)) (parts_text entries texts rest vs) (text_there k texts (r 0 parts.Int (omega arith)))
-      (text_known rest vs (λ j d h. r (suc j) d (omega arith)) i n)
-  text_known (parts.Int ∷ rest) [] r i n = absurd (omega arith)
-  text_known (parts.Int ∷ rest) (Bit b ∷ vs) r i n = absurd i
-  text_known (parts.Int ∷ rest) (Int z ∷ vs) r i n =
-      after_known z (parts_text entries texts rest vs) (text_known rest vs (λ j d h. r (suc j) d (omega arith)) i (omega arith))
+character_good : (b : Bool) (z : ℤ) (more : Got (List ℕ)) → TextGood more →
+    TextGood
+    (then_get (passed b BadChar (Int z)) (λ w. then_get (integer_of w) (λ z. then_get more (λ bytes. Known (nat_abs z ∷ bytes)))))
+character_good true z (Known rest) h = tt
+character_good true z (Faults k) h = tt
+character_good true z Stuck h = absurd h
+character_good false z more h = tt
 
+module _
+    (variables : List VarDef) (procedures : ℕ) (entries : List ℕ) (texts : List (List ℕ)) (IsPlace : ℕ → Type 0) where
   -- what holds of the state between two instructions
   pub record Good (s : State) : Type 0 where
-    pub variables_fit : AllFit variables s.variables
+    pub variables_fit : AllFit variables s.store.variables
     pub chosen_below : AllBelow procedures s.chosen
 
   -- what holds of a turn's end: it leads to a place
   abbrev pub TurnedGood : Turned → Type 0
   TurnedGood (Leads events place s) = IsPlace place × Good s
   TurnedGood (Over events ending s) = Unit {0}
+  TurnedGood (Broken events k s) = Unit {0}
   TurnedGood (NoTurn events) = ⊥
 
-  abbrev pub StepGood : List Kind → Step → Type 0
+  abbrev pub StepGood : List ValueKind → Step → Type 0
   StepGood after (Falls ops s) = (kinds_of ops ≡ after) × Good s
   StepGood after (Emits events ops s) = (kinds_of ops ≡ after) × Good s
   StepGood after (Stops ops t) = (ops ≡ []) × TurnedGood t
+  StepGood after (Faulted k s) = Unit {0}
   StepGood after Wrong = ⊥
 
-  module _ (s : State) (good : Good s) (after : List Kind) where
-    load_good : (v : VarDef) (h : Held) (ops : List Value) → Fits v h → put_on (scalar_kind v.kind) (kinds_of ops) ≡ Some after → StepGood after (on_got (scalar_of (Some h)) (λ x. Falls (x ∷ ops) s))
-    load_good v (held.Int z) ops f e = (let k = ap (λ (n : ℕ). put_on (scalar_kind n) (kinds_of ops)) f in cc, good)
-    load_good v (held.Bit b) ops f e = (let k = ap (λ (n : ℕ). put_on (scalar_kind n) (kinds_of ops)) f in cc, good)
-    load_good v (held.Ints zs) ops f e = absurd (let k = ap (λ (n : ℕ). put_on (scalar_kind n) (kinds_of ops)) f.0 in cc)
-    load_good v (held.Bits bs) ops f e = absurd (let k = ap (λ (n : ℕ). put_on (scalar_kind n) (kinds_of ops)) f.0 in cc)
+  -- the slots give these kinds
+  abbrev Adds : List Slot → List ValueKind → Type 0
+  Adds gs new = (below : List ValueKind) → all_on variables gs below ≡ Some (new ++ below)
 
-    load_of : (ov : Option VarDef) (oh : Option Held) (ops : List Value) → FitAt ov oh → put_on (variable_kind ov) (kinds_of ops) ≡ Some after → StepGood after (on_got (scalar_of oh) (λ x. Falls (x ∷ ops) s))
-    load_of None None ops f e = absurd cc
-    load_of (Some v) (Some h) ops f e = load_good v h ops f e
-    load_of None (Some h) ops f e = absurd f
-    load_of (Some v) None ops f e = absurd f
+  abbrev IsTarget : Option ℕ → Type 0
+  IsTarget None = ⊥
+  IsTarget (Some to) = IsPlace to
 
-    stored : (n : ℕ) (v : VarDef) (h : Held) (ops : List Value) → slice_get variables n ≡ Some v → Fits v h → kinds_of ops ≡ after → StepGood after (Falls ops (record s { variables = slice_set s.variables n h }))
-    stored n v h ops at f e = (e, record { variables_fit = fit_set variables s.variables n v h good.variables_fit at f; chosen_below = good.chosen_below })
+  -- what an instruction makes of its operands is what its columns say
+  abbrev MadeGood : List Slot → Bool → Option ℕ → Got Made → Type 0
+  MadeGood gs clear to (Known (Puts v)) = Adds gs (kind_of v ∷ [])
+  MadeGood gs clear to (Known (Does (did.Falls events t))) = Adds gs [] × Good t
+  MadeGood gs clear to (Known (Does (did.Jumps t))) = (clear ≡ true) × IsTarget to × Good t
+  MadeGood gs clear to (Known (Does (did.Returns t))) = (clear ≡ true) × Good t
+  MadeGood gs clear to (Known (Does (did.Ends ending t))) = clear ≡ true
+  MadeGood gs clear to (Faults k) = Unit {0}
+  MadeGood gs clear to Stuck = ⊥
 
-    store_good : (n : ℕ) (v : VarDef) (h : Held) (x : Value) (ops : List Value) → slice_get variables n ≡ Some v → Fits v h → taken_off (scalar_kind v.kind) (kinds_of (x ∷ ops)) ≡ Some after → StepGood after (on_got (with_variables s (scalar_written s.variables n (Some h) x)) (λ t. Falls ops t))
-    store_good n v (held.Int old) (Int z) ops at f e =
-        stored n v (held.Int z) ops at f (let k = ap (λ (n : ℕ). taken_off (scalar_kind n) (kinds_of (Int z ∷ ops))) f in cc)
-    store_good n v (held.Bit old) (Bit b) ops at f e =
-        stored n v (held.Bit b) ops at f (let k = ap (λ (n : ℕ). taken_off (scalar_kind n) (kinds_of (Bit b ∷ ops))) f in cc)
-    store_good n v (held.Int old) (Bit b) ops at f e = absurd (let k = ap (λ (n : ℕ). taken_off (scalar_kind n) (kinds_of (Bit b ∷ ops))) f in cc)
-    store_good n v (held.Bit old) (Int z) ops at f e = absurd (let k = ap (λ (n : ℕ). taken_off (scalar_kind n) (kinds_of (Int z ∷ ops))) f in cc)
-    store_good n v (held.Ints zs) x ops at f e = absurd (let k = ap (λ (n : ℕ). taken_off (scalar_kind n) (kinds_of (x ∷ ops))) f.0 in cc)
-    store_good n v (held.Bits bs) x ops at f e = absurd (let k = ap (λ (n : ℕ). taken_off (scalar_kind n) (kinds_of (x ∷ ops))) f.0 in cc)
+  puts_good : (clear : Bool) (to : Option ℕ) (slot : Slot) (g : Got Value) → GotOf (slot_kind variables slot) g →
+      MadeGood (slot ∷ []) clear to (puts g)
+  puts_good clear to slot (Known v) e = λ below. ap (λ o. then_kinds (put_on o below) (all_on variables [])) e
+  puts_good clear to slot (Faults k) e = tt
+  puts_good clear to slot Stuck e = absurd e
 
-    store_of : (n : ℕ) (ov : Option VarDef) (oh : Option Held) (x : Value) (ops : List Value) → slice_get variables n ≡ ov → FitAt ov oh → taken_off (variable_kind ov) (kinds_of (x ∷ ops)) ≡ Some after → StepGood after (on_got (with_variables s (scalar_written s.variables n oh x)) (λ t. Falls ops t))
-    store_of n None oh x ops at f e = absurd cc
-    store_of n (Some v) (Some h) x ops at f e = store_good n v h x ops at f e
-    store_of n (Some v) None x ops at f e = absurd f
+  bit_good : (b : ℕ) → b ≤ 1 → GotOf (Some kinds.Bit) (bit_of b)
+  bit_good zero h = refl
+  bit_good (suc zero) h = refl
+  bit_good (suc (suc b)) h = absurd (omega arith)
 
-    binary_good : (op : ℕ) (a b : ℤ) (ops : List Value) → (op ≡ 0) ⊎ (op ≡ 12) → put_on (result_kind op) (kinds_of ops) ≡ Some after → StepGood after (on_got (operated op (Int a) (Int b)) (λ z. Falls (z ∷ ops) s))
-    binary_good op a b ops (inl is) = subst (λ o. put_on (result_kind o) (kinds_of ops) ≡ Some after → StepGood after (on_got (operated o (Int a) (Int b)) (λ z. Falls (z ∷ ops) s))) (sym is) (λ e. (cc, good))
-    binary_good op a b ops (inr is) = subst (λ o. put_on (result_kind o) (kinds_of ops) ≡ Some after → StepGood after (on_got (operated o (Int a) (Int b)) (λ z. Falls (z ∷ ops) s))) (sym is) (λ e. (cc, good))
+  passed_good : (b : Bool) (z : ℤ) → GotOf (Some kinds.Int) (passed b BadChar (Int z))
+  passed_good true z = refl
+  passed_good false z = tt
 
-    printed_good : (text : Got (List ℕ)) (ops : List Value) → IsKnown text → kinds_of ops ≡ after → StepGood after (on_got text (λ bytes. Emits (events.Print bytes ∷ []) ops s))
-    printed_good (Known bytes) ops i e = (e, good)
-    printed_good Stuck ops i e = absurd i
+  is_put : (o : Option ValueKind) (mid after : List ValueKind) → then_kinds (put_on o mid) (all_on variables []) ≡ Some after →
+      (k : ValueKind) × (o ≡ Some k)
+  is_put None mid after e = absurd cc
+  is_put (Some k) mid after e = (k, refl)
 
-    print_good : (list : List PrintPart) (ops : List Value) → All (IsPart (length texts)) list → integers_off (operand_count list) (kinds_of ops) ≡ Some after → StepGood after (on_taken (taken (operand_count list) ops) (λ vs rest. on_got (parts_text entries texts list vs) (λ bytes. Emits (events.Print bytes ∷ []) rest s)))
-    print_good list ops r e =
-        let t = integers_taken (operand_count list) ops [] after e tt in
-        subst (λ o. StepGood after (on_taken o (λ vs rest. on_got (parts_text entries texts list vs) (λ bytes. Emits (events.Print bytes ∷ []) rest s)))) (sym t.are_taken)
-        (printed_good (parts_text entries texts list t.values) t.rest (text_known list t.values r t.integers (omega (arith, t.count))) t.kinds)
+  load_good : (ov : Option VarDef) (oh : Option Held) (k : ValueKind) → FitAt ov oh → variable_kind ov ≡ Some k →
+      GotOf (variable_kind ov) (scalar_of oh)
+  load_good None oh k f e = absurd cc
+  load_good (Some v) None k f e = absurd f
+  load_good (Some v) (Some (held.Int z)) k f e = ap (λ (n : ℕ). scalar_kind n) f
+  load_good (Some v) (Some (held.Bit b)) k f e = ap (λ (n : ℕ). scalar_kind n) f
+  load_good (Some v) (Some (held.Ints zs)) k f e = absurd (let none = ap (λ (n : ℕ). scalar_kind n) f.0 in cc)
+  load_good (Some v) (Some (held.Bits bs)) k f e = absurd (let none = ap (λ (n : ℕ). scalar_kind n) f.0 in cc)
 
-  store_empty : (ov : Option VarDef) (after : List Kind) → taken_off (variable_kind ov) [] ≡ Some after → ⊥
-  store_empty ov after e = none (variable_kind ov) e
-    where
-      none : (o : Option Kind) → taken_off o [] ≡ Some after → ⊥
-      none None e = cc
-      none (Some k) e = cc
+  binary_good : (clear : Bool) (to : Option ℕ) (o : Option Operator) → CombinesAt o →
+      Each variables (sides_of o) (λ vs. MadeGood (result_of o) clear to (two vs (operated_by o)))
+  binary_good clear to None c = absurd c
+  binary_good clear to (Some o) c =
+      each_more (Some o.sides) (λ x. EachOf (Some o.sides) (λ y. GotOf (Some o.result) (combined o.op x y)))
+      (λ x. EachOf (Some o.sides) (λ y. MadeGood (Of o.result ∷ []) clear to (puts (combined o.op x y))))
+      (λ x. each_more (Some o.sides) (λ y. GotOf (Some o.result) (combined o.op x y))
+      (λ y. MadeGood (Of o.result ∷ []) clear to (puts (combined o.op x y)))
+      (λ y. puts_good clear to (Of o.result) (combined o.op x y))) c
+
+  abbrev PartsGood : List PrintPart → List Value → Type 0
+  PartsGood list vs = TextGood (parts_text entries texts list vs)
+
+  -- each part of a Print finds its text or its operand
+  parts_good : (list : List PrintPart) → All (IsPart (length texts)) list → Each variables (part_slots list) (PartsGood list)
+  parts_good [] r = tt
+  parts_good (parts.Text n ∷ rest) r =
+      let there : IsThere (slice_get texts n) = text_there n texts (r 0 parts.Int (omega arith)) in
+      each_map variables (part_slots rest) (PartsGood rest) (PartsGood (parts.Text n ∷ rest))
+      (λ vs. text_good (slice_get texts n) (parts_text entries texts rest vs) there)
+      (parts_good rest (λ j d h. r (suc j) d (omega arith)))
+  parts_good (parts.Int ∷ rest) r = λ z.
+      each_map variables (part_slots rest) (PartsGood rest) (λ vs. PartsGood (parts.Int ∷ rest) (Int z ∷ vs))
+      (λ vs. integer_good z (parts_text entries texts rest vs))
+      (parts_good rest (λ j d h. r (suc j) d (omega arith)))
+  parts_good (parts.Char ∷ rest) r = λ z.
+      each_map variables (part_slots rest) (PartsGood rest) (λ vs. PartsGood (parts.Char ∷ rest) (Int z ∷ vs))
+      (λ vs. character_good (is_index z 256) z (parts_text entries texts rest vs))
+      (parts_good rest (λ j d h. r (suc j) d (omega arith)))
+
+  jumps_good : (to : Option ℕ) (s : State) → IsTarget to → Good s → TurnedGood (jumps_to to s)
+  jumps_good None s there good = absurd there
+  jumps_good (Some to) s there good = (there, good)
+
+  emitted_good : (events : List Event) (ops : List Value) (s : State) (after : List ValueKind) → kinds_of ops ≡ after →
+      Good s → StepGood after (emitted events ops s)
+  emitted_good [] ops s after e good = (e, good)
+  emitted_good (event ∷ events) ops s after e good = (e, good)
+
+  module _ (s : State) (good : Good s) where
+    printed_good : (clear : Bool) (to : Option ℕ) (text : Got (List ℕ)) → TextGood text →
+        MadeGood [] clear to (does (printed text s))
+    printed_good clear to (Known bytes) h = (λ below. refl, good)
+    printed_good clear to (Faults k) h = tt
+    printed_good clear to Stuck h = absurd h
+
+    way_good : (to : ℕ) → IsPlace to → (b : Bool) → MadeGood [] true (Some to) (Known (Does (way_of b s)))
+    way_good to there true = (λ below. refl, good)
+    way_good to there false = (refl, there, good)
+
+    stored : (n : ℕ) (v : VarDef) (h : Held) → slice_get variables n ≡ Some v → Fits v h →
+        Good (record s { store = record { variables = slice_set s.store.variables n h } })
+    stored n v h at f = record {
+      variables_fit = fit_set variables s.store.variables n v h good.variables_fit at f;
+      chosen_below = good.chosen_below;
+    }
+
+    abbrev Writes : ℕ → Option Held → Value → Type 0
+    Writes n oh x = MadeGood [] false None (does (written s (scalar_written s.store.variables n oh x)))
+
+    store_good : (n : ℕ) (ov : Option VarDef) (oh : Option Held) (x : Value) → slice_get variables n ≡ ov → FitAt ov oh →
+        variable_kind ov ≡ Some (kind_of x) → Writes n oh x
+    store_good n None oh x at f e = absurd cc
+    store_good n (Some v) None x at f e = absurd f
+    store_good n (Some v) (Some (held.Int old)) (Int z) at f e = (λ below. refl, stored n v (held.Int z) at f)
+    store_good n (Some v) (Some (held.Bit old)) (Bit b) at f e = (λ below. refl, stored n v (held.Bit b) at f)
+    store_good n (Some v) (Some (held.Int old)) (Bit b) at f e = absurd (let int = ap (λ (n : ℕ). scalar_kind n) f in cc)
+    store_good n (Some v) (Some (held.Bit old)) (Int z) at f e = absurd (let bit = ap (λ (n : ℕ). scalar_kind n) f in cc)
+    store_good n (Some v) (Some (held.Ints zs)) x at f e = absurd (let none = ap (λ (n : ℕ). scalar_kind n) f.0 in cc)
+    store_good n (Some v) (Some (held.Bits bs)) x at f e = absurd (let none = ap (λ (n : ℕ). scalar_kind n) f.0 in cc)
 
   -- where the procedures begin are places
   module _ (begin : (p : ℕ) → p < procedures → IsPlace (entry_of entries p)) where
-    pub chosen_good : (s : State) → Good s → (ps : List ℕ) → AllBelow procedures ps → TurnedGood (next_chosen (entry_of entries) s ps)
+    pub chosen_good : (s : State) → Good s → (ps : List ℕ) → AllBelow procedures ps →
+        TurnedGood (next_chosen (entry_of entries) s ps)
     chosen_good s good [] below = tt
-    chosen_good s good (p ∷ ps) below = (begin p below.0, record { variables_fit = good.variables_fit; chosen_below = below.1 })
+    chosen_good s good (p ∷ ps) below =
+        (begin p below.0, record { variables_fit = good.variables_fit; chosen_below = below.1 })
 
-    module _ (entry : ℕ) (procedure : List Instr) (targets : (to : ℕ) → is_target entry procedure to ≡ true → IsPlace to) (s : State) (good : Good s) (here : ℕ) (after : List Kind) where
-      pub step_good : (x : Instr) (ops : List Value) → kinds_behind variables x (kinds_of ops) ≡ Some after → leads_well entry procedure x ≡ true → IsInstr (length variables) (length texts) x → (is_turn (Some x) ≡ true → IsPlace here) → StepGood after (step entries texts here x ops s)
-      step_good (Turn piece) ops e to r at = (none_are_left ops after e, (at refl, good))
-      step_good (Push z) ops e to r at = (cc, good)
-      step_good (Load n) ops e to r at = load_of s good after (slice_get variables n) (slice_get s.variables n) ops (fit_at variables s.variables n good.variables_fit) e
-      step_good (Store n) [] e to r at = absurd (store_empty (slice_get variables n) after e)
-      step_good (Store n) (x ∷ ops) e to r at = store_of s good after n (slice_get variables n) (slice_get s.variables n) x ops refl (fit_at variables s.variables n good.variables_fit) e
-      step_good (Binary op) [] e to r at = absurd cc
-      step_good (Binary op) (Bit b ∷ ops) e to r at = absurd cc
-      step_good (Binary op) (Int b ∷ []) e to r at = absurd cc
-      step_good (Binary op) (Int b ∷ Bit a ∷ ops) e to r at = absurd cc
-      step_good (Binary op) (Int b ∷ Int a ∷ ops) e to r at = binary_good s good after op a b ops r e
-      step_good (Jump to) ops e leads r at = (none_are_left ops after e, (targets to leads, good))
-      step_good (JumpIfZero to) [] e leads r at = absurd cc
-      step_good (JumpIfZero to) (Int z ∷ ops) e leads r at = absurd cc
-      step_good (JumpIfZero to) (Bit true ∷ ops) e leads r at = (kinds_left ops after e, good)
-      step_good (JumpIfZero to) (Bit false ∷ ops) e leads r at = (none_are_left ops after e, (targets to leads, good))
-      step_good EndProc ops e to r at = (none_are_left ops after e, chosen_good s good s.chosen good.chosen_below)
-      step_good (Print list) ops e to r at = print_good s good after list ops r.1 e
-      step_good Exit [] e to r at = absurd cc
-      step_good Exit (Bit b ∷ ops) e to r at = absurd cc
-      step_good Exit (Int z ∷ ops) e to r at = (none_are_left ops after e, tt)
+    module _
+        (s : State) (good : Good s) (gs : List Slot) (clear : Bool) (to : Option ℕ) (ops : List Value) (mid after : List ValueKind)
+        (left : left_by clear (kinds_of ops) ≡ Some mid) (on : all_on variables gs mid ≡ Some after) where
+      none_below : clear ≡ true → ops ≡ []
+      none_below e = none_are_left ops mid (ap (λ c. left_by c (kinds_of ops)) (sym e) ∙ left)
+
+      -- the operands behind what was made
+      kinds_above : (new : List ValueKind) → Adds gs new → new ++ kinds_of ops ≡ after
+      kinds_above new adds =
+          let all : Some (new ++ mid) ≡ Some after = sym (adds mid) ∙ on in
+          ap (λ ks. new ++ ks) (are_left clear (kinds_of ops) mid left) ∙ cc
+
+      -- what was made leads on as its columns say
+      made_good : (g : Got Made) → MadeGood gs clear to g → StepGood after (on_made entries to ops s g)
+      made_good (Known (Puts v)) m = (kinds_above (kind_of v ∷ []) m, good)
+      made_good (Known (Does (did.Falls events t))) m = emitted_good events ops t after (kinds_above [] m.0) m.1
+      made_good (Known (Does (did.Jumps t))) m = (none_below m.0, jumps_good to t m.1 m.2)
+      made_good (Known (Does (did.Returns t))) m = (none_below m.0, chosen_good t m.1 t.chosen m.1.chosen_below)
+      made_good (Known (Does (did.Ends ending t))) m = (none_below m, tt)
+      made_good (Faults k) m = tt
+      made_good Stuck m = absurd m
+
+    module _
+        (entry : ℕ) (procedure : List Instr) (targets : (to : ℕ) → is_target entry procedure to ≡ true → IsPlace to) (s : State)
+        (good : Good s) (here : ℕ) (after : List ValueKind) where
+      abbrev Makes : Instr → List Value → Type 0
+      Makes x vs = MadeGood (gives x) (clears x) (lands here x) (made entries texts x vs s)
+
+      fits : (n : ℕ) → FitAt (slice_get variables n) (slice_get s.store.variables n)
+      fits n = fit_at variables s.store.variables n good.variables_fit
+
+      -- a line for each instruction
+      row_good : (x : Instr) (mid : List ValueKind) → all_on variables (gives x) mid ≡ Some after →
+          leads_well entry procedure x ≡ true → IsInstr (length variables) (length texts) x →
+          (is_turn (Some x) ≡ true → IsPlace here) → Each variables (takes x) (Makes x)
+      row_good (Turn piece) mid on leads r at = (refl, at refl, good)
+      row_good (Push z) mid on leads r at = λ below. refl
+      row_good (PushBit b) mid on leads r at = puts_good false None (Of kinds.Bit) (bit_of b) (bit_good b r)
+      row_good (Load n) mid on leads r at =
+          let kind = is_put (variable_kind (slice_get variables n)) mid after on in
+          puts_good false None (OfScalar n) (scalar_of (slice_get s.store.variables n))
+          (load_good (slice_get variables n) (slice_get s.store.variables n) kind.0 (fits n) kind.1)
+      row_good (Store n) mid on leads r at =
+          each_of (variable_kind (slice_get variables n)) (Writes s good n (slice_get s.store.variables n))
+          (λ v. store_good s good n (slice_get variables n) (slice_get s.store.variables n) v refl (fits n))
+      row_good (Binary op) mid on leads r at = binary_good false None (slice_get operator_table op) (combined_good op r)
+      row_good (Jump to) mid on leads r at = (refl, targets to leads, good)
+      row_good (JumpIfZero to) mid on leads r at = way_good s good to (targets to leads)
+      row_good EndProc mid on leads r at = (refl, good)
+      row_good (Print list) mid on leads r at =
+          each_map variables (part_slots list) (PartsGood list) (Makes (Print list))
+          (λ vs. printed_good s good false None (parts_text entries texts list vs)) (parts_good list r.1)
+      row_good CheckChar mid on leads r at = λ z.
+          puts_good false None (Of kinds.Int) (passed (is_index z 256) BadChar (Int z)) (passed_good (is_index z 256) z)
+      row_good Exit mid on leads r at = λ z. refl
+
+      pub step_good : (x : Instr) (ops : List Value) → kinds_behind variables x (kinds_of ops) ≡ Some after →
+          leads_well entry procedure x ≡ true → IsInstr (length variables) (length texts) x →
+          (is_turn (Some x) ≡ true → IsPlace here) → StepGood after (step entries texts here x ops s)
+      step_good x ops e leads r at =
+          let behind : List ValueKind → Option (List ValueKind) = λ ks. then_kinds (left_by (clears x) ks) (all_on variables (gives x)) in
+          let off = then_some (all_off variables (takes x) (kinds_of ops)) behind after e in
+          let on = then_some (left_by (clears x) off.0) (all_on variables (gives x)) after off.2 in
+          let t = taken_as variables (takes x) 0 [] ops off.0 off.1 in
+          let count : length (takes x) ≡ length (takes x) + 0 = omega arith in
+          let go : List Value → List Value → Step = λ vs ops. on_made entries (lands here x) ops s (made entries texts x vs s) in
+          let is : on_taken (taken (length (takes x)) ops) go ≡ go t.values t.rest =
+          ap (λ (n : ℕ). on_taken (taken_onto n [] ops) go) count
+          ∙ ap (λ o. on_taken o go) t.are
+          ∙ ap (λ vs. go vs t.rest) (append-nil t.values)
+          in
+          let makes = each_at variables (takes x) (Makes x) (row_good x on.0 on.2 leads r at) t.values t.fill in
+          let left = ap (left_by (clears x)) t.left ∙ on.1 in
+          subst (StepGood after) (sym is)
+          (made_good s good (gives x) (clears x) (lands here x) t.rest on.0 after left on.2 (made entries texts x t.values s) makes)

@@ -6,23 +6,27 @@ use Rattle.std.proofs.lemmas.Bool.Decides.{nat_tests}
 use Rattle.std.proofs.lemmas.List.{take-append-drop, drop-append-le, drop-drop}
 use Rattle.stapl_meaning.specs.declared.events.Event.{Event}
 use Rattle.stapl_meaning.specs.declared.values.Held.{Held}
+use Rattle.stapl_meaning.specs.declared.values.Held.TheVariants as held
 use Rattle.stapl_meaning.specs.declared.values.Value.{Value}
-use Rattle.stapl_meaning.specs.Values.{Got, Known, Stuck}
-use Rattle.stapl_meaning.specs.States.{State, Turned, Leads, Over, NoTurn, assigned, next_chosen}
+use Rattle.stapl_meaning.specs.declared.values.Value.TheVariants as values
+use Rattle.stapl_meaning.specs.States.{State, Turned, Leads, Over, Broken, NoTurn, preceded, next_chosen, turn_of_piece}
+use Rattle.stapl_meaning.specs.Effects.{scalar_written, written}
 use Rattle.stapl_meaning.specs.Plays.{goes_on, Stopped, start}
-use Rattle.stapl_code.specs.declared.kinds.Kind.{Kind}
+use Rattle.stapl_meaning.specs.declared.values.ValueKind.{ValueKind}
+use Rattle.stapl_code.specs.declared.raw.VarDef.{VarDef}
 use Rattle.stapl_code.specs.declared.raw.ProcDef.{ProcDef}
 use Rattle.stapl_code.specs.declared.raw.CodeLists.{CodeLists}
 use Rattle.stapl_code.specs.declared.instr.Instr.{Instr}
-use Rattle.stapl_code.specs.declared.instr.Instr.TheVariants.{Turn, Push, Store, EndProc}
-use Rattle.stapl_code.specs.Machine.{Step, Falls, Emits, Stops, Wrong, on_got, entry_of, step, at_end, preceded, continues, stretch, begins, code_turn, code_run, begun, code_play}
+use Rattle.stapl_code.specs.declared.instr.Instr.TheVariants.{Turn, Push, PushBit, Store, EndProc}
+use Rattle.stapl_code.specs.Machine.{does, puts, bit_of, Step, Falls, Emits, Stops, Faulted, Wrong, on_made, entry_of, step, at_end, continues, stretch, begins, code_turn, code_run, begun, code_play}
 use Rattle.stapl_code.specs.Ranges.{IsInstr, IsInRange}
-use Rattle.stapl_code.specs.Kinds.{none_left, kinds_behind}
+use Rattle.stapl_code.specs.Kinds.{kinds_behind}
 use Rattle.stapl_code.specs.Valid.{is_turn, is_end, sets_up, departs, is_last, agree, kinds_kept, judged, first_of, is_target, leads_well, stands_well, prologue_break, rest_break, procedure_break, next_entry, procedures_break, entry_break, IsValid}
 use Rattle.stapl_code.specs.Safe.{AllFit, AllBelow, entries_of}
 use Rattle.stapl_code.specs.Ticks.{ticks_then}
 use Rattle.stapl_code.specs.Depth.{on_kinds, deepest, procedures_depth, depth_of, held_behind, held, begin_held, turn_held, run_held, play_held}
-use Rattle.stapl_code.proofs.OneStep.{kinds_of, Good, TurnedGood, StepGood, step_good, chosen_good}
+use Rattle.stapl_code.proofs.Operands.{kinds_of}
+use Rattle.stapl_code.proofs.OneStep.{Good, TurnedGood, StepGood, step_good, chosen_good}
 
 abbrev head_of : {A : Type 0} → List A → Option A
 head_of [] = None
@@ -60,7 +64,7 @@ first_none : (a b : Option ℕ) → first_of a b ≡ None → (a ≡ None) × (b
 first_none None b e = (refl, e)
 first_none (Some i) b e = absurd cc
 
-judged_none : (o : Option (List Kind)) (well : Bool) (i : ℕ) (go : List Kind → Option ℕ) → judged o well i go ≡ None → (after : List Kind) × (o ≡ Some after) × (well ≡ true) × (go after ≡ None)
+judged_none : (o : Option (List ValueKind)) (well : Bool) (i : ℕ) (go : List ValueKind → Option ℕ) → judged o well i go ≡ None → (after : List ValueKind) × (o ≡ Some after) × (well ≡ true) × (go after ≡ None)
 judged_none None well i go e = absurd cc
 judged_none (Some after) true i go e = (after, refl, refl, e)
 judged_none (Some after) false i go e = absurd cc
@@ -86,9 +90,11 @@ is_a_turn : (x : Instr) → is_turn (Some x) ≡ true → (piece : ℕ) × (x �
 is_a_turn (Turn piece) e = (piece, refl)
 is_a_turn _ e = absurd cc
 
-no_kinds : (ks after : List Kind) → none_left ks ≡ Some after → ◌≡◌ {A = List Kind} after []
-no_kinds [] after e = cc
-no_kinds (k ∷ ks) after e = absurd cc
+-- no operand is left before a Turn, and none behind it
+no_kinds : (variables : List VarDef) (piece : ℕ) (ks after : List ValueKind) → kinds_behind variables (Turn piece) ks ≡ Some after →
+    ◌≡◌ {A = List ValueKind} after []
+no_kinds variables piece [] after e = cc
+no_kinds variables piece (k ∷ ks) after e = absurd cc
 
 -- what an instruction is that stands well
 module _ (entry : ℕ) (procedure : List Instr) (must : Bool) (x : Instr) (last : Bool) (well : stands_well entry procedure must x last ≡ true) where
@@ -113,14 +119,27 @@ never_an_end (Falls ops s) = refl
 never_an_end (Emits events ops s) = refl
 never_an_end _ = tt
 
--- the prologue's instructions never end a turn
+-- the prologue's instructions never end a turn, and never fault
 abbrev NeverStops : Step → Type 0
 NeverStops (Stops ops t) = ⊥
+NeverStops (Faulted k s) = ⊥
 NeverStops _ = Unit {0}
 
-got_never_stops : (ops : List Value) (g : Got State) → NeverStops (on_got g (λ t. Falls ops t))
-got_never_stops ops (Known t) = tt
-got_never_stops ops Stuck = tt
+module _ (entries : List ℕ) (to : Option ℕ) (ops : List Value) (s : State) where
+  bit_never_stops : (b : ℕ) → NeverStops (on_made entries to ops s (puts (bit_of b)))
+  bit_never_stops zero = tt
+  bit_never_stops (suc zero) = tt
+  bit_never_stops (suc (suc b)) = tt
+
+  write_never_stops : (variables : List Held) (n : ℕ) (o : Option Held) (v : Value) →
+      NeverStops (on_made entries to ops s (does (written s (scalar_written variables n o v))))
+  write_never_stops variables n None v = tt
+  write_never_stops variables n (Some (held.Int old)) (values.Int z) = tt
+  write_never_stops variables n (Some (held.Int old)) (values.Bit b) = tt
+  write_never_stops variables n (Some (held.Bit old)) (values.Int z) = tt
+  write_never_stops variables n (Some (held.Bit old)) (values.Bit b) = tt
+  write_never_stops variables n (Some (held.Ints zs)) v = tt
+  write_never_stops variables n (Some (held.Bits bs)) v = tt
 
 kinds_count : (ops : List Value) → length (kinds_of ops) ≡ length ops
 kinds_count [] = refl
@@ -131,7 +150,7 @@ module _ (code : CodeLists) where
   total = length code.instrs
 
   -- what is held from an instruction on is at least what is there, and what is held behind it
-  deeper : (x : Instr) (ks after : List Kind) (rest : List Instr) → kinds_behind code.variables x ks ≡ Some after → (length ks ≤ deepest code.variables ks (x ∷ rest)) × (deepest code.variables after rest ≤ deepest code.variables ks (x ∷ rest))
+  deeper : (x : Instr) (ks after : List ValueKind) (rest : List Instr) → kinds_behind code.variables x ks ≡ Some after → (length ks ≤ deepest code.variables ks (x ∷ rest)) × (deepest code.variables after rest ≤ deepest code.variables ks (x ∷ rest))
   deeper x ks after rest e =
       let behind : on_kinds (kinds_behind code.variables x ks) (λ after. deepest code.variables after rest) ≡ deepest code.variables after rest = ap (λ o. on_kinds o (λ after. deepest code.variables after rest)) e in
       (omega arith, omega (arith, behind))
@@ -153,12 +172,22 @@ module _ (code : CodeLists) where
   abbrev Ends : Turned → Type 0
   Ends t = TurnedGood code.variables (length code.procedures) (entries_of code.procedures) code.texts IsPlace t
 
-  abbrev Follows : List Kind → Step → Type 0
+  abbrev Follows : List ValueKind → Step → Type 0
   Follows after st = StepGood code.variables (length code.procedures) (entries_of code.procedures) code.texts IsPlace after st
 
-  -- a turn that ends well, and so many operands
+  -- the rest of a turn that ends well, and so many operands
   abbrev Safe : Turned → ℕ → Type 0
   Safe t n = Ends t × (n ≤ depth_of code)
+
+  -- the turn of a piece that ends well: a fault has become its ending
+  abbrev EndsPiece : Turned → Type 0
+  EndsPiece (Leads events place s) = IsPlace place × Ready s
+  EndsPiece (Over events ending s) = Unit {0}
+  EndsPiece (Broken events k s) = ⊥
+  EndsPiece (NoTurn events) = ⊥
+
+  abbrev SafePiece : Turned → ℕ → Type 0
+  SafePiece t n = EndsPiece t × (n ≤ depth_of code)
 
   target_place : (entry : ℕ) (procedure behind : List Instr) → procedure_break code.variables entry procedure ≡ None → drop entry code.instrs ≡ procedure ++ behind → deepest code.variables [] procedure ≤ depth_of code → (to : ℕ) → is_target entry procedure to ≡ true → IsPlace to
   target_place entry procedure behind whole stands deep to e = record {
@@ -173,7 +202,7 @@ module _ (code : CodeLists) where
   }
 
   -- each instruction of a procedure is reached by the search for a break
-  reached : (entry : ℕ) (procedure : List Instr) (n i : ℕ) (must : Bool) (ks : List Kind) (l : List Instr) → rest_break code.variables entry procedure i must ks l ≡ None → (must' : Bool) × (ks' : List Kind) × (rest_break code.variables entry procedure (i + n) must' ks' (drop n l) ≡ None) × (deepest code.variables ks' (drop n l) ≤ deepest code.variables ks l)
+  reached : (entry : ℕ) (procedure : List Instr) (n i : ℕ) (must : Bool) (ks : List ValueKind) (l : List Instr) → rest_break code.variables entry procedure i must ks l ≡ None → (must' : Bool) × (ks' : List ValueKind) × (rest_break code.variables entry procedure (i + n) must' ks' (drop n l) ≡ None) × (deepest code.variables ks' (drop n l) ≤ deepest code.variables ks l)
   reached entry procedure zero i must ks l e = (must, ks, ap (λ j. rest_break code.variables entry procedure j must ks l) (omega arith) ∙ e, omega arith)
   reached entry procedure (suc n) i must ks [] e = (must, ks, refl, omega arith)
   reached entry procedure (suc n) i must ks (x ∷ rest) e =
@@ -267,12 +296,20 @@ module _ (code : CodeLists) where
     preceded_good : (events : List Event) (t : Turned) → Ends t → Ends (preceded events t)
     preceded_good events (Leads more place s) g = g
     preceded_good events (Over more ending s) g = g
+    preceded_good events (Broken more k s) g = g
     preceded_good events (NoTurn more) g = g
 
-    continue_good : (end : Bool) (after : List Kind) (st : Step) (go : List Value → State → Turned) (count : List Value → State → ℕ) → Follows after st → FallsOnly end st → ((ops : List Value) (t : State) → end ≡ false → kinds_of ops ≡ after → Ready t → Safe (go ops t) (count ops t)) → Safe (continues st go) (held_behind st count)
+    piece_good : (piece : ℕ) (t : Turned) → Ends t → EndsPiece (turn_of_piece piece t)
+    piece_good piece (Leads events place s) g = g
+    piece_good piece (Over events ending s) g = g
+    piece_good piece (Broken events k s) g = tt
+    piece_good piece (NoTurn events) g = g
+
+    continue_good : (end : Bool) (after : List ValueKind) (st : Step) (go : List Value → State → Turned) (count : List Value → State → ℕ) → Follows after st → FallsOnly end st → ((ops : List Value) (t : State) → end ≡ false → kinds_of ops ≡ after → Ready t → Safe (go ops t) (count ops t)) → Safe (continues st go) (held_behind st count)
     continue_good end after (Falls ops t) go count g f rest = rest ops t f g.0 g.1
     continue_good end after (Emits events ops t) go count g f rest = let r = rest ops t f g.0 g.1 in (preceded_good events (go ops t) r.0, r.1)
     continue_good end after (Stops ops t) go count g f rest = (subst (λ o. Ends (at_end o t)) (sym g.0) g.1, omega arith)
+    continue_good end after (Faulted k t) go count g f rest = (tt, omega arith)
     continue_good end after Wrong go count g f rest = absurd g
 
     module _ (entry : ℕ) (procedure behind : List Instr) (whole : procedure_break code.variables entry procedure ≡ None) (stands : drop entry code.instrs ≡ procedure ++ behind) (deep : deepest code.variables [] procedure ≤ depth_of code) where
@@ -309,7 +346,7 @@ module _ (code : CodeLists) where
           (c.0, omega (arith, c.1, few))
 
       -- a turn that begins in the procedure
-      turn_from : (j : ℕ) (s : State) → Ready s → is_turn (slice_get procedure j) ≡ true → Safe (code_turn (entries_of code.procedures) code.texts code.instrs (entry + j) s) (turn_held (entries_of code.procedures) code.texts code.instrs (entry + j) s)
+      turn_from : (j : ℕ) (s : State) → Ready s → is_turn (slice_get procedure j) ≡ true → SafePiece (code_turn (entries_of code.procedures) code.texts code.instrs (entry + j) s) (turn_held (entries_of code.procedures) code.texts code.instrs (entry + j) s)
       turn_from j s good e = from (drop j procedure) refl
         where
           some : (l : List Instr) → drop j procedure ≡ l → is_turn (head_of l) ≡ true
@@ -318,7 +355,7 @@ module _ (code : CodeLists) where
           at_most : (l : List Instr) → drop j procedure ≡ l → 0 < length l → j ≤ length procedure
           at_most l d h = omega (arith, ap length d, length-drop j procedure)
 
-          by_turn : (piece : ℕ) (rest : List Instr) → drop j procedure ≡ Turn piece ∷ rest → drop (entry + j) code.instrs ≡ Turn piece ∷ rest ++ behind → Safe (begins (entries_of code.procedures) code.texts total (Turn piece ∷ rest ++ behind) s) (begin_held (entries_of code.procedures) code.texts total (Turn piece ∷ rest ++ behind) s)
+          by_turn : (piece : ℕ) (rest : List Instr) → drop j procedure ≡ Turn piece ∷ rest → drop (entry + j) code.instrs ≡ Turn piece ∷ rest ++ behind → SafePiece (begins (entries_of code.procedures) code.texts total (Turn piece ∷ rest ++ behind) s) (begin_held (entries_of code.procedures) code.texts total (Turn piece ∷ rest ++ behind) s)
           by_turn piece rest d at =
               let r = reached entry procedure j entry true [] procedure whole in
               let k = judged_none (kinds_behind code.variables (Turn piece) r.1) (stands_well entry procedure r.0 (Turn piece) (is_last rest)) (entry + j) (λ after. rest_break code.variables entry procedure (entry + j + 1) (departs (Turn piece)) after rest) (ap (rest_break code.variables entry procedure (entry + j) r.0 r.1) (sym d) ∙ r.2) in
@@ -326,25 +363,26 @@ module _ (code : CodeLists) where
               let one : entry + (j + 1) ≡ suc (entry + j) = omega arith in
               let again : entry + (j + 1) ≡ entry + j + 1 = omega arith in
               let next : drop (entry + (j + 1)) code.instrs ≡ rest ++ behind = ap (λ (n : ℕ). drop n code.instrs) one ∙ drop_tail (entry + j) code.instrs ∙ ap (drop 1) at in
-              let none = no_kinds r.1 k.0 k.1 in
+              let none = no_kinds code.variables piece r.1 k.0 k.1 in
               let there : deepest code.variables r.1 (Turn piece ∷ rest) ≤ depth_of code = subst (λ l. deepest code.variables r.1 l ≤ depth_of code) d (omega (arith, r.3, deep)) in
               let below : deepest code.variables k.0 rest ≤ depth_of code = omega (arith, (deeper (Turn piece) r.1 k.0 rest k.1).1, there) in
-              rest_good rest (j + 1) false [] s good more next (more_follow rest (not_last false (is_last rest) (end_stands entry procedure r.0 (Turn piece) (is_last rest) k.2) refl))
+              let r = rest_good rest (j + 1) false [] s good more next (more_follow rest (not_last false (is_last rest) (end_stands entry procedure r.0 (Turn piece) (is_last rest) k.2) refl))
               (ap (λ n. rest_break code.variables entry procedure n false [] rest) again ∙ ap (λ ks. rest_break code.variables entry procedure (entry + j + 1) false ks rest) (sym none) ∙ k.3)
-              (subst (λ ks. deepest code.variables ks rest ≤ depth_of code) none below)
+              (subst (λ ks. deepest code.variables ks rest ≤ depth_of code) none below) in
+              (piece_good piece (stretch (entries_of code.procedures) code.texts total (rest ++ behind) [] s) r.0, r.1)
 
-          from : (l : List Instr) → drop j procedure ≡ l → Safe (begins (entries_of code.procedures) code.texts total (drop (entry + j) code.instrs) s) (begin_held (entries_of code.procedures) code.texts total (drop (entry + j) code.instrs) s)
+          from : (l : List Instr) → drop j procedure ≡ l → SafePiece (begins (entries_of code.procedures) code.texts total (drop (entry + j) code.instrs) s) (begin_held (entries_of code.procedures) code.texts total (drop (entry + j) code.instrs) s)
           from [] d = absurd (let a = some [] d in cc)
           from (x ∷ rest) d =
               let t = is_a_turn x (some (x ∷ rest) d) in
               let is : drop j procedure ≡ Turn t.0 ∷ rest = d ∙ ap (λ y. y ∷ rest) t.1 in
               let at : drop (entry + j) code.instrs ≡ Turn t.0 ∷ rest ++ behind = sym (drop-drop j entry code.instrs) ∙ ap (drop j) stands ∙ drop-append-le j procedure behind (at_most (x ∷ rest) d (omega arith)) ∙ ap (λ l. l ++ behind) is in
-              subst (λ l. Safe (begins (entries_of code.procedures) code.texts total l s) (begin_held (entries_of code.procedures) code.texts total l s)) (sym at) (by_turn t.0 rest is at)
+              subst (λ l. SafePiece (begins (entries_of code.procedures) code.texts total l s) (begin_held (entries_of code.procedures) code.texts total l s)) (sym at) (by_turn t.0 rest is at)
 
-    turn_good : (place : ℕ) (s : State) → IsPlace place → Ready s → Safe (code_turn (entries_of code.procedures) code.texts code.instrs place s) (turn_held (entries_of code.procedures) code.texts code.instrs place s)
+    turn_good : (place : ℕ) (s : State) → IsPlace place → Ready s → SafePiece (code_turn (entries_of code.procedures) code.texts code.instrs place s) (turn_held (entries_of code.procedures) code.texts code.instrs place s)
     turn_good place s at good =
         let same : at.entry + (place - at.entry) ≡ place = omega (arith, at.from) in
-        subst (λ n. Safe (code_turn (entries_of code.procedures) code.texts code.instrs n s) (turn_held (entries_of code.procedures) code.texts code.instrs n s)) same (turn_from at.entry at.procedure at.behind at.whole at.stands at.deep (place - at.entry) s good at.turn)
+        subst (λ n. SafePiece (code_turn (entries_of code.procedures) code.texts code.instrs n s) (turn_held (entries_of code.procedures) code.texts code.instrs n s)) same (turn_from at.entry at.procedure at.behind at.whole at.stands at.deep (place - at.entry) s good at.turn)
 
     place_turn : (place : ℕ) → IsPlace place → is_turn (head_of (drop place code.instrs)) ≡ true
     place_turn place at = from (drop j at.procedure) refl
@@ -367,6 +405,7 @@ module _ (code : CodeLists) where
     abbrev Begins : Turned → Type 0
     Begins (Leads events place s) = Ready s
     Begins (Over events ending s) = ⊥
+    Begins (Broken events k s) = ⊥
     Begins (NoTurn events) = ⊥
 
     abbrev BeginsSafe : Turned → ℕ → Type 0
@@ -375,25 +414,30 @@ module _ (code : CodeLists) where
     preceded_begins : (events : List Event) (t : Turned) → Begins t → Begins (preceded events t)
     preceded_begins events (Leads more place s) g = g
     preceded_begins events (Over more ending s) g = g
+    preceded_begins events (Broken more k s) g = g
     preceded_begins events (NoTurn more) g = g
 
-    continue_begins : (after : List Kind) (st : Step) (go : List Value → State → Turned) (count : List Value → State → ℕ) → Follows after st → NeverStops st → ((ops : List Value) (t : State) → kinds_of ops ≡ after → Ready t → BeginsSafe (go ops t) (count ops t)) → BeginsSafe (continues st go) (held_behind st count)
+    continue_begins : (after : List ValueKind) (st : Step) (go : List Value → State → Turned) (count : List Value → State → ℕ) → Follows after st → NeverStops st → ((ops : List Value) (t : State) → kinds_of ops ≡ after → Ready t → BeginsSafe (go ops t) (count ops t)) → BeginsSafe (continues st go) (held_behind st count)
     continue_begins after (Falls ops t) go count g f rest = rest ops t g.0 g.1
     continue_begins after (Emits events ops t) go count g f rest = let r = rest ops t g.0 g.1 in (preceded_begins events (go ops t) r.0, r.1)
     continue_begins after (Stops ops t) go count g f rest = absurd f
+    continue_begins after (Faulted k t) go count g f rest = absurd f
     continue_begins after Wrong go count g f rest = absurd g
 
     store_never_stops : (n here : ℕ) (ops : List Value) (s : State) → NeverStops (step (entries_of code.procedures) code.texts here (Store n) ops s)
     store_never_stops n here [] s = tt
-    store_never_stops n here (v ∷ ops) s = got_never_stops ops (assigned n s v)
+    store_never_stops n here (v ∷ ops) s =
+        write_never_stops (entries_of code.procedures) None ops s s.store.variables n (slice_get s.store.variables n) v
 
     never_stops : (x : Instr) (here : ℕ) (ops : List Value) (s : State) → sets_up x ≡ true → NeverStops (step (entries_of code.procedures) code.texts here x ops s)
     never_stops (Push z) here ops s e = tt
+    never_stops (PushBit b) here ops s e = bit_never_stops (entries_of code.procedures) None ops s b
     never_stops (Store n) here ops s e = store_never_stops n here ops s
     never_stops _ here ops s e = absurd cc
 
     leads_nowhere : (x : Instr) → sets_up x ≡ true → leads_well 0 [] x ≡ true
     leads_nowhere (Push z) e = refl
+    leads_nowhere (PushBit b) e = refl
     leads_nowhere (Store n) e = refl
     leads_nowhere _ e = absurd cc
 
@@ -405,7 +449,7 @@ module _ (code : CodeLists) where
     no_target to e = absurd (let a = and_right (nat_le 0 to) (is_turn (slice_get [] (to - 0))) e in cc)
 
     -- behind the last instruction of the prologue no operand is left
-    none_kept : (rest : List Instr) (o : Option (List Kind)) (after : List Kind) → kinds_kept (is_last rest) o ≡ Some after → (o ≡ Some after) × (rest ≡ [] → after ≡ [])
+    none_kept : (rest : List Instr) (o : Option (List ValueKind)) (after : List ValueKind) → kinds_kept (is_last rest) o ≡ Some after → (o ≡ Some after) × (rest ≡ [] → after ≡ [])
     none_kept [] (Some []) after e = (cc, λ _. cc)
     none_kept [] (Some (k ∷ ks)) after e = absurd cc
     none_kept [] None after e = absurd cc
@@ -435,11 +479,17 @@ module _ (code : CodeLists) where
         let few : length ops ≤ depth_of code = omega (arith, under.0, below, kinds_count ops) in
         (c.0, omega (arith, c.1, few))
 
-    begun_good : (t : Turned) → Begins t → Ends (begun (entries_of code.procedures) code.texts t)
+    chosen_begins : (events : List Event) (s : State) → Ready s → (ps : List ℕ) → AllBelow (length code.procedures) ps →
+        EndsPiece (preceded events (next_chosen (entry_of (entries_of code.procedures)) s ps))
+    chosen_begins events s g [] below = tt
+    chosen_begins events s g (p ∷ ps) below =
+        chosen_good code.variables (length code.procedures) (entries_of code.procedures) code.texts IsPlace begin s g (p ∷ ps) below
+
+    begun_good : (t : Turned) → Begins t → EndsPiece (begun (entries_of code.procedures) code.texts t)
     begun_good (Leads events place s) g =
-        preceded_good events (next_chosen (entry_of (entries_of code.procedures)) s s.chosen)
-        (chosen_good code.variables (length code.procedures) (entries_of code.procedures) code.texts IsPlace begin s g s.chosen g.chosen_below)
+        chosen_begins events s g s.chosen g.chosen_below
     begun_good (Over events ending s) g = absurd g
+    begun_good (Broken events k s) g = absurd g
     begun_good (NoTurn events) g = absurd g
 
     first_turn : is_turn (head_of (drop (next_entry total code.procedures) code.instrs)) ≡ true
@@ -452,14 +502,16 @@ module _ (code : CodeLists) where
             let first : entry_of (entries_of code.procedures) 0 ≡ p.entry = ap (λ qs. entry_of (entries_of qs) 0) is in
             subst (λ (n : ℕ). is_turn (head_of (drop n code.instrs)) ≡ true) first (place_turn (entry_of (entries_of code.procedures) 0) at)
 
-    never_stopped : (n : ℕ) (t : Turned) (s : State) → Ends t → (goes_on t s (code_run (entries_of code.procedures) code.texts code.instrs n)).outcome ≢ Stopped
+    never_stopped : (n : ℕ) (t : Turned) (s : State) → EndsPiece t → (goes_on t s (code_run (entries_of code.procedures) code.texts code.instrs n)).outcome ≢ Stopped
     never_stopped n (NoTurn events) s g e = g
+    never_stopped n (Broken events k u) s g e = g
     never_stopped n (Over events ending u) s g e = cc
     never_stopped zero (Leads events place u) s g e = cc
     never_stopped (suc n) (Leads events place u) s g e = never_stopped n (code_turn (entries_of code.procedures) code.texts code.instrs place u) u (turn_good place u g.0 g.1).0 e
 
-    run_within : (n : ℕ) (t : Turned) → Ends t → ticks_then t (run_held (entries_of code.procedures) code.texts code.instrs n) ≤ depth_of code
+    run_within : (n : ℕ) (t : Turned) → EndsPiece t → ticks_then t (run_held (entries_of code.procedures) code.texts code.instrs n) ≤ depth_of code
     run_within n (NoTurn events) g = absurd g
+    run_within n (Broken events k s) g = absurd g
     run_within n (Over events ending s) g = omega arith
     run_within zero (Leads events place s) g = omega arith
     run_within (suc n) (Leads events place s) g =

@@ -4,24 +4,24 @@ use Rattle.stapl_meaning.specs.declared.values.Value.{Value}
 use Rattle.stapl_meaning.specs.declared.values.Held.{Held}
 use Rattle.stapl_meaning.specs.States.{State}
 use Rattle.stapl_meaning.specs.Plays.{start}
-use Rattle.stapl_code.specs.declared.kinds.Kind.{Kind}
+use Rattle.stapl_meaning.specs.declared.values.ValueKind.{ValueKind}
 use Rattle.stapl_code.specs.declared.raw.VarDef.{VarDef}
 use Rattle.stapl_code.specs.declared.raw.ProcDef.{ProcDef}
 use Rattle.stapl_code.specs.declared.raw.CodeLists.{CodeLists}
 use Rattle.stapl_code.specs.declared.instr.Instr.{Instr}
 use Rattle.stapl_code.specs.declared.instr.Instr.TheVariants.{Turn}
-use Rattle.stapl_code.specs.Machine.{Step, Falls, Emits, Stops, Wrong, step, stretch, code_turn, begun}
+use Rattle.stapl_code.specs.Machine.{Step, Falls, Emits, Stops, Faulted, Wrong, step, stretch, code_turn, begun}
 use Rattle.stapl_code.specs.Ticks.{ticks_then}
 use Rattle.stapl_code.specs.Kinds.{kinds_behind}
 use Rattle.stapl_code.specs.Valid.{next_entry}
 
 -- goes on with the kinds, where the operands are found
-abbrev pub on_kinds : Option (List Kind) → (List Kind → ℕ) → ℕ
+abbrev pub on_kinds : Option (List ValueKind) → (List ValueKind → ℕ) → ℕ
 on_kinds None go = 0
 on_kinds (Some ks) go = go ks
 
 -- the most operands before and behind these instructions, where the first one finds operands of these kinds
-abbrev pub deepest : List VarDef → List Kind → List Instr → ℕ
+abbrev pub deepest : List VarDef → List ValueKind → List Instr → ℕ
 deepest variables ks [] = length ks
 deepest variables ks (x ∷ rest) = max (length ks) (on_kinds (kinds_behind variables x ks) (λ after. deepest variables after rest))
 
@@ -41,6 +41,7 @@ abbrev pub held_behind : Step → (List Value → State → ℕ) → ℕ
 held_behind (Falls ops s) go = go ops s
 held_behind (Emits events ops s) go = go ops s
 held_behind (Stops ops t) go = 0
+held_behind (Faulted k s) go = 0
 held_behind Wrong go = 0
 
 module _ (entries : List ℕ) (texts : List (List ℕ)) where

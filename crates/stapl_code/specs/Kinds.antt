@@ -1,14 +1,14 @@
 -- What an instruction does to the kinds of the operands, the topmost first. The rules are this profile's.
-use Rattle.std.specs.Prelude.{ℕ, zero, suc, ◌==◌, List, [], ◌∷◌, Option, Some, None, slice_get, if◌then◌else◌}
-use Rattle.stapl_code.specs.declared.kinds.Kind.{Kind}
-use Rattle.stapl_code.specs.declared.kinds.Kind.TheVariants as kinds
+use Rattle.std.specs.Prelude.{ℕ, ◌==◌, Bool, true, false, List, [], ◌∷◌, Option, Some, None, slice_get, if◌then◌else◌}
+use Rattle.stapl_meaning.specs.declared.values.ValueKind.{ValueKind}
+use Rattle.stapl_meaning.specs.declared.values.ValueKind.TheVariants as kinds
 use Rattle.stapl_code.specs.declared.raw.VarDef.{VarDef}
 use Rattle.stapl_code.specs.declared.instr.Instr.{Instr}
-use Rattle.stapl_code.specs.declared.instr.Instr.TheVariants.{Turn, Push, Load, Store, Binary, Jump, JumpIfZero, EndProc, Print, Exit}
-use Rattle.stapl_code.specs.Machine.{operand_count}
+use Rattle.stapl_code.specs.declared.instr.Instr.TheVariants.{Turn, Jump, JumpIfZero, EndProc, Exit}
+use Rattle.stapl_code.specs.Machine.{Slot, Of, OfScalar, takes, gives}
 
 -- the kinds below this one, where it is the topmost
-abbrev pub off : Kind → List Kind → Option (List Kind)
+abbrev pub off : ValueKind → List ValueKind → Option (List ValueKind)
 off k [] = None
 off kinds.Int (kinds.Int ∷ ks) = Some ks
 off kinds.Int (kinds.Bit ∷ ks) = None
@@ -16,52 +16,59 @@ off kinds.Bit (kinds.Int ∷ ks) = None
 off kinds.Bit (kinds.Bit ∷ ks) = Some ks
 
 -- goes on with the kinds that are left
-abbrev pub then_kinds : Option (List Kind) → (List Kind → Option (List Kind)) → Option (List Kind)
+abbrev pub then_kinds : Option (List ValueKind) → (List ValueKind → Option (List ValueKind)) → Option (List ValueKind)
 then_kinds None go = None
 then_kinds (Some ks) go = go ks
 
--- the kinds below so many integers
-abbrev pub integers_off : ℕ → List Kind → Option (List Kind)
-integers_off zero ks = Some ks
-integers_off (suc n) ks = then_kinds (off kinds.Int ks) (integers_off n)
-
--- the kinds where no operand is left
-abbrev pub none_left : List Kind → Option (List Kind)
-none_left [] = Some []
-none_left (k ∷ ks) = None
-
 -- the kind of what a scalar holds; an array is no operand
-abbrev pub scalar_kind : ℕ → Option Kind
+abbrev pub scalar_kind : ℕ → Option ValueKind
 scalar_kind kind = if kind == 0 then Some kinds.Int else (if kind == 1 then Some kinds.Bit else None)
 
-abbrev pub variable_kind : Option VarDef → Option Kind
+abbrev pub variable_kind : Option VarDef → Option ValueKind
 variable_kind None = None
 variable_kind (Some v) = scalar_kind v.kind
 
--- the kind of what an operator makes of two integers
-abbrev pub result_kind : ℕ → Option Kind
-result_kind op = if op == 0 then Some kinds.Int else (if op == 12 then Some kinds.Bit else None)
-
 -- a kind on top
-abbrev pub put_on : Option Kind → List Kind → Option (List Kind)
+abbrev pub put_on : Option ValueKind → List ValueKind → Option (List ValueKind)
 put_on None ks = None
 put_on (Some k) ks = Some (k ∷ ks)
 
 -- a kind taken off
-abbrev pub taken_off : Option Kind → List Kind → Option (List Kind)
+abbrev pub taken_off : Option ValueKind → List ValueKind → Option (List ValueKind)
 taken_off None ks = None
 taken_off (Some k) ks = off k ks
 
+-- the kinds where no operand is left, if none may be left
+abbrev pub left_by : Bool → List ValueKind → Option (List ValueKind)
+left_by true [] = Some []
+left_by true (k ∷ ks) = None
+left_by false ks = Some ks
+
+-- no operand may be left behind what the instruction takes
+abbrev pub clears : Instr → Bool
+clears (Turn piece) = true
+clears (Jump to) = true
+clears (JumpIfZero to) = true
+clears EndProc = true
+clears Exit = true
+clears _ = false
+
 module _ (variables : List VarDef) where
+  -- the kind of an operand
+  abbrev pub slot_kind : Slot → Option ValueKind
+  slot_kind (Of k) = Some k
+  slot_kind (OfScalar n) = variable_kind (slice_get variables n)
+
+  -- the kinds below these, of which the last one is the topmost
+  abbrev pub all_off : List Slot → List ValueKind → Option (List ValueKind)
+  all_off [] ks = Some ks
+  all_off (slot ∷ wanted) ks = then_kinds (all_off wanted ks) (taken_off (slot_kind slot))
+
+  -- these kinds on top
+  abbrev pub all_on : List Slot → List ValueKind → Option (List ValueKind)
+  all_on [] ks = Some ks
+  all_on (slot ∷ given) ks = then_kinds (put_on (slot_kind slot) ks) (all_on given)
+
   -- the kinds behind an instruction, or none where it does not find its operands
-  abbrev pub kinds_behind : Instr → List Kind → Option (List Kind)
-  kinds_behind (Turn piece) ks = none_left ks
-  kinds_behind (Push z) ks = Some (kinds.Int ∷ ks)
-  kinds_behind (Load n) ks = put_on (variable_kind (slice_get variables n)) ks
-  kinds_behind (Store n) ks = taken_off (variable_kind (slice_get variables n)) ks
-  kinds_behind (Binary op) ks = then_kinds (off kinds.Int ks) (λ below. then_kinds (off kinds.Int below) (put_on (result_kind op)))
-  kinds_behind (Jump to) ks = none_left ks
-  kinds_behind (JumpIfZero to) ks = then_kinds (off kinds.Bit ks) none_left
-  kinds_behind EndProc ks = none_left ks
-  kinds_behind (Print list) ks = integers_off (operand_count list) ks
-  kinds_behind Exit ks = then_kinds (off kinds.Int ks) none_left
+  abbrev pub kinds_behind : Instr → List ValueKind → Option (List ValueKind)
+  kinds_behind x ks = then_kinds (all_off (takes x) ks) (λ below. then_kinds (left_by (clears x) below) (all_on (gives x)))

@@ -1,3 +1,4 @@
+pub mod Operators
 pub mod Machine
 pub mod Ticks
 pub mod Ranges

@@ -1,45 +1,152 @@
 -- What the stack machine does with a code. The machine is this profile's. Places are numbers of instructions, from 0.
-use Rattle.std.specs.Prelude.{ℕ, zero, suc, ◌-◌, ◌^◌, true, false, List, [], ◌∷◌, ◌++◌, length, drop, Option, Some, None, ◌==◌, if◌then◌else◌, slice_get, slice_index_or}
-use Rattle.stapl_lexer.specs.declared.terminal.BinOp.{BinOp}
-use Rattle.stapl_lexer.specs.declared.terminal.BinOp.TheVariants.{Add, Less}
+use Rattle.std.specs.Prelude.{ℕ, zero, suc, ◌-◌, ◌^◌, true, false, List, [], ◌∷◌, ◌++◌, length, drop, Option, Some, None, slice_get, slice_index_or}
 use Rattle.stapl_meaning.specs.declared.events.Event.{Event}
-use Rattle.stapl_meaning.specs.declared.events.Event.TheVariants as events
-use Rattle.stapl_meaning.specs.declared.events.Ending.TheVariants as endings
+use Rattle.stapl_meaning.specs.declared.events.RunFault.{RunFault}
+use Rattle.stapl_meaning.specs.declared.values.ValueKind.{ValueKind}
+use Rattle.stapl_meaning.specs.declared.values.ValueKind.TheVariants as kinds
 use Rattle.stapl_meaning.specs.declared.values.Value.{Value}
 use Rattle.stapl_meaning.specs.declared.values.Value.TheVariants as values
 use Rattle.stapl_meaning.specs.declared.values.Held.{Held}
-use Rattle.stapl_meaning.specs.Values.{Got, Known, Stuck, then_get, combined, scalar_of, integer_of, truth_of, after_integer}
-use Rattle.stapl_meaning.specs.States.{State, Turned, Leads, Over, NoTurn, assigned, next_chosen}
+use Rattle.stapl_meaning.specs.Values.{Got, Known, Faults, Stuck, then_get, combined, scalar_of}
+use Rattle.stapl_meaning.specs.Operands.{character_of}
+use Rattle.stapl_meaning.specs.States.{State, Did, Turned, Leads, Over, Broken, NoTurn, preceded, turn_of_piece, next_chosen, jumps_to}
+use Rattle.stapl_meaning.specs.States as did
+use Rattle.stapl_meaning.specs.Effects.{assigned, jumped, parted, returned, exited, printed, after_integer, after_character}
 use Rattle.stapl_meaning.specs.Plays.{Run, Going, goes_on, start}
+use Rattle.stapl_code.specs.declared.operators.Operator.{Operator}
 use Rattle.stapl_code.specs.declared.instr.PrintPart.{PrintPart}
 use Rattle.stapl_code.specs.declared.instr.PrintPart.TheVariants as parts
 use Rattle.stapl_code.specs.declared.instr.Instr.{Instr}
-use Rattle.stapl_code.specs.declared.instr.Instr.TheVariants.{Turn, Push, Load, Store, Binary, Jump, JumpIfZero, EndProc, Print, Exit}
+use Rattle.stapl_code.specs.declared.instr.Instr.TheVariants.{Turn, Push, PushBit, Load, Store, Binary, Jump, JumpIfZero, EndProc, Print, CheckChar, Exit}
+use Rattle.stapl_code.specs.Operators.{operator_table}
+
+-- What an instruction makes of the operands that it takes: a value that goes on top, or what a statement does.
+pub data Made : Type 0 where
+  Puts : Value → Made
+  Does : Did → Made
+
+abbrev pub puts : Got Value → Got Made
+puts value = then_get value (λ v. Known (Puts v))
+
+abbrev pub does : Got Did → Got Made
+does did = then_get did (λ d. Known (Does d))
+
+-- what is made of one operand, and of two
+abbrev pub one : List Value → (Value → Got Value) → Got Made
+one (v ∷ []) go = puts (go v)
+one _ go = Stuck
+
+abbrev pub two : List Value → (Value → Value → Got Value) → Got Made
+two (x ∷ y ∷ []) go = puts (go x y)
+two _ go = Stuck
+
+-- the Boolean of a bit
+abbrev pub bit_of : ℕ → Got Value
+bit_of zero = Known (values.Bit false)
+bit_of (suc zero) = Known (values.Bit true)
+bit_of _ = Stuck
+
+-- what the operator of a number makes of two values
+abbrev pub operated_by : Option Operator → Value → Value → Got Value
+operated_by None x y = Stuck
+operated_by (Some operator) x y = combined operator.op x y
+
+abbrev pub operated : ℕ → Value → Value → Got Value
+operated n x y = operated_by (slice_get operator_table n) x y
+
+-- The kind of an operand: this one, or that of the scalar of a number.
+pub data Slot : Type 0 where
+  Of : ValueKind → Slot
+  OfScalar : ℕ → Slot
+
+abbrev pub sides_of : Option Operator → List Slot
+sides_of None = []
+sides_of (Some operator) = Of operator.sides ∷ Of operator.sides ∷ []
+
+abbrev pub result_of : Option Operator → List Slot
+result_of None = []
+result_of (Some operator) = Of operator.result ∷ []
+
+abbrev pub part_slots : List PrintPart → List Slot
+part_slots [] = []
+part_slots (parts.Text n ∷ rest) = part_slots rest
+part_slots (parts.Int ∷ rest) = Of kinds.Int ∷ part_slots rest
+part_slots (parts.Char ∷ rest) = Of kinds.Int ∷ part_slots rest
+
+-- The table of instructions.
+
+-- the kinds of the operands that it takes, the topmost last
+abbrev pub takes : Instr → List Slot
+takes (Store n) = OfScalar n ∷ []
+takes (Binary op) = sides_of (slice_get operator_table op)
+takes (JumpIfZero to) = Of kinds.Bit ∷ []
+takes (Print list) = part_slots list
+takes CheckChar = Of kinds.Int ∷ []
+takes Exit = Of kinds.Int ∷ []
+takes _ = []
+
+-- the kinds of those that it gives
+abbrev pub gives : Instr → List Slot
+gives (Push z) = Of kinds.Int ∷ []
+gives (PushBit b) = Of kinds.Bit ∷ []
+gives (Load n) = OfScalar n ∷ []
+gives (Binary op) = result_of (slice_get operator_table op)
+gives CheckChar = Of kinds.Int ∷ []
+gives _ = []
+
+-- its target
+abbrev pub goes_to : Instr → Option ℕ
+goes_to (Jump to) = Some to
+goes_to (JumpIfZero to) = Some to
+goes_to _ = None
+
+abbrev pub known_text : Option (List ℕ) → Got (List ℕ)
+known_text None = Stuck
+known_text (Some bytes) = Known bytes
+
+-- where the procedures begin, and the texts
+module _ (entries : List ℕ) (texts : List (List ℕ)) where
+  -- the joined bytes of the parts of a Print with these operands
+  abbrev pub parts_text : List PrintPart → List Value → Got (List ℕ)
+  parts_text [] [] = Known []
+  parts_text [] (v ∷ vs) = Stuck
+  parts_text (parts.Text n ∷ rest) vs =
+      then_get (known_text (slice_get texts n)) (λ bytes. then_get (parts_text rest vs) (λ more. Known (bytes ++ more)))
+  parts_text (parts.Int ∷ rest) [] = Stuck
+  parts_text (parts.Int ∷ rest) (v ∷ vs) = after_integer v (parts_text rest vs)
+  parts_text (parts.Char ∷ rest) [] = Stuck
+  parts_text (parts.Char ∷ rest) (v ∷ vs) = after_character v (parts_text rest vs)
+
+  -- what an instruction makes of its operands; its effects are those of statements
+  abbrev pub made : Instr → List Value → State → Got Made
+  made (Turn piece) vs s = does (jumped vs s)
+  made (Push z) vs s = Known (Puts (values.Int z))
+  made (PushBit b) vs s = puts (bit_of b)
+  made (Load n) vs s = puts (scalar_of (slice_get s.store.variables n))
+  made (Store n) vs s = does (assigned n vs s)
+  made (Binary op) vs s = two vs (operated op)
+  made (Jump to) vs s = does (jumped vs s)
+  made (JumpIfZero to) vs s = does (parted vs s)
+  made EndProc vs s = does (returned vs s)
+  made (Print list) vs s = does (printed (parts_text list vs) s)
+  made CheckChar vs s = one vs character_of
+  made Exit vs s = does (exited vs s)
+
+-- where a jump of an instruction leads, which stands here: that of a Turn to itself
+abbrev pub lands : ℕ → Instr → Option ℕ
+lands here (Turn piece) = Some here
+lands here i = goes_to i
+
+-- The rule.
 
 -- What one instruction does: on to the one behind it, perhaps with events; the end of the turn, which must find no
--- operand left; or what no valid code meets.
+-- operand left; a fault; or what no valid code meets.
 pub data Step : Type 0 where
   Falls : (operands : List Value) (state : State) → Step
   Emits : (events : List Event) (operands : List Value) (state : State) → Step
   Stops : (operands : List Value) (turned : Turned) → Step
+  Faulted : (fault : RunFault) (state : State) → Step
   Wrong : Step
-
--- goes on with what was asked for
-abbrev pub on_got : {A : Type 0} → Got A → (A → Step) → Step
-on_got (Known x) go = go x
-on_got Stuck go = Wrong
-
--- goes on with the topmost operand, and with those below it
-abbrev pub popped : List Value → (Value → List Value → Step) → Step
-popped [] go = Wrong
-popped (v ∷ rest) go = go v rest
-
--- the operators by their numbers
-abbrev pub operator_of : ℕ → Got BinOp
-operator_of n = if n == 0 then Known Add else (if n == 12 then Known Less else Stuck)
-
-abbrev pub operated : ℕ → Value → Value → Got Value
-operated op x y = then_get (operator_of op) (λ o. combined o x y)
 
 -- the topmost n operands in the order in which they were put on, and those below them
 abbrev pub taken_onto : ℕ → List Value → List Value → Option (List Value × List Value)
@@ -54,15 +161,10 @@ abbrev pub on_taken : Option (List Value × List Value) → (List Value → List
 on_taken None go = Wrong
 on_taken (Some both) go = go both.0 both.1
 
--- how many operands the parts of a Print take
-abbrev pub operand_count : List PrintPart → ℕ
-operand_count [] = 0
-operand_count (parts.Text n ∷ rest) = operand_count rest
-operand_count (parts.Int ∷ rest) = suc (operand_count rest)
-
-abbrev pub known_text : Option (List ℕ) → Got (List ℕ)
-known_text None = Stuck
-known_text (Some bytes) = Known bytes
+-- on with these events, if there are any
+abbrev pub emitted : List Event → List Value → State → Step
+emitted [] below s = Falls below s
+emitted (e ∷ events) below s = Emits (e ∷ events) below s
 
 -- a place that no code has
 abbrev pub nowhere : ℕ
@@ -72,50 +174,34 @@ nowhere = 2 ^ 32 - 1
 abbrev pub entry_of : List ℕ → ℕ → ℕ
 entry_of entries p = slice_index_or entries p nowhere
 
+-- what was made, above these operands
+abbrev pub on_made : List ℕ → Option ℕ → List Value → State → Got Made → Step
+on_made entries to below s (Known (Puts v)) = Falls (v ∷ below) s
+on_made entries to below s (Known (Does (did.Falls events t))) = emitted events below t
+on_made entries to below s (Known (Does (did.Jumps t))) = Stops below (jumps_to to t)
+on_made entries to below s (Known (Does (did.Returns t))) = Stops below (next_chosen (entry_of entries) t t.chosen)
+on_made entries to below s (Known (Does (did.Ends ending t))) = Stops below (Over [] ending t)
+on_made entries to below s (Faults k) = Faulted k s
+on_made entries to below s Stuck = Wrong
+
 -- the end of a turn, which must find no operand left
 abbrev pub at_end : List Value → Turned → Turned
 at_end [] t = t
 at_end (v ∷ rest) t = NoTurn []
-
--- events before those of a turn
-abbrev pub preceded : List Event → Turned → Turned
-preceded before (Leads events place s) = Leads (before ++ events) place s
-preceded before (Over events ending s) = Over (before ++ events) ending s
-preceded before (NoTurn events) = NoTurn (before ++ events)
 
 -- a step, and then the rest of the turn
 abbrev pub continues : Step → (List Value → State → Turned) → Turned
 continues (Falls ops s) go = go ops s
 continues (Emits events ops s) go = preceded events (go ops s)
 continues (Stops ops t) go = at_end ops t
+continues (Faulted k s) go = Broken [] k s
 continues Wrong go = NoTurn []
 
--- where the procedures begin, and the texts
 module _ (entries : List ℕ) (texts : List (List ℕ)) where
-  -- the joined bytes of the parts of a Print with these operands
-  abbrev pub parts_text : List PrintPart → List Value → Got (List ℕ)
-  parts_text [] [] = Known []
-  parts_text [] (v ∷ vs) = Stuck
-  parts_text (parts.Text n ∷ rest) vs =
-      then_get (known_text (slice_get texts n)) (λ bytes. then_get (parts_text rest vs) (λ more. Known (bytes ++ more)))
-  parts_text (parts.Int ∷ rest) [] = Stuck
-  parts_text (parts.Int ∷ rest) (v ∷ vs) = after_integer v (parts_text rest vs)
-
   -- one instruction, which stands at a place
   abbrev pub step : ℕ → Instr → List Value → State → Step
-  step here (Turn piece) ops s = Stops ops (Leads [] here s)
-  step here (Push z) ops s = Falls (values.Int z ∷ ops) s
-  step here (Load n) ops s = on_got (scalar_of (slice_get s.variables n)) (λ v. Falls (v ∷ ops) s)
-  step here (Store n) ops s = popped ops (λ v rest. on_got (assigned n s v) (λ t. Falls rest t))
-  step here (Binary op) ops s =
-      popped ops (λ y ops1. popped ops1 (λ x rest. on_got (operated op x y) (λ z. Falls (z ∷ rest) s)))
-  step here (Jump to) ops s = Stops ops (Leads [] to s)
-  step here (JumpIfZero to) ops s =
-      popped ops (λ v rest. on_got (truth_of v) (λ b. elim b [ true ↦ Falls rest s | false ↦ Stops rest (Leads [] to s) ]))
-  step here EndProc ops s = Stops ops (next_chosen (entry_of entries) s s.chosen)
-  step here (Print list) ops s =
-      on_taken (taken (operand_count list) ops) (λ vs rest. on_got (parts_text list vs) (λ text. Emits (events.Print text ∷ []) rest s))
-  step here Exit ops s = popped ops (λ v rest. on_got (integer_of v) (λ k. Stops rest (Over [] (endings.Exit k) s)))
+  step here i ops s =
+      on_taken (taken (length (takes i)) ops) (λ vs below. on_made entries (lands here i) below s (made entries texts i vs s))
 
   -- The rest of a turn: these instructions, which are the last ones of so many. A Turn that is met ends it.
   abbrev pub stretch : ℕ → List Instr → List Value → State → Turned
@@ -124,7 +210,7 @@ module _ (entries : List ℕ) (texts : List (List ℕ)) where
 
   -- a turn, which begins with the first of these instructions
   abbrev pub begins : ℕ → List Instr → State → Turned
-  begins total (Turn piece ∷ rest) s = stretch total rest [] s
+  begins total (Turn piece ∷ rest) s = turn_of_piece piece (stretch total rest [] s)
   begins total _ s = NoTurn []
 
   -- the turn that begins at a place
@@ -140,6 +226,7 @@ module _ (entries : List ℕ) (texts : List (List ℕ)) where
   abbrev pub begun : Turned → Turned
   begun (Leads events place s) = preceded events (next_chosen (entry_of entries) s s.chosen)
   begun (Over events ending s) = NoTurn events
+  begun (Broken events k s) = NoTurn events
   begun (NoTurn events) = NoTurn events
 
   -- the prologue and then the chosen procedures, for at most n turns

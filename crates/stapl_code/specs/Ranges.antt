@@ -1,16 +1,17 @@
 -- The ranges of a code's fields. They are this profile's. Variables, texts, procedures and instructions are told by
 -- their numbers, from 0.
-use Rattle.std.specs.Prelude.{◌≡◌, ◌≢◌, ℕ, ◌<◌, ◌≤◌, ◌^◌, ◌⊎◌, ◌==◌, ◌||◌, List, length, All, AllPairs, sum_by, if◌then◌else◌}
+use Rattle.std.specs.Prelude.{◌≡◌, ◌≢◌, ℕ, ◌<◌, ◌≤◌, ◌^◌, ◌==◌, ◌||◌, List, length, All, AllPairs, sum_by, if◌then◌else◌}
 use Rattle.stapl_syntax.specs.Contents.{IsFreeName}
 use Rattle.stapl_code.specs.declared.instr.PrintPart.{PrintPart}
 use Rattle.stapl_code.specs.declared.instr.PrintPart.TheVariants as parts
 use Rattle.stapl_code.specs.declared.instr.Instr.{Instr}
-use Rattle.stapl_code.specs.declared.instr.Instr.TheVariants.{Turn, Load, Store, Binary, Print}
+use Rattle.stapl_code.specs.declared.instr.Instr.TheVariants.{Turn, PushBit, Load, Store, Binary, Print}
 use Rattle.stapl_code.specs.declared.raw.VarDef.{VarDef}
 use Rattle.stapl_code.specs.declared.raw.ProcDef.{ProcDef}
 use Rattle.stapl_code.specs.declared.raw.ItemDef.{ItemDef}
 use Rattle.stapl_code.specs.declared.raw.ActionDef.{ActionDef}
 use Rattle.stapl_code.specs.declared.raw.CodeLists.{CodeLists}
+use Rattle.stapl_code.specs.Operators.{operator_table}
 
 -- a variable: kind 0 is an INTEGER scalar, 1 a BOOLEAN scalar, 2 an INTEGER array, 3 a BOOLEAN array
 pub record IsVariable (v : VarDef) : Type 0 where
@@ -54,15 +55,15 @@ pub record AreActions (procedures : ℕ) (actions : List ActionDef) : Type 0 whe
 -- a part of a Print, where there are so many texts
 abbrev pub IsPart : ℕ → PrintPart → Type 0
 IsPart texts (parts.Text n) = n < texts
-IsPart texts parts.Int = Unit {0}
+IsPart texts _ = Unit {0}
 
--- an instruction, where there are so many variables and texts; of the operators `+` and `<` are there, which are 0 and
--- 12
+-- an instruction, where there are so many variables and texts
 abbrev pub IsInstr : ℕ → ℕ → Instr → Type 0
 IsInstr variables texts (Turn piece) = (1 ≤ piece) × (piece ≤ 100000)
+IsInstr variables texts (PushBit b) = b ≤ 1
 IsInstr variables texts (Load n) = n < variables
 IsInstr variables texts (Store n) = n < variables
-IsInstr variables texts (Binary op) = (op ≡ 0) ⊎ (op ≡ 12)
+IsInstr variables texts (Binary op) = op < length operator_table
 IsInstr variables texts (Print list) = (1 ≤ length list) × All (IsPart texts) list
 IsInstr variables texts _ = Unit {0}
 

@@ -2,16 +2,17 @@
 use Rattle.std.specs.Prelude.{ℕ, zero, suc, ◌+◌, ◌-◌, List, [], ◌∷◌, length, drop}
 use Rattle.stapl_meaning.specs.declared.values.Value.{Value}
 use Rattle.stapl_meaning.specs.declared.values.Held.{Held}
-use Rattle.stapl_meaning.specs.States.{State, Turned, Leads, Over, NoTurn}
+use Rattle.stapl_meaning.specs.States.{State, Turned, Leads, Over, Broken, NoTurn}
 use Rattle.stapl_meaning.specs.Plays.{start}
 use Rattle.stapl_code.specs.declared.instr.Instr.{Instr}
 use Rattle.stapl_code.specs.declared.instr.Instr.TheVariants.{Turn}
-use Rattle.stapl_code.specs.Machine.{Step, Falls, Emits, Stops, Wrong, step, stretch, code_turn, begun}
+use Rattle.stapl_code.specs.Machine.{Step, Falls, Emits, Stops, Faulted, Wrong, step, stretch, code_turn, begun}
 
 abbrev pub ticks_behind : Step → (List Value → State → ℕ) → ℕ
 ticks_behind (Falls ops s) go = go ops s
 ticks_behind (Emits events ops s) go = go ops s
 ticks_behind (Stops ops t) go = 0
+ticks_behind (Faulted k s) go = 0
 ticks_behind Wrong go = 0
 
 abbrev pub tick_of : Instr → ℕ
@@ -21,6 +22,7 @@ tick_of _ = 1
 abbrev pub ticks_then : Turned → (ℕ → State → ℕ) → ℕ
 ticks_then (Leads events place s) go = go place s
 ticks_then (Over events ending s) go = 0
+ticks_then (Broken events k s) go = 0
 ticks_then (NoTurn events) go = 0
 
 module _ (entries : List ℕ) (texts : List (List ℕ)) where

@@ -3,7 +3,7 @@
 -- The instructions before the first entry are the prologue. A procedure's instructions go from its entry to the next
 -- entry, or to the end of the code. The rules are these, each with the definition that says it; that entries rise is a
 -- range of the fields.
---   The prologue holds only Push and Store (sets_up), and leaves no operand (kinds_kept).
+--   The prologue holds only Push, PushBit and Store (sets_up), and leaves no operand (kinds_kept).
 --   A procedure begins with a Turn (procedure_break), and ends with an EndProc, which stands nowhere else
 --   (stands_well).
 --   An instruction finds operands of its kinds, and variables of the kind that it wants (kinds_behind).
@@ -13,15 +13,16 @@
 --   A procedure begins at an instruction (entry_break).
 use Rattle.std.specs.Prelude.{◌≡◌, ℕ, ◌+◌, ◌-◌, ◌&&◌, ◌||◌, not, Bool, true, false, List, [], ◌∷◌, length, Option, Some, None, slice_get, slice_range, nat_lt, nat_le, if◌then◌else◌}
 use Rattle.std.specs.List.{list_all}
-use Rattle.stapl_code.specs.declared.kinds.Kind.{Kind}
+use Rattle.stapl_meaning.specs.declared.values.ValueKind.{ValueKind}
 use Rattle.stapl_code.specs.declared.raw.VarDef.{VarDef}
 use Rattle.stapl_code.specs.declared.raw.ProcDef.{ProcDef}
 use Rattle.stapl_code.specs.declared.raw.CodeLists.{CodeLists}
 use Rattle.stapl_code.specs.declared.instr.Instr.{Instr}
-use Rattle.stapl_code.specs.declared.instr.Instr.TheVariants.{Turn, Push, Store, Jump, JumpIfZero, EndProc, Exit}
+use Rattle.stapl_code.specs.declared.instr.Instr.TheVariants.{Turn, Push, PushBit, Store, Jump, EndProc, Exit}
 use Rattle.stapl_code.specs.declared.valid.ValidateRefused.{ValidateRefused}
 use Rattle.stapl_code.specs.declared.valid.ValidateRefused.TheVariants.{Invalid, Memory}
-use Rattle.stapl_code.specs.Kinds.{then_kinds, none_left, kinds_behind}
+use Rattle.stapl_code.specs.Machine.{goes_to}
+use Rattle.stapl_code.specs.Kinds.{then_kinds, left_by, kinds_behind}
 
 abbrev pub is_turn : Option Instr → Bool
 is_turn (Some (Turn piece)) = true
@@ -34,6 +35,7 @@ is_end _ = false
 -- an instruction that the prologue may hold
 abbrev pub sets_up : Instr → Bool
 sets_up (Push z) = true
+sets_up (PushBit b) = true
 sets_up (Store n) = true
 sets_up _ = false
 
@@ -53,12 +55,12 @@ agree true b = b
 agree false b = not b
 
 -- the kinds behind an instruction, of which the last one of the prologue must leave none
-abbrev pub kinds_kept : Bool → Option (List Kind) → Option (List Kind)
-kinds_kept true ks = then_kinds ks none_left
+abbrev pub kinds_kept : Bool → Option (List ValueKind) → Option (List ValueKind)
+kinds_kept true ks = then_kinds ks (left_by true)
 kinds_kept false ks = ks
 
 -- Instruction i breaks a rule where it does not find its operands, or does not stand well. Otherwise the rest decides.
-abbrev pub judged : Option (List Kind) → Bool → ℕ → (List Kind → Option ℕ) → Option ℕ
+abbrev pub judged : Option (List ValueKind) → Bool → ℕ → (List ValueKind → Option ℕ) → Option ℕ
 judged None well i go = Some i
 judged (Some ks) true i go = go ks
 judged (Some ks) false i go = Some i
@@ -74,10 +76,12 @@ module _ (entry : ℕ) (procedure : List Instr) where
   abbrev pub is_target : ℕ → Bool
   is_target to = nat_le entry to && is_turn (slice_get procedure (to - entry))
 
+  abbrev pub leads_to : Option ℕ → Bool
+  leads_to None = true
+  leads_to (Some to) = is_target to
+
   abbrev pub leads_well : Instr → Bool
-  leads_well (Jump to) = is_target to
-  leads_well (JumpIfZero to) = is_target to
-  leads_well _ = true
+  leads_well x = leads_to (goes_to x)
 
   -- An instruction stands well where it is a Turn if one has to stand there, it is an EndProc exactly if it is the last
   -- of the procedure, and its target is a Turn of the procedure.
@@ -86,13 +90,13 @@ module _ (entry : ℕ) (procedure : List Instr) where
 
 module _ (variables : List VarDef) where
   -- the first break of the prologue in its instructions from number i on, where the operands have these kinds
-  abbrev pub prologue_break : ℕ → List Kind → List Instr → Option ℕ
+  abbrev pub prologue_break : ℕ → List ValueKind → List Instr → Option ℕ
   prologue_break i ks [] = None
   prologue_break i ks (x ∷ rest) =
       judged (kinds_kept (is_last rest) (kinds_behind variables x ks)) (sets_up x) i (λ after. prologue_break (i + 1) after rest)
 
   -- the first break of a procedure in its instructions from number i on
-  abbrev pub rest_break : ℕ → List Instr → ℕ → Bool → List Kind → List Instr → Option ℕ
+  abbrev pub rest_break : ℕ → List Instr → ℕ → Bool → List ValueKind → List Instr → Option ℕ
   rest_break entry procedure i must_turn ks [] = None
   rest_break entry procedure i must_turn ks (x ∷ rest) =
       judged (kinds_behind variables x ks) (stands_well entry procedure must_turn x (is_last rest)) i

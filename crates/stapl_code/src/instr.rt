@@ -8,6 +8,8 @@ pub enum PrintPart {
     Text(u32),
     /// An integer, from the operands.
     Int,
+    /// A character, whose number is from the operands.
+    Char,
 }
 
 /// One instruction. Variables, texts and procedures are told by their numbers, and targets are numbers of instructions,
@@ -18,11 +20,13 @@ pub enum Instr {
     Turn(u32),
     /// Puts an integer on the operands.
     Push(i32),
+    /// Puts a Boolean on the operands: 0 or 1.
+    PushBit(u8),
     /// Puts the value of a scalar variable on the operands.
     Load(u32),
     /// Takes a value off the operands, into a scalar variable.
     Store(u32),
-    /// Takes two operands off, and puts on what an operator makes of them: 0 is `+`, 12 is `<`.
+    /// Takes two operands off, and puts on what the operator of a number makes of them.
     Binary(u8),
     /// Goes to a turn of the same procedure.
     Jump(u32),
@@ -33,6 +37,8 @@ pub enum Instr {
     /// Prints its joined parts as one line. It takes an operand for each part that is no text; the last part's is the
     /// topmost.
     Print(ItemList<PrintPart>),
+    /// Tests that the topmost operand is the number of a character.
+    CheckChar,
     /// Takes an integer off the operands, and ends the play with it.
     Exit,
 }

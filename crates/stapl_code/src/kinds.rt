@@ -1,74 +1,65 @@
 //! The kinds of operands.
-ghost use Rattle.std.specs.Prelude.{◌≡◌, Some, None, IfOk, if◌then◌else◌, slice_get};
-ghost use Rattle.stapl_code.specs.Machine.{operand_count};
-ghost use Rattle.stapl_code.specs.Kinds.{off, integers_off, variable_kind, result_kind, put_on, taken_off, kinds_behind};
+ghost use Rattle.std.specs.Prelude.{◌≡◌, ◌∷◌, List, Some, None, IfOk, if◌then◌else◌, slice_get};
+ghost use Rattle.stapl_code.specs.Machine.{part_slots, sides_of, result_of, takes, gives};
+ghost use Rattle.stapl_code.specs.Kinds.{off, variable_kind, put_on, taken_off, clears, all_off, all_on, kinds_behind};
 
 use crate::instr::{Instr, PrintPart};
+use crate::operators::{Operator, operator_of};
 use crate::raw::VarDef;
 use base::Stack;
+use stapl_meaning::ValueKind;
 use std::alloc::AllocError;
 
-/// The kind of an operand.
-#[derive(Clone, Copy, Debug, PartialEq, Eq)]
-pub enum Kind {
-    /// An integer.
-    Int,
-    /// A Boolean.
-    Bit,
-}
-
 /// Takes off the topmost kind, and answers whether it was this one.
-fn take(kinds: &mut Stack<Kind>, kind: Kind) -> bool
+fn take(kinds: &mut Stack<ValueKind>, kind: ValueKind) -> bool
     ensures { off kind kinds.old ≡ (if result then Some kinds.new else None) }
 {
     match (kinds.pop(), kind) {
-        (Some(Kind::Int), Kind::Int) => true,
-        (Some(Kind::Bit), Kind::Bit) => true,
+        (Some(ValueKind::Int), ValueKind::Int) => true,
+        (Some(ValueKind::Bit), ValueKind::Bit) => true,
         _ => false,
     }
 }
 
-/// Takes off an integer for each part that is no text, and answers whether they were there.
-fn take_parts(kinds: &mut Stack<Kind>, parts: &[PrintPart]) -> bool
-    ensures { integers_off (operand_count parts.now) kinds.old ≡ (if result then Some kinds.new else None) }
+// Takes off the kind of the operand of a part, where it takes one, and answers whether it was there.
+fn take_part(kinds: &mut Stack<ValueKind>, part: PrintPart) -> bool
+    ensures { (variables : List VarDef) (rest : List PrintPart) (ks : List ValueKind) →
+        all_off variables (part_slots rest) ks ≡ Some kinds.old →
+        all_off variables (part_slots (part ∷ rest)) ks ≡ (if result then Some kinds.new else None) }
 {
-    for part in parts {
-        match part {
-            PrintPart::Text(_) => {}
-            PrintPart::Int => {
-                if !take(kinds, Kind::Int) {
-                    return false;
-                }
-            }
+    match part {
+        PrintPart::Text(_) => true,
+        PrintPart::Int | PrintPart::Char => take(kinds, ValueKind::Int),
+    }
+}
+
+// Takes off the kinds of the operands of parts, and answers whether they were there.
+fn take_parts(kinds: &mut Stack<ValueKind>, parts: &[PrintPart]) -> bool
+    ensures { (variables : List VarDef) →
+        all_off variables (part_slots parts.now) kinds.old ≡ (if result then Some kinds.new else None) }
+{
+    for done in 0..parts.len() {
+        if !take_part(kinds, parts[parts.len() - 1 - done]) {
+            return false;
         }
     }
     true
 }
 
-fn kind_at(variables: &[VarDef], n: u32) -> Option<Kind>
+fn kind_at(variables: &[VarDef], n: u32) -> Option<ValueKind>
     ensures { result ≡ variable_kind (slice_get variables.now n) }
 {
     match variables.get(n as usize) {
         None => None,
         Some(variable) => match variable.kind {
-            0 => Some(Kind::Int),
-            1 => Some(Kind::Bit),
+            0 => Some(ValueKind::Int),
+            1 => Some(ValueKind::Bit),
             _ => None,
         },
     }
 }
 
-fn result_kind(op: u8) -> Option<Kind>
-    ensures { result ≡ result_kind op }
-{
-    match op {
-        0 => Some(Kind::Int),
-        12 => Some(Kind::Bit),
-        _ => None,
-    }
-}
-
-fn put(kinds: &mut Stack<Kind>, kind: Option<Kind>) -> Result<bool, AllocError>
+fn put(kinds: &mut Stack<ValueKind>, kind: Option<ValueKind>) -> Result<bool, AllocError>
     ensures { IfOk result (λ found. put_on kind kinds.old ≡ (if found then Some kinds.new else None)) }
 {
     match kind {
@@ -80,7 +71,7 @@ fn put(kinds: &mut Stack<Kind>, kind: Option<Kind>) -> Result<bool, AllocError>
     }
 }
 
-fn take_some(kinds: &mut Stack<Kind>, kind: Option<Kind>) -> bool
+fn take_some(kinds: &mut Stack<ValueKind>, kind: Option<ValueKind>) -> bool
     ensures { taken_off kind kinds.old ≡ (if result then Some kinds.new else None) }
 {
     match kind {
@@ -89,34 +80,118 @@ fn take_some(kinds: &mut Stack<Kind>, kind: Option<Kind>) -> bool
     }
 }
 
-/// Does to the kinds of the operands what an instruction does, and answers whether it found its operands.
-pub(crate) fn follow(
-    variables: &[VarDef],
-    instr: &Instr,
-    kinds: &mut Stack<Kind>,
-) -> Result<bool, AllocError>
-    ensures { IfOk result (λ found. kinds_behind variables.now instr.now kinds.old ≡ (if found then Some kinds.new else None)) }
+// Takes off the kinds of both sides of an operator, and answers whether they were there.
+fn take_sides(kinds: &mut Stack<ValueKind>, operator: Option<Operator>) -> bool
+    ensures { (variables : List VarDef) →
+        all_off variables (sides_of operator) kinds.old ≡ (if result then Some kinds.new else None) }
+{
+    match operator {
+        None => true,
+        Some(operator) => take(kinds, operator.sides) && take(kinds, operator.sides),
+    }
+}
+
+// Takes off the kinds of the operands of an instruction, and answers whether they were there.
+fn take_operands(variables: &[VarDef], instr: &Instr, kinds: &mut Stack<ValueKind>) -> bool
+    ensures { all_off variables.now (takes instr.now) kinds.old ≡ (if result then Some kinds.new else None) }
 {
     match instr {
-        Instr::Turn(_) | Instr::Jump(_) | Instr::EndProc => Ok(kinds.len() == 0),
-        Instr::Push(_) => {
-            kinds.push(Kind::Int)?;
+        Instr::Turn(_)
+        | Instr::Push(_)
+        | Instr::PushBit(_)
+        | Instr::Load(_)
+        | Instr::Jump(_)
+        | Instr::EndProc => true,
+        Instr::Store(n) => take_some(kinds, kind_at(variables, *n)),
+        Instr::Binary(op) => take_sides(kinds, operator_of(*op)),
+        Instr::JumpIfZero(_) => take(kinds, ValueKind::Bit),
+        Instr::Print(parts) => take_parts(kinds, parts.as_slice()),
+        Instr::CheckChar | Instr::Exit => take(kinds, ValueKind::Int),
+    }
+}
+
+// Whether no operand may be left behind what an instruction takes.
+fn clears(instr: &Instr) -> bool
+    ensures { result ≡ clears instr.now }
+{
+    match instr {
+        Instr::Turn(_) | Instr::Jump(_) | Instr::JumpIfZero(_) | Instr::EndProc | Instr::Exit =>
+            true,
+        Instr::Push(_)
+        | Instr::PushBit(_)
+        | Instr::Load(_)
+        | Instr::Store(_)
+        | Instr::Binary(_)
+        | Instr::Print(_)
+        | Instr::CheckChar => false,
+    }
+}
+
+// Puts on the kind of what an operator makes, where there is one.
+fn put_result(kinds: &mut Stack<ValueKind>, operator: Option<Operator>) -> Result<bool, AllocError>
+    ensures { IfOk result (λ found. (variables : List VarDef) →
+        all_on variables (result_of operator) kinds.old ≡ (if found then Some kinds.new else None)) }
+{
+    match operator {
+        None => Ok(true),
+        Some(operator) => {
+            kinds.push(operator.result)?;
+            Ok(true)
+        }
+    }
+}
+
+// Puts on the kinds of what an instruction gives, and answers whether they are there.
+fn put_operands(
+    variables: &[VarDef],
+    instr: &Instr,
+    kinds: &mut Stack<ValueKind>,
+) -> Result<bool, AllocError>
+    ensures { IfOk result (λ found.
+        all_on variables.now (gives instr.now) kinds.old ≡ (if found then Some kinds.new else None)) }
+{
+    match instr {
+        Instr::Push(_) | Instr::CheckChar => {
+            kinds.push(ValueKind::Int)?;
+            Ok(true)
+        }
+        Instr::PushBit(_) => {
+            kinds.push(ValueKind::Bit)?;
             Ok(true)
         }
         Instr::Load(n) => {
             let found = put(kinds, kind_at(variables, *n))?;
             Ok(found)
         }
-        Instr::Store(n) => Ok(take_some(kinds, kind_at(variables, *n))),
         Instr::Binary(op) => {
-            if !(take(kinds, Kind::Int) && take(kinds, Kind::Int)) {
-                return Ok(false);
-            }
-            let found = put(kinds, result_kind(*op))?;
+            let found = put_result(kinds, operator_of(*op))?;
             Ok(found)
         }
-        Instr::JumpIfZero(_) => Ok(take(kinds, Kind::Bit) && kinds.len() == 0),
-        Instr::Print(parts) => Ok(take_parts(kinds, parts.as_slice())),
-        Instr::Exit => Ok(take(kinds, Kind::Int) && kinds.len() == 0),
+        Instr::Turn(_)
+        | Instr::Store(_)
+        | Instr::Jump(_)
+        | Instr::JumpIfZero(_)
+        | Instr::EndProc
+        | Instr::Print(_)
+        | Instr::Exit => Ok(true),
     }
+}
+
+/// Does to the kinds of the operands what an instruction does, and answers whether it found its operands.
+pub(crate) fn follow(
+    variables: &[VarDef],
+    instr: &Instr,
+    kinds: &mut Stack<ValueKind>,
+) -> Result<bool, AllocError>
+    ensures { IfOk result (λ found.
+        kinds_behind variables.now instr.now kinds.old ≡ (if found then Some kinds.new else None)) }
+{
+    if !take_operands(variables, instr, kinds) {
+        return Ok(false);
+    }
+    if clears(instr) && kinds.len() != 0 {
+        return Ok(false);
+    }
+    let found = put_operands(variables, instr, kinds)?;
+    Ok(found)
 }

@@ -5,12 +5,13 @@ mod depth;
 mod instr;
 mod kinds;
 pub mod laws;
+mod operators;
 mod parts;
 mod ranges;
 mod raw;
 mod valid;
 
 pub use instr::{Instr, PrintPart};
-pub use kinds::Kind;
+pub use operators::{Operator, operator_of};
 pub use raw::{ActionDef, CodeLists, ItemDef, ProcDef, RawCode, VarDef};
 pub use valid::{Code, ValidateRefused, validate};

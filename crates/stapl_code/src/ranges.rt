@@ -85,7 +85,7 @@ fn is_part(texts: usize, part: &PrintPart) -> bool
 {
     match part {
         PrintPart::Text(n) => (*n as usize) < texts,
-        PrintPart::Int => true,
+        PrintPart::Int | PrintPart::Char => true,
     }
 }
 
@@ -95,13 +95,18 @@ fn is_instr(variables: usize, texts: usize, instr: &Instr) -> bool
     match instr {
         Instr::Turn(piece) => 1 <= *piece && *piece <= 100_000,
         Instr::Load(n) | Instr::Store(n) => (*n as usize) < variables,
-        Instr::Binary(op) => *op == 0 || *op == 12,
+        Instr::PushBit(bit) => *bit <= 1,
+        Instr::Binary(op) => *op < 23,
         Instr::Print(parts) => {
             let parts = parts.as_slice();
             !parts.is_empty() && parts.iter().all(|part| is_part(texts, part))
         }
-        Instr::Push(_) | Instr::Jump(_) | Instr::JumpIfZero(_) | Instr::EndProc | Instr::Exit =>
-            true,
+        Instr::Push(_)
+        | Instr::Jump(_)
+        | Instr::JumpIfZero(_)
+        | Instr::EndProc
+        | Instr::CheckChar
+        | Instr::Exit => true,
     }
 }
 

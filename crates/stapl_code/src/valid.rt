@@ -8,10 +8,11 @@ ghost use Rattle.stapl_code.specs.Valid.{is_turn, is_end, sets_up, departs, kind
 
 use crate::depth::depth_of;
 use crate::instr::Instr;
-use crate::kinds::{Kind, follow};
+use crate::kinds::follow;
 use crate::parts::{between, next_entry};
 use crate::raw::{CodeLists, ProcDef, RawCode, VarDef};
 use base::Stack;
+use stapl_meaning::ValueKind;
 use std::alloc::{AllocError, Global};
 use std::marker::Model;
 use thiserror::Error;
@@ -78,7 +79,7 @@ fn sets_up(instr: &Instr) -> bool
     ensures { result ≡ sets_up instr.now }
 {
     match instr {
-        Instr::Push(_) | Instr::Store(_) => true,
+        Instr::Push(_) | Instr::PushBit(_) | Instr::Store(_) => true,
         _ => false,
     }
 }
@@ -114,7 +115,7 @@ fn follow_prologue(
     variables: &[VarDef],
     instr: &Instr,
     last: bool,
-    kinds: &mut Stack<Kind>,
+    kinds: &mut Stack<ValueKind>,
 ) -> Result<bool, AllocError>
     ensures { IfOk result (λ found. kinds_kept last (kinds_behind variables.now instr.now kinds.old) ≡ (if found then Some kinds.new else None)) }
 {

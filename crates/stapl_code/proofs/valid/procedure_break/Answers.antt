@@ -1,0 +1,20 @@
+use Rattle.std.proofs.Common.{◌+◌, Bool, drop, sym, ap, ◌∙◌}
+use Rattle.stapl_code.specs.Valid.{rest_break}
+use Rattle.stapl_code.proofs.BreakSteps.{break_more}
+use Rattle.stapl_code.proofs.valid.procedure_break.Goals as goal
+
+pub loop-i-preserved : goal.loop-i-preserved
+loop-i-preserved c =
+    let variables = c.args.variables.now in
+    let entry = c.args.entry in
+    let procedure = c.args.procedure.now in
+    let i = c.loop-i.i in
+    let after = c.follow.new.kinds in
+    let more =
+    break_more variables entry procedure i c.index-procedure-i.result c.loop-i-test.true c.index-procedure-i.is
+    c.loop-i.must_turn c.loop-i.kinds after c.in_ok-found.found c.stands_well-stands.result c.in_ok-found.ensures
+    c.if-not-found.false c.stands_well-stands.ensures c.if-not-stands.false
+    in
+    ap (λ (m : Bool). rest_break variables entry procedure (entry + (i + 1)) m after (drop (i + 1) procedure))
+    c.departs-must_turn.ensures
+    ∙ sym more ∙ c.loop-i.invariant
