@@ -1,11 +1,11 @@
 -- A built program gives the compiler what it asks for.
-use Rattle.std.proofs.Common.{ℕ, ◌≤◌, List, [], ◌∷◌, length, arith}
+use Rattle.std.proofs.Common.{ℕ, ◌≤◌, List, [], ◌∷◌, None, Some, length, arith}
 use Rattle.std.specs.Prelude.{All}
 use Rattle.std.proofs.lemmas.List.Elements.{All-nil, All-cons, All-head, All-tail, All-append}
 use Rattle.stapl_lexer.specs.Pieces.{text_limit}
-use Rattle.stapl_syntax.specs.Trees.{PartTree, string, value, character, BodyTree, if_then, print, StmtTree}
-use Rattle.stapl_syntax.specs.Built.{IsBuilt}
-use Rattle.stapl_syntax.specs.Unbuilt.{IsBuiltProgram}
+use Rattle.stapl_syntax.specs.Trees.{PartTree, string, value, character, BodyTree, integer, if_then, print, StmtTree}
+use Rattle.stapl_built.specs.Built.{IsBuilt}
+use Rattle.stapl_built.specs.Unbuilt.{IsBuiltProgram}
 use Rattle.stapl_syntax.specs.Contents.{IsWellNamed, IsShortPart, PrintsShortStrings}
 use Rattle.stapl_meaning.specs.Typed.{IsTyped}
 use Rattle.stapl_codegen.specs.Emit.{part_texts, body_texts, texts_of}
@@ -24,8 +24,10 @@ module _ (n : ℕ) where
   short_parts (character e ∷ list) short = short_parts list (All-tail (IsShortPart n) (character e) list short)
 
   short_body : (body : BodyTree) → PrintsShortStrings n body → All IsShort (body_texts body)
-  short_body (print list) short = short_parts list short
+  short_body (print list) short = All-append IsShort (part_texts list) [] (short_parts list short) (All-nil IsShort)
   short_body (if_then e body) short = short_body body short
+  short_body (integer name None) short = All-nil IsShort
+  short_body (integer name (Some z)) short = All-nil IsShort
   short_body _ short = All-nil IsShort
 
   short_texts : (sts : List StmtTree) → All (λ (st : StmtTree). PrintsShortStrings n st.body) sts → All IsShort (texts_of sts)

@@ -1,120 +1,155 @@
 -- The code of a statement does what the statement does.
-use Rattle.std.proofs.Common.{◌≡◌, ℕ, Bool, true, false, List, [], ◌∷◌, None, refl, ap, ◌∙◌}
-use Rattle.std.specs.Prelude.{if◌then◌else◌}
-use Rattle.stapl_syntax.specs.Trees.{ExprTree, PartTree, BodyTree, end_procedure, integer, assign, goto, if_then, print, exit}
-use Rattle.stapl_meaning.specs.declared.events.Event.TheVariants as events
-use Rattle.stapl_meaning.specs.declared.events.Ending.TheVariants as endings
+use Rattle.std.proofs.Common.{◌≡◌, ℕ, suc, ◌-◌, Bool, true, false, List, [], ◌∷◌, ◌++◌, length, drop, append_assoc, Option, Some, None, refl, sym, ap, subst, ◌∙◌}
+use Rattle.stapl_syntax.specs.Trees.{BodyTree, end_procedure, assign, goto, if_then, print, exit}
+use Rattle.stapl_meaning.specs.declared.events.Event.{Event}
 use Rattle.stapl_meaning.specs.declared.values.Value.{Value}
-use Rattle.stapl_meaning.specs.Values.{Got, Known, Stuck, value_of, part_values, joined, integer_of, truth_of}
-use Rattle.stapl_meaning.specs.States.{State, Turned, Leads, Over, NoTurn, with_got, assigned, next_chosen}
+use Rattle.stapl_meaning.specs.Values.{Got, Known, Faults, Stuck}
+use Rattle.stapl_meaning.specs.Operands.{values_of}
+use Rattle.stapl_meaning.specs.States.{State, Did, Falls, Jumps, Returns, Ends, Turned, Leads, Over, Broken, NoTurn, with_got, preceded, turn_of_piece, next_chosen, jumps_to, led}
+use Rattle.stapl_meaning.specs.Effects.{printed}
 use Rattle.stapl_meaning.specs.Scopes.{Scope}
-use Rattle.stapl_meaning.specs.Turns.{done}
+use Rattle.stapl_meaning.specs.Turns.{operands, effect, target, rows, carried, rows_done, done}
 use Rattle.stapl_code.specs.declared.instr.Instr.{Instr}
-use Rattle.stapl_code.specs.declared.instr.Instr.TheVariants as instrs
-use Rattle.stapl_code.specs.Machine.{Step, Falls, Emits, Stops, on_got, on_taken, taken, parts_text, continues, stretch, entry_of, preceded}
-use Rattle.stapl_codegen.specs.Emit.{expr_code, values_code, print_parts, body_texts, part_texts, body_code}
+use Rattle.stapl_code.specs.Machine.{Step, does, two, takes, lands, made, on_taken, taken, on_made, continues, stretch, entry_of}
+use Rattle.stapl_code.proofs.Preceded.{preceded_nothing}
+use Rattle.stapl_codegen.specs.Emit.{last, row_texts, past, rows_texts, body_texts, row_code, rows_code, body_code}
 use Rattle.stapl_codegen.specs.Correct.{falls}
-use Rattle.stapl_codegen.proofs.Exprs.{with_same, with_known, continues-got, not_carried_out, expr_follows, values_follow, onto, taken-onto}
-use Rattle.stapl_codegen.proofs.Prints.{HasTexts, parts_are_joined, values_count}
+use Rattle.stapl_codegen.proofs.Heads.{drop_tail}
+use Rattle.stapl_codegen.proofs.Exprs.{with_known, onto, taken-onto, operands_follow, one_each}
+use Rattle.stapl_codegen.proofs.Prints.{HasTexts, parts_are_joined, parts_count}
 
 -- a turn of the program, with places of the code in it
 abbrev pub placed : (ℕ → ℕ) → Turned → Turned
 placed place (Leads es i s) = Leads es (place i) s
 placed place (Over es ending s) = Over es ending s
+placed place (Broken es k s) = Broken es k s
 placed place (NoTurn es) = NoTurn es
 
-with_placed : {A : Type 0} (place : ℕ → ℕ) (g : Got A) (k : A → Turned) → with_got g (λ x. placed place (k x)) ≡ placed place (with_got g k)
-with_placed place (Known x) k = refl
-with_placed place Stuck k = refl
+abbrev target_placed : (ℕ → ℕ) → Option ℕ → Option ℕ
+target_placed place None = None
+target_placed place (Some to) = Some (place to)
 
-module _ (place : ℕ → ℕ) (entries : List ℕ) (texts : List (List ℕ)) (total first : ℕ) (scope : Scope) where
+with_placed : {A : Type 0} (place : ℕ → ℕ) (g : Got A) (s : State) (k : A → Turned) → with_got g s (λ x. placed place (k x)) ≡ placed place (with_got g s k)
+with_placed place (Known x) s k = refl
+with_placed place (Faults f) s k = refl
+with_placed place Stuck s k = refl
+
+preceded_placed : (place : ℕ → ℕ) (es : List Event) (t : Turned) → preceded es (placed place t) ≡ placed place (preceded es t)
+preceded_placed place es (Leads fs i s) = refl
+preceded_placed place es (Over fs ending s) = refl
+preceded_placed place es (Broken fs k s) = refl
+preceded_placed place es (NoTurn fs) = refl
+
+jump_placed : (place : ℕ → ℕ) (to : Option ℕ) (s : State) → jumps_to (target_placed place to) s ≡ placed place (jumps_to to s)
+jump_placed place None s = refl
+jump_placed place (Some i) s = refl
+
+-- a fault names the same piece
+pub piece_placed : (place : ℕ → ℕ) (piece : ℕ) (t : Turned) → turn_of_piece piece (placed place t) ≡ placed place (turn_of_piece piece t)
+piece_placed place piece (Leads es i s) = refl
+piece_placed place piece (Over es ending s) = refl
+piece_placed place piece (Broken es k s) = refl
+piece_placed place piece (NoTurn es) = refl
+
+-- no operator makes nothing
+nothing_made : (vs : List Value) → two vs (λ x y. Stuck) ≡ Stuck
+nothing_made [] = refl
+nothing_made (x ∷ []) = refl
+nothing_made (x ∷ y ∷ []) = refl
+nothing_made (x ∷ y ∷ z ∷ vs) = refl
+
+module _ (place : ℕ → ℕ) (entries : List ℕ) (texts : List (List ℕ)) (total : ℕ) (scope : Scope) where
   -- the next turn follows behind a statement
   pub record Behind (rest : List Instr) : Type 0 where
     pub falls_on : (t : State) → stretch entries texts total rest [] t ≡ Leads [] (place scope.follow) t
 
-  abbrev pub Law : State → BodyTree → List Instr → Type 0
-  Law s b rest = stretch entries texts total (body_code scope place first b rest) [] s ≡ placed place (done scope s b)
+  -- procedures begin where the code says
+  abbrev EntriesAre : Type 0
+  EntriesAre = (p : ℕ) → entry_of entries p ≡ place (scope.entry p)
 
-  -- the last instruction of a statement takes the value of an expression
-  value_law : (s : State) (e : ExprTree) (i : Instr) (rest : List Instr) (k : Value → Turned) →
-      ((v : Value) → stretch entries texts total (i ∷ rest) (v ∷ []) s ≡ placed place (k v)) →
-      stretch entries texts total (expr_code scope.variable e (i ∷ rest)) [] s ≡ placed place (with_got (value_of scope.variable s.variables e) k)
-  value_law s e i rest k each =
-      expr_follows entries texts total scope.variable s e (i ∷ rest) []
-      ∙ with_same (value_of scope.variable s.variables e) _ (λ v. placed place (k v)) each
-      ∙ with_placed place (value_of scope.variable s.variables e) k
-
-  assign_law : (s : State) (n : ℕ) (e : ExprTree) (rest : List Instr) → Behind rest →
-      stretch entries texts total (expr_code scope.variable e (instrs.Store n ∷ rest)) [] s
-      ≡ placed place (with_got (value_of scope.variable s.variables e) (λ v. with_got (assigned n s v) (λ t. Leads [] scope.follow t)))
-  assign_law s n e rest behind = value_law s e (instrs.Store n) rest _ (λ v.
-      continues-got (assigned n s v) _ _
-      ∙ with_same (assigned n s v) _ (λ t. Leads [] (place scope.follow) t) behind.falls_on
-      ∙ with_placed place (assigned n s v) (λ t. Leads [] scope.follow t))
-
-  exit_law : (s : State) (e : ExprTree) (rest : List Instr) →
-      stretch entries texts total (expr_code scope.variable e (instrs.Exit ∷ rest)) [] s
-      ≡ placed place (with_got (value_of scope.variable s.variables e) (λ v. with_got (integer_of v) (λ code. Over [] (endings.Exit code) s)))
-  exit_law s e rest = value_law s e instrs.Exit rest _ (λ v.
-      continues-got (integer_of v) _ _
-      ∙ with_placed place (integer_of v) (λ code. Over [] (endings.Exit code) s))
-
-  choice : (s : State) (b : BodyTree) (code : List Instr) → stretch entries texts total code [] s ≡ placed place (done scope s b) → (t : Bool) →
-      continues (elim t [ true ↦ Falls [] s | false ↦ Stops [] (Leads [] (place scope.follow) s) ]) (stretch entries texts total code)
-      ≡ placed place (if t then done scope s b else Leads [] scope.follow s)
-  choice s b code inner true = inner
-  choice s b code inner false = refl
-
-  if_law : (s : State) (e : ExprTree) (b : BodyTree) (code : List Instr) → stretch entries texts total code [] s ≡ placed place (done scope s b) →
-      stretch entries texts total (expr_code scope.variable e (instrs.JumpIfZero (place scope.follow) ∷ code)) [] s
-      ≡ placed place (with_got (value_of scope.variable s.variables e) (λ v. with_got (truth_of v) (λ t. if t then done scope s b else Leads [] scope.follow s)))
-  if_law s e b code inner = value_law s e (instrs.JumpIfZero (place scope.follow)) code _ (λ v.
-      continues-got (truth_of v) _ _
-      ∙ with_same (truth_of v) _ (λ t. placed place (if t then done scope s b else Leads [] scope.follow s)) (choice s b code inner)
-      ∙ with_placed place (truth_of v) (λ t. if t then done scope s b else Leads [] scope.follow s))
-
-  -- behind the values of a PRINT stands its Print
-  abbrev printing : State → List PartTree → List Value → Turned
-  printing s list vs = with_got (joined list vs) (λ text. Leads (events.Print text ∷ []) scope.follow s)
-
-  print_step : (s : State) (list : List PartTree) (rest : List Instr) (vs : List Value) → Behind rest → HasTexts texts first (part_texts list) →
-      part_values scope.variable s.variables list ≡ Known vs →
-      stretch entries texts total (instrs.Print (print_parts first list) ∷ rest) (onto vs []) s ≡ placed place (printing s list vs)
-  print_step s list rest vs behind has values =
-      let go = stretch entries texts total rest in
-      let emits : List ℕ → Step = λ text. Emits (events.Print text ∷ []) [] s in
-      ap (λ n. continues (on_taken (taken n (onto vs [])) (λ ws below. on_got (parts_text entries texts (print_parts first list) ws) (λ text. Emits (events.Print text ∷ []) below s))) go)
-      (values_count scope.variable s.variables list first vs values)
-      ∙ ap (λ o. continues (on_taken o (λ ws below. on_got (parts_text entries texts (print_parts first list) ws) (λ text. Emits (events.Print text ∷ []) below s))) go)
-      (taken-onto vs [])
-      ∙ continues-got (parts_text entries texts (print_parts first list) vs) emits go
-      ∙ ap (λ g. with_got g (λ text. continues (emits text) go)) (parts_are_joined entries texts scope.variable s.variables list first vs has values)
-      ∙ with_same (joined list vs) _ (λ text. placed place (Leads (events.Print text ∷ []) scope.follow s))
-      (λ text. ap (preceded (events.Print text ∷ [])) (behind.falls_on s))
-      ∙ with_placed place (joined list vs) (λ text. Leads (events.Print text ∷ []) scope.follow s)
-
-  print_law : (s : State) (list : List PartTree) (rest : List Instr) → Behind rest → HasTexts texts first (part_texts list) →
-      stretch entries texts total (values_code scope.variable list (instrs.Print (print_parts first list) ∷ rest)) [] s
-      ≡ placed place (with_got (part_values scope.variable s.variables list) (printing s list))
-  print_law s list rest behind has =
-      values_follow entries texts total scope.variable s list (instrs.Print (print_parts first list) ∷ rest) []
-      ∙ with_known (part_values scope.variable s.variables list) _ (λ vs. placed place (printing s list vs))
-      (λ vs values. print_step s list rest vs behind has values)
-      ∙ with_placed place (part_values scope.variable s.variables list) (printing s list)
-
-  pub end_law : (s : State) (chosen : List ℕ) → ((p : ℕ) → entry_of entries p ≡ place (scope.entry p)) →
-      next_chosen (entry_of entries) s chosen ≡ placed place (next_chosen scope.entry s chosen)
+  pub end_law : (s : State) (chosen : List ℕ) → EntriesAre → next_chosen (entry_of entries) s chosen ≡ placed place (next_chosen scope.entry s chosen)
   end_law s [] entry_is = refl
   end_law s (p ∷ ps) entry_is = ap (λ i. Leads [] i (record s { chosen = ps })) (entry_is p)
 
-  pub body_follows : (s : State) (b : BodyTree) (rest : List Instr) → ((p : ℕ) → entry_of entries p ≡ place (scope.entry p)) →
-      (falls b ≡ true → Behind rest) → HasTexts texts first (body_texts b) → Law s b rest
-  body_follows s end_procedure rest entry_is behind has = end_law s s.chosen entry_is
-  body_follows s (integer name None) rest entry_is behind has = (behind refl).falls_on s
-  body_follows s (assign name e) rest entry_is behind has = assign_law s (scope.variable name) e rest (behind refl)
-  body_follows s (goto name) rest entry_is behind has = refl
-  body_follows s (if_then e b) rest entry_is behind has =
-      if_law s e b (body_code scope place first b rest) (body_follows s b rest entry_is (λ h. behind refl) has)
-  body_follows s (print list) rest entry_is behind has = print_law s list rest (behind refl) has
-  body_follows s (exit e) rest entry_is behind has = exit_law s e rest
-  body_follows s _ rest entry_is behind has = not_carried_out entries texts total rest [] s
+  -- The last instruction of a row is tied to the row: it takes as many operands, does the same with them, and leads to the
+  -- same target.
+  pub record Tied (first : ℕ) (b : BodyTree) : Type 0 where
+    pub count : length (takes (last scope place first b)) ≡ length (operands b)
+    pub same : (vs : List Value) (s : State) → made entries texts (last scope place first b) vs s ≡ does (effect scope b vs s)
+    pub leads : (here : ℕ) → lands here (last scope place first b) ≡ target_placed place (target scope b)
+
+  did_follows : (to : Option ℕ) (g : Got Did) (s : State) (rest : List Instr) (go : State → Turned) → EntriesAre →
+      ((t : State) → stretch entries texts total rest [] t ≡ placed place (go t)) →
+      continues (on_made entries (target_placed place to) [] s (does g)) (stretch entries texts total rest)
+      ≡ placed place (with_got g s (λ did. led scope.entry to did go))
+  did_follows to (Known (Falls [] t)) s rest go entry_is more = more t ∙ ap (placed place) (preceded_nothing (go t))
+  did_follows to (Known (Falls (e ∷ es) t)) s rest go entry_is more =
+      ap (preceded (e ∷ es)) (more t) ∙ preceded_placed place (e ∷ es) (go t)
+  did_follows to (Known (Jumps t)) s rest go entry_is more = jump_placed place to t
+  did_follows to (Known (Returns t)) s rest go entry_is more = end_law t t.chosen entry_is
+  did_follows to (Known (Ends ending t)) s rest go entry_is more = refl
+  did_follows to (Faults k) s rest go entry_is more = refl
+  did_follows to Stuck s rest go entry_is more = refl
+
+  -- the law of all rows
+  row_follows : (s : State) (first : ℕ) (b : BodyTree) (rest : List Instr) (go : State → Turned) → Tied first b → EntriesAre →
+      ((t : State) → stretch entries texts total rest [] t ≡ placed place (go t)) →
+      stretch entries texts total (row_code scope place first b rest) [] s ≡ placed place (carried scope b s go)
+  row_follows s first b rest go tied entry_is more =
+      let i : Instr = last scope place first b in
+      let values : Got (List Value) = values_of scope.variable s.store.variables (operands b) in
+      let behind : List Value → Turned = λ vs. with_got (effect scope b vs s) s (λ did. led scope.entry (target scope b) did go) in
+      let here : ℕ = total - suc (length rest) in
+      let made_of : List Value → List Value → Step = λ vs below. on_made entries (lands here i) below s (made entries texts i vs s) in
+      operands_follow entries texts total s scope.variable (operands b) (i ∷ rest) []
+      ∙ with_known values s _ (λ vs. placed place (behind vs)) (λ vs e.
+      ap (λ n. continues (on_taken (taken n (onto vs [])) made_of) (stretch entries texts total rest)) (tied.count ∙ one_each scope.variable s (operands b) vs e)
+      ∙ ap (λ o. continues (on_taken o made_of) (stretch entries texts total rest)) (taken-onto vs [])
+      ∙ ap (λ g. continues (on_made entries (lands here i) [] s g) (stretch entries texts total rest)) (tied.same vs s)
+      ∙ ap (λ to. continues (on_made entries to [] s (does (effect scope b vs s))) (stretch entries texts total rest)) (tied.leads here)
+      ∙ did_follows (target scope b) (effect scope b vs s) s rest go entry_is more)
+      ∙ with_placed place values s behind
+
+  -- a line for each statement
+  row_tied : (first : ℕ) (b : BodyTree) → HasTexts texts first (row_texts b) → Tied first b
+  row_tied first end_procedure has = record { count = refl; same = λ vs s. refl; leads = λ here. refl }
+  row_tied first (assign name e) has = record { count = refl; same = λ vs s. refl; leads = λ here. refl }
+  row_tied first (goto name) has = record { count = refl; same = λ vs s. refl; leads = λ here. refl }
+  row_tied first (if_then e body) has = record { count = refl; same = λ vs s. refl; leads = λ here. refl }
+  row_tied first (print list) has = record {
+    count = parts_count list first;
+    same = λ vs s. ap (λ g. does (printed g s)) (parts_are_joined entries texts list first vs has);
+    leads = λ here. refl;
+  }
+  row_tied first (exit e) has = record { count = refl; same = λ vs s. refl; leads = λ here. refl }
+  row_tied first _ has = record { count = refl; same = λ vs s. nothing_made vs; leads = λ here. refl }
+
+  drop_more : (n : ℕ) (front back : List (List ℕ)) → drop n texts ≡ front ++ back → drop (past n front) texts ≡ back
+  drop_more n [] back e = e
+  drop_more n (y ∷ front) back e = drop_more (suc n) front back (drop_tail n texts ∙ ap (drop 1) e)
+
+  rows_follow : (s : State) (first : ℕ) (bs : List BodyTree) (rest : List Instr) → EntriesAre → HasTexts texts first (rows_texts bs) → Behind rest →
+      stretch entries texts total (rows_code scope place first bs rest) [] s ≡ placed place (rows_done scope bs s)
+  rows_follow s first [] rest entry_is has behind = behind.falls_on s
+  rows_follow s first (b ∷ bs) rest entry_is has behind =
+      let front : drop first texts ≡ row_texts b ++ (rows_texts bs ++ has.more) = has.from ∙ append_assoc (row_texts b) (rows_texts bs) has.more in
+      let behind_row : HasTexts texts (past first (row_texts b)) (rows_texts bs) =
+      record { more = has.more; from = drop_more first (row_texts b) (rows_texts bs ++ has.more) front } in
+      row_follows s first b (rows_code scope place (past first (row_texts b)) bs rest) (rows_done scope bs)
+      (row_tied first b (record { more = rows_texts bs ++ has.more; from = front })) entry_is
+      (λ t. rows_follow t (past first (row_texts b)) bs rest entry_is behind_row behind)
+
+  -- ENDPROC alone may be the last statement of the code
+  ends : (b : BodyTree) → falls b ≡ false → b ≡ end_procedure
+  ends end_procedure e = refl
+  ends _ e = absurd cc
+
+  pub body_follows : (s : State) (first : ℕ) (b : BodyTree) (rest : List Instr) → EntriesAre → (falls b ≡ true → Behind rest) → HasTexts texts first (body_texts b) →
+      stretch entries texts total (body_code scope place first b rest) [] s ≡ placed place (done scope s b)
+  body_follows s first b rest entry_is behind has = by (falls b) refl
+    where
+      by : (t : Bool) → falls b ≡ t → stretch entries texts total (body_code scope place first b rest) [] s ≡ placed place (done scope s b)
+      by true e = rows_follow s first (rows b) rest entry_is has (behind e)
+      by false e =
+          subst (λ c. stretch entries texts total (body_code scope place first c rest) [] s ≡ placed place (done scope s c)) (sym (ends b e))
+          (end_law s s.chosen entry_is)

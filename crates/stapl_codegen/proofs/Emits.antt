@@ -1,73 +1,89 @@
--- Steps of what is written for a PRINT.
-use Rattle.std.proofs.Common.{◌≡◌, ℕ, suc, ◌+◌, List, [], ◌∷◌, ◌++◌, length, length-append, arith, append_assoc, refl, sym, ap, ◌∙◌}
-use Rattle.stapl_syntax.specs.Trees.{PartTree, string, value, character}
+-- Steps of what is written for a statement.
+use Rattle.std.proofs.Common.{◌≡◌, ℕ, suc, List, [], ◌∷◌, ◌++◌, length, append_assoc, refl, sym, ap, ◌∙◌}
+use Rattle.std.proofs.lemmas.List.{append-nil}
+use Rattle.stapl_syntax.specs.Trees.{ExprTree, BodyTree, if_then, PartTree, string, value, character}
+use Rattle.stapl_meaning.specs.declared.values.ValueKind.TheVariants as kinds
+use Rattle.stapl_meaning.specs.Operands.{part_operands}
 use Rattle.stapl_code.specs.declared.instr.Instr.{Instr}
+use Rattle.stapl_code.specs.declared.instr.Instr.TheVariants.{JumpIfZero, CheckChar}
 use Rattle.stapl_code.specs.declared.instr.PrintPart.{PrintPart}
-use Rattle.stapl_codegen.specs.Emit.{values_code, print_parts, part_texts}
-use Rattle.stapl_code.specs.declared.instr.Instr.TheVariants.{Print}
-use Rattle.stapl_codegen.proofs.Lists.{expr_append, values_before}
+use Rattle.stapl_codegen.specs.Emit.{operands_code, print_parts, part_texts}
+use Rattle.stapl_codegen.specs.Drafts.{Draft, Site, scope_of_site, expr_code_in, operands_code_in, body_code_in}
+use Rattle.stapl_codegen.proofs.Lists.{expr_append, expr_before}
 
-module _ (part : PartTree) (rest all : List PartTree) (is : all ≡ part ∷ rest) where
-  values_first : (variable : List ℕ → ℕ) (part : PartTree) → values_code variable (part ∷ rest) [] ≡ values_code variable (part ∷ []) [] ++ values_code variable rest []
-  values_first variable (string bytes) = refl
-  values_first variable (value e) = expr_append variable e [] (values_code variable rest [])
-  values_first variable (character e) = refl
+-- what a draft was before a PRINT, what it is after some of its parts, and which parts are left
+pub record AreWritten (start : Draft) (all : List PartTree) (d : Draft) (list : List PrintPart) (rest : List PartTree) : Type 0 where
+  pub code : d.code ++ operands_code_in start (part_operands rest) ≡ start.code ++ operands_code_in start (part_operands all)
+  pub texts : d.texts ++ part_texts rest ≡ start.texts ++ part_texts all
+  pub printed : list ++ print_parts (length d.texts) rest ≡ print_parts (length start.texts) all
+  pub site : d.site ≡ start.site
 
-  pub values_more : (variable : List ℕ → ℕ) (code code' done : List Instr) → code' ≡ code ++ values_code variable (part ∷ []) [] →
-      code ++ values_code variable all [] ≡ done → code' ++ values_code variable rest [] ≡ done
-  values_more variable code code' done code-is so_far =
-      ap (λ c. c ++ values_code variable rest []) code-is
-      ∙ append_assoc code (values_code variable (part ∷ []) []) (values_code variable rest [])
-      ∙ ap (λ c. code ++ c) (sym (values_first variable part))
-      ∙ sym (ap (λ l. code ++ values_code variable l []) is)
-      ∙ so_far
+one_longer : {A : Type 0} (xs : List A) (x : A) → length (xs ++ x ∷ []) ≡ suc (length xs)
+one_longer [] x = refl
+one_longer (y ∷ xs) x = ap suc (one_longer xs x)
+
+-- a part, and then the others
+module _ (part : PartTree) (rest : List PartTree) where
+  operands_first : (part : PartTree) (variable : List ℕ → ℕ) → operands_code variable (part_operands (part ∷ rest)) [] ≡ operands_code variable (part_operands (part ∷ [])) [] ++ operands_code variable (part_operands rest) []
+  operands_first (string bytes) variable = refl
+  operands_first (value e) variable = expr_append variable _ e [] (operands_code variable (part_operands rest) [])
+  operands_first (character e) variable = expr_append variable _ e (CheckChar ∷ []) (operands_code variable (part_operands rest) [])
 
   texts_first : (part : PartTree) → part_texts (part ∷ rest) ≡ part_texts (part ∷ []) ++ part_texts rest
   texts_first (string bytes) = refl
   texts_first (value e) = refl
   texts_first (character e) = refl
 
-  pub texts_more : (texts texts' done : List (List ℕ)) → texts' ≡ texts ++ part_texts (part ∷ []) →
-      texts ++ part_texts all ≡ done → texts' ++ part_texts rest ≡ done
-  texts_more texts texts' done texts-is so_far =
-      ap (λ t. t ++ part_texts rest) texts-is
-      ∙ append_assoc texts (part_texts (part ∷ [])) (part_texts rest)
-      ∙ ap (λ t. texts ++ t) (sym (texts_first part))
-      ∙ sym (ap (λ l. texts ++ part_texts l) is)
-      ∙ so_far
+  printed_first : (part : PartTree) (texts texts' : List (List ℕ)) → texts' ≡ texts ++ part_texts (part ∷ []) → print_parts (length texts) (part ∷ rest) ≡ print_parts (length texts) (part ∷ []) ++ print_parts (length texts') rest
+  printed_first (string bytes) texts texts' is = ap (λ n. print_parts (length texts) (string bytes ∷ []) ++ print_parts n rest) (sym (ap length is ∙ one_longer texts bytes))
+  printed_first (value e) texts texts' is = ap (λ n. print_parts (length texts) (value e ∷ []) ++ print_parts n rest) (sym (ap length (is ∙ append-nil texts)))
+  printed_first (character e) texts texts' is = ap (λ n. print_parts (length texts) (character e ∷ []) ++ print_parts n rest) (sym (ap length (is ∙ append-nil texts)))
 
-  parts_first : (n : ℕ) (part : PartTree) → print_parts n (part ∷ rest) ≡ print_parts n (part ∷ []) ++ print_parts (n + length (part_texts (part ∷ []))) rest
-  parts_first n (string bytes) =
-      let next : suc n ≡ n + 1 = omega arith in
-      ap (λ m. print_parts n (string bytes ∷ []) ++ print_parts m rest) next
-  parts_first n (value e) =
-      let next : n ≡ n + 0 = omega arith in
-      ap (λ m. print_parts n (value e ∷ []) ++ print_parts m rest) next
-  parts_first n (character e) =
-      let next : n ≡ n + 0 = omega arith in
-      ap (λ m. print_parts n (character e ∷ []) ++ print_parts m rest) next
+  module _ (start d d' : Draft) (all : List PartTree) (list list' : List PrintPart) (printed : PrintPart) (so_far : AreWritten start all d list (part ∷ rest)) where
+    code_more : d'.code ≡ d.code ++ operands_code_in d (part_operands (part ∷ [])) →
+        d'.code ++ operands_code_in start (part_operands rest) ≡ start.code ++ operands_code_in start (part_operands all)
+    code_more code =
+        let variable : List ℕ → ℕ = (scope_of_site start.site).variable in
+        let one : List Instr = operands_code variable (part_operands (part ∷ [])) [] in
+        let others : List Instr = operands_code variable (part_operands rest) [] in
+        ap (λ c. c ++ others) (code ∙ ap (λ (s : Site). d.code ++ operands_code (scope_of_site s).variable (part_operands (part ∷ [])) []) so_far.site)
+        ∙ append_assoc d.code one others
+        ∙ ap (λ c. d.code ++ c) (sym (operands_first part variable))
+        ∙ so_far.code
 
-  pub parts_more : (n n' : ℕ) (x : PrintPart) (list list' done : List PrintPart) (texts texts' : List (List ℕ)) → n ≡ length texts → n' ≡ length texts' →
-      texts' ≡ texts ++ part_texts (part ∷ []) → x ∷ [] ≡ print_parts n (part ∷ []) → list' ≡ list ++ x ∷ [] →
-      list ++ print_parts n all ≡ done → list' ++ print_parts n' rest ≡ done
-  parts_more n n' x list list' done texts texts' n-is n'-is texts-is x-is list-is so_far =
-      let next : n' ≡ n + length (part_texts (part ∷ [])) =
-      n'-is ∙ ap length texts-is ∙ length-append texts (part_texts (part ∷ [])) ∙ ap (λ m. m + length (part_texts (part ∷ []))) (sym n-is) in
-      ap (λ l. l ++ print_parts n' rest) list-is
-      ∙ ap (λ m. (list ++ x ∷ []) ++ print_parts m rest) next
-      ∙ append_assoc list (x ∷ []) (print_parts (n + length (part_texts (part ∷ []))) rest)
-      ∙ ap (λ l. list ++ (l ++ print_parts (n + length (part_texts (part ∷ []))) rest)) x-is
-      ∙ ap (λ l. list ++ l) (sym (parts_first n part))
-      ∙ sym (ap (λ l. list ++ print_parts n l) is)
-      ∙ so_far
+    texts_more : d'.texts ≡ d.texts ++ part_texts (part ∷ []) → d'.texts ++ part_texts rest ≡ start.texts ++ part_texts all
+    texts_more texts =
+        ap (λ t. t ++ part_texts rest) texts
+        ∙ append_assoc d.texts (part_texts (part ∷ [])) (part_texts rest)
+        ∙ ap (λ t. d.texts ++ t) (sym (texts_first part))
+        ∙ so_far.texts
 
--- the values of a PRINT, and its Print
-pub print_is : (variable : List ℕ → ℕ) (list : List PartTree) (code before after : List Instr) (written : List PrintPart) (n : ℕ) →
-    before ≡ code ++ values_code variable list [] → written ≡ print_parts n list → after ≡ before ++ Print written ∷ [] →
-    after ≡ code ++ values_code variable list (Print (print_parts n list) ∷ [])
-print_is variable list code before after written n before-is written-is after-is =
-    after-is
-    ∙ ap (λ c. c ++ Print written ∷ []) before-is
-    ∙ append_assoc code (values_code variable list []) (Print written ∷ [])
-    ∙ ap (λ c. code ++ c) (sym (values_before variable list (Print written ∷ [])))
-    ∙ ap (λ w. code ++ values_code variable list (Print w ∷ [])) written-is
+    list_more : d'.texts ≡ d.texts ++ part_texts (part ∷ []) → printed ∷ [] ≡ print_parts (length d.texts) (part ∷ []) → list' ≡ list ++ printed ∷ [] →
+        list' ++ print_parts (length d'.texts) rest ≡ print_parts (length start.texts) all
+    list_more texts print more =
+        ap (λ l. l ++ print_parts (length d'.texts) rest) more
+        ∙ append_assoc list (printed ∷ []) (print_parts (length d'.texts) rest)
+        ∙ ap (λ l. list ++ (l ++ print_parts (length d'.texts) rest)) print
+        ∙ ap (λ l. list ++ l) (sym (printed_first part d.texts d'.texts texts))
+        ∙ so_far.printed
+
+    pub part_more : d'.code ≡ d.code ++ operands_code_in d (part_operands (part ∷ [])) →
+        d'.texts ≡ d.texts ++ part_texts (part ∷ []) → d'.site ≡ d.site → printed ∷ [] ≡ print_parts (length d.texts) (part ∷ []) →
+        list' ≡ list ++ printed ∷ [] → AreWritten start all d' list' rest
+    part_more code texts site print more =
+        record { code = code_more code; texts = texts_more texts; printed = list_more texts print more; site = site ∙ so_far.site }
+
+-- an IF, and then its inner statement
+pub if_written : (e : ExprTree) (b : BodyTree) (start d done : Draft) →
+    d.code ≡ start.code ++ (expr_code_in start kinds.Bit e ++ JumpIfZero start.site.piece ∷ []) → d.texts ≡ start.texts → d.site ≡ start.site →
+    done.code ≡ d.code ++ body_code_in d b → done.code ≡ start.code ++ body_code_in start (if_then e b)
+if_written e b start d done code texts site more =
+    let test : List Instr = expr_code_in start kinds.Bit e in
+    let jump : List Instr = JumpIfZero start.site.piece ∷ [] in
+    let inner : List Instr = body_code_in start b in
+    more
+    ∙ ap (λ (s : Site). d.code ++ body_code_in (record { code = []; texts = d.texts; site = s }) b) site
+    ∙ ap (λ (t : List (List ℕ)). d.code ++ body_code_in (record { code = []; texts = t; site = start.site }) b) texts
+    ∙ ap (λ c. c ++ inner) code
+    ∙ append_assoc start.code (test ++ jump) inner
+    ∙ ap (λ c. start.code ++ c) (append_assoc test jump inner ∙ sym (expr_before (scope_of_site start.site).variable kinds.Bit e (jump ++ inner)))

@@ -1,77 +1,133 @@
--- Code before other code, and code with other targets in it.
-use Rattle.std.proofs.Common.{◌≡◌, ℕ, zero, suc, ◌+◌, Bool, true, false, cond, List, [], ◌∷◌, ◌++◌, None, length, map, drop, arith, refl, ap, ◌∙◌}
-use Rattle.stapl_syntax.specs.Trees.{ExprTree, number, scalar, binary, PartTree, string, value, character, BodyTree, end_procedure, integer, assign, goto, if_then, print, exit, StmtTree}
+-- The code of expressions, operands, rows and pieces: what stands behind it, and its targets.
+use Rattle.std.proofs.Common.{◌≡◌, ℕ, zero, suc, ◌+◌, Bool, true, false, cond, List, [], ◌∷◌, ◌++◌, length, map, drop, arith, refl, ap, ◌∙◌}
+use Rattle.std.specs.Prelude.{ℤ, pos, negsuc, Option}
+use Rattle.stapl_syntax.specs.Trees.{ExprTree, number, scalar, binary, BodyTree, end_procedure, assign, goto, if_then, print, exit, StmtTree}
 use Rattle.stapl_syntax.specs.Statements.{is_outer}
-use Rattle.stapl_meaning.specs.Scopes.{Scope, scope_at}
+use Rattle.stapl_syntax.specs.Names.{Names}
+use Rattle.stapl_meaning.specs.declared.values.ValueKind.{ValueKind}
+use Rattle.stapl_meaning.specs.declared.values.ValueKind.TheVariants as kinds
+use Rattle.stapl_meaning.specs.Values.{side}
+use Rattle.stapl_meaning.specs.Operands.{Test, Plain, Character, Operand}
+use Rattle.stapl_meaning.specs.Scopes.{Scope, scope_of, scope_at}
+use Rattle.stapl_meaning.specs.Turns.{operands, rows}
 use Rattle.stapl_code.specs.declared.instr.Instr.{Instr}
-use Rattle.stapl_code.specs.declared.instr.Instr.TheVariants.{Turn, Store, Binary, JumpIfZero, Print, Exit}
-use Rattle.stapl_codegen.specs.Emit.{operator_number, no_operator, expr_code, values_code, print_parts, first_text, body_code, piece_code, pieces_code, retarget}
+use Rattle.stapl_code.specs.declared.instr.Instr.TheVariants.{Turn, Binary}
+use Rattle.stapl_codegen.specs.Emit.{operator_number, literal_code, test_code, expr_code, operands_code, last, row_texts, past, row_code, rows_code, body_code, first_text, piece_code, pieces_code, retarget}
+
+literal_retarget : (place : ℕ → ℕ) (kind : ValueKind) (z : ℤ) → retarget place (literal_code kind z) ≡ literal_code kind z
+literal_retarget place kinds.Int z = refl
+literal_retarget place kinds.Bit (pos zero) = refl
+literal_retarget place kinds.Bit (pos (suc zero)) = refl
+literal_retarget place kinds.Bit (pos (suc (suc n))) = refl
+literal_retarget place kinds.Bit (negsuc n) = refl
 
 module _ (variable : List ℕ → ℕ) where
-  pub expr_append : (e : ExprTree) (c d : List Instr) → expr_code variable e (c ++ d) ≡ expr_code variable e c ++ d
-  expr_append (number z) c d = refl
-  expr_append (scalar name) c d = refl
-  expr_append (binary op a b) c d =
-      ap (expr_code variable a) (expr_append b (Binary (operator_number op) ∷ c) d)
-      ∙ expr_append a (expr_code variable b (Binary (operator_number op) ∷ c)) d
-  expr_append _ c d = refl
+  pub expr_append : (kind : ValueKind) (e : ExprTree) (c d : List Instr) → expr_code variable kind e (c ++ d) ≡ expr_code variable kind e c ++ d
+  expr_append kind (number z) c d = refl
+  expr_append kind (scalar name) c d = refl
+  expr_append kind (binary op a b) c d =
+      ap (expr_code variable (side op) a) (expr_append (side op) b (Binary (operator_number op) ∷ c) d)
+      ∙ expr_append (side op) a (expr_code variable (side op) b (Binary (operator_number op) ∷ c)) d
+  expr_append kind _ c d = refl
 
-  pub expr_before : (e : ExprTree) (c : List Instr) → expr_code variable e c ≡ expr_code variable e [] ++ c
-  expr_before e c = expr_append e [] c
+  test_append : (t : Test) (c d : List Instr) → test_code t (c ++ d) ≡ test_code t c ++ d
+  test_append Plain c d = refl
+  test_append Character c d = refl
 
-  pub values_append : (list : List PartTree) (c d : List Instr) → values_code variable list (c ++ d) ≡ values_code variable list c ++ d
-  values_append [] c d = refl
-  values_append (string bytes ∷ list) c d = values_append list c d
-  values_append (value e ∷ list) c d =
-      ap (expr_code variable e) (values_append list c d) ∙ expr_append e (values_code variable list c) d
-  values_append (character e ∷ list) c d = ap (λ l. Binary no_operator ∷ l) (values_append list c d)
+  pub operands_append : (os : List Operand) (c d : List Instr) → operands_code variable os (c ++ d) ≡ operands_code variable os c ++ d
+  operands_append [] c d = refl
+  operands_append (o ∷ os) c d =
+      ap (λ l. expr_code variable o.kind o.expr (test_code o.test l)) (operands_append os c d)
+      ∙ ap (expr_code variable o.kind o.expr) (test_append o.test (operands_code variable os c) d)
+      ∙ expr_append o.kind o.expr (test_code o.test (operands_code variable os c)) d
 
-  pub values_before : (list : List PartTree) (c : List Instr) → values_code variable list c ≡ values_code variable list [] ++ c
-  values_before list c = values_append list [] c
+  pub expr_before : (kind : ValueKind) (e : ExprTree) (c : List Instr) → expr_code variable kind e c ≡ expr_code variable kind e [] ++ c
+  expr_before kind e c = expr_append kind e [] c
+
+  pub operands_before : (os : List Operand) (c : List Instr) → operands_code variable os c ≡ operands_code variable os [] ++ c
+  operands_before os c = operands_append os [] c
 
   module _ (place : ℕ → ℕ) where
-    pub expr_retarget : (e : ExprTree) (c : List Instr) → map (retarget place) (expr_code variable e c) ≡ expr_code variable e (map (retarget place) c)
-    expr_retarget (number z) c = refl
-    expr_retarget (scalar name) c = refl
-    expr_retarget (binary op a b) c =
-        expr_retarget a (expr_code variable b (Binary (operator_number op) ∷ c))
-        ∙ ap (expr_code variable a) (expr_retarget b (Binary (operator_number op) ∷ c))
-    expr_retarget _ c = refl
+    expr_retarget : (kind : ValueKind) (e : ExprTree) (c : List Instr) → map (retarget place) (expr_code variable kind e c) ≡ expr_code variable kind e (map (retarget place) c)
+    expr_retarget kind (number z) c = ap (λ i. i ∷ map (retarget place) c) (literal_retarget place kind z)
+    expr_retarget kind (scalar name) c = refl
+    expr_retarget kind (binary op a b) c =
+        expr_retarget (side op) a (expr_code variable (side op) b (Binary (operator_number op) ∷ c))
+        ∙ ap (expr_code variable (side op) a) (expr_retarget (side op) b (Binary (operator_number op) ∷ c))
+    expr_retarget kind _ c = refl
 
-    pub values_retarget : (list : List PartTree) (c : List Instr) → map (retarget place) (values_code variable list c) ≡ values_code variable list (map (retarget place) c)
-    values_retarget [] c = refl
-    values_retarget (string bytes ∷ list) c = values_retarget list c
-    values_retarget (value e ∷ list) c =
-        expr_retarget e (values_code variable list c) ∙ ap (expr_code variable e) (values_retarget list c)
-    values_retarget (character e ∷ list) c = ap (λ l. Binary no_operator ∷ l) (values_retarget list c)
+    test_retarget : (t : Test) (c : List Instr) → map (retarget place) (test_code t c) ≡ test_code t (map (retarget place) c)
+    test_retarget Plain c = refl
+    test_retarget Character c = refl
 
-module _ (scope : Scope) (place : ℕ → ℕ) (first : ℕ) where
-  pub body_append : (b : BodyTree) (c d : List Instr) → body_code scope place first b (c ++ d) ≡ body_code scope place first b c ++ d
-  body_append end_procedure c d = refl
-  body_append (integer name None) c d = refl
-  body_append (assign name e) c d = expr_append scope.variable e (Store (scope.variable name) ∷ c) d
-  body_append (goto name) c d = refl
-  body_append (if_then e b) c d =
-      ap (λ l. expr_code scope.variable e (JumpIfZero (place scope.follow) ∷ l)) (body_append b c d)
-      ∙ expr_append scope.variable e (JumpIfZero (place scope.follow) ∷ body_code scope place first b c) d
-  body_append (print list) c d = values_append scope.variable list (Print (print_parts first list) ∷ c) d
-  body_append (exit e) c d = expr_append scope.variable e (Exit ∷ c) d
-  body_append _ c d = refl
+    operands_retarget : (os : List Operand) (c : List Instr) → map (retarget place) (operands_code variable os c) ≡ operands_code variable os (map (retarget place) c)
+    operands_retarget [] c = refl
+    operands_retarget (o ∷ os) c =
+        expr_retarget o.kind o.expr (test_code o.test (operands_code variable os c))
+        ∙ ap (expr_code variable o.kind o.expr) (test_retarget o.test (operands_code variable os c))
+        ∙ ap (λ l. expr_code variable o.kind o.expr (test_code o.test l)) (operands_retarget os c)
 
-  pub body_before : (b : BodyTree) (c : List Instr) → body_code scope place first b c ≡ body_code scope place first b [] ++ c
-  body_before b c = body_append b [] c
+module _ (scope : Scope) (place : ℕ → ℕ) where
+  rows_append : (first : ℕ) (bs : List BodyTree) (c d : List Instr) → rows_code scope place first bs (c ++ d) ≡ rows_code scope place first bs c ++ d
+  rows_append first [] c d = refl
+  rows_append first (b ∷ bs) c d =
+      let more : List Instr = rows_code scope place (past first (row_texts b)) bs c in
+      ap (row_code scope place first b) (rows_append (past first (row_texts b)) bs c d)
+      ∙ operands_append scope.variable (operands b) (last scope place first b ∷ more) d
 
-  pub body_retarget : (b : BodyTree) (c : List Instr) → map (retarget place) (body_code scope (λ i. i) first b c) ≡ body_code scope place first b (map (retarget place) c)
-  body_retarget end_procedure c = refl
-  body_retarget (integer name None) c = refl
-  body_retarget (assign name e) c = expr_retarget scope.variable place e (Store (scope.variable name) ∷ c)
-  body_retarget (goto name) c = refl
-  body_retarget (if_then e b) c =
-      expr_retarget scope.variable place e (JumpIfZero scope.follow ∷ body_code scope (λ i. i) first b c)
-      ∙ ap (λ l. expr_code scope.variable e (JumpIfZero (place scope.follow) ∷ l)) (body_retarget b c)
-  body_retarget (print list) c = values_retarget scope.variable place list (Print (print_parts first list) ∷ c)
-  body_retarget (exit e) c = expr_retarget scope.variable place e (Exit ∷ c)
-  body_retarget _ c = refl
+  pub body_append : (first : ℕ) (b : BodyTree) (c d : List Instr) → body_code scope place first b (c ++ d) ≡ body_code scope place first b c ++ d
+  body_append first b c d = rows_append first (rows b) c d
+
+  pub body_before : (first : ℕ) (b : BodyTree) (c : List Instr) → body_code scope place first b c ≡ body_code scope place first b [] ++ c
+  body_before first b c = body_append first b [] c
+
+  -- a line for each statement
+  last_retarget : (first : ℕ) (b : BodyTree) → retarget place (last scope (λ i. i) first b) ≡ last scope place first b
+  last_retarget first end_procedure = refl
+  last_retarget first (assign name e) = refl
+  last_retarget first (goto name) = refl
+  last_retarget first (if_then e b) = refl
+  last_retarget first (print list) = refl
+  last_retarget first (exit e) = refl
+  last_retarget first _ = refl
+
+  rows_retarget : (first : ℕ) (bs : List BodyTree) (c : List Instr) → map (retarget place) (rows_code scope (λ i. i) first bs c) ≡ rows_code scope place first bs (map (retarget place) c)
+  rows_retarget first [] c = refl
+  rows_retarget first (b ∷ bs) c =
+      let first' : ℕ = past first (row_texts b) in
+      operands_retarget scope.variable place (operands b) (last scope (λ i. i) first b ∷ rows_code scope (λ i. i) first' bs c)
+      ∙ ap (λ i. operands_code scope.variable (operands b) (i ∷ map (retarget place) (rows_code scope (λ i. i) first' bs c))) (last_retarget first b)
+      ∙ ap (row_code scope place first b) (rows_retarget first' bs c)
+
+  pub body_retarget : (first : ℕ) (b : BodyTree) (c : List Instr) → map (retarget place) (body_code scope (λ i. i) first b c) ≡ body_code scope place first b (map (retarget place) c)
+  body_retarget first b c = rows_retarget first (rows b) c
+
+-- the code of a statement does not ask where procedures begin
+module _ (names : Names) (entry entry' : ℕ → ℕ) (count : ℕ) (inside : Option (List ℕ)) (i : ℕ) (place : ℕ → ℕ) where
+  abbrev One : Scope
+  One = scope_of names entry count inside i
+
+  abbrev Other : Scope
+  Other = scope_of names entry' count inside i
+
+  -- a line for each statement
+  last_same : (first : ℕ) (b : BodyTree) → last One place first b ≡ last Other place first b
+  last_same first end_procedure = refl
+  last_same first (assign name e) = refl
+  last_same first (goto name) = refl
+  last_same first (if_then e b) = refl
+  last_same first (print list) = refl
+  last_same first (exit e) = refl
+  last_same first _ = refl
+
+  rows_same : (first : ℕ) (bs : List BodyTree) → rows_code One place first bs [] ≡ rows_code Other place first bs []
+  rows_same first [] = refl
+  rows_same first (b ∷ bs) =
+      ap (λ i. operands_code One.variable (operands b) (i ∷ rows_code One place (past first (row_texts b)) bs [])) (last_same first b)
+      ∙ ap (row_code Other place first b) (rows_same (past first (row_texts b)) bs)
+
+  pub body_same : (first : ℕ) (b : BodyTree) → body_code One place first b [] ≡ body_code Other place first b []
+  body_same first b = rows_same first (rows b)
 
 module _ (program : List StmtTree) (place : ℕ → ℕ) where
   piece_append_by : (t : Bool) (i : ℕ) (st : StmtTree) (c d : List Instr) → cond t (c ++ d) (Turn (i + 1) ∷ body_code (scope_at program i) place (first_text program i) st.body (c ++ d)) ≡ cond t c (Turn (i + 1) ∷ body_code (scope_at program i) place (first_text program i) st.body c) ++ d

@@ -9,7 +9,7 @@ use Rattle.std.proofs.Math.Seq.{get_or-append_seam}
 use Rattle.stapl_syntax.specs.declared.statement.Stmt.{Stmt}
 use Rattle.stapl_syntax.specs.declared.names.Block.{Block}
 use Rattle.stapl_syntax.specs.Trees.{BodyTree, procedure, StmtTree, trees}
-use Rattle.stapl_syntax.specs.Built.{IsBuilt}
+use Rattle.stapl_built.specs.Built.{IsBuilt}
 use Rattle.stapl_syntax.specs.Names.{Names, with_numbers, numbered_from, numbered, block_of, declared, put_first, firsts_behind}
 use Rattle.stapl_meaning.specs.Scopes.{program_names, procedure_number}
 use Rattle.stapl_meaning.specs.Typed.{procedure_name, procedure_names}

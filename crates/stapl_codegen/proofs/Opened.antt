@@ -6,7 +6,7 @@ use Rattle.std.proofs.lemmas.List.Elements.{All-head, All-tail}
 use Rattle.std.proofs.lemmas.Option.{same_Some, none-some}
 use Rattle.stapl_syntax.specs.Trees.{BodyTree, procedure, data_block, end_procedure, end_data, StmtTree}
 use Rattle.stapl_syntax.specs.Statements.{ends_procedure}
-use Rattle.stapl_syntax.specs.Built.{IsBuilt}
+use Rattle.stapl_built.specs.Built.{IsBuilt}
 use Rattle.stapl_syntax.specs.Names.{numbered_from, inside_behind, inside_from}
 use Rattle.stapl_meaning.specs.Scopes.{block_at}
 use Rattle.stapl_meaning.specs.Typed.{procedure_name, procedure_names}

@@ -1,8 +1,10 @@
 -- The fields of the code of an accepted program are in their ranges.
-use Rattle.std.proofs.Common.{◌≡◌, ℕ, zero, suc, ◌+◌, ◌*◌, ◌<◌, ◌≤◌, inl, inr, Bool, true, false, cond, List, [], ◌∷◌, ◌++◌, length, length-append, map, replicate, Option, Some, None, is_some, arith, refl, ap}
+use Rattle.std.proofs.Common.{◌≡◌, ℕ, zero, suc, ◌+◌, ◌*◌, ◌<◌, ◌≤◌, Bool, true, false, cond, List, [], ◌∷◌, ◌++◌, length, length-append, map, replicate, Option, Some, None, is_some, arith, refl, sym, ap, subst}
 use Rattle.std.specs.Prelude.{slice_get, All, sum_by}
+use Rattle.std.proofs.lemmas.List.{append-nil}
 use Rattle.std.proofs.lemmas.List.Folds.{sum_by-replicate}
-use Rattle.stapl_lexer.specs.declared.terminal.BinOp.TheVariants.{Add, Less}
+use Rattle.stapl_lexer.specs.declared.terminal.BinOp.{BinOp}
+use Rattle.stapl_lexer.specs.declared.terminal.BinOp.TheVariants as operators
 use Rattle.stapl_syntax.specs.Trees.{ExprTree, number, scalar, binary, PartTree, string, value, character, BodyTree, end_procedure, integer, assign, goto, if_then, print, exit, StmtTree}
 use Rattle.std.specs.List.{cons_option}
 use Rattle.std.specs.Map.{lookup}
@@ -10,12 +12,17 @@ use Rattle.stapl_syntax.specs.Names.{Numbered, numbered_from, numbered, inside_b
 use Rattle.stapl_meaning.specs.Scopes.{Scope, program_names}
 use Rattle.stapl_code.specs.declared.instr.Instr.{Instr}
 use Rattle.stapl_code.specs.declared.instr.Instr.TheVariants.{Store, Binary, JumpIfZero, Print, Exit}
-use Rattle.stapl_code.specs.declared.kinds.Kind.TheVariants as kinds
+use Rattle.stapl_meaning.specs.declared.values.ValueKind.{ValueKind}
+use Rattle.stapl_meaning.specs.declared.values.ValueKind.TheVariants as kinds
+use Rattle.stapl_meaning.specs.Values.{side}
+use Rattle.stapl_meaning.specs.Operands.{Test, Plain, Character, Operand, an_integer, a_boolean, part_operands}
+use Rattle.stapl_code.specs.Operators.{operator_table}
 use Rattle.stapl_code.specs.Kinds.{variable_kind}
 use Rattle.stapl_code.specs.Ranges.{IsVariable, elements_of, AreVariables, IsPart, IsInstr}
 use Rattle.stapl_codegen.specs.Generated.{integer_def}
-use Rattle.stapl_codegen.specs.Emit.{expr_code, values_code, print_parts, part_texts, body_texts, operator_number, body_code}
-use Rattle.stapl_meaning.specs.Typed.{IsInteger, IsBoolean, ArePrinted, IsTypedBody}
+use Rattle.stapl_codegen.specs.Emit.{literal_code, expr_code, test_code, operands_code, print_parts, part_texts, body_texts, operator_number, body_code}
+use Rattle.stapl_meaning.specs.Typed.{IsInteger, IsBoolean, IsTypedBody}
+use Rattle.stapl_codegen.proofs.WellKinded.{HasKind, AllTyped, parts_typed, arithmetic_side, comparison_side}
 
 -- something is so of each element
 abbrev pub Each : {A : Type 0} → (A → Type 0) → List A → Type 0
@@ -92,42 +99,75 @@ parts_count first (string bytes ∷ list) = ap suc (parts_count (suc first) list
 parts_count first (value e ∷ list) = ap suc (parts_count first list)
 parts_count first (character e ∷ list) = ap suc (parts_count first list)
 
+number_range : (op : BinOp) → operator_number op < length operator_table
+number_range operators.Multiply = omega arith
+number_range operators.Divide = omega arith
+number_range operators.Remainder = omega arith
+number_range operators.Add = omega arith
+number_range operators.Subtract = omega arith
+number_range operators.ShiftLeft = omega arith
+number_range operators.ShiftRight = omega arith
+number_range operators.Less = omega arith
+number_range operators.AtMost = omega arith
+number_range operators.Greater = omega arith
+number_range operators.AtLeast = omega arith
+number_range operators.Equal = omega arith
+number_range operators.NotEqual = omega arith
+number_range operators.BitAnd = omega arith
+number_range operators.BitXor = omega arith
+number_range operators.BitOr = omega arith
+number_range operators.And = omega arith
+number_range operators.Or = omega arith
+
 module _ (variables texts : ℕ) where
   abbrev pub InRange : List Instr → Type 0
   InRange code = Each (IsInstr variables texts) code
 
   module _ (Leads : List ℕ → Type 0) (v : List ℕ → ℕ) where
-    expr_range : (e : ExprTree) (rest : List Instr) → IsInteger v variables Leads e → InRange rest → InRange (expr_code v e rest)
-    expr_range (number z) rest good more = (tt, more)
-    expr_range (scalar name) rest good more = (good, more)
-    expr_range (binary Add a b) rest good more =
-        expr_range a (expr_code v b (Binary (operator_number Add) ∷ rest)) good.0 (expr_range b (Binary (operator_number Add) ∷ rest) good.1 (inl refl, more))
-    expr_range _ rest good more = absurd good
+    integer_range : (kind : ValueKind) (e : ExprTree) (rest : List Instr) → IsInteger v variables Leads e → kind ≡ kinds.Int → InRange rest → InRange (expr_code v kind e rest)
+    integer_range kind (number z) rest typed is more = subst (λ k. InRange (literal_code k z ∷ rest)) (sym is) (tt, more)
+    integer_range kind (scalar name) rest typed is more = (typed, more)
+    integer_range kind (binary op a b) rest typed is more =
+        let same = arithmetic_side op typed.0 in
+        integer_range (side op) a (expr_code v (side op) b (Binary (operator_number op) ∷ rest)) typed.1 same
+        (integer_range (side op) b (Binary (operator_number op) ∷ rest) typed.2 same (number_range op, more))
+    integer_range kind _ rest typed is more = absurd typed
 
-    boolean_range : (e : ExprTree) (rest : List Instr) → IsBoolean v variables Leads e → InRange rest → InRange (expr_code v e rest)
-    boolean_range (binary Less a b) rest good more =
-        expr_range a (expr_code v b (Binary (operator_number Less) ∷ rest)) good.0 (expr_range b (Binary (operator_number Less) ∷ rest) good.1 (inr refl, more))
-    boolean_range _ rest good more = absurd good
+    boolean_range : (e : ExprTree) (rest : List Instr) → IsBoolean v variables Leads e → InRange rest → InRange (expr_code v kinds.Bit e rest)
+    boolean_range (binary op a b) rest typed more =
+        let same = comparison_side op typed.0 in
+        integer_range (side op) a (expr_code v (side op) b (Binary (operator_number op) ∷ rest)) typed.1 same
+        (integer_range (side op) b (Binary (operator_number op) ∷ rest) typed.2 same (number_range op, more))
+    boolean_range _ rest typed more = absurd typed
 
-    values_range : (list : List PartTree) (rest : List Instr) → ArePrinted v variables Leads list → InRange rest → InRange (values_code v list rest)
-    values_range [] rest good more = more
-    values_range (string bytes ∷ list) rest good more = values_range list rest good more
-    values_range (value e ∷ list) rest good more = expr_range e (values_code v list rest) good.0 (values_range list rest good.1 more)
-    values_range (character e ∷ list) rest good more = absurd good
+    expr_range : (kind : ValueKind) (e : ExprTree) (rest : List Instr) → HasKind v variables Leads kind e → InRange rest → InRange (expr_code v kind e rest)
+    expr_range kinds.Int e rest typed more = integer_range kinds.Int e rest typed refl more
+    expr_range kinds.Bit e rest typed more = boolean_range e rest typed more
+
+    test_range : (t : Test) (rest : List Instr) → InRange rest → InRange (test_code t rest)
+    test_range Plain rest more = more
+    test_range Character rest more = (tt, more)
+
+    operands_range : (os : List Operand) (rest : List Instr) → AllTyped v variables Leads os → InRange rest → InRange (operands_code v os rest)
+    operands_range [] rest typed more = more
+    operands_range (o ∷ os) rest typed more =
+        expr_range o.kind o.expr (test_code o.test (operands_code v os rest)) typed.0 (test_range o.test (operands_code v os rest) (operands_range os rest typed.2 more))
 
   pub body_range : (Leads : List ℕ → Type 0) (scope : Scope) (place : ℕ → ℕ) (first : ℕ) (b : BodyTree) (rest : List Instr) →
       IsTypedBody scope.variable variables Leads b → first + length (body_texts b) ≤ texts → InRange rest → InRange (body_code scope place first b rest)
-  body_range Leads scope place first end_procedure rest good few more = (tt, more)
-  body_range Leads scope place first (integer name None) rest good few more = more
-  body_range Leads scope place first (assign name e) rest good few more =
-      expr_range Leads scope.variable e (Store (scope.variable name) ∷ rest) good.1 (good.0, more)
-  body_range Leads scope place first (goto name) rest good few more = (tt, more)
-  body_range Leads scope place first (if_then e b) rest good few more =
-      boolean_range Leads scope.variable e (JumpIfZero (place scope.follow) ∷ body_code scope place first b rest) good.0
-      (tt, body_range Leads scope place first b rest good.2 few more)
-  body_range Leads scope place first (print list) rest good few more =
-      let some : 1 ≤ length (print_parts first list) = omega (arith, parts_count first list, good.0) in
-      values_range Leads scope.variable list (Print (print_parts first list) ∷ rest) good.1
-      ((some, each_all (IsPart texts) (print_parts first list) (parts_range texts first list few)), more)
-  body_range Leads scope place first (exit e) rest good few more = expr_range Leads scope.variable e (Exit ∷ rest) good (tt, more)
-  body_range Leads scope place first _ rest good few more = absurd good
+  body_range Leads scope place first end_procedure rest typed few more = (tt, more)
+  body_range Leads scope place first (integer name None) rest typed few more = more
+  body_range Leads scope place first (assign name e) rest typed few more =
+      operands_range Leads scope.variable (an_integer e ∷ []) (Store (scope.variable name) ∷ rest) (typed.1, tt, tt) (typed.0, more)
+  body_range Leads scope place first (goto name) rest typed few more = (tt, more)
+  body_range Leads scope place first (if_then e b) rest typed few more =
+      operands_range Leads scope.variable (a_boolean e ∷ []) (JumpIfZero (place scope.follow) ∷ body_code scope place first b rest) (typed.0, tt, tt)
+      (tt, body_range Leads scope place first b rest typed.2 few more)
+  body_range Leads scope place first (print list) rest typed few more =
+      let some : 1 ≤ length (print_parts first list) = omega (arith, parts_count first list, typed.0) in
+      let within : first + length (part_texts list) ≤ texts = omega (arith, few, ap length (append-nil (part_texts list))) in
+      operands_range Leads scope.variable (part_operands list) (Print (print_parts first list) ∷ rest) (parts_typed scope.variable variables Leads list typed.1)
+      ((some, each_all (IsPart texts) (print_parts first list) (parts_range texts first list within)), more)
+  body_range Leads scope place first (exit e) rest typed few more =
+      operands_range Leads scope.variable (an_integer e ∷ []) (Exit ∷ rest) (typed, tt, tt) (tt, more)
+  body_range Leads scope place first _ rest typed few more = absurd typed

@@ -4,19 +4,19 @@ use Rattle.std.specs.Prelude.{slice_get}
 use Rattle.std.proofs.lemmas.List.{drop_all}
 use Rattle.stapl_syntax.specs.Trees.{BodyTree, end_procedure, integer, assign, goto, if_then, print, exit, StmtTree}
 use Rattle.stapl_syntax.specs.Statements.{is_outer}
-use Rattle.stapl_meaning.specs.States.{State, Turned, Leads, Over, NoTurn, next_chosen}
+use Rattle.stapl_meaning.specs.States.{State, Turned, Leads, Over, Broken, NoTurn, turn_of_piece, next_chosen}
 use Rattle.stapl_meaning.specs.Scopes.{Scope, scope_at, entry_from, zeros_of}
 use Rattle.stapl_meaning.specs.Turns.{done, turn, turn_of}
-use Rattle.stapl_meaning.specs.Plays.{Outcome, Ended, Going, Stopped, Run, after, goes_on, run, start, play, ending_of}
+use Rattle.stapl_meaning.specs.Plays.{after, goes_on, run, start}
 use Rattle.stapl_code.specs.declared.instr.Instr.{Instr}
 use Rattle.stapl_code.specs.declared.instr.Instr.TheVariants.{Turn}
-use Rattle.stapl_code.specs.Machine.{nowhere, entry_of, stretch, begins, code_turn, code_run, begun, code_play}
+use Rattle.stapl_code.specs.Machine.{nowhere, entry_of, stretch, begins, code_turn, code_run, begun}
 use Rattle.stapl_code.proofs.Preceded.{preceded_nothing}
 use Rattle.stapl_codegen.specs.Emit.{body_code, first_text, texts_of, pieces_code, program_code, start_of, program_entries}
-use Rattle.stapl_codegen.specs.Correct.{GoesOn, IsClosed, Stands}
+use Rattle.stapl_codegen.specs.Correct.{GoesOn, IsClosed, placed_run, Stands}
 use Rattle.stapl_codegen.proofs.Heads.{head_of, get_head, drop_tail}
 use Rattle.stapl_codegen.proofs.Texts.{texts_at}
-use Rattle.stapl_codegen.proofs.Bodies.{placed, Behind, body_follows, end_law}
+use Rattle.stapl_codegen.proofs.Bodies.{placed, piece_placed, Behind, body_follows, end_law}
 use Rattle.stapl_codegen.proofs.Pieces.{start_is, start_none, start_head, code_from, entry_is}
 
 closed_drop : (n : ℕ) (sts : List StmtTree) → IsClosed sts → IsClosed (drop n sts)
@@ -69,18 +69,18 @@ module _ (program : List StmtTree) where
   abbrev From : ℕ → List StmtTree → List Instr
   From i sts = pieces_code program place i sts
 
-  behind_turn : (scope : Scope) (first q : ℕ) (code : List Instr) → All - length (Turn q ∷ code) ≡ place scope.follow → Behind place Entries Texts All first scope (Turn q ∷ code)
-  behind_turn scope first q code e = record { falls_on = λ t. ap (λ n. Leads [] n t) e }
+  behind_turn : (scope : Scope) (q : ℕ) (code : List Instr) → All - length (Turn q ∷ code) ≡ place scope.follow → Behind place Entries Texts All scope (Turn q ∷ code)
+  behind_turn scope q code e = record { falls_on = λ t. ap (λ n. Leads [] n t) e }
 
   -- what follows a piece that is not the last of its procedure
-  behind_piece : (i first : ℕ) (sts : List StmtTree) → drop (i + 1) program ≡ sts → GoesOn sts → Behind place Entries Texts All first (scope_at program i) (From (i + 1) sts)
-  behind_piece i first [] e go = absurd go
-  behind_piece i first (st ∷ rest) e go =
+  behind_piece : (i : ℕ) (sts : List StmtTree) → drop (i + 1) program ≡ sts → GoesOn sts → Behind place Entries Texts All (scope_at program i) (From (i + 1) sts)
+  behind_piece i [] e go = absurd go
+  behind_piece i (st ∷ rest) e go =
       let code = body_code (scope_at program (i + 1)) place (first_text program (i + 1)) st.body (From (i + 1 + 1) rest) in
       let is : From (i + 1) (st ∷ rest) ≡ Turn (i + 1 + 1) ∷ code = ap (λ b. cond b (From (i + 1 + 1) rest) (Turn (i + 1 + 1) ∷ code)) go in
       let at = start_is program (i + 1) st (get_head (i + 1) program ∙ ap head_of e) go in
       let at' : All - length (Turn (i + 1 + 1) ∷ code) ≡ place (i + 1) = sym (at ∙ ap (λ l. All - length (From (i + 1) l)) e ∙ ap (λ c. All - length c) is) in
-      subst (Behind place Entries Texts All first (scope_at program i)) (sym is) (behind_turn (scope_at program i) first (i + 1 + 1) code at')
+      subst (Behind place Entries Texts All (scope_at program i)) (sym is) (behind_turn (scope_at program i) (i + 1 + 1) code at')
 
   module _ (closed : IsClosed program) (short : All ≤ nowhere) where
     none_there : (s : State) → code_turn Entries Texts Code nowhere s ≡ NoTurn []
@@ -96,15 +96,17 @@ module _ (program : List StmtTree) where
         let body = body_code scope place first st.body (From (i + 1) rest) in
         ap (λ d. begins Entries Texts All d s) (code_from program i st at inner ∙ ap (From i) e)
         ∙ ap (λ b. begins Entries Texts All (cond b (From (i + 1) rest) (Turn (i + 1) ∷ body)) s) inner
-        ∙ body_follows place Entries Texts All first scope s st.body (From (i + 1) rest) (entry_is program) (λ f. behind_piece i first rest next (c.0 inner f)) (texts_at i program st rest e)
-        ∙ ap (λ o. placed place (turn_of (scope_at program i) s o)) (sym at)
+        ∙ ap (turn_of_piece (i + 1))
+        (body_follows place Entries Texts All scope s first st.body (From (i + 1) rest) (entry_is program) (λ f. behind_piece i rest next (c.0 inner f)) (texts_at i program st rest e))
+        ∙ piece_placed place (i + 1) (done scope s st.body)
+        ∙ ap (λ o. placed place (turn_of (scope_at program i) (i + 1) s o)) (sym at)
 
     by_piece : (i : ℕ) (s : State) (sts : List StmtTree) → drop i program ≡ sts → code_turn Entries Texts Code (place i) s ≡ placed place (turn program i s)
     by_piece i s [] e =
         let at : slice_get program i ≡ None = get_head i program ∙ ap head_of e in
         ap (λ n. code_turn Entries Texts Code n s) (start_none program i at)
         ∙ none_there s
-        ∙ ap (λ o. placed place (turn_of (scope_at program i) s o)) (sym at)
+        ∙ ap (λ o. placed place (turn_of (scope_at program i) (i + 1) s o)) (sym at)
     by_piece i s (st ∷ rest) e = by_outer (is_outer st.body) refl
       where
         at : slice_get program i ≡ Some st
@@ -114,35 +116,23 @@ module _ (program : List StmtTree) where
         by_outer true h =
             ap (λ n. code_turn Entries Texts Code n s) (start_head program i st at h)
             ∙ none_there s
-            ∙ ap (placed place) (sym (ap (turn_of (scope_at program i) s) at ∙ outer_stays (scope_at program i) s st.body h))
+            ∙ ap (placed place) (sym (ap (turn_of (scope_at program i) (i + 1) s) at ∙ ap (turn_of_piece (i + 1)) (outer_stays (scope_at program i) s st.body h)))
         by_outer false h = inner_follows i s st rest e h
 
     pub turn_follows : (i : ℕ) (s : State) → code_turn Entries Texts Code (place i) s ≡ placed place (turn program i s)
     turn_follows i s = by_piece i s (drop i program) refl
 
-    abbrev placed_outcome : Outcome → Outcome
-    placed_outcome (Ended ending) = Ended ending
-    placed_outcome (Going i) = Going (place i)
-    placed_outcome Stopped = Stopped
-
-    abbrev placed_run : Run → Run
-    placed_run r = record r { outcome = placed_outcome r.outcome }
-
-    goes_follows : (n : ℕ) → ((i : ℕ) (s : State) → code_run Entries Texts Code n (place i) s ≡ placed_run (run program n i s)) → (t : Turned) (s : State) → goes_on (placed place t) s (code_run Entries Texts Code n) ≡ placed_run (goes_on t s (run program n))
+    goes_follows : (n : ℕ) → ((i : ℕ) (s : State) → code_run Entries Texts Code n (place i) s ≡ placed_run place (run program n i s)) → (t : Turned) (s : State) → goes_on (placed place t) s (code_run Entries Texts Code n) ≡ placed_run place (goes_on t s (run program n))
     goes_follows n rest (Leads events i t) s = ap (after events) (rest i t)
     goes_follows n rest (Over events e t) s = refl
+    goes_follows n rest (Broken events k t) s = refl
     goes_follows n rest (NoTurn events) s = refl
 
-    run_follows : (n : ℕ) (i : ℕ) (s : State) → code_run Entries Texts Code n (place i) s ≡ placed_run (run program n i s)
+    run_follows : (n : ℕ) (i : ℕ) (s : State) → code_run Entries Texts Code n (place i) s ≡ placed_run place (run program n i s)
     run_follows zero i s = refl
     run_follows (suc n) i s =
         ap (λ t. goes_on t s (code_run Entries Texts Code n)) (turn_follows i s)
         ∙ goes_follows n (run_follows n) (turn program i s) s
-
-    ending_placed : (o : Outcome) → ending_of (placed_outcome o) ≡ ending_of o
-    ending_placed (Ended ending) = refl
-    ending_placed (Going i) = refl
-    ending_placed Stopped = refl
 
     module _ (some : Code ≢ []) where
       -- the code has no prologue: its first instruction is a turn
@@ -152,15 +142,8 @@ module _ (program : List StmtTree) where
           by_turn : BeginsWithTurn Code → begun Entries Texts (stretch Entries Texts All Code [] s) ≡ next_chosen (entry_of Entries) s s.chosen
           by_turn b = ap (λ c. begun Entries Texts (stretch Entries Texts All c [] s)) b.is ∙ sym (preceded_nothing (next_chosen (entry_of Entries) s s.chosen))
 
-      play_follows : (chosen : List ℕ) (n : ℕ) → code_play Entries Texts Code chosen (zeros_of program) n ≡ placed_run (play program chosen n)
-      play_follows chosen n =
+      pub stands : Stands program place Entries Texts Code (zeros_of program)
+      stands chosen n =
           let s : State = start chosen (zeros_of program) in
-          ap (λ t. goes_on t s (code_run Entries Texts Code n)) (begun_is s ∙ end_law place Entries Texts All 0 (scope_at program 0) s chosen (entry_is program))
+          ap (λ t. goes_on t s (code_run Entries Texts Code n)) (begun_is s ∙ end_law place Entries Texts All (scope_at program 0) s chosen (entry_is program))
           ∙ goes_follows n (run_follows n) (next_chosen (entry_from program) s chosen) s
-
-      pub stands : Stands program Entries Texts Code (zeros_of program)
-      stands = record {
-        same_events = λ chosen n. ap (λ r. r.events) (play_follows chosen n);
-        same_ending = λ chosen n. ap (λ r. ending_of r.outcome) (play_follows chosen n) ∙ ending_placed (play program chosen n).outcome;
-        same_variables = λ chosen n. ap (λ r. r.state.variables) (play_follows chosen n);
-      }

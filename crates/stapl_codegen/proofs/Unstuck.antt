@@ -1,16 +1,17 @@
 -- No play of an accepted program gets stuck.
-use Rattle.std.proofs.Common.{◌≡◌, ◌≢◌, ℕ, ◌+◌, List, [], ◌∷◌, length, replicate, map, None, refl, sym, ap, subst, ◌∙◌}
+use Rattle.std.proofs.Common.{◌≡◌, ◌≢◌, ℕ, ◌+◌, List, [], ◌∷◌, length, replicate, map, refl, sym, ap, subst, ◌∙◌}
 use Rattle.stapl_syntax.specs.declared.names.Key.{Key}
 use Rattle.stapl_syntax.specs.declared.names.Variable.{Variable}
 use Rattle.stapl_syntax.specs.Trees.{StmtTree}
-use Rattle.stapl_meaning.specs.States.{State, Turned, Leads, Over, NoTurn}
+use Rattle.stapl_meaning.specs.States.{State, Turned, Leads, Over, Broken, NoTurn}
 use Rattle.stapl_meaning.specs.Scopes.{program_names, procedures_in, zero_of, zeros_of}
 use Rattle.stapl_meaning.specs.Turns.{turn, IsFound}
-use Rattle.stapl_meaning.specs.Plays.{Outcome, Ended, Going, Stopped, Run, after, goes_on, run, play, ending_of, continued}
+use Rattle.stapl_meaning.specs.Plays.{Outcome, Going, Stopped, Run, after, goes_on, run, play, continued}
 use Rattle.stapl_code.specs.declared.raw.CodeLists.{CodeLists}
 use Rattle.stapl_code.specs.Machine.{code_play}
 use Rattle.stapl_code.specs.Safe.{entries_of, AllFit, AllBelow, NeverStuck}
 use Rattle.stapl_codegen.specs.Emit.{start_of}
+use Rattle.stapl_codegen.specs.Correct.{placed_outcome}
 use Rattle.stapl_codegen.specs.Accepted.{IsAccepted}
 use Rattle.stapl_codegen.specs.Generated.{integer_def, lists_of}
 use Rattle.stapl_codegen.specs.Unstuck.{HasOneTurn, IsNotStuck, ProgramsAreNotStuck}
@@ -20,15 +21,11 @@ use Rattle.stapl_codegen.proofs.Whole.{is_valid}
 use Rattle.stapl_codegen.proofs.Defined.{count_same}
 use Rattle.stapl_codegen.proofs.Generated.{in_range, code}
 
-ending_none : (o : Outcome) → ending_of o ≡ None → o ≡ Stopped
-ending_none (Ended ending) e = absurd cc
-ending_none (Going place) e = absurd cc
-ending_none Stopped e = refl
-
 -- a turn that finds nothing to do stops the run
 found : (program : List StmtTree) (place : ℕ) (s : State) (t : Turned) → (goes_on t s (run program 0)).outcome ≢ Stopped → IsFound t
 found program place s (Leads events to u) more = tt
 found program place s (Over events ending u) more = tt
+found program place s (Broken events k u) more = tt
 found program place s (NoTurn events) more = absurd (more refl)
 
 -- a play that goes on and has one turn more has a turn at its place
@@ -40,10 +37,6 @@ has_turn program chosen n place more going =
     plays_add program chosen n 1 ∙ ap (λ (o : Outcome). continued o r (run program 1)) going in
     let is = is_turn program place r.state (found program place r.state (turn program place r.state) (λ e. more (ap (λ (q : Run). q.outcome) next ∙ e))) in
     record { turned = turn program place r.state; is_turn = is; only = λ other t. one_turn program place r.state other (turn program place r.state) t is }
-
--- only a run that met what no valid code meets has no ending
-not_stuck : (a b : Outcome) → ending_of a ≡ ending_of b → a ≢ Stopped → b ≢ Stopped
-not_stuck a b e some stopped = some (ending_none a (e ∙ ap ending_of stopped))
 
 all_not_stuck : (program : List StmtTree) (chosen : List ℕ) → ((n : ℕ) → (play program chosen n).outcome ≢ Stopped) → (n : ℕ) → IsNotStuck program chosen n
 all_not_stuck program chosen never n = record { stands = never n; goes_on = λ place going. has_turn program chosen n place (never (n + 1)) going }
@@ -57,10 +50,11 @@ never_stops : NeverStuck → (program : List StmtTree) → IsAccepted program �
 never_stops never program accepted chosen below n =
     let lists : CodeLists = lists_of program in
     let many : length lists.procedures ≡ procedures_in program = count_same (start_of program) 0 program in
-    not_stuck (code_play (entries_of lists.procedures) lists.texts lists.instrs chosen (zeros_of program) n).outcome (play program chosen n).outcome
-    ((code program accepted).stands.same_ending chosen n)
-    (never lists (in_range program accepted) (is_valid program accepted.built accepted.typed) chosen (subst (λ (k : ℕ). AllBelow k chosen) (sym many) below)
-    (zeros_of program) (integers_fit (program_names program).variables) n)
+    let same : (code_play (entries_of lists.procedures) lists.texts lists.instrs chosen (zeros_of program) n).outcome ≡ placed_outcome (start_of program) (play program chosen n).outcome =
+    ap (λ (r : Run). r.outcome) ((code program accepted).stands chosen n) in
+    λ stopped.
+    never lists (in_range program accepted) (is_valid program accepted.built accepted.typed) chosen (subst (λ (k : ℕ). AllBelow k chosen) (sym many) below)
+    (zeros_of program) (integers_fit (program_names program).variables) n (same ∙ ap (placed_outcome (start_of program)) stopped)
 
 pub programs_not_stuck : NeverStuck → ProgramsAreNotStuck
 programs_not_stuck never program accepted chosen below = all_not_stuck program chosen (never_stops never program accepted chosen below)

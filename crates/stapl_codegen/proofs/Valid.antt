@@ -6,7 +6,7 @@ use Rattle.std.proofs.lemmas.Bool.{le-leb, ltb-true, ltb-false}
 use Rattle.std.proofs.lemmas.Option.{same_Some}
 use Rattle.stapl_syntax.specs.Trees.{BodyTree, procedure, data_block, end_data, end_procedure, StmtTree}
 use Rattle.stapl_syntax.specs.Statements.{is_outer, ends_procedure}
-use Rattle.stapl_syntax.specs.Built.{IsBuilt}
+use Rattle.stapl_built.specs.Built.{IsBuilt}
 use Rattle.stapl_syntax.specs.Names.{inside_behind}
 use Rattle.stapl_meaning.specs.Scopes.{scope_at, block_at, program_names}
 use Rattle.stapl_meaning.specs.Typed.{IsTypedBody, IsInBlock, IsTyped}
@@ -300,8 +300,8 @@ module _ (program : List StmtTree) (built : All IsBuilt program) (typed : IsType
         subst (FineFrom must) (sym (begins_with_turn j st (next ∷ rest) (own_inner own k st (next ∷ rest) are e)))
         (fine_step defs entry procedure_code (all_integers count) must (Turn (j + 1)) [] [] body refl
         (turn_stands defs entry procedure_code (all_integers count) must (j + 1) (is_last body)
-        (body_last defs entry procedure_code (all_integers count) (Leads j) scope (start_of program) first (leads_to j) next_is st.body after some))
-        (body_fine defs entry procedure_code (all_integers count) (Leads j) scope (start_of program) first (leads_to j) next_is st.body after
+        (body_last defs entry procedure_code (all_integers count) (Leads j) scope (start_of program) (leads_to j) next_is first st.body after some))
+        (body_fine defs entry procedure_code (all_integers count) (Leads j) scope (start_of program) (leads_to j) next_is first st.body after
         (typed_in k j st (next ∷ rest) is e) (own_goes_on own k st next rest are e) follows))
 
     -- the last piece is ENDPROC

@@ -6,7 +6,7 @@ use Rattle.std.proofs.lemmas.List.{take_at, drop_all}
 use Rattle.std.proofs.lemmas.Bool.{lt-ltb, and_from}
 use Rattle.stapl_syntax.specs.Trees.{BodyTree, procedure, StmtTree}
 use Rattle.stapl_syntax.specs.Statements.{is_outer, begins_procedure}
-use Rattle.stapl_syntax.specs.Built.{IsBuilt}
+use Rattle.stapl_built.specs.Built.{IsBuilt}
 use Rattle.stapl_meaning.specs.Scopes.{scope_at}
 use Rattle.stapl_meaning.specs.Typed.{IsTyped}
 use Rattle.stapl_code.specs.declared.instr.Instr.{Instr}

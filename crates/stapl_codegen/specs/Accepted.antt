@@ -2,7 +2,7 @@
 use Rattle.std.specs.Prelude.{◌≤◌, List, length, All}
 use Rattle.stapl_lexer.specs.Pieces.{text_limit}
 use Rattle.stapl_syntax.specs.Trees.{StmtTree}
-use Rattle.stapl_syntax.specs.Built.{IsBuilt}
+use Rattle.stapl_built.specs.Built.{IsBuilt}
 use Rattle.stapl_syntax.specs.Contents.{IsWellNamed}
 use Rattle.stapl_meaning.specs.Typed.{IsTyped}
 use Rattle.stapl_codegen.specs.Emit.{texts_of}

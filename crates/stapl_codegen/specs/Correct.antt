@@ -3,11 +3,12 @@ use Rattle.std.specs.Prelude.{◌≡◌, ◌≢◌, ℕ, ◌≤◌, Bool, true, 
 use Rattle.stapl_syntax.specs.Trees.{BodyTree, end_procedure, StmtTree}
 use Rattle.stapl_syntax.specs.Statements.{is_outer}
 use Rattle.stapl_meaning.specs.declared.values.Held.{Held}
-use Rattle.stapl_meaning.specs.Plays.{play, ending_of}
+use Rattle.stapl_meaning.specs.States.{State}
+use Rattle.stapl_meaning.specs.Plays.{Outcome, Ended, Going, Stopped, Run, play}
 use Rattle.stapl_code.specs.declared.instr.Instr.{Instr}
 use Rattle.stapl_code.specs.Machine.{code_play, nowhere}
 use Rattle.stapl_meaning.specs.Scopes.{zeros_of}
-use Rattle.stapl_codegen.specs.Emit.{texts_of, program_code, program_entries}
+use Rattle.stapl_codegen.specs.Emit.{texts_of, start_of, program_code, program_entries}
 
 -- the statement may lead to the piece behind it
 abbrev pub falls : BodyTree → Bool
@@ -26,18 +27,28 @@ IsClosed (st ∷ rest) =
     (is_outer st.body ≡ false → falls st.body ≡ true → GoesOn rest)
     × IsClosed rest
 
--- The code stands for the program: for each choice of procedures and each number of turns, the events, the ending and
--- the variables are equal. The code is told by where its procedures begin, its texts, its instructions, and what its
--- variables hold at first.
-pub record Stands (program : List StmtTree) (entries : List ℕ) (texts : List (List ℕ)) (code : List Instr) (variables : List Held) : Type 0 where
-  pub same_events : (chosen : List ℕ) (n : ℕ) →
-      (code_play entries texts code chosen variables n).events ≡ (play program chosen n).events
-  pub same_ending : (chosen : List ℕ) (n : ℕ) →
-      ending_of (code_play entries texts code chosen variables n).outcome ≡ ending_of (play program chosen n).outcome
-  pub same_variables : (chosen : List ℕ) (n : ℕ) →
-      (code_play entries texts code chosen variables n).state.variables ≡ (play program chosen n).state.variables
+-- A run of the program, with the places of the code in the place of its own: that of the outcome, and those in the state.
+
+-- no statement that is built keeps a place in the state
+abbrev pub placed_state : (ℕ → ℕ) → State → State
+placed_state place s = s
+
+abbrev pub placed_outcome : (ℕ → ℕ) → Outcome → Outcome
+placed_outcome place (Ended ending) = Ended ending
+placed_outcome place (Going i) = Going (place i)
+placed_outcome place Stopped = Stopped
+
+abbrev pub placed_run : (ℕ → ℕ) → Run → Run
+placed_run place r = record { events = r.events; outcome = placed_outcome place r.outcome; state = placed_state place r.state }
+
+-- The code stands for the program, if the pieces begin at these places of the code: for each choice of procedures and
+-- each number of turns, its play is that of the program. The code is told by where its procedures begin, its texts, its
+-- instructions, and what its variables hold at first.
+abbrev pub Stands : List StmtTree → (ℕ → ℕ) → List ℕ → List (List ℕ) → List Instr → List Held → Type 0
+Stands program place entries texts code variables =
+    (chosen : List ℕ) (n : ℕ) → code_play entries texts code chosen variables n ≡ placed_run place (play program chosen n)
 
 -- the code of a program stands for it
 abbrev pub CodeStands : Type 0
 CodeStands = (program : List StmtTree) → IsClosed program → program_code program ≢ [] → length (program_code program) ≤ nowhere →
-    Stands program (program_entries program) (texts_of program) (program_code program) (zeros_of program)
+    Stands program (start_of program) (program_entries program) (texts_of program) (program_code program) (zeros_of program)

@@ -1,7 +1,60 @@
--- Where pieces begin, as far as they are written.
-use Rattle.std.specs.Prelude.{◌≡◌, ℕ, ◌<◌, List, length, slice_index}
-use Rattle.stapl_syntax.specs.Trees.{StmtTree}
-use Rattle.stapl_codegen.specs.Emit.{start_of}
+-- What is written so far of the code of a program, and where its pieces begin.
+use Rattle.std.specs.Prelude.{◌≡◌, ℕ, ◌+◌, ◌<◌, List, [], ◌∷◌, length, slice_index, Option, if◌then◌else◌}
+use Rattle.stapl_syntax.specs.Trees.{ExprTree, BodyTree, StmtTree}
+use Rattle.stapl_syntax.specs.Statements.{is_outer}
+use Rattle.stapl_syntax.specs.Names.{Names, inside_behind}
+use Rattle.stapl_meaning.specs.declared.values.ValueKind.{ValueKind}
+use Rattle.stapl_meaning.specs.Operands.{Operand}
+use Rattle.stapl_meaning.specs.Scopes.{Scope, program_names, block_at, variable_from, label_from}
+use Rattle.stapl_code.specs.declared.instr.Instr.{Instr}
+use Rattle.stapl_code.specs.declared.instr.Instr.TheVariants.{Turn}
+use Rattle.stapl_codegen.specs.Emit.{expr_code, operands_code, body_code, texts_of, pieces_code, start_of}
+
+-- Where a piece stands: the names of its program, how many pieces that has, the block that is open before the piece,
+-- and the number of the piece, which is also the place behind it.
+pub record Site : Type 0 where
+  pub names : Names
+  pub count : ℕ
+  pub inside : Option (List ℕ)
+  pub piece : ℕ
+
+-- the instructions, whose targets are places of the program, the texts, and where the next piece stands
+pub record Draft : Type 0 where
+  pub code : List Instr
+  pub texts : List (List ℕ)
+  pub site : Site
+
+-- what a statement finds there; its code does not ask where procedures begin
+abbrev pub scope_of_site : Site → Scope
+scope_of_site site = record {
+  variable = variable_from site.names site.inside;
+  label = label_from site.names site.count site.inside;
+  entry = λ p. 0;
+  follow = site.piece;
+}
+
+-- where the piece at a place of a program stands
+abbrev pub site_at : List StmtTree → ℕ → Site
+site_at program i =
+    record { names = program_names program; count = length program; inside = block_at program i; piece = i + 1 }
+
+-- where the piece behind this statement stands
+abbrev pub site_behind : Site → BodyTree → Site
+site_behind site b =
+    record { names = site.names; count = site.count; inside = inside_behind site.inside b; piece = site.piece + 1 }
+
+-- the code of an expression, of operands, of a statement and of a piece that follow on a draft
+abbrev pub expr_code_in : Draft → ValueKind → ExprTree → List Instr
+expr_code_in d kind e = expr_code (scope_of_site d.site).variable kind e []
+
+abbrev pub operands_code_in : Draft → List Operand → List Instr
+operands_code_in d os = operands_code (scope_of_site d.site).variable os []
+
+abbrev pub body_code_in : Draft → BodyTree → List Instr
+body_code_in d b = body_code (scope_of_site d.site) (λ j. j) (length d.texts) b []
+
+abbrev pub piece_code_in : Draft → StmtTree → List Instr
+piece_code_in d st = if is_outer st.body then [] else Turn d.site.piece ∷ body_code_in d st.body
 
 -- these are where the first n pieces of a program begin
 pub record StartsTo (program : List StmtTree) (n : ℕ) (starts : List ℕ) : Type 0 where
@@ -11,3 +64,9 @@ pub record StartsTo (program : List StmtTree) (n : ℕ) (starts : List ℕ) : Ty
 -- these are where the pieces of a program begin
 abbrev pub AreStarts : List StmtTree → List ℕ → Type 0
 AreStarts program starts = StartsTo program (length program) starts
+
+-- these are the instructions of a program, whose targets are its places, its texts, and where its pieces begin
+pub record IsDraft (program : List StmtTree) (code : List Instr) (texts : List (List ℕ)) (starts : List ℕ) : Type 0 where
+  pub code_is : code ≡ pieces_code program (λ j. j) 0 program
+  pub texts_are : texts ≡ texts_of program
+  pub begins : AreStarts program starts

@@ -1,14 +1,19 @@
 -- The code of a program. How statements are written as instructions is this profile's.
-use Rattle.std.specs.Prelude.{ℕ, suc, ◌+◌, ◌-◌, List, [], ◌∷◌, ◌++◌, length, take, drop, map, Option, Some, None, if◌then◌else◌, slice_get}
+use Rattle.std.specs.Prelude.{ℕ, zero, suc, ℤ, pos, ◌+◌, ◌-◌, List, [], ◌∷◌, ◌++◌, length, take, drop, map, Option, Some, None, if◌then◌else◌, slice_get}
 use Rattle.stapl_lexer.specs.declared.terminal.BinOp.{BinOp}
-use Rattle.stapl_lexer.specs.declared.terminal.BinOp.TheVariants.{Add, Less}
-use Rattle.stapl_syntax.specs.Trees.{ExprTree, number, scalar, binary, PartTree, string, value, character, ItemTree, BodyTree, action, procedure, end_procedure, integer, assign, goto, if_then, print, exit, StmtTree}
+use Rattle.stapl_lexer.specs.declared.terminal.BinOp.TheVariants as operators
+use Rattle.stapl_syntax.specs.Trees.{ExprTree, number, scalar, binary, PartTree, string, value, character, ItemTree, BodyTree, action, procedure, end_procedure, assign, goto, if_then, print, exit, StmtTree}
 use Rattle.stapl_syntax.specs.Statements.{is_outer}
+use Rattle.stapl_meaning.specs.declared.values.ValueKind.{ValueKind}
+use Rattle.stapl_meaning.specs.declared.values.ValueKind.TheVariants as kinds
+use Rattle.stapl_meaning.specs.Values.{side}
+use Rattle.stapl_meaning.specs.Operands.{Test, Plain, Character, Operand}
 use Rattle.stapl_meaning.specs.Scopes.{Scope, scope_at, procedure_number}
+use Rattle.stapl_meaning.specs.Turns.{operands, rows}
 use Rattle.stapl_code.specs.declared.instr.PrintPart.{PrintPart}
 use Rattle.stapl_code.specs.declared.instr.PrintPart.TheVariants as parts
 use Rattle.stapl_code.specs.declared.instr.Instr.{Instr}
-use Rattle.stapl_code.specs.declared.instr.Instr.TheVariants.{Turn, Push, Load, Store, Binary, Jump, JumpIfZero, EndProc, Print, Exit}
+use Rattle.stapl_code.specs.declared.instr.Instr.TheVariants.{Turn, Push, PushBit, Load, Store, Binary, Jump, JumpIfZero, EndProc, Print, CheckChar, Exit}
 use Rattle.stapl_code.specs.declared.raw.ProcDef.{ProcDef}
 use Rattle.stapl_code.specs.declared.raw.ItemDef.{ItemDef}
 use Rattle.stapl_code.specs.declared.raw.ActionDef.{ActionDef}
@@ -21,45 +26,107 @@ no_operator = 255
 
 -- the number of an operator
 abbrev pub operator_number : BinOp → ℕ
-operator_number Add = 0
-operator_number Less = 12
-operator_number _ = no_operator
+operator_number operators.Add = 0
+operator_number operators.Subtract = 1
+operator_number operators.Multiply = 2
+operator_number operators.Divide = 3
+operator_number operators.Remainder = 4
+operator_number operators.BitAnd = 5
+operator_number operators.BitOr = 6
+operator_number operators.BitXor = 7
+operator_number operators.ShiftLeft = 8
+operator_number operators.ShiftRight = 9
+operator_number operators.Equal = 10
+operator_number operators.NotEqual = 11
+operator_number operators.Less = 12
+operator_number operators.AtMost = 13
+operator_number operators.Greater = 14
+operator_number operators.AtLeast = 15
+operator_number operators.And = 19
+operator_number operators.Or = 20
+
+-- a number where a value of a kind is wanted
+abbrev pub literal_code : ValueKind → ℤ → Instr
+literal_code kinds.Int z = Push z
+literal_code kinds.Bit (pos zero) = PushBit 0
+literal_code kinds.Bit (pos (suc zero)) = PushBit 1
+literal_code kinds.Bit _ = Binary no_operator
+
+-- the test of an operand, before the rest
+abbrev pub test_code : Test → List Instr → List Instr
+test_code Plain rest = rest
+test_code Character rest = CheckChar ∷ rest
 
 -- where a name stands for the variable of a number
 module _ (variable : List ℕ → ℕ) where
-  -- the code of an expression, before the rest
-  abbrev pub expr_code : ExprTree → List Instr → List Instr
-  expr_code (number z) rest = Push z ∷ rest
-  expr_code (scalar name) rest = Load (variable name) ∷ rest
-  expr_code (binary op a b) rest = expr_code a (expr_code b (Binary (operator_number op) ∷ rest))
-  expr_code _ rest = Binary no_operator ∷ rest
+  -- the code of an expression where a value of a kind is wanted, before the rest
+  abbrev pub expr_code : ValueKind → ExprTree → List Instr → List Instr
+  expr_code kind (number z) rest = literal_code kind z ∷ rest
+  expr_code kind (scalar name) rest = Load (variable name) ∷ rest
+  expr_code kind (binary op a b) rest = expr_code (side op) a (expr_code (side op) b (Binary (operator_number op) ∷ rest))
+  expr_code kind _ rest = Binary no_operator ∷ rest
 
-  -- the code of the values that a PRINT prints
-  abbrev pub values_code : List PartTree → List Instr → List Instr
-  values_code [] rest = rest
-  values_code (string bytes ∷ list) rest = values_code list rest
-  values_code (value e ∷ list) rest = expr_code e (values_code list rest)
-  values_code (character e ∷ list) rest = Binary no_operator ∷ values_code list rest
+  -- the code of operands, before the rest
+  abbrev pub operands_code : List Operand → List Instr → List Instr
+  operands_code [] rest = rest
+  operands_code (o ∷ os) rest = expr_code o.kind o.expr (test_code o.test (operands_code os rest))
 
 -- the parts of a PRINT whose first text has a number
 abbrev pub print_parts : ℕ → List PartTree → List PrintPart
 print_parts first [] = []
 print_parts first (string bytes ∷ list) = parts.Text first ∷ print_parts (suc first) list
 print_parts first (value e ∷ list) = parts.Int ∷ print_parts first list
-print_parts first (character e ∷ list) = parts.Int ∷ print_parts first list
+print_parts first (character e ∷ list) = parts.Char ∷ print_parts first list
 
--- the texts of a program, in their order
+-- the strings among the parts of a PRINT
 abbrev pub part_texts : List PartTree → List (List ℕ)
 part_texts [] = []
 part_texts (string bytes ∷ list) = bytes ∷ part_texts list
 part_texts (value e ∷ list) = part_texts list
 part_texts (character e ∷ list) = part_texts list
 
-abbrev pub body_texts : BodyTree → List (List ℕ)
-body_texts (print list) = part_texts list
-body_texts (if_then e body) = body_texts body
-body_texts _ = []
+-- The table of statements, for the compiler: the last instruction of a row, behind its operands, and its texts. The first
+-- text has a number; place says where the code of a piece begins. A statement that is not built is never carried out.
 
+abbrev pub last : Scope → (ℕ → ℕ) → ℕ → BodyTree → Instr
+last scope place first end_procedure = EndProc
+last scope place first (assign name e) = Store (scope.variable name)
+last scope place first (goto name) = Jump (place (scope.label name))
+last scope place first (if_then e body) = JumpIfZero (place scope.follow)
+last scope place first (print list) = Print (print_parts first list)
+last scope place first (exit e) = Exit
+last scope place first _ = Binary no_operator
+
+abbrev pub row_texts : BodyTree → List (List ℕ)
+row_texts (print list) = part_texts list
+row_texts _ = []
+
+-- the number behind these texts
+abbrev pub past : ℕ → List (List ℕ) → ℕ
+past n [] = n
+past n (text ∷ texts) = past (suc n) texts
+
+-- the texts of rows, and of a statement
+abbrev pub rows_texts : List BodyTree → List (List ℕ)
+rows_texts [] = []
+rows_texts (b ∷ bs) = row_texts b ++ rows_texts bs
+
+abbrev pub body_texts : BodyTree → List (List ℕ)
+body_texts b = rows_texts (rows b)
+
+-- the code of a row, of rows one after the other, and of a statement, before the rest
+abbrev pub row_code : Scope → (ℕ → ℕ) → ℕ → BodyTree → List Instr → List Instr
+row_code scope place first b rest = operands_code scope.variable (operands b) (last scope place first b ∷ rest)
+
+abbrev pub rows_code : Scope → (ℕ → ℕ) → ℕ → List BodyTree → List Instr → List Instr
+rows_code scope place first [] rest = rest
+rows_code scope place first (b ∷ bs) rest =
+    row_code scope place first b (rows_code scope place (past first (row_texts b)) bs rest)
+
+abbrev pub body_code : Scope → (ℕ → ℕ) → ℕ → BodyTree → List Instr → List Instr
+body_code scope place first b rest = rows_code scope place first (rows b) rest
+
+-- the texts of a program, in their order
 abbrev pub texts_of : List StmtTree → List (List ℕ)
 texts_of [] = []
 texts_of (st ∷ rest) = body_texts st.body ++ texts_of rest
@@ -67,19 +134,6 @@ texts_of (st ∷ rest) = body_texts st.body ++ texts_of rest
 -- the number of the first text behind the place of a piece
 abbrev pub first_text : List StmtTree → ℕ → ℕ
 first_text program i = length (texts_of (take i program))
-
--- The code of a statement, whose first text has a number; place says where the code of a piece begins. A statement that
--- is not built is never carried out.
-abbrev pub body_code : Scope → (ℕ → ℕ) → ℕ → BodyTree → List Instr → List Instr
-body_code scope place first end_procedure rest = EndProc ∷ rest
-body_code scope place first (integer name None) rest = rest
-body_code scope place first (assign name e) rest = expr_code scope.variable e (Store (scope.variable name) ∷ rest)
-body_code scope place first (goto name) rest = Jump (place (scope.label name)) ∷ rest
-body_code scope place first (if_then e body) rest =
-    expr_code scope.variable e (JumpIfZero (place scope.follow) ∷ body_code scope place first body rest)
-body_code scope place first (print list) rest = values_code scope.variable list (Print (print_parts first list) ∷ rest)
-body_code scope place first (exit e) rest = expr_code scope.variable e (Exit ∷ rest)
-body_code scope place first _ rest = Binary no_operator ∷ rest
 
 module _ (program : List StmtTree) (place : ℕ → ℕ) where
   -- the code of the piece at a place: its turn, and its statement; a statement outside procedures has no code

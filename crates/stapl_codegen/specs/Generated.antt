@@ -5,7 +5,7 @@ use Rattle.stapl_meaning.specs.Scopes.{program_names, zeros_of}
 use Rattle.stapl_code.specs.declared.raw.VarDef.{VarDef}
 use Rattle.stapl_code.specs.declared.raw.CodeLists.{CodeLists}
 use Rattle.stapl_code.specs.Safe.{entries_of}
-use Rattle.stapl_codegen.specs.Emit.{texts_of, procedures_of, actions_of, program_code}
+use Rattle.stapl_codegen.specs.Emit.{texts_of, start_of, procedures_of, actions_of, program_code}
 use Rattle.stapl_codegen.specs.Correct.{Stands}
 
 -- an INTEGER scalar
@@ -25,4 +25,4 @@ lists_of program = record {
 -- The code of a program: it has its lists, and stands for it.
 pub record IsCodeOf (program : List StmtTree) (code : CodeLists) : Type 0 where
   pub lists : code ≡ lists_of program
-  pub stands : Stands program (entries_of code.procedures) code.texts code.instrs (zeros_of program)
+  pub stands : Stands program (start_of program) (entries_of code.procedures) code.texts code.instrs (zeros_of program)

@@ -4,7 +4,7 @@ ghost use Rattle.std.specs.List.{range_with_len};
 ghost use Rattle.stapl_syntax.specs.Trees.{trees};
 ghost use Rattle.stapl_syntax.specs.ProgramValues.{trees_of};
 ghost use Rattle.stapl_syntax.specs.Programs.{piece_limit};
-ghost use Rattle.stapl_syntax.specs.Unbuilt.{IsBuiltProgram};
+ghost use Rattle.stapl_built.specs.Unbuilt.{IsBuiltProgram};
 ghost use Rattle.stapl_meaning.specs.Scopes.{program_names};
 ghost use Rattle.stapl_code.specs.Ranges.{IsInRange};
 ghost use Rattle.stapl_code.specs.Valid.{IsValid};

@@ -1,7 +1,7 @@
 //! Laws of the definitions.
 ghost use Rattle.std.specs.Prelude.{ℕ, List};
 ghost use Rattle.stapl_syntax.specs.Trees.{StmtTree};
-ghost use Rattle.stapl_syntax.specs.Unbuilt.{IsBuiltProgram};
+ghost use Rattle.stapl_built.specs.Unbuilt.{IsBuiltProgram};
 ghost use Rattle.stapl_code.specs.Ranges.{IsInRange};
 ghost use Rattle.stapl_code.specs.Valid.{IsValid};
 ghost use Rattle.stapl_codegen.specs.Accepted.{IsAccepted};
@@ -9,9 +9,10 @@ ghost use Rattle.stapl_codegen.specs.Correct.{CodeStands};
 ghost use Rattle.stapl_codegen.specs.Generated.{lists_of, IsCodeOf};
 ghost use Rattle.stapl_codegen.specs.Unstuck.{ProgramsAreNotStuck};
 
+use stapl_built::laws::programs_are_built;
 use stapl_code::laws::never_stuck;
 use stapl_meaning::laws::programs_are_typed;
-use stapl_syntax::laws::{blocks_are_well_named, programs_are_built, texts_of_prints_are_short};
+use stapl_syntax::laws::{blocks_are_well_named, texts_of_prints_are_short};
 
 /// The code of a program does what the program does.
 pub fn code_stands()
