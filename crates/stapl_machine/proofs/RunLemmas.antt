@@ -1,34 +1,34 @@
 -- On the turns of a run, one after another.
-use Rattle.std.proofs.Common.{◌≡◌, ◌≤◌, ◌<◌, ℕ, suc, ◌+◌, ◌-◌, List, [], ◌++◌, refl, sym, ap, ◌∙◌, append_assoc, arith, Option, Some, None, pos, subst, length}
+use Rattle.std.proofs.Common.{◌≡◌, ◌≤◌, ◌<◌, ℕ, suc, ◌+◌, ◌-◌, List, [], ◌++◌, refl, sym, ap, ◌∙◌, append_assoc, arith, Option, Some, None, subst, length, reverse}
 use Rattle.std.specs.List.{flat_map}
-use Rattle.std.proofs.lemmas.List.{append-nil}
 use Rattle.std.proofs.lemmas.Grind.{flat_map-append}
 use Rattle.tool_io.specs.declared.lines.Lines.{Lines}
 use Rattle.tool_io.proofs.PutLemmas.{put_then, puts_nothing, front_with, put_then_front}
 use Rattle.stapl_meaning.specs.declared.events.Event.{Event}
 use Rattle.stapl_meaning.specs.declared.events.Ending.{Ending}
-use Rattle.stapl_meaning.specs.declared.events.Ending.TheVariants.{Exit}
 use Rattle.stapl_meaning.specs.declared.values.Held.{Held}
 use Rattle.stapl_meaning.specs.declared.values.Value.{Value}
-use Rattle.stapl_meaning.specs.States.{State, Turned, Leads, Over, NoTurn, next_chosen}
-use Rattle.stapl_meaning.specs.Plays.{Run, Ended, Stopped, after, goes_on, ending_of}
+use Rattle.stapl_meaning.specs.States.{State, Turned, Leads, Over, Broken, NoTurn, preceded, turn_of_piece, next_chosen}
+use Rattle.stapl_meaning.specs.Plays.{Run, after, goes_on, ending_of}
 use Rattle.stapl_meaning.specs.Texts.{event_line}
-use Rattle.stapl_code.specs.Machine.{preceded, entry_of, stretch, begun}
-use Rattle.stapl_code.proofs.Preceded.{preceded_nothing, begun_preceded}
+use Rattle.stapl_code.specs.Machine.{entry_of, stretch, begun}
+use Rattle.stapl_code.proofs.Preceded.{begun_preceded}
 use Rattle.stapl_code.specs.Safe.{entries_of}
 use Rattle.stapl_code.specs.Ticks.{ticks, ticks_then}
 use Rattle.stapl_code.specs.declared.raw.CodeLists.{CodeLists}
 use Rattle.stapl_machine.specs.declared.act.Workspace.{Workspace}
-use Rattle.stapl_machine.specs.declared.turns.Went.{Went}
-use Rattle.stapl_machine.specs.declared.turns.Went.TheVariants as went
-use Rattle.stapl_machine.specs.Acts.{state_of}
-use Rattle.stapl_machine.specs.Turns.{rest_of, ticks_from, turn_at, ticks_at, led_to, Does, DoesFront}
+use Rattle.stapl_machine.specs.declared.moves.Went.{Went}
+use Rattle.stapl_machine.specs.declared.moves.Went.TheVariants as went
+use Rattle.stapl_machine.specs.Acts.{state_of, operands_of}
+use Rattle.stapl_machine.specs.Moves.{led_to}
+use Rattle.stapl_machine.specs.Turns.{rest_of, ticks_from, turn_at, ticks_at, Does, DoesFront}
 use Rattle.stapl_machine.specs.Runs.{run_of, run_ticks_of, chosen_run, chosen_ticks, begun_run, begun_ticks, play_from, play_ticks_from, Runs, RunsTo, RunsFront, LeavesVariables}
 
 -- events in front of a turn are events in front of its run
 pub goes_after : (seen : List Event) (t : Turned) (s : State) (go : ℕ → State → Run) → goes_on (preceded seen t) s go ≡ after seen (goes_on t s go)
 goes_after seen (Leads events place u) s go = ap (λ (l : List Event). let r : Run = record (go place u) { events = l } in r) (append_assoc seen events (go place u).events)
 goes_after seen (Over events ending u) s go = refl
+goes_after seen (Broken events k u) s go = refl
 goes_after seen (NoTurn events) s go = refl
 
 pub after_twice : (first second : List Event) (r : Run) → after first (after second r) ≡ after (first ++ second) r
@@ -38,15 +38,8 @@ after_twice first second r = ap (λ (l : List Event). let q : Run = record r { e
 pub ticks_preceded : (seen : List Event) (t : Turned) (go : ℕ → State → ℕ) → ticks_then (preceded seen t) go ≡ ticks_then t go
 ticks_preceded seen (Leads events place u) go = refl
 ticks_preceded seen (Over events ending u) go = refl
+ticks_preceded seen (Broken events k u) go = refl
 ticks_preceded seen (NoTurn events) go = refl
-
--- a play that met what no valid code meets before its first turn
-abbrev pub stopped_at_once : State → Run
-stopped_at_once u = record { events = []; outcome = Stopped; state = u }
-
--- a play that is over before its first turn
-abbrev pub over_at_once : State → Run
-over_at_once u = record { events = []; outcome = Ended (Exit (pos 0)); state = u }
 
 module _ {K : Type 0} {written : K → Option (List ℕ)} where
   pub runs_start : (whole : Run) (lines : Lines K) → Runs written whole lines whole lines
@@ -66,15 +59,9 @@ module _ {K : Type 0} {written : K → Option (List ℕ)} where
         ∙ after_twice first.events second.events (goes_on rest s go);
   }
 
-  -- a run that is left with no event
-  pub runs_end : {whole rest : Run} {a b : Lines K} → Runs written whole a rest b → rest.events ≡ [] → RunsTo written whole a (ending_of rest.outcome) b
-  runs_end {whole = whole} {rest = rest} r none =
-      let all : whole.events ≡ r.events = ap (λ (q : Run). q.events) r.runs ∙ ap (λ (l : List Event). r.events ++ l) none ∙ append-nil r.events in
-      record { put = rw all r.put; ended = ap (λ (q : Run). ending_of q.outcome) r.runs }
-
   -- the variables behind the run
-  pub runs_variables : {whole rest : Run} {a b : Lines K} → Runs written whole a rest b → whole.state.variables ≡ rest.state.variables
-  runs_variables r = ap (λ (q : Run). q.state.variables) r.runs
+  pub runs_variables : {whole rest : Run} {a b : Lines K} → Runs written whole a rest b → whole.state.store.variables ≡ rest.state.store.variables
+  runs_variables r = ap (λ (q : Run). q.state.store.variables) r.runs
 
   -- a turn that was broken off
   pub runs_front : {whole : Run} {a b c : Lines K} (turn : Turned) (s : State) (go : ℕ → State → Run) →
@@ -96,10 +83,10 @@ module _ {K : Type 0} {written : K → Option (List ℕ)} (code : CodeLists) (le
       runs_more (turn_at code place s) (led_to (went.On to) u) s (run_of code more) (runs_same (ap (λ n. run_of code n place s) e) r) d
 
   -- it ends the run
-  pub run_over : {whole : Run} {a b c : Lines K} (w : Went) → left ≡ suc more → Runs written whole a (run_of code left place s) b →
-      Does written (turn_at code place s) b (led_to w u) c → Runs written whole a (goes_on (led_to w u) s (run_of code more)) c
-  run_over w e r d =
-      runs_more (turn_at code place s) (led_to w u) s (run_of code more) (runs_same (ap (λ n. run_of code n place s) e) r) d
+  pub run_over : {whole : Run} {a b c : Lines K} (ending : Option Ending) → left ≡ suc more → Runs written whole a (run_of code left place s) b →
+      Does written (turn_at code place s) b (led_to (went.Over ending) u) c → Runs written whole a (goes_on (led_to (went.Over ending) u) s (run_of code more)) c
+  run_over ending e r d =
+      runs_more (turn_at code place s) (led_to (went.Over ending) u) s (run_of code more) (runs_same (ap (λ n. run_of code n place s) e) r) d
 
   -- it is broken off
   pub run_front : {whole : Run} {a b c : Lines K} → left ≡ suc more → Runs written whole a (run_of code left place s) b →
@@ -133,8 +120,8 @@ one_left all i h = omega arith
 pub ticked_on : (first before now turn left more all : ℕ) → now ≡ before + turn → before + left ≡ first + all → left ≡ turn + more → now + more ≡ first + all
 ticked_on first before now turn left more all e f g = omega arith
 
-pub ticked_end : (first before now turn left all : ℕ) → now ≡ before + turn → before + left ≡ first + all → left ≡ turn + 0 → now ≡ first + all
-ticked_end first before now turn left all e f g = omega arith
+pub ticked_end : (first before now turn left more all : ℕ) → now ≡ before + turn → before + left ≡ first + all → left ≡ turn + more → more ≡ 0 → now ≡ first + all
+ticked_end first before now turn left more all e f g h = omega arith
 
 pub ticked_most : (first before now turn left more all : ℕ) → now ≤ before + turn → before + left ≡ first + all → left ≡ turn + more → now ≤ first + all
 ticked_most first before now turn left more all e f g = omega arith
@@ -142,30 +129,6 @@ ticked_most first before now turn left more all e f g = omega arith
 -- the variables behind a run, by another name
 pub leaves_same : {a b : Run} (ending : Option Ending) (variables : List Held) → a ≡ b → LeavesVariables a ending variables → LeavesVariables b ending variables
 leaves_same ending variables e l = subst (λ (r : Run). LeavesVariables r ending variables) e l
-
--- behind the prologue
-module _ (code : CodeLists) (n : ℕ) (t : Turned) where
-  pub begun_on : (place : ℕ) (u before : State) → t ≡ Leads [] place u → chosen_run code n u before ≡ begun_run code n t before
-  begun_on place u before e =
-      ap (λ (z : Turned). goes_on z before (run_of code n)) (preceded_nothing (next_chosen (entry_of (entries_of code.procedures)) u u.chosen)
-      ∙ ap (begun (entries_of code.procedures) code.texts) (sym e))
-
-  pub begun_ticks_on : (place : ℕ) (u : State) → t ≡ Leads [] place u → chosen_ticks code n u ≡ begun_ticks code n t
-  begun_ticks_on place u e =
-      ap (λ (z : Turned). ticks_then z (run_ticks_of code n)) (preceded_nothing (next_chosen (entry_of (entries_of code.procedures)) u u.chosen)
-      ∙ ap (begun (entries_of code.procedures) code.texts) (sym e))
-
-  pub begun_over : (ending : Ending) (u before : State) → t ≡ Over [] ending u → stopped_at_once before ≡ begun_run code n t before
-  begun_over ending u before e = ap (λ (z : Turned). begun_run code n z before) (sym e)
-
-  pub begun_ticks_over : (ending : Ending) (u : State) → t ≡ Over [] ending u → 0 ≡ begun_ticks code n t
-  begun_ticks_over ending u e = ap (begun_ticks code n) (sym e)
-
-  pub begun_wrong : (before : State) → t ≡ NoTurn [] → stopped_at_once before ≡ begun_run code n t before
-  begun_wrong before e = ap (λ (z : Turned). begun_run code n z before) (sym e)
-
-  pub begun_ticks_wrong : t ≡ NoTurn [] → 0 ≡ begun_ticks code n t
-  begun_ticks_wrong e = ap (begun_ticks code n) (sym e)
 
 -- the first chosen procedure begins, or none is left
 module _ (code : CodeLists) (n : ℕ) (s u : State) where
@@ -178,11 +141,34 @@ module _ (code : CodeLists) (n : ℕ) (s u : State) where
   pub chosen_ticks_on : (start : ℕ) → begins s ≡ Leads [] start u → run_ticks_of code n start u ≡ chosen_ticks code n s
   chosen_ticks_on start e = sym (ap (λ (t : Turned). ticks_then t (run_ticks_of code n)) e)
 
-  pub chosen_none : (before : State) → begins s ≡ Over [] (Exit (pos 0)) u → over_at_once u ≡ chosen_run code n s before
-  chosen_none before e = sym (ap (λ (t : Turned). goes_on t before (run_of code n)) e)
+  pub chosen_none : (ending : Option Ending) (before : State) → begins s ≡ led_to (went.Over ending) u →
+      goes_on (led_to (went.Over ending) u) before (run_of code n) ≡ chosen_run code n s before
+  chosen_none ending before e = sym (ap (λ (t : Turned). goes_on t before (run_of code n)) e)
 
-  pub chosen_ticks_none : begins s ≡ Over [] (Exit (pos 0)) u → 0 ≡ chosen_ticks code n s
-  chosen_ticks_none e = sym (ap (λ (t : Turned). ticks_then t (run_ticks_of code n)) e)
+  pub chosen_ticks_none : (ending : Option Ending) → begins s ≡ led_to (went.Over ending) u → 0 ≡ chosen_ticks code n s
+  chosen_ticks_none (Some ending) e = sym (ap (λ (t : Turned). ticks_then t (run_ticks_of code n)) e)
+  chosen_ticks_none None e = sym (ap (λ (t : Turned). ticks_then t (run_ticks_of code n)) e)
+
+-- a run that is over with its turn
+module _ (u before : State) (go : ℕ → State → Run) where
+  abbrev pub over : Option Ending → Run
+  over ending = goes_on (led_to (went.Over ending) u) before go
+
+  pub over_events : (ending : Option Ending) → (over ending).events ≡ []
+  over_events (Some ending) = refl
+  over_events None = refl
+
+  pub over_ends : (ending : Option Ending) → ending_of (over ending).outcome ≡ ending
+  over_ends (Some ending) = refl
+  over_ends None = refl
+
+  pub over_leaves : (ending : Option Ending) → LeavesVariables (over ending) ending u.store.variables
+  over_leaves (Some ending) = refl
+  over_leaves None = tt
+
+pub over_ticks : (ending : Option Ending) (u : State) (go : ℕ → State → ℕ) → ticks_then (led_to (went.Over ending) u) go ≡ 0
+over_ticks (Some ending) u go = refl
+over_ticks None u go = refl
 
 module _ {K : Type 0} {written : K → Option (List ℕ)} where
   pub runs_to_same : {a b : Run} {old new : Lines K} {ending : Option Ending} → a ≡ b → RunsTo written a old ending new → RunsTo written b old ending new
@@ -191,12 +177,9 @@ module _ {K : Type 0} {written : K → Option (List ℕ)} where
   pub runs_front_same : {a b : Run} {old new : Lines K} → a ≡ b → RunsFront written a old new → RunsFront written b old new
   runs_front_same e r = record { front = rw (← e) r.front }
 
-  -- a play without a procedure
-  pub over_to : (u : State) (lines : Lines K) → RunsTo written (over_at_once u) lines (Some (Exit (pos 0))) lines
-  over_to u lines = record { put = puts_nothing written lines; ended = refl }
-
-  pub stopped_to : (u : State) (lines : Lines K) → RunsTo written (stopped_at_once u) lines None lines
-  stopped_to u lines = record { put = puts_nothing written lines; ended = refl }
+  -- a play that is over before its first turn
+  pub over_to : (u before : State) (go : ℕ → State → Run) (ending : Option Ending) (lines : Lines K) → RunsTo written (over u before go ending) lines ending lines
+  over_to u before go ending lines = record { put = rw (over_events u before go ending) (puts_nothing written lines); ended = over_ends u before go ending }
 
   -- a run, and then what is left of it
   pub runs_then : {whole rest : Run} {a b c : Lines K} {ending : Option Ending} → Runs written whole a rest b → RunsTo written rest b ending c → RunsTo written whole a ending c
@@ -239,15 +222,34 @@ module _ {K : Type 0} {written : K → Option (List ℕ)} where
       ∙ goes_after d.events (begun (entries_of code.procedures) code.texts d.rest) s (run_of code n)) in
       record { front = rw (all, flat_map-append event_line d.events left.events) (front_with (flat_map event_line left.events) d.front) }
 
--- a play from registers with no operand
-module _ (code : CodeLists) (chosen : List ℕ) (work : Workspace) (n : ℕ) (none : work.operands ≡ []) where
-  pub play_is : begun_run code n (rest_of code 0 chosen work) (state_of chosen work) ≡ play_from code chosen work.variables.items n
-  play_is = ap (λ (ops : List Value). begun_run code n (stretch (entries_of code.procedures) code.texts (length code.instrs) code.instrs ops (state_of chosen work)) (state_of chosen work)) none
+-- the prologue has no piece
+begun_piece : (entries : List ℕ) (texts : List (List ℕ)) (piece : ℕ) (t : Turned) → begun entries texts (turn_of_piece piece t) ≡ begun entries texts t
+begun_piece entries texts piece (Leads events place s) = refl
+begun_piece entries texts piece (Over events ending s) = refl
+begun_piece entries texts piece (Broken events k s) = refl
+begun_piece entries texts piece (NoTurn events) = refl
 
-  pub play_ticks_is : ticks_from code 0 chosen work + begun_ticks code n (rest_of code 0 chosen work) ≡ play_ticks_from code chosen work.variables.items n
+-- a play from registers with no operand, where no chosen procedure has begun
+module _ (code : CodeLists) (chosen : List ℕ) (work : Workspace) (n : ℕ) (none : work.operands.items ≡ []) where
+  abbrev pub at_first : Workspace
+  at_first = record work { next = 0 }
+
+  abbrev prologue : List Value → Turned
+  prologue ops = stretch (entries_of code.procedures) code.texts (length code.instrs) code.instrs ops (state_of chosen at_first)
+
+  first_begun : begun (entries_of code.procedures) code.texts (rest_of code 0 chosen at_first) ≡ begun (entries_of code.procedures) code.texts (prologue [])
+  first_begun =
+      begun_piece (entries_of code.procedures) code.texts work.piece (prologue (operands_of work))
+      ∙ ap (λ (ops : List Value). begun (entries_of code.procedures) code.texts (prologue (reverse ops))) none
+
+  pub play_is : begun_run code n (rest_of code 0 chosen at_first) (state_of chosen at_first) ≡ play_from code chosen work.variables.items n
+  play_is = ap (λ (t : Turned). goes_on t (state_of chosen at_first) (run_of code n)) first_begun
+
+  pub play_ticks_is : ticks_from code 0 chosen at_first + begun_ticks code n (rest_of code 0 chosen at_first) ≡ play_ticks_from code chosen work.variables.items n
   play_ticks_is =
-      ap (λ (ops : List Value). ticks (entries_of code.procedures) code.texts (length code.instrs) code.instrs ops (state_of chosen work)
-      + begun_ticks code n (stretch (entries_of code.procedures) code.texts (length code.instrs) code.instrs ops (state_of chosen work))) none
+      ap (λ (ops : List Value). ticks (entries_of code.procedures) code.texts (length code.instrs) code.instrs (reverse ops) (state_of chosen at_first)
+      + begun_ticks code n (rest_of code 0 chosen at_first)) none
+      ∙ ap (λ (t : Turned). ticks (entries_of code.procedures) code.texts (length code.instrs) code.instrs [] (state_of chosen at_first) + ticks_then t (run_ticks_of code n)) first_begun
 
 pub play_ticks_does : (code : CodeLists) (n : ℕ) (whole rest : Turned) (events : List Event) → whole ≡ preceded events rest → begun_ticks code n whole ≡ begun_ticks code n rest
 play_ticks_does code n whole rest events e =

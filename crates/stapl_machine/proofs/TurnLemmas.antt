@@ -7,21 +7,22 @@ use Rattle.tool_io.specs.Lines.{gathered, Puts, PutsFront}
 use Rattle.tool_io.proofs.PutLemmas.{put_then, put_then_front, puts_nothing}
 use Rattle.stapl_meaning.specs.declared.events.Event.TheVariants.{Print}
 use Rattle.stapl_meaning.specs.declared.values.Value.{Value}
-use Rattle.stapl_meaning.specs.States.{State, Turned, NoTurn}
+use Rattle.stapl_meaning.specs.States.{State, Turned, NoTurn, preceded, turn_of_piece}
 use Rattle.stapl_meaning.specs.Texts.{event_line}
 use Rattle.stapl_code.specs.declared.instr.Instr.{Instr}
 use Rattle.stapl_code.specs.declared.raw.CodeLists.{CodeLists}
 use Rattle.stapl_code.proofs.Preceded.{preceded_nothing, preceded_twice}
-use Rattle.stapl_code.specs.Machine.{Step, step, stretch, begins, continues, preceded}
+use Rattle.stapl_code.specs.Machine.{step, stretch, begins, continues}
 use Rattle.stapl_code.specs.declared.instr.Instr.TheVariants.{Turn}
-use Rattle.stapl_code.specs.Valid.{is_turn}
-use Rattle.std.specs.Prelude.{slice_get, true, false}
+use Rattle.std.specs.Prelude.{slice_get, reverse, Some, None}
 use Rattle.std.proofs.Common.{add-one, zero}
 use Rattle.stapl_code.specs.Ticks.{ticks, begin_ticks, tick_of, ticks_behind}
 use Rattle.stapl_code.specs.Safe.{entries_of}
 use Rattle.stapl_machine.specs.declared.act.Workspace.{Workspace}
-use Rattle.stapl_machine.specs.Acts.{state_of, step_of}
-use Rattle.stapl_machine.specs.Turns.{rest_of, ticks_from, turn_at, ticks_at, Does, DoesFront}
+use Rattle.stapl_machine.specs.declared.moves.Moved.{Moved}
+use Rattle.stapl_machine.specs.Moves.{moved_to, moved_ticks}
+use Rattle.stapl_machine.specs.Acts.{state_of, operands_of, step_of}
+use Rattle.stapl_machine.specs.Turns.{rest_of, ticks_from, piece_of, turn_at, ticks_at, Does, DoesFront}
 
 module _ {K : Type 0} {written : K → Option (List ℕ)} where
   -- nothing is put
@@ -63,6 +64,10 @@ module _ {K : Type 0} {written : K → Option (List ℕ)} where
   pub does_in_front : {whole rest : Turned} {old new : Lines K} → Does written whole old rest new → DoesFront written whole old new
   does_in_front {rest = rest} d = record { events = d.events; front = front_of_put d.put; rest = rest; does = d.does }
 
+-- the count behind an instruction
+tick_on : (a s k t u v : ℕ) → s ≡ a + k → t ≡ k + u → u ≡ v → s + v ≡ a + t
+tick_on a s k t u v e f g = omega arith
+
 -- the first instruction of the rest of a turn
 module _ (code : CodeLists) (i : ℕ) where
   abbrev pub behind : List Value → State → Turned
@@ -71,90 +76,86 @@ module _ (code : CodeLists) (i : ℕ) where
   abbrev pub ticks_after : List Value → State → ℕ
   ticks_after ops s = ticks (entries_of code.procedures) code.texts (length code.instrs) (drop (i + 1) code.instrs) ops s
 
-  pub one_more : (chosen : List ℕ) (work : Workspace) (x : Instr) → i < length code.instrs → x ≡ get_or code.instrs i x → (st : Step) → step_of code i x chosen work ≡ st →
-      rest_of code i chosen work ≡ continues st behind
-  one_more chosen work x inside is st e =
-      let here : length code.instrs - suc (length (drop (i + 1) code.instrs)) ≡ i = omega (arith, length-drop (i + 1) code.instrs) in
-      let s = state_of chosen work in
-      ap (λ l. stretch (entries_of code.procedures) code.texts (length code.instrs) l work.operands s) (drop_more code.instrs i x inside)
-      ∙ ap (λ h. continues (step (entries_of code.procedures) code.texts h (get_or code.instrs i x) work.operands s) behind) here
-      ∙ ap (λ y. continues (step_of code i y chosen work) behind) (sym is) ∙ ap (λ t. continues t behind) e
+  module _ (chosen : List ℕ) (work : Workspace) (x : Instr) (inside : i < length code.instrs) (is : x ≡ get_or code.instrs i x) where
+    one_more : rest_of code i chosen work ≡ turn_of_piece work.piece (continues (step_of code i x chosen work) behind)
+    one_more =
+        let here : length code.instrs - suc (length (drop (i + 1) code.instrs)) ≡ i = omega (arith, length-drop (i + 1) code.instrs) in
+        let s = state_of chosen work in let ops = operands_of work in let entries = entries_of code.procedures in
+        ap (λ l. turn_of_piece work.piece (stretch entries code.texts (length code.instrs) l ops s)) (drop_more code.instrs i x inside)
+        ∙ ap (λ h. turn_of_piece work.piece (continues (step entries code.texts h (get_or code.instrs i x) ops s) behind)) here
+        ∙ ap (λ y. turn_of_piece work.piece (continues (step_of code i y chosen work) behind)) (sym is)
 
-  pub one_tick : (chosen : List ℕ) (work : Workspace) (x : Instr) → i < length code.instrs → x ≡ get_or code.instrs i x → (st : Step) → step_of code i x chosen work ≡ st →
-      ticks_from code i chosen work ≡ tick_of x + ticks_behind st ticks_after
-  one_tick chosen work x inside is st e =
-      let here : length code.instrs - suc (length (drop (i + 1) code.instrs)) ≡ i = omega (arith, length-drop (i + 1) code.instrs) in
-      let s = state_of chosen work in
-      ap (λ l. ticks (entries_of code.procedures) code.texts (length code.instrs) l work.operands s) (drop_more code.instrs i x inside)
-      ∙ ap (λ h. tick_of (get_or code.instrs i x) + ticks_behind (step (entries_of code.procedures) code.texts h (get_or code.instrs i x) work.operands s) ticks_after) here
-      ∙ ap (λ y. tick_of y + ticks_behind (step_of code i y chosen work) ticks_after) (sym is) ∙ ap (λ t. tick_of x + ticks_behind t ticks_after) e
+    one_tick : ticks_from code i chosen work ≡ tick_of x + ticks_behind (step_of code i x chosen work) ticks_after
+    one_tick =
+        let here : length code.instrs - suc (length (drop (i + 1) code.instrs)) ≡ i = omega (arith, length-drop (i + 1) code.instrs) in
+        let s = state_of chosen work in let ops = operands_of work in let entries = entries_of code.procedures in
+        ap (λ l. ticks entries code.texts (length code.instrs) l ops s) (drop_more code.instrs i x inside)
+        ∙ ap (λ h. tick_of (get_or code.instrs i x) + ticks_behind (step entries code.texts h (get_or code.instrs i x) ops s) ticks_after) here
+        ∙ ap (λ y. tick_of y + ticks_behind (step_of code i y chosen work) ticks_after) (sym is)
 
-pub tick_on : (a s k t u : ℕ) → s ≡ a + k → t ≡ k + u → s + u ≡ a + t
-tick_on a s k t u e f = omega arith
+    -- where the instruction leads
+    module _ (new : Workspace) (m n : Moved) (same : m ≡ n) where
+      pub goes : ((go : List Value → State → Turned) → turn_of_piece work.piece (continues (step_of code i x chosen work) go) ≡ moved_to m chosen new go) →
+          rest_of code i chosen work ≡ moved_to n chosen new behind
+      goes leads = one_more ∙ leads behind ∙ ap (λ (k : Moved). moved_to k chosen new behind) same
 
-pub tick_end : (a s k t : ℕ) → s ≡ a + k → t ≡ k + 0 → s + 0 ≡ a + t
-tick_end a s k t e f = omega arith
-
-pub tick_over : (a s k t u : ℕ) → s ≡ a + k → t ≡ k + u → u ≡ 0 → s + 0 ≡ a + t
-tick_over a s k t u e f g = omega arith
-
-pub tick_most : (a s k t u : ℕ) → s ≡ a + k → t ≡ k + u → s ≤ a + t
-tick_most a s k t u e f = omega arith
+      pub counts : ((go : List Value → State → ℕ) → ticks_behind (step_of code i x chosen work) go ≡ moved_ticks m chosen new go) →
+          (before now : ℕ) → now ≡ before + tick_of x → now + moved_ticks n chosen new ticks_after ≡ before + ticks_from code i chosen work
+      counts ticks before now e =
+          tick_on before now (tick_of x) _ _ _ e one_tick (ticks ticks_after ∙ ap (λ (k : Moved). moved_ticks k chosen new ticks_after) same)
 
 pub ticks_then_equal : (a s new t u v : ℕ) → new + v ≡ s + u → s + u ≡ a + t → new + v ≡ a + t
 ticks_then_equal a s new t u v e f = omega arith
 
-begins_at : (entries : List ℕ) (texts : List (List ℕ)) (total : ℕ) (instrs : List Instr) (place : ℕ) (s : State) → is_turn (slice_get instrs place) ≡ true →
-    begins entries texts total (drop place instrs) s ≡ stretch entries texts total (drop (suc place) instrs) [] s
-begins_at entries texts total [] place s h = absurd cc
-begins_at entries texts total (Turn piece ∷ rest) zero s h = refl
-begins_at entries texts total (x ∷ rest) (suc n) s h = begins_at entries texts total rest n s h
-begins_at entries texts total (_ ∷ rest) zero s h = absurd cc
+module _ (entries : List ℕ) (texts : List (List ℕ)) (total : ℕ) (s : State) where
+  begins_at : (instrs : List Instr) (place piece : ℕ) → piece_of (slice_get instrs place) ≡ Some piece →
+      begins entries texts total (drop place instrs) s ≡ turn_of_piece piece (stretch entries texts total (drop (suc place) instrs) [] s)
+  begins_at [] place piece h = absurd cc
+  begins_at (Turn p ∷ rest) zero piece h = let same : p ≡ piece = cc in ap (λ q. turn_of_piece q (stretch entries texts total rest [] s)) same
+  begins_at (x ∷ rest) (suc n) piece h = begins_at rest n piece h
+  begins_at (_ ∷ rest) zero piece h = absurd cc
 
-begins_ticks_at : (entries : List ℕ) (texts : List (List ℕ)) (total : ℕ) (instrs : List Instr) (place : ℕ) (s : State) → is_turn (slice_get instrs place) ≡ true →
-    begin_ticks entries texts total (drop place instrs) s ≡ 1 + ticks entries texts total (drop (suc place) instrs) [] s
-begins_ticks_at entries texts total [] place s h = absurd cc
-begins_ticks_at entries texts total (Turn piece ∷ rest) zero s h = refl
-begins_ticks_at entries texts total (x ∷ rest) (suc n) s h = begins_ticks_at entries texts total rest n s h
-begins_ticks_at entries texts total (_ ∷ rest) zero s h = absurd cc
+  begins_ticks_at : (instrs : List Instr) (place piece : ℕ) → piece_of (slice_get instrs place) ≡ Some piece →
+      begin_ticks entries texts total (drop place instrs) s ≡ 1 + ticks entries texts total (drop (suc place) instrs) [] s
+  begins_ticks_at [] place piece h = absurd cc
+  begins_ticks_at (Turn p ∷ rest) zero piece h = refl
+  begins_ticks_at (x ∷ rest) (suc n) piece h = begins_ticks_at rest n piece h
+  begins_ticks_at (_ ∷ rest) zero piece h = absurd cc
 
-lacks_at : (entries : List ℕ) (texts : List (List ℕ)) (total : ℕ) (instrs : List Instr) (place : ℕ) (s : State) → is_turn (slice_get instrs place) ≡ false →
-    begins entries texts total (drop place instrs) s ≡ NoTurn []
-lacks_at entries texts total [] zero s h = refl
-lacks_at entries texts total [] (suc n) s h = refl
-lacks_at entries texts total (Turn piece ∷ rest) zero s h = absurd cc
-lacks_at entries texts total (x ∷ rest) (suc n) s h = lacks_at entries texts total rest n s h
-lacks_at entries texts total (_ ∷ rest) zero s h = refl
+  lacks_at : (instrs : List Instr) (place : ℕ) → piece_of (slice_get instrs place) ≡ None → begins entries texts total (drop place instrs) s ≡ NoTurn []
+  lacks_at [] zero h = refl
+  lacks_at [] (suc n) h = refl
+  lacks_at (Turn p ∷ rest) zero h = absurd cc
+  lacks_at (x ∷ rest) (suc n) h = lacks_at rest n h
+  lacks_at (_ ∷ rest) zero h = refl
 
-lacks_ticks_at : (entries : List ℕ) (texts : List (List ℕ)) (total : ℕ) (instrs : List Instr) (place : ℕ) (s : State) → is_turn (slice_get instrs place) ≡ false →
-    begin_ticks entries texts total (drop place instrs) s ≡ 0
-lacks_ticks_at entries texts total [] zero s h = refl
-lacks_ticks_at entries texts total [] (suc n) s h = refl
-lacks_ticks_at entries texts total (Turn piece ∷ rest) zero s h = absurd cc
-lacks_ticks_at entries texts total (x ∷ rest) (suc n) s h = lacks_ticks_at entries texts total rest n s h
-lacks_ticks_at entries texts total (_ ∷ rest) zero s h = refl
+  lacks_ticks_at : (instrs : List Instr) (place : ℕ) → piece_of (slice_get instrs place) ≡ None → begin_ticks entries texts total (drop place instrs) s ≡ 0
+  lacks_ticks_at [] zero h = refl
+  lacks_ticks_at [] (suc n) h = refl
+  lacks_ticks_at (Turn p ∷ rest) zero h = absurd cc
+  lacks_ticks_at (x ∷ rest) (suc n) h = lacks_ticks_at rest n h
+  lacks_ticks_at (_ ∷ rest) zero h = refl
 
--- a turn that begins at a place
-pub turn_begins : (code : CodeLists) (place : ℕ) (chosen : List ℕ) (work : Workspace) → work.operands ≡ [] → is_turn (slice_get code.instrs place) ≡ true →
-    turn_at code place (state_of chosen work) ≡ rest_of code (place + 1) chosen work
-turn_begins code place chosen work none h =
-    begins_at (entries_of code.procedures) code.texts (length code.instrs) code.instrs place (state_of chosen work) h
-    ∙ ap (λ (k : ℕ). stretch (entries_of code.procedures) code.texts (length code.instrs) (drop k code.instrs) [] (state_of chosen work)) (sym (add-one place))
-    ∙ ap (λ (ops : List Value). stretch (entries_of code.procedures) code.texts (length code.instrs) (drop (place + 1) code.instrs) ops (state_of chosen work)) (sym none)
+-- the turn of a piece that begins at a place
+module _ (code : CodeLists) (place piece : ℕ) (chosen : List ℕ) (work : Workspace) (none : work.operands.items ≡ []) (h : piece_of (slice_get code.instrs place) ≡ Some piece) where
+  pub turn_begins : turn_at code place (state_of chosen work) ≡ rest_of code (place + 1) chosen (record work { piece = piece })
+  turn_begins =
+      begins_at (entries_of code.procedures) code.texts (length code.instrs) (state_of chosen work) code.instrs place piece h
+      ∙ ap (λ (k : ℕ). turn_of_piece piece (stretch (entries_of code.procedures) code.texts (length code.instrs) (drop k code.instrs) [] (state_of chosen work))) (sym (add-one place))
+      ∙ ap (λ (ops : List Value). turn_of_piece piece (stretch (entries_of code.procedures) code.texts (length code.instrs) (drop (place + 1) code.instrs) (reverse ops) (state_of chosen work))) (sym none)
 
-pub turn_ticks_begin : (code : CodeLists) (place : ℕ) (chosen : List ℕ) (work : Workspace) → work.operands ≡ [] → is_turn (slice_get code.instrs place) ≡ true →
-    ticks_at code place (state_of chosen work) ≡ 1 + ticks_from code (place + 1) chosen work
-turn_ticks_begin code place chosen work none h =
-    begins_ticks_at (entries_of code.procedures) code.texts (length code.instrs) code.instrs place (state_of chosen work) h
-    ∙ ap (λ (k : ℕ). 1 + ticks (entries_of code.procedures) code.texts (length code.instrs) (drop k code.instrs) [] (state_of chosen work)) (sym (add-one place))
-    ∙ ap (λ (ops : List Value). 1 + ticks (entries_of code.procedures) code.texts (length code.instrs) (drop (place + 1) code.instrs) ops (state_of chosen work)) (sym none)
+  pub turn_ticks_begin : ticks_at code place (state_of chosen work) ≡ 1 + ticks_from code (place + 1) chosen (record work { piece = piece })
+  turn_ticks_begin =
+      begins_ticks_at (entries_of code.procedures) code.texts (length code.instrs) (state_of chosen work) code.instrs place piece h
+      ∙ ap (λ (k : ℕ). 1 + ticks (entries_of code.procedures) code.texts (length code.instrs) (drop k code.instrs) [] (state_of chosen work)) (sym (add-one place))
+      ∙ ap (λ (ops : List Value). 1 + ticks (entries_of code.procedures) code.texts (length code.instrs) (drop (place + 1) code.instrs) (reverse ops) (state_of chosen work)) (sym none)
 
 -- and where none begins
-pub turn_lacks : (code : CodeLists) (place : ℕ) (s : State) → is_turn (slice_get code.instrs place) ≡ false → turn_at code place s ≡ NoTurn []
-turn_lacks code place s h = lacks_at (entries_of code.procedures) code.texts (length code.instrs) code.instrs place s h
+pub turn_lacks : (code : CodeLists) (place : ℕ) (s : State) → piece_of (slice_get code.instrs place) ≡ None → turn_at code place s ≡ NoTurn []
+turn_lacks code place s h = lacks_at (entries_of code.procedures) code.texts (length code.instrs) s code.instrs place h
 
-pub turn_ticks_lack : (code : CodeLists) (place : ℕ) (s : State) → is_turn (slice_get code.instrs place) ≡ false → ticks_at code place s ≡ 0
-turn_ticks_lack code place s h = lacks_ticks_at (entries_of code.procedures) code.texts (length code.instrs) code.instrs place s h
+pub turn_ticks_lack : (code : CodeLists) (place : ℕ) (s : State) → piece_of (slice_get code.instrs place) ≡ None → ticks_at code place s ≡ 0
+turn_ticks_lack code place s h = lacks_ticks_at (entries_of code.procedures) code.texts (length code.instrs) s code.instrs place h
 
 -- the whole by another name
 module _ {K : Type 0} {written : K → Option (List ℕ)} where

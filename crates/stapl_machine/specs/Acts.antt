@@ -1,28 +1,60 @@
 -- What the machine does at an instruction.
-use Rattle.std.specs.Prelude.{ℕ, List, [], ◌∷◌}
+use Rattle.std.specs.Prelude.{◌≡◌, ℕ, List, [], ◌∷◌, drop, reverse, Option, Result, Ok, Err}
 use Rattle.stapl_meaning.specs.declared.events.Event.TheVariants.{Print}
-use Rattle.stapl_meaning.specs.declared.events.Ending.TheVariants.{Exit}
-use Rattle.stapl_meaning.specs.States.{State, Leads, Over, next_chosen}
+use Rattle.stapl_meaning.specs.declared.values.Value.{Value}
+use Rattle.stapl_meaning.specs.Values.{Got, Known, Faults, Stuck}
+use Rattle.stapl_meaning.specs.States.{State, Over, next_chosen, jumps_to}
+use Rattle.stapl_meaning.specs.States as did
+use Rattle.stapl_meaning.specs.Plays.{start}
 use Rattle.stapl_code.specs.declared.instr.Instr.{Instr}
 use Rattle.stapl_code.specs.declared.raw.CodeLists.{CodeLists}
-use Rattle.stapl_code.specs.Machine.{Step, Falls, Emits, Stops, entry_of, step}
+use Rattle.stapl_code.specs.Machine.{Puts, Does, Step, Falls, Emits, Stops, Faulted, Wrong, entry_of, step}
+use Rattle.stapl_code.specs.Machine as machine
 use Rattle.stapl_code.specs.Safe.{entries_of}
+use Rattle.stapl_machine.specs.declared.operate.Stop.{Stop}
+use Rattle.stapl_machine.specs.declared.operate.Stop.TheVariants as stop
+use Rattle.stapl_machine.specs.declared.effects.Made.{Made}
+use Rattle.stapl_machine.specs.declared.effects.Made.TheVariants as made
 use Rattle.stapl_machine.specs.declared.act.Workspace.{Workspace}
-use Rattle.stapl_machine.specs.declared.act.Moved.{Moved}
-use Rattle.stapl_machine.specs.declared.act.Moved.TheVariants as moved
 
--- the state of these registers, where these procedures are still to run
+-- What was made, with this text printed, from one state to another. A value and a fault leave the state as it is.
+abbrev pub IsMade : Result Made Stop → List ℕ → State → State → Got machine.Made → Type 0
+IsMade (Ok (made.Put v)) text old new g = (g ≡ Known (Puts v)) × (new ≡ old)
+IsMade (Ok made.On) text old new g = g ≡ Known (Does (did.Falls [] new))
+IsMade (Ok made.Printed) text old new g = g ≡ Known (Does (did.Falls (Print text ∷ []) new))
+IsMade (Ok made.Jump) text old new g = g ≡ Known (Does (did.Jumps new))
+IsMade (Ok made.Returned) text old new g = g ≡ Known (Does (did.Returns new))
+IsMade (Ok (made.Over ending)) text old new g = g ≡ Known (Does (did.Ends ending new))
+IsMade (Err (stop.Fault k)) text old new g = (g ≡ Faults k) × (new ≡ old)
+IsMade (Err stop.Wrong) text old new g = g ≡ Stuck
+IsMade (Err stop.Memory) text old new g = Unit {0}
+
+-- the state of these registers, where these procedures were chosen
 abbrev pub state_of : List ℕ → Workspace → State
-state_of chosen work = record { chosen = chosen; variables = work.variables.items }
+state_of chosen work = start (drop work.next chosen) work.variables.items
+
+-- the operands, the topmost first
+abbrev pub operands_of : Workspace → List Value
+operands_of work = reverse work.operands.items
 
 -- an instruction of a code, at a place
 abbrev pub step_of : CodeLists → ℕ → Instr → List ℕ → Workspace → Step
-step_of code here instr chosen work = step (entries_of code.procedures) code.texts here instr work.operands (state_of chosen work)
+step_of code here instr chosen work =
+    step (entries_of code.procedures) code.texts here instr (operands_of work) (state_of chosen work)
 
--- the step that led so far
-abbrev pub stepped : CodeLists → List ℕ → Moved → Workspace → Step
-stepped code chosen moved.On work = Falls work.operands (state_of chosen work)
-stepped code chosen moved.Printed work = Emits (Print work.text.items ∷ []) work.operands (state_of chosen work)
-stepped code chosen (moved.To place) work = Stops work.operands (Leads [] place (state_of chosen work))
-stepped code chosen moved.Returned work = Stops work.operands (next_chosen (entry_of (entries_of code.procedures)) (state_of chosen work) chosen)
-stepped code chosen (moved.Over k) work = Stops work.operands (Over [] (Exit k) (state_of chosen work))
+-- the step of an instruction with this target that made this
+abbrev pub stepped : CodeLists → Option ℕ → List ℕ → Made → Workspace → Step
+stepped code to chosen (made.Put v) work = Falls (v ∷ operands_of work) (state_of chosen work)
+stepped code to chosen made.On work = Falls (operands_of work) (state_of chosen work)
+stepped code to chosen made.Printed work = Emits (Print work.text.items ∷ []) (operands_of work) (state_of chosen work)
+stepped code to chosen made.Jump work = Stops (operands_of work) (jumps_to to (state_of chosen work))
+stepped code to chosen made.Returned work =
+    Stops (operands_of work) (next_chosen (entry_of (entries_of code.procedures)) (state_of chosen work) (drop work.next chosen))
+stepped code to chosen (made.Over ending) work = Stops (operands_of work) (Over [] ending (state_of chosen work))
+
+-- an answer as a step
+abbrev pub IsActed : Result Made Stop → CodeLists → Option ℕ → List ℕ → Workspace → Step → Type 0
+IsActed (Ok m) code to chosen work st = st ≡ stepped code to chosen m work
+IsActed (Err (stop.Fault k)) code to chosen work st = st ≡ Faulted k (state_of chosen work)
+IsActed (Err stop.Wrong) code to chosen work st = st ≡ Wrong
+IsActed (Err stop.Memory) code to chosen work st = Unit {0}

@@ -1,30 +1,25 @@
 -- What the machine's parts answer.
-use Rattle.std.specs.Prelude.{◌≡◌, Bool, true, false, List, [], ◌∷◌, Option, Some, None, Result, Ok, Err}
+use Rattle.std.specs.Prelude.{◌≡◌, Bool, true, false, Result, Ok, Err}
 use Rattle.stapl_meaning.specs.declared.values.Value.{Value}
-use Rattle.stapl_meaning.specs.Values.{Got, Known, Stuck}
-use Rattle.stapl_machine.specs.declared.act.Stop.{Stop}
-use Rattle.stapl_machine.specs.declared.act.Stop.TheVariants as stop
+use Rattle.stapl_meaning.specs.Values.{Got, Known, Faults, Stuck}
+use Rattle.stapl_machine.specs.declared.operate.Stop.{Stop}
+use Rattle.stapl_machine.specs.declared.operate.Stop.TheVariants as stop
+
+-- why there is no answer; want of memory says nothing
+abbrev pub IsStopped : {A : Type 0} → Stop → Got A → Type 0
+IsStopped (stop.Fault k) g = g ≡ Faults k
+IsStopped stop.Wrong g = g ≡ Stuck
+IsStopped stop.Memory g = Unit {0}
 
 -- an answer as what a definition gives
-abbrev pub found : {A : Type 0} → Option A → Got A
-found (Some x) = Known x
-found None = Stuck
+abbrev pub IsGot : {A B : Type 0} → (A → Got B → Type 0) → Result A Stop → Got B → Type 0
+IsGot is (Ok x) g = is x g
+IsGot is (Err e) g = IsStopped e g
 
-abbrev pub written : {A : Type 0} → Bool → A → Got A
-written true x = Known x
-written false x = Stuck
+abbrev pub IsValue : Result Value Stop → Got Value → Type 0
+IsValue r g = IsGot (λ v g. g ≡ Known v) r g
 
--- the topmost operand was taken off
-abbrev pub Pops : List Value → Result Value Stop → List Value → Type 0
-Pops old (Ok v) new = old ≡ v ∷ new
-Pops old (Err e) new = (old ≡ []) × (e ≡ stop.Wrong)
-
--- what was asked for, or there is none
-abbrev pub wanted : {A : Type 0} → Option A → Result A Stop
-wanted (Some x) = Ok x
-wanted None = Err stop.Wrong
-
--- where something is wrong, this holds; want of memory says nothing
-abbrev pub IfWrong : Stop → Type 0 → Type 0
-IfWrong stop.Wrong holds = holds
-IfWrong stop.Memory holds = Unit {0}
+-- a value that was written, or there is no place for it
+abbrev pub if_written : {A : Type 0} → Bool → A → Got A
+if_written true x = Known x
+if_written false x = Stuck

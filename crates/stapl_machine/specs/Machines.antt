@@ -21,4 +21,4 @@ variables_in machine = machine.work.variables.items
 -- the machine is ready for a run of this code
 pub record IsPrepared (code : CodeLists) (machine : Machine) : Type 0 where
   pub variables_are : variables_in machine ≡ zeros_of_code code
-  pub none : machine.work.operands ≡ []
+  pub none : machine.work.operands.items ≡ []

@@ -1,5 +1,5 @@
 -- What the machine does in a run, with the text that it puts.
-use Rattle.std.specs.Prelude.{◌≡◌, ℕ, List, Option, Some, None}
+use Rattle.std.specs.Prelude.{◌≡◌, ℕ, List, Option, Some, None, Result, Ok, Err}
 use Rattle.std.specs.List.{flat_map}
 use Rattle.tool_io.specs.declared.lines.Lines.{Lines}
 use Rattle.tool_io.specs.Lines.{Puts, PutsFront}
@@ -13,6 +13,7 @@ use Rattle.stapl_code.specs.declared.raw.CodeLists.{CodeLists}
 use Rattle.stapl_code.specs.Machine.{entry_of, code_run, begun, code_play}
 use Rattle.stapl_code.specs.Ticks.{ticks_then, run_ticks, play_ticks}
 use Rattle.stapl_code.specs.Safe.{entries_of}
+use Rattle.stapl_machine.specs.declared.turns.Trouble.{Trouble}
 
 -- at most n turns from a place on, and how many instructions they take
 abbrev pub run_of : CodeLists → ℕ → ℕ → State → Run
@@ -58,7 +59,12 @@ pub record RunsTo {K : Type 0} (written : K → Option (List ℕ)) (whole : Run)
 pub record RunsFront {K : Type 0} (written : K → Option (List ℕ)) (whole : Run) (old : Lines K) (new : Lines K) : Type 0 where
   pub front : PutsFront written old (flat_map event_line whole.events) new
 
+-- a call put the text of the run, or of a front of it where it failed
+abbrev pub IsRun : {K : Type 0} → (K → Option (List ℕ)) → Run → Lines K → Result (Option Ending) Trouble → Lines K → Type 0
+IsRun written whole old (Ok ending) new = RunsTo written whole old ending new
+IsRun written whole old (Err e) new = RunsFront written whole old new
+
 -- the variables are those behind the run, where it has an ending
 abbrev pub LeavesVariables : Run → Option Ending → List Held → Type 0
 LeavesVariables whole None variables = Unit {0}
-LeavesVariables whole (Some ending) variables = whole.state.variables ≡ variables
+LeavesVariables whole (Some ending) variables = whole.state.store.variables ≡ variables

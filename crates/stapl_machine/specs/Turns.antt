@@ -1,58 +1,52 @@
--- What the machine does in a turn and in a run, with the text that it puts.
-use Rattle.std.specs.Prelude.{◌≡◌, ℕ, ◌+◌, pos, List, [], length, drop, Option, Some, None}
+-- What the machine does in a turn, with the text that it puts.
+use Rattle.std.specs.Prelude.{◌≡◌, ◌≤◌, ℕ, ◌+◌, List, length, drop, Option, Some, None, Result, Ok, Err, OnOk, IfErr}
 use Rattle.std.specs.List.{flat_map}
 use Rattle.tool_io.specs.declared.lines.Lines.{Lines}
-use Rattle.tool_io.specs.Lines.{Puts, PutsFront}
+use Rattle.tool_io.specs.Causes.{HasRisen}
+use Rattle.tool_io.specs.Lines.{IsWhole, IsOverSame, SinkNeverFalls, sink_of, Puts, PutsFront}
 use Rattle.stapl_meaning.specs.declared.events.Event.{Event}
-use Rattle.stapl_meaning.specs.declared.events.Ending.TheVariants.{Exit}
-use Rattle.stapl_meaning.specs.States.{State, Turned, Leads, Over, NoTurn, next_chosen}
+use Rattle.stapl_meaning.specs.States.{State, Turned, preceded, turn_of_piece}
 use Rattle.stapl_meaning.specs.Texts.{event_line}
+use Rattle.stapl_code.specs.declared.instr.Instr.{Instr}
+use Rattle.stapl_code.specs.declared.instr.Instr.TheVariants.{Turn}
 use Rattle.stapl_code.specs.declared.raw.CodeLists.{CodeLists}
-use Rattle.stapl_code.specs.Machine.{entry_of, stretch, preceded, code_turn}
+use Rattle.stapl_code.specs.Machine.{stretch, code_turn}
 use Rattle.stapl_code.specs.Ticks.{ticks, turn_ticks}
 use Rattle.stapl_code.specs.Safe.{entries_of}
 use Rattle.stapl_machine.specs.declared.act.Workspace.{Workspace}
-use Rattle.stapl_machine.specs.declared.turns.TurnEnd.{TurnEnd}
-use Rattle.stapl_machine.specs.declared.turns.TurnEnd.TheVariants as turn_end
-use Rattle.stapl_machine.specs.declared.turns.Went.{Went}
-use Rattle.stapl_machine.specs.declared.turns.Went.TheVariants as went
+use Rattle.stapl_machine.specs.declared.moves.Went.{Went}
 use Rattle.stapl_machine.specs.declared.turns.Trouble.{Trouble}
 use Rattle.stapl_machine.specs.declared.turns.Trouble.TheVariants.{WriteFault, Memory}
-use Rattle.stapl_machine.specs.Acts.{state_of}
+use Rattle.stapl_machine.specs.Acts.{state_of, operands_of}
+use Rattle.stapl_machine.specs.Moves.{led_to, IsClean}
 
 -- the rest of a turn from an instruction on, and how many instructions it takes
 abbrev pub rest_of : CodeLists → ℕ → List ℕ → Workspace → Turned
 rest_of code i chosen work =
-    stretch (entries_of code.procedures) code.texts (length code.instrs) (drop i code.instrs) work.operands (state_of chosen work)
+    turn_of_piece work.piece
+    (stretch (entries_of code.procedures) code.texts (length code.instrs) (drop i code.instrs) (operands_of work) (state_of chosen work))
 
 abbrev pub ticks_from : CodeLists → ℕ → List ℕ → Workspace → ℕ
 ticks_from code i chosen work =
-    ticks (entries_of code.procedures) code.texts (length code.instrs) (drop i code.instrs) work.operands (state_of chosen work)
-
--- what a turn comes to
-abbrev pub ended_so : CodeLists → List ℕ → TurnEnd → Workspace → Turned
-ended_so code chosen (turn_end.To place) work = Leads [] place (state_of chosen work)
-ended_so code chosen turn_end.Returned work = next_chosen (entry_of (entries_of code.procedures)) (state_of chosen work) chosen
-ended_so code chosen (turn_end.Over k) work = Over [] (Exit k) (state_of chosen work)
-ended_so code chosen turn_end.Wrong work = NoTurn []
-
--- no operand is left where a turn leads on
-abbrev pub IsClean : TurnEnd → Workspace → Type 0
-IsClean turn_end.Wrong work = Unit {0}
-IsClean _ work = work.operands ≡ []
+    ticks (entries_of code.procedures) code.texts (length code.instrs) (drop i code.instrs) (operands_of work) (state_of chosen work)
 
 -- what follows an instruction, which may have ended the turn
-abbrev pub behind_it : CodeLists → ℕ → List ℕ → Option TurnEnd → Workspace → Turned
+abbrev pub behind_it : CodeLists → ℕ → List ℕ → Option Went → Workspace → Turned
 behind_it code i chosen None work = rest_of code (i + 1) chosen work
-behind_it code i chosen (Some e) work = ended_so code chosen e work
+behind_it code i chosen (Some went) work = led_to went (state_of chosen work)
 
-abbrev pub ticks_behind_it : CodeLists → ℕ → List ℕ → Option TurnEnd → Workspace → ℕ
+abbrev pub ticks_behind_it : CodeLists → ℕ → List ℕ → Option Went → Workspace → ℕ
 ticks_behind_it code i chosen None work = ticks_from code (i + 1) chosen work
-ticks_behind_it code i chosen (Some e) work = 0
+ticks_behind_it code i chosen (Some went) work = 0
 
-abbrev pub IsCleanBehind : Option TurnEnd → Workspace → Type 0
+abbrev pub IsCleanBehind : Option Went → Workspace → Type 0
 IsCleanBehind None work = Unit {0}
-IsCleanBehind (Some e) work = IsClean e work
+IsCleanBehind (Some went) work = IsClean went work.operands.items
+
+-- the piece of a Turn
+abbrev pub piece_of : Option Instr → Option ℕ
+piece_of (Some (Turn piece)) = Some piece
+piece_of _ = None
 
 -- the turn at a place, and how many instructions it takes
 abbrev pub turn_at : CodeLists → ℕ → State → Turned
@@ -60,25 +54,6 @@ turn_at code place s = code_turn (entries_of code.procedures) code.texts code.in
 
 abbrev pub ticks_at : CodeLists → ℕ → State → ℕ
 ticks_at code place s = turn_ticks (entries_of code.procedures) code.texts code.instrs place s
-
--- the state with these procedures still to run
-abbrev pub state_from : List ℕ → ℕ → Workspace → State
-state_from chosen next work = state_of (drop next chosen) work
-
--- where a turn led, with the next procedure begun
-abbrev pub led_to : Went → State → Turned
-led_to (went.On place) s = Leads [] place s
-led_to (went.Over k) s = Over [] (Exit k) s
-led_to went.Wrong s = NoTurn []
-
-abbrev pub IsCleanOn : Went → Workspace → Type 0
-IsCleanOn (went.On place) work = work.operands ≡ []
-IsCleanOn _ work = Unit {0}
-
--- the next procedure began here, or none is left
-abbrev pub Began : Option ℕ → State → Turned
-Began (Some place) s = Leads [] place s
-Began None s = Over [] (Exit (pos 0)) s
 
 -- The text of some events was put, and with them in front the whole is what is left.
 pub record Does {K : Type 0} (written : K → Option (List ℕ)) (whole : Turned) (old : Lines K) (rest : Turned) (new : Lines K) : Type 0 where
@@ -93,6 +68,16 @@ pub record DoesFront {K : Type 0} (written : K → Option (List ℕ)) (whole : T
   pub rest : Turned
   pub does : whole ≡ preceded events rest
 
+-- a call put the text of the turn up to what is left, or of a front of it where it failed
+abbrev pub IsDone : {K A : Type 0} → (K → Option (List ℕ)) → Turned → Lines K → Result A Trouble → (A → Turned) → Lines K → Type 0
+IsDone written whole old (Ok x) rest new = Does written whole old (rest x) new
+IsDone written whole old (Err e) rest new = DoesFront written whole old new
+
+-- a call counted so many instructions, or at most so many where it failed
+abbrev pub IsCounted : {A : Type 0} → Result A Trouble → ℕ → ℕ → ℕ → Type 0
+IsCounted (Ok x) before now n = now ≡ before + n
+IsCounted (Err e) before now n = now ≤ before + n
+
 -- a failed write has this cause; want of memory says nothing
 abbrev pub IfFault : Trouble → Type 0 → Type 0
 IfFault WriteFault cause = cause
@@ -102,3 +87,13 @@ IfFault Memory cause = Unit {0}
 abbrev pub IfMemory : Trouble → Type 0 → Type 0
 IfMemory WriteFault left = Unit {0}
 IfMemory Memory left = left
+
+-- What a call keeps of the lines and of the sink under them: they stand over the same sink, and no call on them has
+-- failed where this one did not. The count of faults does not fall, and a failed write has its cause in it. Want of
+-- memory leaves the lines whole.
+pub record Keeps {K A : Type 0} (faults : K → ℕ) (is_last : K → Type 0) (old new : Lines K) (result : Result A Trouble) : Type 0 where
+  pub same_sink : IsOverSame old new
+  pub whole : OnOk result (IsWhole new)
+  pub kept : SinkNeverFalls faults is_last old new
+  pub fault : IfErr result (λ e. IfFault e (HasRisen faults is_last (sink_of old) (sink_of new)))
+  pub memory : IfErr result (λ e. IfMemory e (IsWhole new))

@@ -1,154 +1,114 @@
 //! What the machine does at an instruction.
-ghost use Rattle.std.specs.Prelude.{◌≡◌, ◌∷◌, List, ℕ, OnOk, IfOk, IfErr};
-ghost use Rattle.stapl_code.specs.Machine.{entry_of};
-ghost use Rattle.stapl_code.specs.Machine as machine;
-ghost use Rattle.stapl_code.specs.Safe.{entries_of};
-ghost use Rattle.stapl_code.specs.declared.instr.Instr.TheVariants as instrs;
-ghost use Rattle.stapl_machine.specs.Found.{Pops, wanted, IfWrong};
-ghost use Rattle.stapl_machine.specs.Acts.{step_of, stepped};
+ghost use Rattle.std.specs.Prelude.{◌≡◌, ◌≤◌, List, ℕ, length, drop};
+ghost use Rattle.stapl_meaning.specs.Plays.{start};
+ghost use Rattle.stapl_code.specs.Machine.{made, takes, lands};
+ghost use Rattle.stapl_machine.specs.Acts.{IsMade, IsActed, step_of};
 
-use crate::operate::{load, operate, store};
-use crate::printing::{join, take_operands};
-use base::Stack;
-use stapl_code::{CodeLists, Instr, PrintPart, ProcDef};
-use stapl_meaning::{Held, Value};
+use crate::effects::{
+    Made, assign, bit, check_character, end_procedure, exit, jump, load, operate_two, part_ways,
+};
+use crate::operate::Stop;
+use crate::printing::{count_operands, print};
+use stapl_code::{CodeLists, Instr, operator_of};
+use stapl_meaning::{Held, Text, Value};
 
-/// What a run keeps: the variables, the operands, and what the last Print took and printed.
+/// What a run keeps: the variables, the operands in the order in which they were put on, the text of the last Print,
+/// how many of the chosen procedures have begun, and the piece of the turn.
 #[derive(Drop)]
 pub struct Workspace {
     pub variables: Vec<Held>,
-    pub operands: Stack<Value>,
-    pub values: Stack<Value>,
+    pub operands: Vec<Value>,
     pub text: Vec<u8>,
+    pub next: usize,
+    pub piece: u32,
 }
 
-/// Where an instruction leads.
-#[derive(Clone, Copy, PartialEq, Eq, Debug)]
-pub enum Moved {
-    /// On to the next one.
-    On,
-    /// On to the next one, with a text to be written.
-    Printed,
-    /// To a turn.
-    To(u32),
-    /// To the next chosen procedure.
-    Returned,
-    /// To the end of the play, with a code.
-    Over(i32),
-}
-
-/// Why an instruction is not carried out: what it needs is not there, or want of memory.
-#[derive(Clone, Copy, PartialEq, Eq, Debug)]
-pub enum Stop {
-    Wrong,
-    Memory,
-}
-
-/// Takes the topmost operand off.
-pub fn pop(operands: &mut Stack<Value>) -> Result<Value, Stop>
-    ensures { Pops operands.old result operands.new }
-{
-    match operands.pop() {
-        Some(value) => Ok(value),
-        None => Err(Stop::Wrong),
-    }
-}
-
-/// Puts an operand on top.
-pub fn push(operands: &mut Stack<Value>, value: Value) -> Result<(), Stop>
-    ensures pushed { OnOk result (operands.new ≡ value ∷ operands.old) }
-    ensures memory { IfErr result (λ e. e ≡ Stop.Memory) }
-{
-    match operands.push(value) {
-        Ok(()) => Ok(()),
-        Err(_) => Err(Stop::Memory),
-    }
-}
-
-fn want<T>(found: Option<T>) -> Result<T, Stop>
-    ensures { result ≡ wanted found }
-{
-    match found {
-        Some(x) => Ok(x),
-        None => Err(Stop::Wrong),
-    }
-}
-
-/// Where a procedure begins.
-pub fn entry(procedures: &[ProcDef], procedure: u32) -> u32
-    ensures { result ≡ entry_of (entries_of procedures.now) procedure }
-{
-    match procedures.get(procedure as usize) {
-        Some(def) => def.entry,
-        None => u32::MAX,
-    }
-}
-
-// Joins the text of a Print.
-fn print(code: &CodeLists, list: &[PrintPart], work: &mut Workspace) -> Result<Moved, Stop>
-    ensures prints { IfOk result (λ moved. (here : ℕ) (chosen : List ℕ) →
-        step_of code.now here (instrs.Print list.now) chosen work.old ≡ stepped code.now chosen moved work.new) }
-    ensures wrong { IfErr result (λ stop. IfWrong stop ((here : ℕ) (chosen : List ℕ) →
-        step_of code.now here (instrs.Print list.now) chosen work.old ≡ machine.Wrong)) }
-{
-    match take_operands(list, &mut work.operands, &mut work.values) {
-        Ok(()) => {}
-        Err(stop) => return Err(stop),
-    }
-    match join(
-        code.texts.as_slice(),
-        list,
-        &mut work.values,
-        &mut work.text,
-    ) {
-        Ok(()) => Ok(Moved::Printed),
-        Err(stop) => Err(stop),
-    }
-}
-
-/// Carries out an instruction that stands at a place.
-pub fn act(code: &CodeLists, here: u32, instr: &Instr, work: &mut Workspace) -> Result<Moved, Stop>
-    ensures steps { IfOk result (λ moved. (chosen : List ℕ) →
-        step_of code.now here instr.now chosen work.old ≡ stepped code.now chosen moved work.new) }
-    ensures wrong { IfErr result (λ stop. IfWrong stop ((chosen : List ℕ) →
-        step_of code.now here instr.now chosen work.old ≡ machine.Wrong)) }
+// What an instruction makes of its operands.
+fn make(
+    texts: &[Text],
+    instr: &Instr,
+    values: &[Value],
+    variables: &mut Vec<Held>,
+    text: &mut Vec<u8>,
+) -> Result<Made, Stop>
+    ensures { (entries chosen : List ℕ) →
+        IsMade result text.new.items (start chosen variables.old.items) (start chosen variables.new.items)
+        (made entries texts.now instr.now values.now (start chosen variables.old.items)) }
 {
     match instr {
-        Instr::Turn(_) => Ok(Moved::To(here)),
-        Instr::Push(value) => {
-            push(&mut work.operands, Value::Int(*value))?;
-            Ok(Moved::On)
+        Instr::Turn(_) | Instr::Jump(_) => jump(values),
+        Instr::Push(value) => Ok(Made::Put(Value::Int(*value))),
+        Instr::PushBit(value) => {
+            let value = bit(*value)?;
+            Ok(Made::Put(value))
         }
         Instr::Load(n) => {
-            let value = want(load(&work.variables, *n))?;
-            push(&mut work.operands, value)?;
-            Ok(Moved::On)
+            let value = load(variables, *n)?;
+            Ok(Made::Put(value))
         }
-        Instr::Store(n) => {
-            let value = pop(&mut work.operands)?;
-            if !store(&mut work.variables, *n, value) {
-                return Err(Stop::Wrong);
-            }
-            Ok(Moved::On)
-        }
-        Instr::Binary(op) => {
-            let right = pop(&mut work.operands)?;
-            let left = pop(&mut work.operands)?;
-            let value = want(operate(*op, left, right))?;
-            push(&mut work.operands, value)?;
-            Ok(Moved::On)
-        }
-        Instr::Jump(to) => Ok(Moved::To(*to)),
-        Instr::JumpIfZero(to) => match pop(&mut work.operands)? {
-            Value::Bit(true) => Ok(Moved::On),
-            Value::Bit(false) => Ok(Moved::To(*to)),
-            Value::Int(_) => Err(Stop::Wrong),
+        Instr::Store(n) => assign(variables, *n, values),
+        Instr::Binary(number) => operate_two(*number, values),
+        Instr::JumpIfZero(_) => part_ways(values),
+        Instr::EndProc => end_procedure(values),
+        Instr::Print(list) => print(texts, list.as_slice(), values, text),
+        Instr::CheckChar => check_character(values),
+        Instr::Exit => exit(values),
+    }
+}
+
+// How many operands an instruction takes.
+fn takes(instr: &Instr) -> usize
+    ensures { result ≡ length (takes instr.now) }
+{
+    match instr {
+        Instr::Turn(_)
+        | Instr::Push(_)
+        | Instr::PushBit(_)
+        | Instr::Load(_)
+        | Instr::Jump(_)
+        | Instr::EndProc => 0,
+        Instr::Store(_) | Instr::JumpIfZero(_) | Instr::CheckChar | Instr::Exit => 1,
+        Instr::Binary(number) => match operator_of(*number) {
+            Some(_) => 2,
+            None => 0,
         },
-        Instr::EndProc => Ok(Moved::Returned),
-        Instr::Print(list) => print(code, list.as_slice(), work),
-        Instr::Exit => match pop(&mut work.operands)? {
-            Value::Int(code) => Ok(Moved::Over(code)),
-            Value::Bit(_) => Err(Stop::Wrong),
-        },
+        Instr::Print(list) => count_operands(list.as_slice()),
+    }
+}
+
+// The items from a place on.
+fn behind(items: &[Value], at: usize) -> &[Value]
+    requires { at ≤ length items.now }
+    ensures { result.now ≡ drop at items.now }
+{
+    &items[at..]
+}
+
+/// Takes the operands of an instruction off, and does what it does with them.
+pub fn act(code: &CodeLists, instr: &Instr, work: &mut Workspace) -> Result<Made, Stop>
+    ensures acts { (here : ℕ) (chosen : List ℕ) →
+        IsActed result code.now (lands here instr.now) chosen work.new
+        (step_of code.now here instr.now chosen work.old) }
+    ensures piece { work.new.piece ≡ work.old.piece }
+{
+    let count = takes(instr);
+    let len = work.operands.len();
+    if len < count {
+        return Err(Stop::Wrong);
+    }
+    let below = len - count;
+    let values = behind(&work.operands, below);
+    match make(
+        code.texts.as_slice(),
+        instr,
+        values,
+        &mut work.variables,
+        &mut work.text,
+    ) {
+        Ok(made) => {
+            work.operands.truncate(below);
+            Ok(made)
+        }
+        Err(stop) => Err(stop),
     }
 }

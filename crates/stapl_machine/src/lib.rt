@@ -2,6 +2,8 @@
 #![tactic(auto)]
 
 mod act;
+mod effects;
+mod moves;
 mod operate;
 mod printing;
 mod running;

@@ -1,13 +1,24 @@
-//! What instructions do to values and variables.
-ghost use Rattle.std.specs.Prelude.{◌≡◌, slice_get, ◌+ℤ◌};
-ghost use Rattle.std.specs.Int.{int_wrap, w32};
-ghost use Rattle.stapl_lexer.specs.declared.terminal.BinOp.TheVariants.{Add, Less};
-ghost use Rattle.stapl_meaning.specs.Values.{combined, scalar_of};
-ghost use Rattle.stapl_meaning.specs.States.{with_scalar, scalar_written};
-ghost use Rattle.stapl_code.specs.Machine.{operated};
-ghost use Rattle.stapl_machine.specs.Found.{found, written};
+//! What the operators do to values.
+ghost use Rattle.std.specs.Prelude.{◌≡◌, ◌≢◌, ◌<◌, ◌^◌, pos, ◌+ℤ◌, ◌-ℤ◌, ◌*ℤ◌, ◌&&◌, ◌||◌};
+ghost use Rattle.std.specs.Prelude.{int_div, int_rem};
+ghost use Rattle.std.specs.Int.{int_wrap, int_div_euclid, w32};
+ghost use Rattle.stapl_meaning.specs.Values.{combined, combined_booleans, combined_integers};
+ghost use Rattle.stapl_meaning.specs.Values.{bitwise, differ, divided_by, shifted_by};
+ghost use Rattle.stapl_machine.specs.Found.{IsValue};
 
-use stapl_meaning::{Held, Value};
+use stapl_lexer::BinOp;
+use stapl_meaning::{RunFault, Value};
+
+/// Why nothing was made.
+#[derive(Clone, Copy, Debug, PartialEq, Eq)]
+pub enum Stop {
+    /// A fault ends the run.
+    Fault(RunFault),
+    /// What no valid code meets.
+    Wrong,
+    /// Want of memory.
+    Memory,
+}
 
 fn sum(a: i32, b: i32) -> i32
     ensures { result ≡ int_wrap w32 (a +ℤ b) }
@@ -15,71 +26,136 @@ fn sum(a: i32, b: i32) -> i32
     a.wrapping_add(b)
 }
 
-fn added(left: Value, right: Value) -> Option<Value>
-    ensures { combined Add left right ≡ found result }
+fn difference(a: i32, b: i32) -> i32
+    ensures { result ≡ int_wrap w32 (a -ℤ b) }
+{
+    a.wrapping_sub(b)
+}
+
+fn product(a: i32, b: i32) -> i32
+    ensures { result ≡ int_wrap w32 (a *ℤ b) }
+{
+    a.wrapping_mul(b)
+}
+
+fn quotient(a: i32, b: i32) -> i32
+    requires { b ≢ pos 0 }
+    ensures { result ≡ int_wrap w32 (int_div a b) }
+{
+    a.wrapping_div(b)
+}
+
+fn divide(a: i32, b: i32) -> Result<Value, Stop>
+    ensures { IsValue result (divided_by b (int_wrap w32 (int_div a b))) }
+{
+    if b == 0 {
+        return Err(Stop::Fault(RunFault::DivideByZero));
+    }
+    Ok(Value::Int(quotient(a, b)))
+}
+
+fn remainder(a: i32, b: i32) -> Result<Value, Stop>
+    ensures { IsValue result (divided_by b (int_rem a b)) }
+{
+    if b == 0 {
+        return Err(Stop::Fault(RunFault::DivideByZero));
+    }
+    Ok(Value::Int(a.wrapping_rem(b)))
+}
+
+fn times_power(a: i32, n: u32) -> i32
+    requires { n < 32 }
+    ensures { result ≡ int_wrap w32 (a *ℤ pos (2 ^ n)) }
+{
+    a << n
+}
+
+fn over_power(a: i32, n: u32) -> i32
+    requires { n < 32 }
+    ensures { result ≡ int_div_euclid a (pos (2 ^ n)) }
+{
+    a >> n
+}
+
+fn shift_left(a: i32, b: i32) -> Result<Value, Stop>
+    ensures { IsValue result (shifted_by b (λ n. int_wrap w32 (a *ℤ pos (2 ^ n)))) }
+{
+    if b < 0 || b >= 32 {
+        return Err(Stop::Fault(RunFault::ShiftCount));
+    }
+    Ok(Value::Int(times_power(a, b as u32)))
+}
+
+fn shift_right(a: i32, b: i32) -> Result<Value, Stop>
+    ensures { IsValue result (shifted_by b (λ n. int_div_euclid a (pos (2 ^ n)))) }
+{
+    if b < 0 || b >= 32 {
+        return Err(Stop::Fault(RunFault::ShiftCount));
+    }
+    Ok(Value::Int(over_power(a, b as u32)))
+}
+
+fn common_bits(a: i32, b: i32) -> i32
+    ensures { result ≡ bitwise ◌&&◌ a b }
+{
+    a & b
+}
+
+fn different_bits(a: i32, b: i32) -> i32
+    ensures { result ≡ bitwise differ a b }
+{
+    a ^ b
+}
+
+fn joint_bits(a: i32, b: i32) -> i32
+    ensures { result ≡ bitwise ◌||◌ a b }
+{
+    a | b
+}
+
+fn combine_integers(op: BinOp, a: i32, b: i32) -> Result<Value, Stop>
+    ensures { IsValue result (combined_integers op a b) }
+{
+    match op {
+        BinOp::Multiply => Ok(Value::Int(product(a, b))),
+        BinOp::Add => Ok(Value::Int(sum(a, b))),
+        BinOp::Subtract => Ok(Value::Int(difference(a, b))),
+        BinOp::Less => Ok(Value::Bit(a < b)),
+        BinOp::AtMost => Ok(Value::Bit(a <= b)),
+        BinOp::Greater => Ok(Value::Bit(a > b)),
+        BinOp::AtLeast => Ok(Value::Bit(a >= b)),
+        BinOp::Equal => Ok(Value::Bit(a == b)),
+        BinOp::NotEqual => Ok(Value::Bit(a != b)),
+        BinOp::Divide => divide(a, b),
+        BinOp::Remainder => remainder(a, b),
+        BinOp::ShiftLeft => shift_left(a, b),
+        BinOp::ShiftRight => shift_right(a, b),
+        BinOp::BitAnd => Ok(Value::Int(common_bits(a, b))),
+        BinOp::BitXor => Ok(Value::Int(different_bits(a, b))),
+        BinOp::BitOr => Ok(Value::Int(joint_bits(a, b))),
+        BinOp::And | BinOp::Or => Err(Stop::Wrong),
+    }
+}
+
+fn combine_booleans(op: BinOp, a: bool, b: bool) -> Result<Value, Stop>
+    ensures { IsValue result (combined_booleans op a b) }
+{
+    match op {
+        BinOp::Equal => Ok(Value::Bit(a == b)),
+        BinOp::NotEqual | BinOp::BitXor => Ok(Value::Bit(a != b)),
+        BinOp::BitAnd | BinOp::And => Ok(Value::Bit(a && b)),
+        BinOp::BitOr | BinOp::Or => Ok(Value::Bit(a || b)),
+        _ => Err(Stop::Wrong),
+    }
+}
+
+/// The value of two values with an operator between them.
+pub fn combine(op: BinOp, left: Value, right: Value) -> Result<Value, Stop>
+    ensures { IsValue result (combined op left right) }
 {
     match (left, right) {
-        (Value::Int(a), Value::Int(b)) => Some(Value::Int(sum(a, b))),
-        _ => None,
+        (Value::Int(a), Value::Int(b)) => combine_integers(op, a, b),
+        (Value::Bit(a), Value::Bit(b)) => combine_booleans(op, a, b),
+        _ => Err(Stop::Wrong),
     }
-}
-
-fn compared(left: Value, right: Value) -> Option<Value>
-    ensures { combined Less left right ≡ found result }
-{
-    match (left, right) {
-        (Value::Int(a), Value::Int(b)) => Some(Value::Bit(a < b)),
-        _ => None,
-    }
-}
-
-/// The value of two values with the operator of this number between them.
-pub fn operate(op: u8, left: Value, right: Value) -> Option<Value>
-    ensures { operated op left right ≡ found result }
-{
-    if op == 0 {
-        return added(left, right);
-    }
-    if op == 12 {
-        return compared(left, right);
-    }
-    None
-}
-
-/// The value of a scalar variable.
-pub fn load(variables: &[Held], n: u32) -> Option<Value>
-    ensures { scalar_of (slice_get variables.now n) ≡ found result }
-{
-    match variables.get(n as usize) {
-        Some(Held::Int(value)) => Some(Value::Int(*value)),
-        Some(Held::Bit(value)) => Some(Value::Bit(*value)),
-        _ => None,
-    }
-}
-
-fn write(held: &mut Held, value: Value) -> bool
-    ensures { with_scalar held.old value ≡ written result held.new }
-{
-    match (held, value) {
-        (Held::Int(old), Value::Int(new)) => {
-            *old = new;
-            true
-        }
-        (Held::Bit(old), Value::Bit(new)) => {
-            *old = new;
-            true
-        }
-        _ => false,
-    }
-}
-
-/// Writes a value into a scalar variable of its kind, and answers whether there is one.
-pub fn store(variables: &mut Vec<Held>, n: u32, value: Value) -> bool
-    ensures { scalar_written variables.old.items n (slice_get variables.old.items n) value
-        ≡ written result variables.new.items }
-{
-    if n as usize >= variables.len() {
-        return false;
-    }
-    write(&mut variables[n as usize], value)
 }

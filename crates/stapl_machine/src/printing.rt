@@ -1,53 +1,41 @@
 //! How the text of a Print is joined.
-ghost use Rattle.std.specs.Prelude.{◌≡◌, ◌∷◌, ◌++◌, List, ℕ, OnOk, IfErr, Some, None};
+ghost use Rattle.std.specs.Prelude.{◌≡◌, ◌≤◌, ◌+◌, ◌∷◌, ◌++◌, List, ℕ, pos, length, drop, slice_get, OnOk, IfErr};
 ghost use Rattle.std.specs.Fmt.{signed_decimal};
-ghost use Rattle.stapl_meaning.specs.Values.{Known, Stuck};
-ghost use Rattle.stapl_code.specs.Machine.{operand_count, taken, taken_onto, parts_text};
-ghost use Rattle.stapl_machine.specs.Found.{IfWrong};
-ghost use Rattle.stapl_machine.specs.Prints.{with_front};
+ghost use Rattle.stapl_meaning.specs.Values.{Got, Known, then_get, integer_of};
+ghost use Rattle.stapl_meaning.specs.Operands.{character_of};
+ghost use Rattle.stapl_meaning.specs.Effects.{after_integer, after_character, printed};
+ghost use Rattle.stapl_meaning.specs.States.{State};
+ghost use Rattle.stapl_code.specs.Machine.{part_slots, known_text, parts_text, does};
+ghost use Rattle.stapl_machine.specs.Found.{IsGot};
+ghost use Rattle.stapl_machine.specs.Prints.{IsPut, Follows};
+ghost use Rattle.stapl_machine.specs.Acts.{IsMade};
 
-use crate::act::{Stop, pop, push};
-use base::Stack;
+use crate::effects::{Made, character};
+use crate::operate::Stop;
 use itoa::Buffer;
 use stapl_code::PrintPart;
 use stapl_meaning::{Text, Value};
 
-// Moves the operand of a part, where it takes one.
-fn take_operand(
-    part: PrintPart,
-    operands: &mut Stack<Value>,
-    values: &mut Stack<Value>,
-) -> Result<(), Stop>
-    ensures taken { OnOk result ((rest : List PrintPart) →
-        taken_onto (operand_count (part ∷ rest)) values.old operands.old
-        ≡ taken_onto (operand_count rest) values.new operands.new) }
-    ensures wrong { IfErr result (λ stop. IfWrong stop ((rest : List PrintPart) →
-        taken_onto (operand_count (part ∷ rest)) values.old operands.old ≡ None)) }
+// How many operands a part takes.
+fn operands_taken(part: PrintPart) -> usize
+    ensures number { (rest : List PrintPart) → length (part_slots (part ∷ rest)) ≡ result + length (part_slots rest) }
+    ensures small { result ≤ 1 }
 {
     match part {
-        PrintPart::Text(_) => Ok(()),
-        PrintPart::Int => {
-            let value = pop(operands)?;
-            push(values, value)?;
-            Ok(())
-        }
+        PrintPart::Text(_) => 0,
+        PrintPart::Int | PrintPart::Char => 1,
     }
 }
 
-/// Moves the operands that these parts take into the values, so that the first part's is the topmost.
-pub fn take_operands(
-    list: &[PrintPart],
-    operands: &mut Stack<Value>,
-    values: &mut Stack<Value>,
-) -> Result<(), Stop>
-    ensures taken { OnOk result (taken (operand_count list.now) operands.old ≡ Some (values.new, operands.new)) }
-    ensures wrong { IfErr result (λ stop. IfWrong stop (taken (operand_count list.now) operands.old ≡ None)) }
+/// How many operands the parts of a Print take.
+pub fn count_operands(parts: &[PrintPart]) -> usize
+    ensures { result ≡ length (part_slots parts.now) }
 {
-    values.clear();
-    for part in list {
-        take_operand(*part, operands, values)?;
+    let mut n = 0;
+    for part in parts {
+        n += operands_taken(*part);
     }
-    Ok(())
+    n
 }
 
 fn put(text: &mut Vec<u8>, bytes: &[u8]) -> Result<(), Stop>
@@ -60,7 +48,7 @@ fn put(text: &mut Vec<u8>, bytes: &[u8]) -> Result<(), Stop>
     }
 }
 
-fn put_integer(text: &mut Vec<u8>, n: i32) -> Result<(), Stop>
+fn put_digits(text: &mut Vec<u8>, n: i32) -> Result<(), Stop>
     ensures put { OnOk result (text.new.items ≡ text.old.items ++ signed_decimal n) }
     ensures memory { IfErr result (λ e. e ≡ Stop.Memory) }
 {
@@ -69,59 +57,120 @@ fn put_integer(text: &mut Vec<u8>, n: i32) -> Result<(), Stop>
     Ok(())
 }
 
-// Puts the text of a part.
-#[tactic(auto, using(crate::proofs::PrintLemmas::front_text, crate::proofs::PrintLemmas::front_integer))]
-fn join_part(
-    texts: &[Text],
-    part: PrintPart,
-    values: &mut Stack<Value>,
-    text: &mut Vec<u8>,
-) -> Result<(), Stop>
-    ensures joined { OnOk result ((entries : List ℕ) (rest : List PrintPart) →
-        with_front text.old.items (parts_text entries texts.now (part ∷ rest) values.old)
-        ≡ with_front text.new.items (parts_text entries texts.now rest values.new)) }
-    ensures wrong { IfErr result (λ stop. IfWrong stop ((entries : List ℕ) (rest : List PrintPart) →
-        parts_text entries texts.now (part ∷ rest) values.old ≡ Stuck)) }
+// Puts the text of a number.
+fn put_text(texts: &[Text], n: u32, text: &mut Vec<u8>) -> Result<(), Stop>
+    ensures { (rest : Got (List ℕ)) → IsPut result text.old.items
+        (then_get (known_text (slice_get texts.now n)) (λ bytes. then_get rest (λ more. Known (bytes ++ more))))
+        text.new.items rest }
 {
-    match part {
-        PrintPart::Text(n) => match texts.get(n as usize) {
-            Some(bytes) => {
-                put(text, bytes.as_slice())?;
-                Ok(())
-            }
-            None => Err(Stop::Wrong),
-        },
-        PrintPart::Int => match pop(values)? {
-            Value::Int(value) => {
-                put_integer(text, value)?;
-                Ok(())
-            }
-            Value::Bit(_) => Err(Stop::Wrong),
-        },
+    match texts.get(n as usize) {
+        Some(bytes) => put(text, bytes.as_slice()),
+        None => Err(Stop::Wrong),
     }
 }
 
-/// Joins the texts of the parts. The first part that is no text prints the topmost value.
-pub fn join(
+// Puts an integer.
+fn put_integer(value: Value, text: &mut Vec<u8>) -> Result<(), Stop>
+    ensures { (rest : Got (List ℕ)) → IsPut result text.old.items (after_integer value rest) text.new.items rest }
+{
+    match value {
+        Value::Int(n) => put_digits(text, n),
+        Value::Bit(_) => Err(Stop::Wrong),
+    }
+}
+
+// The byte of a character.
+fn byte_of(value: Value) -> Result<u8, Stop>
+    ensures { IsGot (λ byte g. g ≡ Known (pos byte)) result (then_get (character_of value) integer_of) }
+{
+    match character(value)? {
+        Value::Int(z) => Ok(z as u8),
+        Value::Bit(_) => Err(Stop::Wrong),
+    }
+}
+
+// Puts a character.
+fn put_character(value: Value, text: &mut Vec<u8>) -> Result<(), Stop>
+    ensures { (rest : Got (List ℕ)) → IsPut result text.old.items (after_character value rest) text.new.items rest }
+{
+    let byte = byte_of(value)?;
+    put(text, &[byte])
+}
+
+// The value at a place, and on to the next one.
+fn next_value(values: &[Value], at: &mut usize) -> Result<Value, Stop>
+    ensures { Follows (drop at.old values.now) result (drop at.new values.now) }
+{
+    match values.get(*at) {
+        Some(value) => {
+            *at += 1;
+            Ok(*value)
+        }
+        None => Err(Stop::Wrong),
+    }
+}
+
+// Puts the text of a part, whose value is the next one if it has any.
+fn join_part(
     texts: &[Text],
-    list: &[PrintPart],
-    values: &mut Stack<Value>,
+    part: PrintPart,
+    values: &[Value],
+    at: &mut usize,
     text: &mut Vec<u8>,
 ) -> Result<(), Stop>
-    ensures joined { OnOk result ((entries : List ℕ) →
-        parts_text entries texts.now list.now values.old ≡ Known text.new.items) }
-    ensures wrong { IfErr result (λ stop. IfWrong stop ((entries : List ℕ) →
-        parts_text entries texts.now list.now values.old ≡ Stuck)) }
+    ensures { (entries : List ℕ) (rest : List PrintPart) → IsPut result text.old.items
+        (parts_text entries texts.now (part ∷ rest) (drop at.old values.now)) text.new.items
+        (parts_text entries texts.now rest (drop at.new values.now)) }
+{
+    match part {
+        PrintPart::Text(n) => put_text(texts, n, text),
+        PrintPart::Int => {
+            let value = next_value(values, at)?;
+            put_integer(value, text)
+        }
+        PrintPart::Char => {
+            let value = next_value(values, at)?;
+            put_character(value, text)
+        }
+    }
+}
+
+// Joins the texts of the parts, which take all these values.
+fn join(
+    texts: &[Text],
+    parts: &[PrintPart],
+    values: &[Value],
+    text: &mut Vec<u8>,
+) -> Result<(), Stop>
+    ensures { (entries : List ℕ) → IsGot (λ done g. g ≡ Known text.new.items) result
+        (parts_text entries texts.now parts.now values.now) }
 {
     text.clear();
-    for part in list {
-        match join_part(texts, *part, values, text) {
+    let mut at = 0;
+    for part in parts {
+        match join_part(texts, *part, values, &mut at, text) {
             Ok(()) => {}
             Err(stop) => return Err(stop),
         }
     }
-    if values.len() != 0 {
+    if at < values.len() {
         return Err(Stop::Wrong);
     }
     Ok(())
+}
+
+/// Joins the text of a Print.
+pub fn print(
+    texts: &[Text],
+    parts: &[PrintPart],
+    values: &[Value],
+    text: &mut Vec<u8>,
+) -> Result<Made, Stop>
+    ensures { (entries : List ℕ) (s : State) → IsMade result text.new.items s s
+        (does (printed (parts_text entries texts.now parts.now values.now) s)) }
+{
+    match join(texts, parts, values, text) {
+        Ok(()) => Ok(Made::Printed),
+        Err(stop) => Err(stop),
+    }
 }

@@ -13,7 +13,7 @@ use crate::act::Workspace;
 use crate::runs::play;
 use crate::turns::Trouble;
 use crate::zeros::zeros;
-use base::{Stack, Steps};
+use base::Steps;
 use stapl_code::Code;
 use stapl_code::laws::{never_stuck, plays_are_bounded};
 use stapl_meaning::Ending;
@@ -39,9 +39,10 @@ impl Machine {
         Ok(Machine {
             work: Workspace {
                 variables,
-                operands: Stack::new(alloc),
-                values: Stack::new(alloc),
+                operands: Vec::new(alloc),
                 text: Vec::new(alloc),
+                next: 0,
+                piece: 0,
             },
         })
     }
@@ -68,7 +69,8 @@ impl Machine {
         ensures ended { IfOk result (λ ending. ending_of (play_of code.now chosen.now turns).outcome ≡ Some ending) }
         ensures put { OnOk result (Puts K.written out.old (flat_map event_line
             (play_of code.now chosen.now turns).events) out.new) }
-        ensures variables { OnOk result ((play_of code.now chosen.now turns).state.variables ≡ variables_in self.new) }
+        ensures variables { OnOk result
+            ((play_of code.now chosen.now turns).state.store.variables ≡ variables_in self.new) }
         ensures front { OnErr result (PutsFront K.written out.old (flat_map event_line
             (play_of code.now chosen.now turns).events) out.new) }
         ensures ticks { OnOk result (steps.new ≡ steps.old + play_ticks_of code.now chosen.now turns) }

@@ -5,5 +5,5 @@ use Rattle.stapl_machine.proofs.printing.join.Given as goal
 
 abbrev pub invariant-loop-part : goal.invariant-loop-part
 invariant-loop-part l =
-    (entries : List ℕ) → with_front l.text.items (parts_text entries l.texts (drop l.part-index l.list) l.values)
-    ≡ parts_text entries l.texts l.list l.fn.values
+    (entries : List ℕ) → with_front l.text.items (parts_text entries l.texts (drop l.part-index l.parts) (drop l.at l.values))
+    ≡ parts_text entries l.texts l.parts l.values

@@ -1,44 +1,64 @@
-use Rattle.std.proofs.Common.{◌+◌, ap, sym, ◌∙◌, arith}
-use Rattle.stapl_machine.specs.Turns.{state_from}
-use Rattle.stapl_machine.proofs.RunLemmas.{chosen_on, chosen_ticks_on, chosen_none, chosen_ticks_none, runs_to_same, runs_front_same, over_to, leaves_same}
+use Rattle.std.proofs.Common.{◌+◌, ap, ◌∙◌, arith}
+use Rattle.stapl_machine.specs.Acts.{state_of}
+use Rattle.stapl_machine.specs.Moves.{led_to}
+use Rattle.stapl_machine.specs.Runs.{run_of}
+use Rattle.stapl_machine.proofs.RunLemmas.{chosen_on, chosen_ticks_on, chosen_none, chosen_ticks_none, runs_to_same, runs_front_same, over_to, over_leaves, leaves_same}
 use Rattle.stapl_machine.proofs.runs.run_chosen.Goals as goal
 
 pub returns-in-Ok-clause-runs : goal.returns-in-Ok-clause-runs
 returns-in-Ok-clause-runs g c = λ before.
-    let s = state_from c.args.chosen.now c.args.next.now c.args.work.now in let u = state_from c.args.chosen.now c.next_place.new.next c.args.work.now in
-    runs_to_same (chosen_on c.args.code.now c.args.turns s u c.in-Some.start before (c.in-Some.ensures.begun c.args.work.now)) c.in-Ok.ensures.runs
+    let code = c.args.code.now in let n = c.args.turns in let work = c.args.work.now in
+    let s = state_of c.args.chosen.now work in let u = state_of c.args.chosen.now (record work { next = c.begin_next.new.next }) in
+    let begins = c.begin_next.ensures work.variables.items ∙ ap (λ w. led_to w u) c.in-On.is in
+    runs_to_same (chosen_on code n s u c.in-On.start before begins) c.in-Ok.ensures.runs
 
 pub returns-in-Ok-clause-variables : goal.returns-in-Ok-clause-variables
 returns-in-Ok-clause-variables g c = λ before.
-    let s = state_from c.args.chosen.now c.args.next.now c.args.work.now in let u = state_from c.args.chosen.now c.next_place.new.next c.args.work.now in
-    leaves_same c.in-Ok.ending c.run_turns.new.work.variables.items (chosen_on c.args.code.now c.args.turns s u c.in-Some.start before (c.in-Some.ensures.begun c.args.work.now)) c.in-Ok.ensures.variables
+    let code = c.args.code.now in let n = c.args.turns in let work = c.args.work.now in
+    let s = state_of c.args.chosen.now work in let u = state_of c.args.chosen.now (record work { next = c.begin_next.new.next }) in
+    let begins = c.begin_next.ensures work.variables.items ∙ ap (λ w. led_to w u) c.in-On.is in
+    leaves_same c.in-Ok.ending c.run_turns.new.work.variables.items (chosen_on code n s u c.in-On.start before begins) c.in-Ok.ensures.variables
 
 pub returns-in-Ok-clause-ticks : goal.returns-in-Ok-clause-ticks
 returns-in-Ok-clause-ticks g c =
-    let s = state_from c.args.chosen.now c.args.next.now c.args.work.now in let u = state_from c.args.chosen.now c.next_place.new.next c.args.work.now in
-    c.in-Ok.ensures.ticks ∙ ap (λ n. c.args.steps.now + n) (chosen_ticks_on c.args.code.now c.args.turns s u c.in-Some.start (c.in-Some.ensures.begun c.args.work.now))
+    let code = c.args.code.now in let n = c.args.turns in let work = c.args.work.now in
+    let s = state_of c.args.chosen.now work in let u = state_of c.args.chosen.now (record work { next = c.begin_next.new.next }) in
+    let begins = c.begin_next.ensures work.variables.items ∙ ap (λ w. led_to w u) c.in-On.is in
+    c.in-Ok.ensures.ticks ∙ ap (λ k. c.args.steps.now + k) (chosen_ticks_on code n s u c.in-On.start begins)
 
-pub returns-in-Err-clause-front : goal.returns-in-Err-clause-front
-returns-in-Err-clause-front g c = λ before.
-    let s = state_from c.args.chosen.now c.args.next.now c.args.work.now in let u = state_from c.args.chosen.now c.next_place.new.next c.args.work.now in
-    runs_front_same (chosen_on c.args.code.now c.args.turns s u c.in-Some.start before (c.in-Some.ensures.begun c.args.work.now)) c.in-Err.ensures.front
+pub returns-in-Err-clause-runs : goal.returns-in-Err-clause-runs
+returns-in-Err-clause-runs g c = λ before.
+    let code = c.args.code.now in let n = c.args.turns in let work = c.args.work.now in
+    let s = state_of c.args.chosen.now work in let u = state_of c.args.chosen.now (record work { next = c.begin_next.new.next }) in
+    let begins = c.begin_next.ensures work.variables.items ∙ ap (λ w. led_to w u) c.in-On.is in
+    runs_front_same (chosen_on code n s u c.in-On.start before begins) c.in-Err.ensures.runs
 
-pub returns-in-Err-clause-most : goal.returns-in-Err-clause-most
-returns-in-Err-clause-most g c =
-    let s = state_from c.args.chosen.now c.args.next.now c.args.work.now in let u = state_from c.args.chosen.now c.next_place.new.next c.args.work.now in
-    let e = (chosen_ticks_on c.args.code.now c.args.turns s u c.in-Some.start (c.in-Some.ensures.begun c.args.work.now)) in rw (← e) c.in-Err.ensures.most
+pub returns-in-Err-clause-ticks : goal.returns-in-Err-clause-ticks
+returns-in-Err-clause-ticks g c =
+    let code = c.args.code.now in let n = c.args.turns in let work = c.args.work.now in
+    let s = state_of c.args.chosen.now work in let u = state_of c.args.chosen.now (record work { next = c.begin_next.new.next }) in
+    let begins = c.begin_next.ensures work.variables.items ∙ ap (λ w. led_to w u) c.in-On.is in
+    let e = chosen_ticks_on code n s u c.in-On.start begins in
+    rw (← e) c.in-Err.ensures.ticks
 
-pub returns-in-None-clause-runs : goal.returns-in-None-clause-runs
-returns-in-None-clause-runs g c = λ before.
-    let s = state_from c.args.chosen.now c.args.next.now c.args.work.now in let u = state_from c.args.chosen.now c.next_place.new.next c.args.work.now in
-    runs_to_same (chosen_none c.args.code.now c.args.turns s u before (c.in-None.ensures.begun c.args.work.now)) (over_to u c.args.out.now)
+pub returns-in-Over-clause-runs : goal.returns-in-Over-clause-runs
+returns-in-Over-clause-runs g c = λ before.
+    let code = c.args.code.now in let n = c.args.turns in let work = c.args.work.now in
+    let s = state_of c.args.chosen.now work in let u = state_of c.args.chosen.now (record work { next = c.begin_next.new.next }) in
+    let begins = c.begin_next.ensures work.variables.items ∙ ap (λ w. led_to w u) c.in-Over.is in
+    runs_to_same (chosen_none code n s u c.in-Over.ending before begins) (over_to u before (run_of code n) c.in-Over.ending c.args.out.now)
 
-pub returns-in-None-clause-variables : goal.returns-in-None-clause-variables
-returns-in-None-clause-variables g c = λ before.
-    let s = state_from c.args.chosen.now c.args.next.now c.args.work.now in let u = state_from c.args.chosen.now c.next_place.new.next c.args.work.now in
-    ap (λ r. r.state.variables) (sym (chosen_none c.args.code.now c.args.turns s u before (c.in-None.ensures.begun c.args.work.now)))
+pub returns-in-Over-clause-variables : goal.returns-in-Over-clause-variables
+returns-in-Over-clause-variables g c = λ before.
+    let code = c.args.code.now in let n = c.args.turns in let work = c.args.work.now in
+    let s = state_of c.args.chosen.now work in let u = state_of c.args.chosen.now (record work { next = c.begin_next.new.next }) in
+    let begins = c.begin_next.ensures work.variables.items ∙ ap (λ w. led_to w u) c.in-Over.is in
+    leaves_same c.in-Over.ending work.variables.items (chosen_none code n s u c.in-Over.ending before begins) (over_leaves u before (run_of code n) c.in-Over.ending)
 
-pub returns-in-None-clause-ticks : goal.returns-in-None-clause-ticks
-returns-in-None-clause-ticks g c =
-    let s = state_from c.args.chosen.now c.args.next.now c.args.work.now in let u = state_from c.args.chosen.now c.next_place.new.next c.args.work.now in
-    let e = (chosen_ticks_none c.args.code.now c.args.turns s u (c.in-None.ensures.begun c.args.work.now)) in omega arith
+pub returns-in-Over-clause-ticks : goal.returns-in-Over-clause-ticks
+returns-in-Over-clause-ticks g c =
+    let code = c.args.code.now in let n = c.args.turns in let work = c.args.work.now in
+    let s = state_of c.args.chosen.now work in let u = state_of c.args.chosen.now (record work { next = c.begin_next.new.next }) in
+    let begins = c.begin_next.ensures work.variables.items ∙ ap (λ w. led_to w u) c.in-Over.is in
+    let e = chosen_ticks_none code n s u c.in-Over.ending begins in
+    omega arith

@@ -1,0 +1,188 @@
+//! What instructions make of the operands that they take, the topmost last.
+ghost use Rattle.std.specs.Prelude.{◌≡◌, List, ℕ, slice_get};
+ghost use Rattle.stapl_meaning.specs.Values.{scalar_of};
+ghost use Rattle.stapl_meaning.specs.Operands.{character_of};
+ghost use Rattle.stapl_meaning.specs.States.{State};
+ghost use Rattle.stapl_meaning.specs.Plays.{start};
+ghost use Rattle.stapl_meaning.specs.Effects.{with_scalar, scalar_written, assigned, jumped, parted, returned, exited};
+ghost use Rattle.stapl_code.specs.Machine.{bit_of, operated, one, two, puts, does};
+ghost use Rattle.stapl_machine.specs.Found.{IsValue, if_written};
+ghost use Rattle.stapl_machine.specs.Acts.{IsMade};
+
+use crate::operate::{Stop, combine};
+use stapl_code::operator_of;
+use stapl_meaning::{Ending, Held, RunFault, Value};
+
+/// What an instruction made.
+#[derive(Clone, Copy, Debug, PartialEq, Eq)]
+pub enum Made {
+    /// A value, which goes on top of the operands.
+    Put(Value),
+    /// It goes on to the next instruction.
+    On,
+    /// It goes on, with a text to be written.
+    Printed,
+    /// It goes to its target.
+    Jump,
+    /// The procedure is over.
+    Returned,
+    /// The play is over.
+    Over(Ending),
+}
+
+/// The value of a scalar variable.
+pub fn load(variables: &[Held], n: u32) -> Result<Value, Stop>
+    ensures { IsValue result (scalar_of (slice_get variables.now n)) }
+{
+    match variables.get(n as usize) {
+        Some(Held::Int(value)) => Ok(Value::Int(*value)),
+        Some(Held::Bit(value)) => Ok(Value::Bit(*value)),
+        _ => Err(Stop::Wrong),
+    }
+}
+
+fn write(held: &mut Held, value: Value) -> bool
+    ensures { with_scalar held.old value ≡ if_written result held.new }
+{
+    match (held, value) {
+        (Held::Int(old), Value::Int(new)) => {
+            *old = new;
+            true
+        }
+        (Held::Bit(old), Value::Bit(new)) => {
+            *old = new;
+            true
+        }
+        _ => false,
+    }
+}
+
+// Writes a value into a scalar variable of its kind, and answers whether there is one.
+fn store(variables: &mut Vec<Held>, n: u32, value: Value) -> bool
+    ensures { scalar_written variables.old.items n (slice_get variables.old.items n) value
+        ≡ if_written result variables.new.items }
+{
+    if n as usize >= variables.len() {
+        return false;
+    }
+    write(&mut variables[n as usize], value)
+}
+
+/// A value goes into a scalar variable.
+pub fn assign(variables: &mut Vec<Held>, n: u32, values: &[Value]) -> Result<Made, Stop>
+    ensures { (text chosen : List ℕ) →
+        IsMade result text (start chosen variables.old.items) (start chosen variables.new.items)
+        (does (assigned n values.now (start chosen variables.old.items))) }
+{
+    match values {
+        [value] => {
+            if !store(variables, n, *value) {
+                return Err(Stop::Wrong);
+            }
+            Ok(Made::On)
+        }
+        _ => Err(Stop::Wrong),
+    }
+}
+
+/// The Boolean of a bit.
+pub fn bit(bit: u8) -> Result<Value, Stop>
+    ensures { IsValue result (bit_of bit) }
+{
+    match bit {
+        0 => Ok(Value::Bit(false)),
+        1 => Ok(Value::Bit(true)),
+        _ => Err(Stop::Wrong),
+    }
+}
+
+fn operate(number: u8, left: Value, right: Value) -> Result<Value, Stop>
+    ensures { IsValue result (operated number left right) }
+{
+    match operator_of(number) {
+        Some(operator) => combine(operator.op, left, right),
+        None => Err(Stop::Wrong),
+    }
+}
+
+/// What the operator of a number makes of two values.
+pub fn operate_two(number: u8, values: &[Value]) -> Result<Made, Stop>
+    ensures { (text : List ℕ) (s : State) → IsMade result text s s (two values.now (operated number)) }
+{
+    match values {
+        [left, right] => {
+            let value = operate(number, *left, *right)?;
+            Ok(Made::Put(value))
+        }
+        _ => Err(Stop::Wrong),
+    }
+}
+
+/// A value that is the number of a character.
+pub fn character(value: Value) -> Result<Value, Stop>
+    ensures { IsValue result (character_of value) }
+{
+    match value {
+        Value::Int(z) => {
+            if z < 0 || z >= 256 {
+                return Err(Stop::Fault(RunFault::BadChar));
+            }
+            Ok(Value::Int(z))
+        }
+        Value::Bit(_) => Err(Stop::Wrong),
+    }
+}
+
+/// The test of a character.
+pub fn check_character(values: &[Value]) -> Result<Made, Stop>
+    ensures { (text : List ℕ) (s : State) → IsMade result text s s (one values.now character_of) }
+{
+    match values {
+        [value] => {
+            let value = character(*value)?;
+            Ok(Made::Put(value))
+        }
+        _ => Err(Stop::Wrong),
+    }
+}
+
+/// To the target.
+pub fn jump(values: &[Value]) -> Result<Made, Stop>
+    ensures { (text : List ℕ) (s : State) → IsMade result text s s (does (jumped values.now s)) }
+{
+    match values {
+        [] => Ok(Made::Jump),
+        _ => Err(Stop::Wrong),
+    }
+}
+
+/// On where a Boolean is 1, else to the target.
+pub fn part_ways(values: &[Value]) -> Result<Made, Stop>
+    ensures { (text : List ℕ) (s : State) → IsMade result text s s (does (parted values.now s)) }
+{
+    match values {
+        [Value::Bit(true)] => Ok(Made::On),
+        [Value::Bit(false)] => Ok(Made::Jump),
+        _ => Err(Stop::Wrong),
+    }
+}
+
+/// The procedure is over.
+pub fn end_procedure(values: &[Value]) -> Result<Made, Stop>
+    ensures { (text : List ℕ) (s : State) → IsMade result text s s (does (returned values.now s)) }
+{
+    match values {
+        [] => Ok(Made::Returned),
+        _ => Err(Stop::Wrong),
+    }
+}
+
+/// The play is over.
+pub fn exit(values: &[Value]) -> Result<Made, Stop>
+    ensures { (text : List ℕ) (s : State) → IsMade result text s s (does (exited values.now s)) }
+{
+    match values {
+        [Value::Int(code)] => Ok(Made::Over(Ending::Exit(*code))),
+        _ => Err(Stop::Wrong),
+    }
+}

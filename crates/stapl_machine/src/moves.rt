@@ -1,0 +1,165 @@
+//! Where the machine goes behind an instruction.
+ghost use Rattle.std.specs.Prelude.{◌≡◌, ◌∷◌, List, ℕ, drop, reverse, OnOk, IfOk};
+ghost use Rattle.stapl_meaning.specs.declared.values.Held.{Held};
+ghost use Rattle.stapl_meaning.specs.declared.values.Value.{Value};
+ghost use Rattle.stapl_meaning.specs.States.{State, Turned, next_chosen, jumps_to, turn_of_piece};
+ghost use Rattle.stapl_meaning.specs.Plays.{start};
+ghost use Rattle.stapl_code.specs.Machine.{lands, entry_of, at_end, continues};
+ghost use Rattle.stapl_code.specs.Ticks.{ticks_behind};
+ghost use Rattle.stapl_code.specs.Safe.{entries_of};
+ghost use Rattle.stapl_machine.specs.Acts.{step_of, stepped};
+ghost use Rattle.stapl_machine.specs.Moves.{led_to, IsClean, moved_to, moved_ticks, IsCleanMove};
+
+use crate::act::{Workspace, act};
+use crate::effects::Made;
+use crate::operate::Stop;
+use stapl_code::{CodeLists, Instr, ProcDef};
+use stapl_meaning::{Ending, Value};
+use std::alloc::AllocError;
+
+/// Where a turn leads.
+#[derive(Clone, Copy, PartialEq, Eq, Debug)]
+pub enum Went {
+    /// To the turn at this place.
+    On(u32),
+    /// To the end of the run, which has no ending where it met what no valid code meets.
+    Over(Option<Ending>),
+}
+
+/// Where an instruction leads.
+#[derive(Clone, Copy, PartialEq, Eq, Debug)]
+pub enum Moved {
+    /// On to the next one.
+    On,
+    /// On to the next one, with a text to be written.
+    Printed,
+    /// To the end of the turn.
+    Ends(Went),
+}
+
+fn push(operands: &mut Vec<Value>, value: Value) -> Result<(), AllocError>
+    ensures { OnOk result (reverse operands.new.items ≡ value ∷ reverse operands.old.items) }
+{
+    match operands.push(value) {
+        Ok(()) => Ok(()),
+        Err(_) => Err(AllocError),
+    }
+}
+
+// Where a jump of an instruction leads, which stands here.
+fn target(here: u32, instr: &Instr) -> Option<u32>
+    ensures { result ≡ lands here instr.now }
+{
+    match instr {
+        Instr::Turn(_) => Some(here),
+        Instr::Jump(to) | Instr::JumpIfZero(to) => Some(*to),
+        _ => None,
+    }
+}
+
+fn jump_to(to: Option<u32>) -> Went
+    ensures { (s : State) → jumps_to to s ≡ led_to result s }
+{
+    match to {
+        Some(place) => Went::On(place),
+        None => Went::Over(None),
+    }
+}
+
+fn entry(procedures: &[ProcDef], procedure: u32) -> u32
+    ensures { result ≡ entry_of (entries_of procedures.now) procedure }
+{
+    match procedures.get(procedure as usize) {
+        Some(def) => def.entry,
+        None => u32::MAX,
+    }
+}
+
+/// Begins the next chosen procedure. Where there is none, the run ends with code 0.
+pub fn begin_next(code: &CodeLists, chosen: &[u32], next: &mut usize) -> Went
+    ensures { (variables : List Held) →
+        next_chosen (entry_of (entries_of code.now.procedures)) (start (drop next.old chosen.now) variables)
+        (drop next.old chosen.now) ≡ led_to result (start (drop next.new chosen.now) variables) }
+{
+    if *next >= chosen.len() {
+        return Went::Over(Some(Ending::Exit(0)));
+    }
+    let procedure = chosen[*next];
+    *next += 1;
+    Went::On(entry(code.procedures.as_slice(), procedure))
+}
+
+// The end of a turn, which must find no operand left.
+fn end_turn(operands: &[Value], went: Went) -> Went
+    ensures ends { (piece : ℕ) (s : State) →
+        turn_of_piece piece (at_end (reverse operands.now) (led_to went s)) ≡ led_to result s }
+    ensures clean { IsClean result operands.now }
+{
+    if operands.len() != 0 {
+        return Went::Over(None);
+    }
+    went
+}
+
+// Where an instruction leads that made this.
+fn lead(
+    code: &CodeLists,
+    chosen: &[u32],
+    to: Option<u32>,
+    made: Made,
+    work: &mut Workspace,
+) -> Result<Moved, AllocError>
+    ensures leads { IfOk result (λ moved. (go : List Value → State → Turned) →
+        turn_of_piece work.old.piece (continues (stepped code.now to chosen.now made work.old) go)
+        ≡ moved_to moved chosen.now work.new go) }
+    ensures ticks { IfOk result (λ moved. (go : List Value → State → ℕ) →
+        ticks_behind (stepped code.now to chosen.now made work.old) go ≡ moved_ticks moved chosen.now work.new go) }
+    ensures clean { IfOk result (λ moved. IsCleanMove moved work.new) }
+{
+    match made {
+        Made::Put(value) => match push(&mut work.operands, value) {
+            Ok(()) => Ok(Moved::On),
+            Err(error) => Err(error),
+        },
+        Made::On => Ok(Moved::On),
+        Made::Printed => Ok(Moved::Printed),
+        Made::Jump => Ok(Moved::Ends(end_turn(&work.operands, jump_to(to)))),
+        Made::Returned => {
+            let went = begin_next(code, chosen, &mut work.next);
+            Ok(Moved::Ends(end_turn(&work.operands, went)))
+        }
+        Made::Over(ending) => {
+            let went = Went::Over(Some(ending));
+            Ok(Moved::Ends(end_turn(&work.operands, went)))
+        }
+    }
+}
+
+/// Carries out an instruction that stands here, and answers where it leads.
+///
+/// `AllocError` comes only for want of memory.
+pub fn advance(
+    code: &CodeLists,
+    chosen: &[u32],
+    here: u32,
+    instr: &Instr,
+    work: &mut Workspace,
+) -> Result<Moved, AllocError>
+    ensures leads { IfOk result (λ moved. (go : List Value → State → Turned) →
+        turn_of_piece work.old.piece (continues (step_of code.now here instr.now chosen.now work.old) go)
+        ≡ moved_to moved chosen.now work.new go) }
+    ensures ticks { IfOk result (λ moved. (go : List Value → State → ℕ) →
+        ticks_behind (step_of code.now here instr.now chosen.now work.old) go
+        ≡ moved_ticks moved chosen.now work.new go) }
+    ensures clean { IfOk result (λ moved. IsCleanMove moved work.new) }
+{
+    match act(code, instr, work) {
+        Ok(made) => lead(code, chosen, target(here, instr), made, work),
+        Err(Stop::Fault(fault)) => {
+            let ending = Ending::Fault(fault, work.piece);
+            Ok(Moved::Ends(Went::Over(Some(ending))))
+        }
+        Err(Stop::Wrong) => Ok(Moved::Ends(Went::Over(None))),
+        Err(Stop::Memory) => Err(AllocError),
+    }
+}
