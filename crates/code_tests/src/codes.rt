@@ -13,6 +13,7 @@ use std::test::Fail;
 pub enum Op {
     Turn(u32),
     Push(i32),
+    PushBit(u8),
     Load(u32),
     Store(u32),
     Binary(u8),
@@ -23,7 +24,7 @@ pub enum Op {
     Exit,
 }
 
-pub use Op::{Binary, EndProc, Exit, Jump, JumpIfZero, Load, Print, Push, Store, Turn};
+pub use Op::{Binary, EndProc, Exit, Jump, JumpIfZero, Load, Print, Push, PushBit, Store, Turn};
 
 const ADD: Op = Binary(0);
 
@@ -42,6 +43,7 @@ fn instr_of(alloc: Global, op: Op) -> Result<Instr, Fail> {
     Ok(match op {
         Turn(piece) => Instr::Turn(piece),
         Push(value) => Instr::Push(value),
+        PushBit(bit) => Instr::PushBit(bit),
         Load(variable) => Instr::Load(variable),
         Store(variable) => Instr::Store(variable),
         Binary(op) => Instr::Binary(op),
@@ -373,10 +375,10 @@ fn tests_the_ranges_of_instructions(rt: HostRuntime) -> Result<(), Fail> {
         (Load(4), false),
         (Store(3), true),
         (Store(4), false),
-        (Binary(0), true),
-        (Binary(1), false),
-        (Binary(12), true),
-        (Binary(13), false),
+        (PushBit(1), true),
+        (PushBit(2), false),
+        (Binary(22), true),
+        (Binary(23), false),
         (Jump(u32::MAX), true),
         (Print(&[]), false),
         (Print(&[true]), true),

@@ -11,7 +11,7 @@ use Rattle.stapl_lexer.specs.declared.reason.Reason.{Reason}
 use Rattle.stapl_lexer.specs.declared.reason.Reason.TheVariants as reasons
 use Rattle.stapl_syntax.specs.Trees.{StmtTree}
 use Rattle.stapl_syntax.specs.Programs.{IsProgram, FirstFault, is_too_long}
-use Rattle.stapl_syntax.specs.Unbuilt.{IsUnbuiltAt, IsBuiltProgram}
+use Rattle.stapl_built.specs.Unbuilt.{IsUnbuiltAt, IsBuiltProgram}
 use Rattle.stapl_checker.proofs.UniqueLemmas.{one_program, no_fault}
 use Rattle.play_tool.specs.declared.mode.Mode.{Mode}
 use Rattle.play_tool.specs.declared.mode.Mode.TheVariants as modes

@@ -7,3 +7,4 @@ pub mod CheckLemmas
 pub mod ListLemmas
 pub mod AnswerLemmas
 pub mod OneAnswer
+pub mod FaultLines

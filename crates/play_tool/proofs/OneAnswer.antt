@@ -4,7 +4,7 @@ use Rattle.std.proofs.lemmas.Option.{same_Some, none-some}
 use Rattle.stapl_lexer.specs.declared.reason.Reason.TheVariants as reasons
 use Rattle.stapl_lexer.proofs.PieceLemmas.{cut_one_way}
 use Rattle.stapl_syntax.specs.Programs.{line_of_index}
-use Rattle.stapl_syntax.specs.Unbuilt.{IsUnbuiltAt}
+use Rattle.stapl_built.specs.Unbuilt.{IsUnbuiltAt}
 use Rattle.stapl_lexer.specs.declared.reason.Reason.{Reason}
 use Rattle.stapl_syntax.specs.Trees.{StmtTree}
 use Rattle.stapl_checker.proofs.UniqueLemmas.{one_first_fault, one_program, no_fault}

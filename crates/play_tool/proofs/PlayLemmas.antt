@@ -29,7 +29,8 @@ use Rattle.stapl_code.specs.declared.raw.CodeLists.{CodeLists}
 use Rattle.stapl_code.specs.declared.raw.ItemDef.{ItemDef}
 use Rattle.stapl_code.specs.Ranges.{IsItem, IsAction}
 use Rattle.stapl_code.specs.Safe.{AllFit, AllBelow}
-use Rattle.stapl_codegen.specs.Emit.{item_def, action_def, actions_from}
+use Rattle.stapl_codegen.specs.Emit.{start_of, item_def, action_def, actions_from}
+use Rattle.stapl_codegen.specs.Correct.{placed_outcome, placed_run}
 use Rattle.stapl_codegen.specs.Generated.{integer_def, IsCodeOf}
 use Rattle.stapl_machine.specs.Zeros.{zero_of, zeros_of_code}
 use Rattle.stapl_machine.specs.Machines.{play_of}
@@ -91,15 +92,21 @@ named_below n (def ∷ rest) name chosen are e = by (bytes_eq name def.name) e (
     by false e more = more e
 
 -- The code's play of the chosen procedures is the program's.
+
+ending_placed : (place : ℕ → ℕ) (o : Outcome) → ending_of (placed_outcome place o) ≡ ending_of o
+ending_placed place (Ended ending) = refl
+ending_placed place (Going i) = refl
+ending_placed place Stopped = refl
+
 pub play_of_action : (program : List StmtTree) (code : CodeLists) (name chosen : List ℕ) (turns : ℕ) → IsCodeOf program code →
     procedures_named code.actions name ≡ Some chosen → IsPlayOf program name turns (play_of code chosen turns)
 play_of_action program code name chosen turns is e =
-    let zeros = same_zeros program code is in
+    let same : play_of code chosen turns ≡ placed_run (start_of program) (play program chosen turns) = rw (same_zeros program code is) (is.stands chosen turns) in
     record {
       chosen = chosen;
       is_chosen = sym (same_chosen program code name is) ∙ e;
-      same_events = rw zeros (is.stands.same_events chosen turns);
-      same_ending = rw zeros (is.stands.same_ending chosen turns);
+      same_events = ap (λ (r : Run). r.events) same;
+      same_ending = ap (λ (r : Run). ending_of r.outcome) same ∙ ending_placed (start_of program) (play program chosen turns).outcome;
     }
 
 -- The same, where the code's actions are told.

@@ -6,7 +6,7 @@ use Rattle.stapl_lexer.specs.declared.reason.Reason.{Reason}
 use Rattle.stapl_lexer.specs.declared.reason.Reason.TheVariants as reasons
 use Rattle.stapl_syntax.specs.Trees.{StmtTree}
 use Rattle.stapl_syntax.specs.Programs.{IsProgram, FirstFault}
-use Rattle.stapl_syntax.specs.Unbuilt.{IsUnbuiltAt, IsBuiltProgram}
+use Rattle.stapl_built.specs.Unbuilt.{IsUnbuiltAt, IsBuiltProgram}
 use Rattle.stapl_meaning.specs.declared.events.Ending.{Ending}
 use Rattle.stapl_meaning.specs.declared.events.Ending.TheVariants as endings
 use Rattle.stapl_meaning.specs.Scopes.{chosen_of}
@@ -16,7 +16,7 @@ use Rattle.play_tool.specs.declared.mode.Mode.{Mode}
 use Rattle.play_tool.specs.declared.mode.Mode.TheVariants as modes
 use Rattle.play_tool.specs.declared.words.Request.{Request}
 use Rattle.play_tool.specs.declared.status.Status.{Status}
-use Rattle.play_tool.specs.declared.status.Status.TheVariants.{Done, Spent, Refused, NoAction, Usage, ReadFault, WriteFault, Memory}
+use Rattle.play_tool.specs.declared.status.Status.TheVariants.{Done, Fault, Spent, Refused, NoAction, Usage, ReadFault, WriteFault, Memory}
 use Rattle.play_tool.specs.Checks.{Checks}
 use Rattle.play_tool.specs.Listings.{Lists}
 use Rattle.play_tool.specs.Texts.{number_line, refusal_line}
@@ -25,6 +25,7 @@ use Rattle.play_tool.specs.Words.{IsRequest, IsUsage}
 -- the status of a play that ends so
 abbrev pub done_with : Ending → Status
 done_with (endings.Exit code) = Done code
+done_with (endings.Fault k piece) = Fault k piece
 done_with endings.Spent = Spent
 
 -- What is written of the play of an action, and the status: the program has no such action, or it is played for at most
@@ -95,6 +96,7 @@ IsFault ReadFault = Unit {0}
 IsFault WriteFault = Unit {0}
 IsFault Memory = Unit {0}
 IsFault (Done code) = ⊥
+IsFault (Fault k piece) = ⊥
 IsFault Spent = ⊥
 IsFault (Refused piece reason) = ⊥
 IsFault NoAction = ⊥

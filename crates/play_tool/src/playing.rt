@@ -3,7 +3,7 @@ ghost use Rattle.std.specs.Prelude.{◌≡◌, ◌<◌, length, map, Some, None,
 ghost use Rattle.tool_io.specs.Causes.{HasRisen, NeverFalls};
 ghost use Rattle.tool_io.specs.Lines.{IsWhole, IsOverSame, SinkNeverFalls, sink_of, Puts};
 ghost use Rattle.stapl_syntax.specs.ProgramValues.{trees_of};
-ghost use Rattle.stapl_syntax.specs.Unbuilt.{IsBuiltProgram};
+ghost use Rattle.stapl_built.specs.Unbuilt.{IsBuiltProgram};
 ghost use Rattle.stapl_meaning.specs.Plays.{ending_of};
 ghost use Rattle.stapl_meaning.specs.Texts.{text_of};
 ghost use Rattle.stapl_code.specs.Safe.{AllBelow, AllFit};
@@ -176,6 +176,7 @@ fn status_of(ending: Ending) -> Status
 {
     match ending {
         Ending::Exit(code) => Status::Done(code),
+        Ending::Fault(fault, piece) => Status::Fault(fault, piece),
         Ending::Spent => Status::Spent,
     }
 }

@@ -6,6 +6,7 @@ ghost use Rattle.play_tool.specs.CodePlays.{no_answer_of};
 
 use stapl_lexer::Reason;
 use stapl_machine::Trouble;
+use stapl_meaning::RunFault;
 use std::alloc::AllocError;
 use thiserror::Error;
 use tool_io::Failed;
@@ -15,6 +16,8 @@ use tool_io::Failed;
 pub enum Status {
     /// The work is done, 0; or a play ended with this code.
     Done(i32),
+    /// A fault ended the play, in the turn of this piece. Pieces are counted from 1.
+    Fault(RunFault, u32),
     /// The play still goes on after the turns that it was given.
     Spent,
     /// The program is refused: the piece, counted from 1, of its first fault, or 0 where the text is too long, and the
@@ -75,13 +78,15 @@ impl From<Trouble> for NoAnswer {
 
 impl Status {
     /// The exit code of the process: 0 for work that is done and for a play that ended with code 0, 1 for a play that
-    /// ended with another, 3 for one whose turns are spent, and from 4 on one for each cause.
+    /// ended with another, 2 for one that a fault ended, 3 for one whose turns are spent, and from 4 on one for each
+    /// cause.
     pub fn exit_code(&self) -> u8
         ensures { result ≡ exit_code_of self.now }
     {
         match self {
             Status::Done(0) => 0,
             Status::Done(_) => 1,
+            Status::Fault(_, _) => 2,
             Status::Spent => 3,
             Status::Refused(_, _) => 4,
             Status::NoAction => 6,

@@ -5,11 +5,11 @@ ghost use Rattle.tool_io.specs.Bytes.{then_bytes, MovesFront};
 ghost use Rattle.tool_io.specs.Lines.{IsWhole, IsOverSame, HasSinkCause, Puts, PutsFront};
 ghost use Rattle.stapl_lexer.specs.Reasons.{reason_name};
 ghost use Rattle.stapl_meaning.specs.Texts.{ending_line};
-ghost use Rattle.stapl_meaning.specs.declared.events.Ending.TheVariants.{Exit};
+ghost use Rattle.stapl_meaning.specs.declared.events.Ending.TheVariants.{Exit, Fault};
 ghost use Rattle.play_tool.specs.Texts.{labelled, word_line, number_line, place_text, refusal_line};
 
 use stapl_lexer::Reason;
-use stapl_meaning::Ending;
+use stapl_meaning::{Ending, RunFault};
 use tool_io::{Failed, Lines, Sink};
 
 /// Puts a label and a number.
@@ -119,6 +119,35 @@ fn put_exit<K: Sink>(lines: &mut Lines<K>, code: i32) -> Result<(), Failed>
     Ok(())
 }
 
+// Puts where a fault came, and the end of its line.
+fn put_at_piece<K: Sink>(lines: &mut Lines<K>, piece: u32) -> Result<(), Failed>
+    requires { IsWhole lines.old }
+    ensures same_sink { IsOverSame lines.old lines.new }
+    ensures whole { OnOk result (IsWhole lines.new) }
+    ensures ok { OnOk result (Puts K.written lines.old (number_line (codes " at ") (pos piece)) lines.new) }
+    ensures front { OnErr result (PutsFront K.written lines.old (number_line (codes " at ") (pos piece)) lines.new) }
+    ensures cause { HasSinkCause K.faults K.is_last lines.old lines.new result }
+{
+    put_number_line(lines, b" at ", i64::from(piece))?;
+    Ok(())
+}
+
+// Puts the line of a fault in the turn of a piece.
+#[tactic(auto, using(tool_io::proofs::PutLemmas::put_then, tool_io::proofs::PutLemmas::put_then_front, tool_io::proofs::PutLemmas::front_with))]
+fn put_fault<K: Sink>(lines: &mut Lines<K>, fault: RunFault, piece: u32) -> Result<(), Failed>
+    requires { IsWhole lines.old }
+    ensures same_sink { IsOverSame lines.old lines.new }
+    ensures whole { OnOk result (IsWhole lines.new) }
+    ensures ok { OnOk result (Puts K.written lines.old (ending_line (Fault fault piece)) lines.new) }
+    ensures front { OnErr result (PutsFront K.written lines.old (ending_line (Fault fault piece)) lines.new) }
+    ensures cause { HasSinkCause K.faults K.is_last lines.old lines.new result }
+{
+    lines.put(b"E fault ")?;
+    lines.put(fault.name())?;
+    put_at_piece(lines, piece)?;
+    Ok(())
+}
+
 /// Puts the line of how a play ends.
 pub fn put_ending<K: Sink>(lines: &mut Lines<K>, ending: Ending) -> Result<(), Failed>
     requires { IsWhole lines.old }
@@ -130,6 +159,7 @@ pub fn put_ending<K: Sink>(lines: &mut Lines<K>, ending: Ending) -> Result<(), F
 {
     match ending {
         Ending::Exit(code) => put_exit(lines, code),
+        Ending::Fault(fault, piece) => put_fault(lines, fault, piece),
         Ending::Spent => lines.put(b"E spent\n"),
     }
 }

@@ -1,6 +1,7 @@
 //! What the tool answers to its words, over a store and a sink in memory.
 use play_tool::{Mode, Status, read_words, run_tool};
 use stapl_lexer::Reason;
+use stapl_meaning::RunFault;
 use std::test::Fail;
 use tool_io::{MemShelf, MemSink};
 
@@ -76,10 +77,11 @@ fn reads_words(rt: HostRuntime) -> Result<(), Fail> {
 // The exit code of each status.
 #[test]
 fn gives_exit_codes(rt: HostRuntime) -> Result<(), Fail> {
-    let table: [(Status, u8); 10] = [
+    let table: [(Status, u8); 11] = [
         (Status::Done(0), 0),
         (Status::Done(-1), 1),
         (Status::Done(256), 1),
+        (Status::Fault(RunFault::ShiftCount, 4), 2),
         (Status::Spent, 3),
         (Status::Refused(1, Reason::NotYetBuilt), 4),
         (Status::NoAction, 6),
