@@ -7,7 +7,7 @@ ghost use Rattle.stapl_checker.specs.Scopes.{named, IsInside, known_of, variable
 ghost use Rattle.stapl_checker.specs.Earlier.{declared_below, passes_in};
 
 use stapl_lexer::Name;
-use stapl_names::Names;
+use stapl_names::{Names, VariableKinds};
 use stapl_syntax::{Found, VarKind, Variable};
 use std::marker::Model;
 
@@ -53,7 +53,7 @@ impl<'a> Scope<'a> {
     }
 
     /// The kind of the variable that a name stands for.
-    pub(crate) fn kind(&self, name: &Name) -> Option<VarKind>
+    fn kind_of(&self, name: &Name) -> Option<VarKind>
         ensures { result ≡ (known_of self.now).kind name.now }
     {
         match self.found(name) {
@@ -143,5 +143,13 @@ impl<'a> Scope<'a> {
             Some(piece) => piece < number,
             None => false,
         }
+    }
+}
+
+impl<'a> VariableKinds for Scope<'a> {
+    ghost kinds = { λ s. (known_of s).kind };
+
+    fn kind(&self, name: &Name) -> Option<VarKind> {
+        self.kind_of(name)
     }
 }
