@@ -1,3 +1,4 @@
 pub mod Built
 pub mod Unbuilt
 pub mod Verdicts
+pub mod Sizes

@@ -1,79 +1,46 @@
 //! Which statements are built.
 ghost use Rattle.std.specs.Prelude.{◌≡◌, map};
 ghost use Rattle.std.specs.List.{list_all};
-ghost use Rattle.stapl_syntax.specs.Trees.{expr_tree, item_tree, part_tree, body_tree, stmt_tree};
-ghost use Rattle.stapl_built.specs.Built.{is_arithmetic, is_comparison, is_built_atom, is_built_integer, is_built_condition, is_built_print, is_built_simple, is_built_inner, is_built_item, is_built_outer, is_built};
+ghost use Rattle.stapl_syntax.specs.Trees.{print, expr_tree, item_tree, part_tree, body_tree, stmt_tree};
+ghost use Rattle.stapl_built.specs.Built.{is_built_expr, is_built_part, is_built_simple, is_built_inner, is_built_item, is_built_outer, is_built};
 
-use stapl_lexer::BinOp;
 use stapl_syntax::{Body, Expr, Item, PrintPart, Stmt};
 
-// A number or a scalar variable.
-fn is_atom(expr: &Expr) -> bool
-    ensures { result ≡ is_built_atom (expr_tree expr.now) }
-{
-    matches!(expr, Expr::Number(_) | Expr::Scalar(_))
-}
-
-// An operator that makes an integer of two.
-fn is_arithmetic(operator: BinOp) -> bool
-    ensures { result ≡ is_arithmetic operator }
-{
-    matches!(
-        operator,
-        BinOp::Multiply
-            | BinOp::Divide
-            | BinOp::Remainder
-            | BinOp::Add
-            | BinOp::Subtract
-            | BinOp::ShiftLeft
-            | BinOp::ShiftRight
-    )
-}
-
-// An operator that compares two integers by their order.
-fn is_comparison(operator: BinOp) -> bool
-    ensures { result ≡ is_comparison operator }
-{
-    matches!(
-        operator,
-        BinOp::Less | BinOp::AtMost | BinOp::Greater | BinOp::AtLeast
-    )
-}
-
-// An atom, or two with an operator between them that makes an integer.
-fn is_integer(expr: &Expr) -> bool
-    ensures { result ≡ is_built_integer (expr_tree expr.now) }
+// An expression.
+fn is_built_expr(expr: &Expr) -> bool
+    ensures { result ≡ is_built_expr (expr_tree expr.now) }
 {
     match expr {
-        Expr::Binary(operator, left, right) => {
-            is_arithmetic(*operator) && is_atom(left) && is_atom(right)
-        }
-        _ => is_atom(expr),
+        Expr::Number(_) | Expr::Scalar(_) => true,
+        Expr::Unary(_, operand) | Expr::Abs(operand) => is_built_expr(operand),
+        Expr::Binary(_, left, right) => is_built_expr(left) && is_built_expr(right),
+        Expr::Element(_, _) | Expr::Int(_) => false,
     }
 }
 
-// Two atoms are compared.
-fn is_condition(expr: &Expr) -> bool
-    ensures { result ≡ is_built_condition (expr_tree expr.now) }
+// A part of a PRINT.
+fn is_built_part(part: &PrintPart) -> bool
+    ensures { result ≡ is_built_part (part_tree part.now) }
 {
-    match expr {
-        Expr::Binary(operator, left, right) => {
-            is_comparison(*operator) && is_atom(left) && is_atom(right)
-        }
-        _ => false,
+    match part {
+        PrintPart::Text(_) => true,
+        PrintPart::Value(expr) => is_built_expr(expr),
+        PrintPart::Character(expr) => is_built_expr(expr),
     }
 }
 
-// One string, one atom or one character.
-fn is_print(parts: &[PrintPart]) -> bool
-    ensures { result ≡ is_built_print (map part_tree parts.now) }
+fn all_parts_are_built(parts: &[PrintPart]) -> bool
+    ensures { result ≡ list_all (λ part. is_built_part (part_tree part)) parts.now }
 {
-    match parts {
-        [PrintPart::Text(_)] => true,
-        [PrintPart::Value(expr)] => is_atom(expr),
-        [PrintPart::Character(expr)] => is_atom(expr),
-        _ => false,
-    }
+    parts.iter().all(|part| is_built_part(part))
+}
+
+// The parts of a PRINT.
+#[tactic(auto, using(stapl_syntax::proofs::MappedLists::mapped_lists, crate::proofs::BuiltLemmas::some_mapped))]
+fn are_built_parts(parts: &[PrintPart]) -> bool
+    ensures { result ≡ is_built_simple (print (map part_tree parts.now)) }
+{
+    0 < parts.len() && all_parts_are_built(parts)
 }
 
 // A statement that may stand after THEN.
@@ -81,10 +48,11 @@ fn is_simple(body: &Body) -> bool
     ensures { result ≡ is_built_simple (body_tree body.now) }
 {
     match body {
-        Body::Assign(_, expr) => is_integer(expr),
+        Body::Assign(_, expr) => is_built_expr(expr),
         Body::Goto(_) => true,
-        Body::Print(parts) => is_print(parts.as_slice()),
-        Body::Exit(expr) => is_atom(expr),
+        Body::If(expr, body) => is_built_expr(expr) && is_simple(body),
+        Body::Print(parts) => are_built_parts(parts.as_slice()),
+        Body::Exit(expr) => is_built_expr(expr),
         _ => false,
     }
 }
@@ -94,9 +62,7 @@ fn is_inner(body: &Body) -> bool
     ensures { result ≡ is_built_inner (body_tree body.now) }
 {
     match body {
-        Body::EndProcedure => true,
-        Body::Integer(_, start) => start.is_none(),
-        Body::If(expr, body) => is_condition(expr) && is_simple(body),
+        Body::EndProcedure | Body::Boolean(_, None) | Body::Integer(_, None) => true,
         _ => is_simple(body),
     }
 }

@@ -1,11 +1,19 @@
 //! Laws of the definitions.
-ghost use Rattle.std.specs.Prelude.{ℕ, List, All};
+ghost use Rattle.std.specs.Prelude.{ℕ, ◌≤◌, List, All, length};
 ghost use Rattle.stapl_syntax.specs.Trees.{StmtTree};
+ghost use Rattle.stapl_syntax.specs.Programs.{IsProgram};
 ghost use Rattle.stapl_built.specs.Built.{IsBuilt};
+ghost use Rattle.stapl_built.specs.Sizes.{statements_size};
 ghost use Rattle.stapl_built.specs.Unbuilt.{IsBuiltProgram};
 
 /// Each statement of a built program has one of the shapes that are built.
 pub fn programs_are_built()
     ensures { (text : List ℕ) (statements : List StmtTree) →
         IsBuiltProgram text statements → All IsBuilt statements }
+{}
+
+/// The statements of a program are together no larger than its text: each symbol of a statement has a byte of its own.
+pub fn statements_are_no_longer_than_their_text()
+    ensures { (text : List ℕ) (statements : List StmtTree) →
+        IsProgram text statements → statements_size statements ≤ length text }
 {}

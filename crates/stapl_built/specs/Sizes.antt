@@ -1,0 +1,51 @@
+-- How large a statement is, which is no more than the count of its symbols: brackets, commas and some other symbols are
+-- not counted. This measure is this profile's.
+use Rattle.std.specs.Prelude.{ℕ, ◌+◌, List, Option, None, Some}
+use Rattle.std.specs.List.{sum_by}
+use Rattle.stapl_syntax.specs.Trees.{ExprTree, number, scalar, element, unary, binary, abs, int, ArrayTree, literal, whole, range, of_int, PartTree, string, value, character, BodyTree, assign, assign_element, assign_array, assign_range, if_then, for_loop, push, print, exit, StmtTree}
+
+abbrev mutual
+  -- an expression, without brackets around it
+  pub expr_size : ExprTree → ℕ
+  expr_size (number z) = 1
+  expr_size (scalar name) = 1
+  expr_size (element name index) = 2 + expr_size index
+  expr_size (unary op x) = 1 + expr_size x
+  expr_size (binary op x y) = expr_size x + expr_size y + 1
+  expr_size (abs x) = 1 + expr_size x
+  expr_size (int a) = 1 + array_size a
+
+  -- an expression that stands for a list of bits
+  pub array_size : ArrayTree → ℕ
+  array_size (literal bits) = 1
+  array_size (whole name) = 1
+  array_size (range name high low) = 2 + expr_size high + expr_size low
+  array_size (of_int x) = 1 + expr_size x
+
+-- a part of what PRINT prints
+abbrev pub part_size : PartTree → ℕ
+part_size (string bytes) = 1
+part_size (value x) = expr_size x
+part_size (character x) = 2 + expr_size x
+
+-- the step of a FOR, if it has one
+abbrev pub step_size : Option ExprTree → ℕ
+step_size None = 0
+step_size (Some x) = expr_size x
+
+-- a statement without its label; each form that is not named here counts as one symbol
+abbrev pub body_size : BodyTree → ℕ
+body_size (assign name x) = 2 + expr_size x
+body_size (assign_element name index x) = 2 + expr_size index + expr_size x
+body_size (assign_array name a) = 2 + array_size a
+body_size (assign_range name high low a) = 2 + expr_size high + expr_size low + array_size a
+body_size (if_then x body) = 2 + expr_size x + body_size body
+body_size (for_loop name from to step) = 2 + expr_size from + expr_size to + step_size step
+body_size (push x) = 1 + expr_size x
+body_size (print parts) = 1 + sum_by part_size parts
+body_size (exit x) = 1 + expr_size x
+body_size _ = 1
+
+-- the statements together
+abbrev pub statements_size : List StmtTree → ℕ
+statements_size statements = sum_by (λ st. body_size st.body) statements
