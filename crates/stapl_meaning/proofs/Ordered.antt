@@ -10,7 +10,7 @@ use Rattle.stapl_lexer.specs.declared.reason.Reason.TheVariants as reasons
 use Rattle.stapl_syntax.specs.declared.names.Block.{Block}
 use Rattle.stapl_syntax.specs.Trees.{BodyTree, note, action, procedure, data_block, end_data, crc, end_procedure, StmtTree}
 use Rattle.stapl_syntax.specs.Statements.{is_outer, begins_procedure, ends_procedure}
-use Rattle.stapl_built.specs.Built.{is_built_outer, IsSimple, is_assign, is_goto, is_print_string, is_print_value, is_print_character, is_exit, IsInner, is_end_procedure, is_integer, is_if, is_simple, IsBuilt, is_outside, is_inside}
+use Rattle.stapl_built.specs.Built.{is_built_outer, is_built_inner, IsBuilt}
 use Rattle.stapl_syntax.specs.Names.{numbered_from, inside_behind, inside_from, declaration, block_of_body, block_of, declared, numbered}
 use Rattle.stapl_syntax.specs.Rules.{Place, is_outside as stands_outside, may_stand_inside, may_stand, is_data_block, in_data_block, place_after}
 use Rattle.stapl_meaning.specs.Scopes.{program_names, block_at}
@@ -26,27 +26,12 @@ IsNoData _ = Unit {0}
 abbrev pub HasNoData : List StmtTree → Type 0
 HasNoData statements = All (λ (st : StmtTree). IsNoData st.body) statements
 
-simple_is_no_data : (body : BodyTree) → IsSimple body → IsNoData body
-simple_is_no_data _ (is_assign name x sum) = tt
-simple_is_no_data _ (is_goto label) = tt
-simple_is_no_data _ (is_print_string bytes) = tt
-simple_is_no_data _ (is_print_value x atom) = tt
-simple_is_no_data _ (is_print_character x atom) = tt
-simple_is_no_data _ (is_exit x atom) = tt
-
-inner_is_no_data : (body : BodyTree) → IsInner body → IsNoData body
-inner_is_no_data _ is_end_procedure = tt
-inner_is_no_data _ (is_integer name) = tt
-inner_is_no_data _ (is_if op x y body made p q simple) = tt
-inner_is_no_data _ (is_simple body simple) = simple_is_no_data body simple
-
-outer_is_no_data : (body : BodyTree) → is_built_outer body ≡ true → IsNoData body
-outer_is_no_data (data_block name) e = absurd (true≢false (sym e))
-outer_is_no_data _ e = tt
+no_data : (body : BodyTree) → (is_built_outer body || is_built_inner body) ≡ true → IsNoData body
+no_data (data_block name) e = absurd (true≢false (sym e))
+no_data _ e = tt
 
 pub built_is_no_data : (st : StmtTree) → IsBuilt st → IsNoData st.body
-built_is_no_data _ (is_outside st e) = outer_is_no_data st.body e
-built_is_no_data _ (is_inside st inner) = inner_is_no_data st.body inner
+built_is_no_data st built = no_data st.body built
 
 pub has_no_data : (program : List StmtTree) → All IsBuilt program → HasNoData program
 has_no_data program built = All-weaker IsBuilt (λ (st : StmtTree). IsNoData st.body) built_is_no_data program built

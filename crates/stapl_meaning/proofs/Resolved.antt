@@ -1,89 +1,28 @@
 -- What a statement of a built program names is there: its variables, its labels, and the procedures of an ACTION.
 use Rattle.std.proofs.Common.{◌≡◌, ℕ, zero, suc, ◌+◌, ◌-◌, ◌<◌, Bool, true, false, not, ◌||◌, if◌then◌else◌, List, [], ◌∷◌, ◌++◌, length, map, slice_get, Option, Some, None, is_some, is_none, refl, sym, ap, subst, ◌∙◌, arith, All}
-use Rattle.std.specs.List.{list_any, AllByRecursion}
+use Rattle.std.specs.List.{list_any, list_all, AllByRecursion}
 use Rattle.std.specs.Option.{option_map_or}
-use Rattle.std.specs.Map.{lookup, keys_of}
+use Rattle.std.specs.Map.{lookup}
 use Rattle.std.specs.Str.{bytes_eq}
-use Rattle.std.proofs.lemmas.Bool.{or_parts, not-false, true≢false}
+use Rattle.std.proofs.lemmas.Bool.{and_parts, or_parts, not-false, true≢false}
 use Rattle.std.proofs.lemmas.List.Elements.{All-nil, All-cons}
-use Rattle.std.proofs.lemmas.List.Quantifiers.{position-Some}
-use Rattle.std.proofs.lemmas.Map.Entries.{length-keys_of}
 use Rattle.std.proofs.lemmas.Option.{same_Some, none-some, slice_get_within}
 use Rattle.std.proofs.lemmas.Slice.Eq.{bytes_eq-Decides}
 use Rattle.stapl_lexer.specs.declared.reason.Reason.TheVariants as reasons
 use Rattle.stapl_syntax.specs.declared.names.Block.{Block}
-use Rattle.stapl_syntax.specs.declared.names.Found.TheVariants as found
 use Rattle.stapl_syntax.specs.declared.names.Key.{Key}
-use Rattle.stapl_syntax.specs.Trees.{ExprTree, ItemTree, BodyTree, note, action, procedure, data_block, crc, StmtTree}
-use Rattle.stapl_syntax.specs.Statements.{is_outer, begins_procedure, ends_procedure}
-use Rattle.stapl_built.specs.Built.{is_built_outer, IsAtom, is_number, is_scalar, IsBuiltInteger, is_atom, is_operated, IsSimple, is_assign, is_goto, is_print_string, is_print_value, is_print_character, is_exit, IsInner, is_end_procedure, is_integer, is_if, is_simple, IsBuilt, is_outside, is_inside}
-use Rattle.stapl_syntax.specs.Names.{Names, numbered, block_of, block_of_body, label_of, label_in, key_in, key_eq, declared, block_named, is_declared, variable_number, found_in, blocks_seen, found_from, has_label}
-use Rattle.stapl_syntax.specs.Mentions.{expr_variables, variables_named, item_name, procedures_named, blocks_used, labels_named}
-use Rattle.stapl_syntax.specs.Rules.{is_absent, is_hidden, Known, known_from, names_undefined}
-use Rattle.stapl_meaning.specs.Scopes.{program_names, block_at, number_found, variable_from, label_from, procedures_in, procedure_before, procedure_number, scope_at}
-use Rattle.stapl_meaning.specs.Typed.{IsInteger, IsTypedBody, IsInBlock, IsTypedAt, NamesProcedure, NamesProcedures}
+use Rattle.stapl_syntax.specs.Trees.{ItemTree, BodyTree, note, action, procedure, data_block, crc, StmtTree}
+use Rattle.stapl_syntax.specs.Statements.{is_outer, begins_procedure}
+use Rattle.stapl_built.specs.Built.{is_built_outer, is_built_inner, IsBuilt}
+use Rattle.stapl_syntax.specs.Names.{numbered, block_of, block_of_body, label_of, label_in, key_in, key_eq, declared, block_named, has_label}
+use Rattle.stapl_syntax.specs.Mentions.{variables_named, item_name, procedures_named, blocks_used, labels_named}
+use Rattle.stapl_syntax.specs.Rules.{is_absent, is_data_block, Known, known_from, names_undefined, is_well_kinded}
+use Rattle.stapl_syntax.specs.Kinds.{operands_suit}
+use Rattle.stapl_meaning.specs.Scopes.{program_names, block_at, label_from, procedures_in, procedure_before, procedure_number, scope_at}
+use Rattle.stapl_meaning.specs.Typed.{IsInBlock, IsTypedAt, NamesProcedure, NamesProcedures}
 use Rattle.stapl_meaning.proofs.Entries.{name_same, key_same, all_at, all_from_each, all_declared, all_firsts, found_holds}
 use Rattle.stapl_meaning.proofs.Sound.{IsSound}
 use Rattle.stapl_meaning.proofs.Ordered.{IsNoData, HasNoData, stands_at}
-
--- ---- lists of names
-
-module _ {A : Type 0} where
-  front_holds : (P : A → Type 0) (xs ys : List A) → AllByRecursion P (xs ++ ys) → AllByRecursion P xs
-  front_holds P [] ys all = tt
-  front_holds P (x ∷ xs) ys all = (all.0, front_holds P xs ys all.1)
-
-  rest_holds : (P : A → Type 0) (xs ys : List A) → AllByRecursion P (xs ++ ys) → AllByRecursion P ys
-  rest_holds P [] ys all = all
-  rest_holds P (x ∷ xs) ys all = rest_holds P xs ys all.1
-
--- ---- a statement whose names are there is typed
-
-module _ (variable : List ℕ → ℕ) (count : ℕ) (Leads : List ℕ → Type 0) where
-  abbrev AreThere : List (List ℕ) → Type 0
-  AreThere names = AllByRecursion (λ name. variable name < count) names
-
-  atom_is_integer : (x : ExprTree) → IsAtom x → AreThere (expr_variables x) → IsInteger variable count Leads x
-  atom_is_integer _ (is_number z) there = tt
-  atom_is_integer _ (is_scalar name) there = there.0
-
-  atoms_are_integers : (x y : ExprTree) → IsAtom x → IsAtom y → AreThere (expr_variables x ++ expr_variables y) → IsInteger variable count Leads x × IsInteger variable count Leads y
-  atoms_are_integers x y a b there = (
-    atom_is_integer x a (front_holds (λ name. variable name < count) (expr_variables x) (expr_variables y) there),
-    atom_is_integer y b (rest_holds (λ name. variable name < count) (expr_variables x) (expr_variables y) there),
-  )
-
-  built_is_integer : (x : ExprTree) → IsBuiltInteger x → AreThere (expr_variables x) → IsInteger variable count Leads x
-  built_is_integer _ (is_atom x atom) there = atom_is_integer x atom there
-  built_is_integer _ (is_operated op x y made a b) there = let both = atoms_are_integers x y a b there in (made, both.0, both.1)
-
-  simple_is_typed : (body : BodyTree) → IsSimple body → AreThere (variables_named body) → AllByRecursion Leads (labels_named body) → IsTypedBody variable count Leads body
-  simple_is_typed _ (is_assign name x built) there leads = (there.0, built_is_integer x built there.1)
-  simple_is_typed _ (is_goto label) there leads = leads.0
-  simple_is_typed _ (is_print_string bytes) there leads = (omega arith, tt)
-  simple_is_typed _ (is_print_value x atom) there leads =
-      (omega arith, (atom_is_integer x atom (front_holds (λ name. variable name < count) (expr_variables x) [] there), tt))
-  simple_is_typed _ (is_print_character x atom) there leads =
-      (omega arith, (atom_is_integer x atom (front_holds (λ name. variable name < count) (expr_variables x) [] there), tt))
-  simple_is_typed _ (is_exit x atom) there leads = atom_is_integer x atom there
-
-  simple_goes_on : (body : BodyTree) → IsSimple body → ends_procedure body ≡ false
-  simple_goes_on _ (is_assign name x sum) = refl
-  simple_goes_on _ (is_goto label) = refl
-  simple_goes_on _ (is_print_string bytes) = refl
-  simple_goes_on _ (is_print_value x atom) = refl
-  simple_goes_on _ (is_print_character x atom) = refl
-  simple_goes_on _ (is_exit x atom) = refl
-
-  inner_is_typed : (body : BodyTree) → IsInner body → AreThere (variables_named body) → AllByRecursion Leads (labels_named body) → IsTypedBody variable count Leads body
-  inner_is_typed _ is_end_procedure there leads = tt
-  inner_is_typed _ (is_integer name) there leads = tt
-  inner_is_typed _ (is_if op x y body made a b simple) there leads = (
-    (let both = atoms_are_integers x y a b (front_holds (λ name. variable name < count) (expr_variables x ++ expr_variables y) (variables_named body) there) in (made, both.0, both.1)),
-    simple_goes_on body simple,
-    simple_is_typed body simple (rest_holds (λ name. variable name < count) (expr_variables x ++ expr_variables y) (variables_named body) there) leads,
-  )
-  inner_is_typed _ (is_simple body simple) there leads = simple_is_typed body simple there leads
 
 -- ---- what is not undefined, by kinds of names
 
@@ -97,36 +36,6 @@ known_parts known body e =
     let most = or_parts (variables || blocks) (list_any (λ name. not (known.label name)) (labels_named body)) e in
     let first = or_parts variables blocks most.0 in
     (first.0, first.1, most.1)
-
--- ---- variables
-
-module _ (names : Names) where
-  number_there : (blocks : List (List ℕ)) (name : List ℕ) → is_absent (found_in names blocks name) ≡ false → is_hidden (found_in names blocks name) ≡ false →
-      number_found names (found_in names blocks name) < length names.variables
-  number_there [] name seen shown = by (is_declared names name) seen shown
-    where
-      by : (b : Bool) → is_absent (if b then found.Hidden else found.Absent) ≡ false → is_hidden (if b then found.Hidden else found.Absent) ≡ false →
-          number_found names (if b then found.Hidden else found.Absent) < length names.variables
-      by true seen shown = absurd (true≢false shown)
-      by false seen shown = absurd (true≢false seen)
-  number_there (block ∷ blocks) name seen shown = by (variable_number names block name) refl (number_there blocks name) seen shown
-    where
-      by : (o : Option ℕ) → variable_number names block name ≡ o →
-          (is_absent (found_in names blocks name) ≡ false → is_hidden (found_in names blocks name) ≡ false → number_found names (found_in names blocks name) < length names.variables) →
-          is_absent (option_map_or found.Variable o (found_in names blocks name)) ≡ false → is_hidden (option_map_or found.Variable o (found_in names blocks name)) ≡ false →
-          number_found names (option_map_or found.Variable o (found_in names blocks name)) < length names.variables
-      by None e more seen shown = more seen shown
-      by (Some n) e more seen shown =
-          let below = (position-Some (key_eq (key_in block name)) (keys_of names.variables) n (key_in block name) e).0 in
-          omega (arith, below, length-keys_of names.variables)
-
-  variables_there : (inside : Option (List ℕ)) (listed : List (List ℕ)) → list_any (λ name. is_absent (found_from names inside name)) listed ≡ false →
-      list_any (λ name. is_hidden (found_from names inside name)) listed ≡ false → AllByRecursion (λ name. variable_from names inside name < length names.variables) listed
-  variables_there inside [] seen shown = tt
-  variables_there inside (name ∷ listed) seen shown =
-      let a = or_parts (is_absent (found_from names inside name)) (list_any (λ name. is_absent (found_from names inside name)) listed) seen in
-      let b = or_parts (is_hidden (found_from names inside name)) (list_any (λ name. is_hidden (found_from names inside name)) listed) shown in
-      (number_there (blocks_seen names inside) name a.0 b.0, variables_there inside listed a.1 b.1)
 
 -- ---- labels
 
@@ -165,18 +74,17 @@ module _ (program : List StmtTree) where
 
 -- ---- statements of procedures
 
-built_outer_is_outer : (body : BodyTree) → is_built_outer body ≡ true → is_outer body ≡ true
-built_outer_is_outer (action name text items) e = refl
-built_outer_is_outer (note key text) e = refl
-built_outer_is_outer (procedure name uses) e = refl
-built_outer_is_outer (crc n) e = refl
-built_outer_is_outer _ e = absurd (true≢false (sym e))
+inner_only : (body : BodyTree) → is_outer body ≡ false → is_built_outer body ≡ false
+inner_only (action name text items) e = absurd (true≢false e)
+inner_only (note key text) e = absurd (true≢false e)
+inner_only (procedure name uses) e = absurd (true≢false e)
+inner_only (crc n) e = absurd (true≢false e)
+inner_only _ e = refl
 
-pub built_is_inner : (st : StmtTree) → IsBuilt st → is_outer st.body ≡ false → IsInner st.body
-built_is_inner _ (is_outside st e) inner = absurd (true≢false (sym (built_outer_is_outer st.body e) ∙ inner))
-built_is_inner _ (is_inside st shape) inner = shape
+pub built_is_inner : (st : StmtTree) → IsBuilt st → is_outer st.body ≡ false → is_built_inner st.body ≡ true
+built_is_inner st built inner = sym (ap (λ (b : Bool). b || is_built_inner st.body) (inner_only st.body inner)) ∙ built
 
-module _ (program : List StmtTree) (sound : IsSound program) (plain : HasNoData program) (built : All IsBuilt program) where
+module _ (program : List StmtTree) (sound : IsSound program) (plain : HasNoData program) where
   pub typed_at : (i : ℕ) (st : StmtTree) → slice_get program i ≡ Some st → is_outer st.body ≡ false → IsTypedAt program i st.body
   typed_at i st at inner = by (block_at program i) refl
     where
@@ -186,14 +94,13 @@ module _ (program : List StmtTree) (sound : IsSound program) (plain : HasNoData 
           let names = program_names program in
           let known = known_parts (known_from names (block_at program i)) st.body (sound.keeps i st reasons.Undefined at) in
           let labels = labels_there program (length program) block (labels_named st.body) (subst (λ inside. list_any (λ name. not (has_label names inside name)) (labels_named st.body) ≡ false) e known.2) in
+          let kinded = not-false (is_well_kinded (known_from names (block_at program i)) st.body) (sound.keeps i st reasons.TypeMismatch at) in
+          let procedures = list_all (λ name. not (is_data_block (block_named names name))) (procedures_named st.body) in
           record {
             block = block;
             inside = e;
-            typed =
-                inner_is_typed (scope_at program i).variable (length names.variables) (λ name. IsInBlock program block ((scope_at program i).label name)) st.body
-                (built_is_inner st (all_at IsBuilt program i st built at) inner)
-                (variables_there names (block_at program i) (variables_named st.body) known.0 (sound.keeps i st reasons.NotVisible at))
-                (subst (λ inside. AllByRecursion (λ name. IsInBlock program block (label_from names (length program) inside name)) (labels_named st.body)) (sym e) labels);
+            suits = (and_parts procedures (operands_suit (scope_at program i).look.kind st.body) kinded).1;
+            leads = subst (λ inside. AllByRecursion (λ name. IsInBlock program block (label_from names (length program) inside name)) (labels_named st.body)) (sym e) labels;
           }
 
 -- ---- items of an ACTION

@@ -64,12 +64,12 @@ module _ (scope : Scope) where
   OthersDo rest = (t : State) → IsFound (rows_done scope rest t) → Does scope rest t (rows_done scope rest t)
 
   module _ (b : BodyTree) (rest : List BodyTree) (s : State) (others : OthersDo rest) where
-    with_target : (values : List Value) (t : State) (to : Option ℕ) → values_of scope.variable s.store.variables (operands b) ≡ Known values →
+    with_target : (values : List Value) (t : State) (to : Option ℕ) → values_of scope.look s.store.variables (operands scope b) ≡ Known values →
         effect scope b values s ≡ Known (Jumps t) → target scope b ≡ to → IsFound (jumps_to to t) → Does scope (b ∷ rest) s (jumps_to to t)
     with_target values t None p q e found = absurd found
     with_target values t (Some place) p q e found = jumps b rest s t place (record { values = values; are = p; is = q }) e
 
-    with_effect : (values : List Value) (g : Got Did) → values_of scope.variable s.store.variables (operands b) ≡ Known values → effect scope b values s ≡ g →
+    with_effect : (values : List Value) (g : Got Did) → values_of scope.look s.store.variables (operands scope b) ≡ Known values → effect scope b values s ≡ g →
         IsFound (with_got g s (λ did. led scope.entry (target scope b) did (rows_done scope rest))) →
         Does scope (b ∷ rest) s (with_got g s (λ did. led scope.entry (target scope b) did (rows_done scope rest)))
     with_effect values (Known (Falls events t)) p q found =
@@ -80,7 +80,7 @@ module _ (scope : Scope) where
     with_effect values (Faults k) p q found = effect_faults b rest s k (record { values = values; are = p; is = q })
     with_effect values Stuck p q found = absurd found
 
-    with_values : (g : Got (List Value)) → values_of scope.variable s.store.variables (operands b) ≡ g →
+    with_values : (g : Got (List Value)) → values_of scope.look s.store.variables (operands scope b) ≡ g →
         IsFound (with_got g s (behind b s (rows_done scope rest))) → Does scope (b ∷ rest) s (with_got g s (behind b s (rows_done scope rest)))
     with_values (Known values) p found = with_effect values (effect scope b values s) p refl found
     with_values (Faults k) p found = operand_faults b rest s k p
@@ -88,7 +88,7 @@ module _ (scope : Scope) where
 
   done_does : (bs : List BodyTree) (s : State) → IsFound (rows_done scope bs s) → Does scope bs s (rows_done scope bs s)
   done_does [] s found = follows s
-  done_does (b ∷ rest) s found = with_values b rest s (done_does rest) (values_of scope.variable s.store.variables (operands b)) refl found
+  done_does (b ∷ rest) s found = with_values b rest s (done_does rest) (values_of scope.look s.store.variables (operands scope b)) refl found
 
   is_found : (bs : List BodyTree) (s : State) (turned : Turned) → Does scope bs s turned → IsFound turned
   is_found _ _ _ (follows s) = tt

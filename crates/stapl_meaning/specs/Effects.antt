@@ -64,9 +64,19 @@ abbrev pub exited : List Value → State → Got Did
 exited (Int code ∷ []) s = Known (Ends (Exit code) s)
 exited _ s = Stuck
 
--- an integer in front of a text
-abbrev pub after_integer : Value → Got (List ℕ) → Got (List ℕ)
-after_integer v rest = then_get (integer_of v) (λ z. then_get rest (λ bytes. Known (signed_decimal z ++ bytes)))
+-- a Boolean as a digit
+abbrev pub digit_of : Bool → ℕ
+digit_of true = 49
+digit_of false = 48
+
+-- a value as it is printed: an integer in decimal, a Boolean as 0 or 1
+abbrev pub shown : Value → List ℕ
+shown (Int z) = signed_decimal z
+shown (Bit b) = digit_of b ∷ []
+
+-- a value in front of a text
+abbrev pub after_value : Value → Got (List ℕ) → Got (List ℕ)
+after_value v rest = then_get rest (λ bytes. Known (shown v ++ bytes))
 
 -- a character in front of a text
 abbrev pub after_character : Value → Got (List ℕ) → Got (List ℕ)
@@ -79,7 +89,7 @@ joined [] [] = Known []
 joined [] (v ∷ vs) = Stuck
 joined (string bytes ∷ parts) vs = then_get (joined parts vs) (λ rest. Known (bytes ++ rest))
 joined (value e ∷ parts) [] = Stuck
-joined (value e ∷ parts) (v ∷ vs) = after_integer v (joined parts vs)
+joined (value e ∷ parts) (v ∷ vs) = after_value v (joined parts vs)
 joined (character e ∷ parts) [] = Stuck
 joined (character e ∷ parts) (v ∷ vs) = after_character v (joined parts vs)
 

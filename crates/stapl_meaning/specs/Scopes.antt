@@ -1,23 +1,26 @@
 -- What the names of a program stand for. Source: JESD71, procedures and variables. Places are those of pieces, counted
 -- from 0.
-use Rattle.std.specs.Prelude.{ℕ, zero, suc, pos, ◌+◌, ◌-◌, List, [], ◌∷◌, take, length, Option, Some, None, if◌then◌else◌, map}
+use Rattle.std.specs.Prelude.{ℕ, zero, suc, pos, ◌+◌, ◌-◌, List, [], ◌∷◌, take, length, Option, Some, None, if◌then◌else◌, map, replicate, nat_abs, false}
 use Rattle.std.specs.Option.{option_map_or}
 use Rattle.std.specs.Map.{lookup}
 use Rattle.std.specs.Str.{bytes_eq}
 use Rattle.stapl_syntax.specs.declared.names.Found.{Found}
 use Rattle.stapl_syntax.specs.declared.names.Found.TheVariants as found
 use Rattle.stapl_syntax.specs.declared.names.Key.{Key}
+use Rattle.stapl_syntax.specs.declared.names.VarKind.{VarKind}
+use Rattle.stapl_syntax.specs.declared.names.VarKind.TheVariants as kinds
 use Rattle.stapl_syntax.specs.declared.names.Variable.{Variable}
 use Rattle.stapl_syntax.specs.Trees.{ItemTree, BodyTree, procedure, action, StmtTree}
 use Rattle.stapl_syntax.specs.Statements.{begins_procedure}
-use Rattle.stapl_syntax.specs.Names.{Names, numbered, names_of, inside_after, key_in, key_eq, found_from}
+use Rattle.stapl_syntax.specs.Names.{Names, numbered, names_of, inside_after, key_in, key_eq, found_from, kind_of_found}
 use Rattle.stapl_meaning.specs.declared.values.Held.{Held}
 use Rattle.stapl_meaning.specs.declared.values.Held.TheVariants as held
+use Rattle.stapl_meaning.specs.Values.{Lookup}
 
--- What a statement finds: the number of a variable by its name, the place of a label by its name, the place where the
--- procedure of a number begins, and the place behind the statement.
+-- What a statement finds: variables by their names, the place of a label by its name, the place where the procedure of
+-- a number begins, and the place behind the statement.
 pub record Scope : Type 0 where
-  pub variable : List ℕ → ℕ
+  pub look : Lookup
   pub label : List ℕ → ℕ
   pub entry : ℕ → ℕ
   pub follow : ℕ
@@ -38,6 +41,13 @@ number_found names _ = length names.variables
 -- the number of the variable that a name stands for inside a block
 abbrev pub variable_from : Names → Option (List ℕ) → List ℕ → ℕ
 variable_from names inside name = number_found names (found_from names inside name)
+
+-- the variables that names stand for inside a block
+abbrev pub lookup_from : Names → Option (List ℕ) → Lookup
+lookup_from names inside = record {
+  kind = λ name. kind_of_found names (found_from names inside name);
+  variable = variable_from names inside;
+}
 
 -- the place of a label of a block, or this one if the block has no such label
 abbrev pub label_from : Names → ℕ → Option (List ℕ) → List ℕ → ℕ
@@ -67,7 +77,7 @@ entry_from (st ∷ rest) (suc p) = suc (if begins_procedure st.body then entry_f
 -- what a statement finds, from the names of a program of so many pieces, if this block is open
 abbrev pub scope_of : Names → (ℕ → ℕ) → ℕ → Option (List ℕ) → ℕ → Scope
 scope_of names entry count inside i = record {
-  variable = variable_from names inside;
+  look = lookup_from names inside;
   label = label_from names count inside;
   entry = entry;
   follow = i + 1;
@@ -78,8 +88,14 @@ abbrev pub scope_at : List StmtTree → ℕ → Scope
 scope_at program i = scope_of (program_names program) (entry_from program) (length program) (block_at program i) i
 
 -- what the variables hold when a play starts
+abbrev pub zero_by : VarKind → ℕ → Held
+zero_by kinds.Integer n = held.Int (pos 0)
+zero_by kinds.Boolean n = held.Bit false
+zero_by kinds.IntegerArray n = held.Ints (replicate n (pos 0))
+zero_by kinds.BooleanArray n = held.Bits (replicate n false)
+
 abbrev pub zero_of : Key × Variable → Held
-zero_of v = held.Int (pos 0)
+zero_of v = zero_by v.1.kind (nat_abs v.1.size)
 
 abbrev pub zeros_of : List StmtTree → List Held
 zeros_of program = map zero_of (program_names program).variables

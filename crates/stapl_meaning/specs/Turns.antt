@@ -1,13 +1,13 @@
 -- Turns: the execution of one piece. Source: JESD71, statements. Statements are rows of a table with three columns: the
 -- operands, what their values do, and where the statement leads if it does not go on to what follows.
 use Rattle.std.specs.Prelude.{◌≡◌, ℕ, ◌+◌, List, [], ◌∷◌, Option, Some, None, slice_get}
-use Rattle.stapl_syntax.specs.Trees.{BodyTree, end_procedure, integer, assign, goto, if_then, print, exit, StmtTree}
+use Rattle.stapl_syntax.specs.Trees.{BodyTree, end_procedure, boolean, integer, assign, goto, if_then, print, exit, StmtTree}
 use Rattle.stapl_meaning.specs.declared.events.Event.{Event}
 use Rattle.stapl_meaning.specs.declared.events.RunFault.{RunFault}
 use Rattle.stapl_meaning.specs.declared.events.Ending.{Ending}
 use Rattle.stapl_meaning.specs.declared.values.Value.{Value}
 use Rattle.stapl_meaning.specs.Values.{Got, Known, Faults, Stuck}
-use Rattle.stapl_meaning.specs.Operands.{Operand, an_integer, a_boolean, part_operands, values_of}
+use Rattle.stapl_meaning.specs.Operands.{Operand, plain, an_integer, a_boolean, given_kind, part_operands, values_of}
 use Rattle.stapl_meaning.specs.States.{State, Did, Falls, Jumps, Returns, Ends, Turned, Leads, Over, Broken, NoTurn, with_got, preceded, turn_of_piece, next_chosen, led}
 use Rattle.stapl_meaning.specs.Effects.{assigned, jumped, parted, returned, exited, joined, printed}
 use Rattle.stapl_meaning.specs.Scopes.{Scope, scope_at}
@@ -15,17 +15,17 @@ use Rattle.stapl_meaning.specs.Scopes.{Scope, scope_at}
 -- The table. A statement that is not built has no operands, and finds nothing to do.
 
 -- its operands, in the written order
-abbrev pub operands : BodyTree → List Operand
-operands (assign name e) = an_integer e ∷ []
-operands (if_then e body) = a_boolean e ∷ []
-operands (print parts) = part_operands parts
-operands (exit e) = an_integer e ∷ []
-operands _ = []
+abbrev pub operands : Scope → BodyTree → List Operand
+operands scope (assign name e) = plain (given_kind (scope.look.kind name)) e ∷ []
+operands scope (if_then e body) = a_boolean e ∷ []
+operands scope (print parts) = part_operands scope.look parts
+operands scope (exit e) = an_integer e ∷ []
+operands scope _ = []
 
 -- what their values do
 abbrev pub effect : Scope → BodyTree → List Value → State → Got Did
 effect scope end_procedure values s = returned values s
-effect scope (assign name e) values s = assigned (scope.variable name) values s
+effect scope (assign name e) values s = assigned (scope.look.variable name) values s
 effect scope (goto name) values s = jumped values s
 effect scope (if_then e body) values s = parted values s
 effect scope (print parts) values s = printed (joined parts values) s
@@ -41,6 +41,7 @@ target scope _ = None
 -- The rows of a statement, which are carried out one after the other. An IF has its own, which decides whether those of
 -- its inner statement follow. A declaration has none.
 abbrev pub rows : BodyTree → List BodyTree
+rows (boolean name None) = []
 rows (integer name None) = []
 rows (if_then e body) = if_then e body ∷ rows body
 rows body = body ∷ []
@@ -48,7 +49,7 @@ rows body = body ∷ []
 -- the values of the operands of a row are these, and have this effect
 pub record HasEffect (scope : Scope) (b : BodyTree) (s : State) (did : Got Did) : Type 0 where
   pub values : List Value
-  pub are : values_of scope.variable s.store.variables (operands b) ≡ Known values
+  pub are : values_of scope.look s.store.variables (operands scope b) ≡ Known values
   pub is : effect scope b values s ≡ did
 
 -- The rule, as a relation: what rows do in a state, by cases.
@@ -57,7 +58,7 @@ pub data Does (scope : Scope) : List BodyTree → State → Turned → Type 0 wh
   follows : (s : State) → Does scope [] s (Leads [] scope.follow s)
   -- an operand faults, or what the values do
   operand_faults : (b : BodyTree) (rest : List BodyTree) (s : State) (k : RunFault) →
-      values_of scope.variable s.store.variables (operands b) ≡ Faults k → Does scope (b ∷ rest) s (Broken [] k s)
+      values_of scope.look s.store.variables (operands scope b) ≡ Faults k → Does scope (b ∷ rest) s (Broken [] k s)
   effect_faults : (b : BodyTree) (rest : List BodyTree) (s : State) (k : RunFault) → HasEffect scope b s (Faults k) →
       Does scope (b ∷ rest) s (Broken [] k s)
   -- the row is done, and the others follow
@@ -84,7 +85,7 @@ pub record IsTurn (program : List StmtTree) (i : ℕ) (s : State) (turned : Turn
 -- a row, and then what follows
 abbrev pub carried : Scope → BodyTree → State → (State → Turned) → Turned
 carried scope b s go =
-    with_got (values_of scope.variable s.store.variables (operands b)) s
+    with_got (values_of scope.look s.store.variables (operands scope b)) s
     (λ values. with_got (effect scope b values s) s (λ did. led scope.entry (target scope b) did go))
 
 abbrev pub rows_done : Scope → List BodyTree → State → Turned

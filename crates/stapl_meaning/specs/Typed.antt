@@ -1,44 +1,13 @@
 -- Programs whose names are resolved and whose statements are typed. Source: JESD71, program structure, variables,
--- labels and expressions. Of expressions, these are integers: numbers, INTEGER scalars, and two integers with an
--- arithmetic operator between them; and these are Booleans: two integers that are compared.
-use Rattle.std.specs.Prelude.{◌≡◌, ◌≢◌, ℕ, ◌<◌, ◌≤◌, Bool, true, false, not, List, [], ◌∷◌, All, AllPairs, None, Some, length, slice_get}
-use Rattle.stapl_syntax.specs.Trees.{ExprTree, number, scalar, binary, ItemTree, PartTree, string, value, character, BodyTree, action, procedure, end_procedure, integer, assign, goto, if_then, print, exit, StmtTree}
+-- labels and expressions.
+use Rattle.std.specs.Prelude.{◌≡◌, ◌≢◌, ℕ, ◌<◌, ◌≤◌, Bool, true, false, not, List, [], ◌∷◌, All, AllPairs, Some, length, slice_get}
+use Rattle.std.specs.List.{AllByRecursion}
+use Rattle.stapl_syntax.specs.Trees.{ItemTree, BodyTree, action, procedure, StmtTree}
 use Rattle.stapl_syntax.specs.Statements.{is_outer, begins_procedure, ends_procedure}
 use Rattle.stapl_syntax.specs.Programs.{piece_limit}
-use Rattle.stapl_built.specs.Built.{is_arithmetic, is_comparison}
-use Rattle.stapl_meaning.specs.Scopes.{program_names, block_at, procedures_in, procedure_number, scope_at}
-
--- where a name stands for the variable of a number, there are so many variables, and some labels are known
-module _ (variable : List ℕ → ℕ) (count : ℕ) (Leads : List ℕ → Type 0) where
-  -- an expression is an integer, and its variables are there
-  abbrev pub IsInteger : ExprTree → Type 0
-  IsInteger (number z) = Unit {0}
-  IsInteger (scalar name) = variable name < count
-  IsInteger (binary op a b) = (is_arithmetic op ≡ true) × IsInteger a × IsInteger b
-  IsInteger _ = ⊥
-
-  -- an expression is a comparison of integers
-  abbrev pub IsBoolean : ExprTree → Type 0
-  IsBoolean (binary op a b) = (is_comparison op ≡ true) × IsInteger a × IsInteger b
-  IsBoolean _ = ⊥
-
-  abbrev pub ArePrinted : List PartTree → Type 0
-  ArePrinted [] = Unit {0}
-  ArePrinted (string bytes ∷ parts) = ArePrinted parts
-  ArePrinted (value e ∷ parts) = IsInteger e × ArePrinted parts
-  ArePrinted (character e ∷ parts) = IsInteger e × ArePrinted parts
-
-  -- A statement of a procedure is typed: what it names is there, and its expressions have the kinds that it wants.
-  -- ENDPROC stands nowhere inside another statement.
-  abbrev pub IsTypedBody : BodyTree → Type 0
-  IsTypedBody end_procedure = Unit {0}
-  IsTypedBody (integer name None) = Unit {0}
-  IsTypedBody (assign name e) = (variable name < count) × IsInteger e
-  IsTypedBody (goto name) = Leads name
-  IsTypedBody (if_then e body) = IsBoolean e × (ends_procedure body ≡ false) × IsTypedBody body
-  IsTypedBody (print parts) = (1 ≤ length parts) × ArePrinted parts
-  IsTypedBody (exit e) = IsInteger e
-  IsTypedBody _ = ⊥
+use Rattle.stapl_syntax.specs.Kinds.{operands_suit}
+use Rattle.stapl_syntax.specs.Mentions.{labels_named}
+use Rattle.stapl_meaning.specs.Scopes.{block_at, procedures_in, procedure_number, scope_at}
 
 -- Statements stand in order: those outside procedures, and procedures, each from its PROCEDURE to the first ENDPROC. It
 -- is told whether a procedure is open in front of them.
@@ -70,12 +39,13 @@ module _ (program : List StmtTree) where
     pub within : place < length program
     pub inside : block_at program place ≡ Some block
 
-  -- the statement at a place of a procedure is typed; a label that it names stands in the same procedure
+  -- The statement at a place of a procedure is typed: its operands have the kinds that it wants, and a label that it
+  -- names stands in the same procedure.
   pub record IsTypedAt (i : ℕ) (body : BodyTree) : Type 0 where
     pub block : List ℕ
     pub inside : block_at program i ≡ Some block
-    pub typed : IsTypedBody (scope_at program i).variable (length (program_names program).variables)
-        (λ name. IsInBlock block ((scope_at program i).label name)) body
+    pub suits : operands_suit (scope_at program i).look.kind body ≡ true
+    pub leads : AllByRecursion (λ name. IsInBlock block ((scope_at program i).label name)) (labels_named body)
 
   -- an item of an action names a procedure
   abbrev pub NamesProcedure : ItemTree → Type 0

@@ -1,7 +1,7 @@
 -- Values of expressions. Source: JESD71, expressions. That integers wrap modulo 2 to the power of 32, and what faults,
 -- are this profile's rules.
 use Rattle.std.specs.Prelude.{ℕ, zero, suc, ◌^◌, nat_lt, if◌then◌else◌, Bool, true, false, not, ◌&&◌, ◌||◌, List, [], ◌∷◌, Option, Some, slice_get}
-use Rattle.std.specs.Prelude.{ℤ, pos, negsuc, ◌+ℤ◌, ◌-ℤ◌, ◌*ℤ◌, int_lt, int_le, int_div, int_rem}
+use Rattle.std.specs.Prelude.{ℤ, pos, negsuc, ◌+ℤ◌, ◌-ℤ◌, ◌*ℤ◌, neg_ℤ, int_lt, int_le, int_div, int_rem, unsigned_abs}
 use Rattle.std.specs.Int.{int_wrap, int_div_euclid, w32}
 use Rattle.std.specs.Bool.{beq}
 use Rattle.std.specs.Ordering.{int_eq}
@@ -10,7 +10,11 @@ use Rattle.stapl_lexer.specs.declared.terminal.BinOp.{BinOp}
 use Rattle.stapl_lexer.specs.declared.terminal.BinOp.TheVariants.{Multiply, Divide, Remainder, Add, Subtract}
 use Rattle.stapl_lexer.specs.declared.terminal.BinOp.TheVariants.{ShiftLeft, ShiftRight, BitAnd, BitXor, BitOr, And, Or}
 use Rattle.stapl_lexer.specs.declared.terminal.BinOp.TheVariants.{Less, AtMost, Greater, AtLeast, Equal, NotEqual}
-use Rattle.stapl_syntax.specs.Trees.{ExprTree, number, scalar, binary}
+use Rattle.stapl_syntax.specs.declared.signs.UnOp.{UnOp}
+use Rattle.stapl_syntax.specs.declared.signs.UnOp.TheVariants.{Negate, Complement, Not}
+use Rattle.stapl_syntax.specs.declared.names.Kind.{Kind}
+use Rattle.stapl_syntax.specs.Kinds.{VarKinds, is_bit_alone, expr_kind}
+use Rattle.stapl_syntax.specs.Trees.{ExprTree, number, scalar, unary, binary, abs}
 use Rattle.stapl_meaning.specs.declared.events.RunFault.{RunFault}
 use Rattle.stapl_meaning.specs.declared.events.RunFault.TheVariants.{DivideByZero, ShiftCount}
 use Rattle.stapl_meaning.specs.declared.values.ValueKind.{ValueKind}
@@ -100,6 +104,18 @@ combined op (Int a) (Int b) = combined_integers op a b
 combined op (Bit a) (Bit b) = combined_booleans op a b
 combined op _ _ = Stuck
 
+-- The value of a value with an operator before it. The complement, which turns each bit, is -1 less the integer.
+abbrev pub signed : UnOp → Value → Got Value
+signed Negate (Int a) = wrapped (neg_ℤ a)
+signed Complement (Int a) = Known (Int (negsuc 0 -ℤ a))
+signed Not (Bit a) = Known (Bit (not a))
+signed _ _ = Stuck
+
+-- the absolute value
+abbrev pub absolute : Value → Got Value
+absolute (Int a) = wrapped (pos (unsigned_abs a))
+absolute (Bit a) = Stuck
+
 -- the value of a scalar variable
 abbrev pub scalar_of : Option Held → Got Value
 scalar_of (Some (held.Int z)) = Known (Int z)
@@ -113,19 +129,45 @@ literal kinds.Bit (pos zero) = Known (Bit false)
 literal kinds.Bit (pos (suc zero)) = Known (Bit true)
 literal kinds.Bit _ = Stuck
 
--- the kind of the sides of an operator
-abbrev pub side : BinOp → ValueKind
-side And = kinds.Bit
-side Or = kinds.Bit
-side _ = kinds.Int
+-- the kind of what an operator before a value wants
+abbrev pub unary_side : UnOp → ValueKind
+unary_side Not = kinds.Bit
+unary_side _ = kinds.Int
 
-module _ (variable : List ℕ → ℕ) (variables : List Held) where
-  -- The value of an expression where one of a kind is wanted, and where a name stands for the variable of a number.
-  -- Operands are taken from left to right. An expression that is not built is stuck.
+-- Booleans if one of two expressions of these kinds is a Boolean, else integers
+abbrev pub alike : Option Kind → Option Kind → ValueKind
+alike a b = if is_bit_alone a || is_bit_alone b then kinds.Bit else kinds.Int
+
+-- the kind of both sides of an operator, by the kinds of the expressions
+abbrev pub side : BinOp → Option Kind → Option Kind → ValueKind
+side And a b = kinds.Bit
+side Or a b = kinds.Bit
+side Equal a b = alike a b
+side NotEqual a b = alike a b
+side BitAnd a b = alike a b
+side BitXor a b = alike a b
+side BitOr a b = alike a b
+side _ a b = kinds.Int
+
+-- the kinds of the variables that names stand for, and their numbers
+pub record Lookup : Type 0 where
+  pub kind : VarKinds
+  pub variable : List ℕ → ℕ
+
+-- the kind of both sides of an operator between two expressions
+abbrev pub sides : Lookup → BinOp → ExprTree → ExprTree → ValueKind
+sides look op a b = side op (expr_kind look.kind a) (expr_kind look.kind b)
+
+module _ (look : Lookup) (variables : List Held) where
+  -- The value of an expression where one of a kind is wanted. Operands are taken from left to right. An expression that
+  -- is not built is stuck.
   abbrev pub value_of : ValueKind → ExprTree → Got Value
   value_of kind (number z) = literal kind z
-  value_of kind (scalar name) = scalar_of (slice_get variables (variable name))
-  value_of kind (binary op a b) = then_get (value_of (side op) a) (λ x. then_get (value_of (side op) b) (λ y. combined op x y))
+  value_of kind (scalar name) = scalar_of (slice_get variables (look.variable name))
+  value_of kind (unary op e) = then_get (value_of (unary_side op) e) (signed op)
+  value_of kind (binary op a b) =
+      then_get (value_of (sides look op a b) a) (λ x. then_get (value_of (sides look op a b) b) (λ y. combined op x y))
+  value_of kind (abs e) = then_get (value_of kinds.Int e) absolute
   value_of kind _ = Stuck
 
 -- the integer that a value is

@@ -12,7 +12,7 @@ returns c = λ text program is.
     record {
       few = kept.few;
       ordered = ordered program kept plain;
-      statements = typed_at program kept plain built;
+      statements = typed_at program kept plain;
       items = items_named program plain kept;
       procedures_apart = procedures_apart program kept plain;
       actions_apart = actions_apart program kept;
