@@ -6,9 +6,9 @@ use Rattle.stapl_meaning.specs.declared.values.ValueKind.TheVariants as kinds
 use Rattle.stapl_code.specs.declared.raw.VarDef.{VarDef}
 use Rattle.stapl_code.specs.declared.operators.Operator.{Operator}
 use Rattle.stapl_code.specs.declared.instr.Instr.{Instr}
-use Rattle.stapl_code.specs.declared.instr.Instr.TheVariants.{Binary}
-use Rattle.stapl_code.specs.Operators.{operator_table}
-use Rattle.stapl_code.specs.Machine.{Slot, result_of, takes, gives}
+use Rattle.stapl_code.specs.declared.instr.Instr.TheVariants.{Unary, Binary}
+use Rattle.stapl_code.specs.Operators.{operator_table, unary_kinds}
+use Rattle.stapl_code.specs.Machine.{Slot, slot_of, result_of, takes, gives}
 use Rattle.stapl_code.specs.Kinds.{off, then_kinds, put_on, taken_off, left_by, clears, slot_kind, all_off, all_on, kinds_behind}
 
 pub then_some : (o : Option (List ValueKind)) (go : List ValueKind → Option (List ValueKind)) (after : List ValueKind) →
@@ -45,7 +45,12 @@ one_result : (o : Option Operator) → length (result_of o) ≤ 1
 one_result None = omega arith
 one_result (Some operator) = omega arith
 
+one_slot : (o : Option ValueKind) → length (slot_of o) ≤ 1
+one_slot None = omega arith
+one_slot (Some k) = omega arith
+
 one_given : (x : Instr) → length (gives x) ≤ 1
+one_given (Unary op) = one_slot (slice_get unary_kinds op)
 one_given (Binary op) = one_result (slice_get operator_table op)
 one_given _ = omega arith
 

@@ -15,22 +15,22 @@ use Rattle.stapl_meaning.specs.Values.{Got, Known, Faults, Stuck, then_get, comb
 use Rattle.stapl_meaning.specs.Operands.{is_index, passed}
 use Rattle.stapl_meaning.specs.States.{State, Turned, Leads, Over, Broken, NoTurn, next_chosen, jumps_to}
 use Rattle.stapl_meaning.specs.States as did
-use Rattle.stapl_meaning.specs.Effects.{scalar_written, written, way_of, after_integer, printed}
+use Rattle.stapl_meaning.specs.Effects.{scalar_written, written, way_of, after_value, printed}
 use Rattle.stapl_code.specs.declared.raw.VarDef.{VarDef}
 use Rattle.stapl_code.specs.declared.operators.Operator.{Operator}
 use Rattle.stapl_code.specs.declared.instr.PrintPart.{PrintPart}
 use Rattle.stapl_code.specs.declared.instr.PrintPart.TheVariants as parts
 use Rattle.stapl_code.specs.declared.instr.Instr.{Instr}
-use Rattle.stapl_code.specs.declared.instr.Instr.TheVariants.{Turn, Push, PushBit, Load, Store, Binary, Jump, JumpIfZero, EndProc, Print, CheckChar, Exit}
-use Rattle.stapl_code.specs.Operators.{operator_table}
-use Rattle.stapl_code.specs.Machine.{Made, Puts, Does, puts, does, two, bit_of, operated_by, Slot, Of, OfScalar, sides_of, result_of, part_slots, takes, gives, known_text, parts_text, made, lands, Step, Falls, Emits, Stops, Faulted, Wrong, taken_onto, taken, on_taken, emitted, entry_of, on_made, step}
+use Rattle.stapl_code.specs.declared.instr.Instr.TheVariants.{Turn, Push, PushBit, Load, Store, Unary, Binary, Jump, JumpIfZero, EndProc, Print, CheckChar, Exit}
+use Rattle.stapl_code.specs.Operators.{operator_table, unary_kinds, unary_results}
+use Rattle.stapl_code.specs.Machine.{Made, Puts, Does, puts, does, one, two, bit_of, operated_by, signed_by, Slot, Of, OfScalar, slot_of, sides_of, result_of, part_slots, takes, gives, known_text, parts_text, made, lands, Step, Falls, Emits, Stops, Faulted, Wrong, taken_onto, taken, on_taken, emitted, entry_of, on_made, step}
 use Rattle.stapl_code.specs.Ranges.{IsPart, IsInstr}
 use Rattle.stapl_code.specs.Kinds.{then_kinds, scalar_kind, variable_kind, put_on, left_by, clears, slot_kind, all_off, all_on, kinds_behind}
 use Rattle.stapl_code.specs.Valid.{is_turn, is_target, leads_well}
 use Rattle.stapl_code.specs.Safe.{Fits, AllFit, AllBelow}
 use Rattle.stapl_code.proofs.KindCounts.{then_some}
 use Rattle.stapl_code.proofs.Operands.{kind_of, kinds_of, EachOf, each_of, each_more, Each, each_at, each_map, taken_as}
-use Rattle.stapl_code.proofs.OperatorKinds.{GotOf, CombinesAt, combined_good}
+use Rattle.stapl_code.proofs.OperatorKinds.{GotOf, CombinesAt, combined_good, Signs, signed_good}
 
 -- a variable beside what it holds
 abbrev FitAt : Option VarDef → Option Held → Type 0
@@ -81,10 +81,10 @@ text_good (Some bytes) (Known rest) there h = tt
 text_good (Some bytes) (Faults k) there h = tt
 text_good (Some bytes) Stuck there h = absurd h
 
-integer_good : (z : ℤ) (more : Got (List ℕ)) → TextGood more → TextGood (after_integer (Int z) more)
-integer_good z (Known rest) h = tt
-integer_good z (Faults k) h = tt
-integer_good z Stuck h = absurd h
+value_good : (v : Value) (more : Got (List ℕ)) → TextGood more → TextGood (after_value v more)
+value_good v (Known rest) h = tt
+value_good v (Faults k) h = tt
+value_good v Stuck h = absurd h
 
 character_good : (b : Bool) (z : ℤ) (more : Got (List ℕ)) → TextGood more →
     TextGood
@@ -172,6 +172,14 @@ module _
       (λ y. MadeGood (Of o.result ∷ []) clear to (puts (combined o.op x y)))
       (λ y. puts_good clear to (Of o.result) (combined o.op x y))) c
 
+  unary_good : (clear : Bool) (to : Option ℕ) (o : Option ValueKind) (g : Option (Value → Got Value)) → Signs o g →
+      Each variables (slot_of o) (λ vs. MadeGood (slot_of o) clear to (one vs (signed_by g)))
+  unary_good clear to None g c = absurd c
+  unary_good clear to (Some k) None c = absurd c
+  unary_good clear to (Some k) (Some result) c =
+      each_more (Some k) (λ x. GotOf (Some k) (result x)) (λ x. MadeGood (Of k ∷ []) clear to (puts (result x)))
+      (λ x. puts_good clear to (Of k) (result x)) c
+
   abbrev PartsGood : List PrintPart → List Value → Type 0
   PartsGood list vs = TextGood (parts_text entries texts list vs)
 
@@ -185,7 +193,11 @@ module _
       (parts_good rest (λ j d h. r (suc j) d (omega arith)))
   parts_good (parts.Int ∷ rest) r = λ z.
       each_map variables (part_slots rest) (PartsGood rest) (λ vs. PartsGood (parts.Int ∷ rest) (Int z ∷ vs))
-      (λ vs. integer_good z (parts_text entries texts rest vs))
+      (λ vs. value_good (Int z) (parts_text entries texts rest vs))
+      (parts_good rest (λ j d h. r (suc j) d (omega arith)))
+  parts_good (parts.Bit ∷ rest) r = λ b.
+      each_map variables (part_slots rest) (PartsGood rest) (λ vs. PartsGood (parts.Bit ∷ rest) (Bit b ∷ vs))
+      (λ vs. value_good (Bit b) (parts_text entries texts rest vs))
       (parts_good rest (λ j d h. r (suc j) d (omega arith)))
   parts_good (parts.Char ∷ rest) r = λ z.
       each_map variables (part_slots rest) (PartsGood rest) (λ vs. PartsGood (parts.Char ∷ rest) (Int z ∷ vs))
@@ -286,6 +298,8 @@ module _
       row_good (Store n) mid on leads r at =
           each_of (variable_kind (slice_get variables n)) (Writes s good n (slice_get s.store.variables n))
           (λ v. store_good s good n (slice_get variables n) (slice_get s.store.variables n) v refl (fits n))
+      row_good (Unary op) mid on leads r at =
+          unary_good false None (slice_get unary_kinds op) (slice_get unary_results op) (signed_good op r)
       row_good (Binary op) mid on leads r at = binary_good false None (slice_get operator_table op) (combined_good op r)
       row_good (Jump to) mid on leads r at = (refl, targets to leads, good)
       row_good (JumpIfZero to) mid on leads r at = way_good s good to (targets to leads)

@@ -8,7 +8,7 @@ use Rattle.stapl_meaning.specs.declared.values.ValueKind.{ValueKind}
 use Rattle.stapl_meaning.specs.declared.values.ValueKind.TheVariants as kinds
 use Rattle.stapl_meaning.specs.Values.{Got, Known, Faults, Stuck, divided_by, shifted_by, combined}
 use Rattle.stapl_code.specs.declared.operators.Operator.{Operator}
-use Rattle.stapl_code.specs.Operators.{operator_table}
+use Rattle.stapl_code.specs.Operators.{operator_table, unary_kinds, unary_results}
 use Rattle.stapl_code.proofs.Operands.{kind_of, EachOf}
 
 -- a value of a kind, or a fault
@@ -62,3 +62,16 @@ table_combines =
 -- each number of the table names an operator that combines
 pub combined_good : (n : ℕ) → n < length operator_table → CombinesAt (slice_get operator_table n)
 combined_good n h = combines_at operator_table n table_combines h
+
+-- what an operator before a value makes of a value of its kind is of that kind
+abbrev pub Signs : Option ValueKind → Option (Value → Got Value) → Type 0
+Signs (Some k) (Some result) = EachOf (Some k) (λ x. GotOf (Some k) (result x))
+Signs _ _ = ⊥
+
+-- each number of the table names an operator that does so
+pub signed_good : (n : ℕ) → n < length unary_kinds → Signs (slice_get unary_kinds n) (slice_get unary_results n)
+signed_good zero h = λ z. refl
+signed_good (suc zero) h = λ z. refl
+signed_good (suc (suc zero)) h = λ z. refl
+signed_good (suc (suc (suc zero))) h = λ b. refl
+signed_good (suc (suc (suc (suc n)))) h = absurd (omega arith)

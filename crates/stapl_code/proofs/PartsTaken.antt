@@ -17,6 +17,8 @@ none_before variables (suc n) [] ks e = e
 none_before variables (suc n) (parts.Text k ∷ list) ks e = none_before variables n list ks e
 none_before variables (suc n) (parts.Int ∷ list) ks e =
     ap (λ o. then_kinds o (taken_off (Some kinds.Int))) (none_before variables n list ks e)
+none_before variables (suc n) (parts.Bit ∷ list) ks e =
+    ap (λ o. then_kinds o (taken_off (Some kinds.Bit))) (none_before variables n list ks e)
 none_before variables (suc n) (parts.Char ∷ list) ks e =
     ap (λ o. then_kinds o (taken_off (Some kinds.Int))) (none_before variables n list ks e)
 

@@ -11,14 +11,14 @@ use Rattle.stapl_meaning.specs.Values.{Got, Known, Faults, Stuck, then_get, comb
 use Rattle.stapl_meaning.specs.Operands.{character_of}
 use Rattle.stapl_meaning.specs.States.{State, Did, Turned, Leads, Over, Broken, NoTurn, preceded, turn_of_piece, next_chosen, jumps_to}
 use Rattle.stapl_meaning.specs.States as did
-use Rattle.stapl_meaning.specs.Effects.{assigned, jumped, parted, returned, exited, printed, after_integer, after_character}
+use Rattle.stapl_meaning.specs.Effects.{assigned, jumped, parted, returned, exited, printed, after_value, after_character}
 use Rattle.stapl_meaning.specs.Plays.{Run, Going, goes_on, start}
 use Rattle.stapl_code.specs.declared.operators.Operator.{Operator}
 use Rattle.stapl_code.specs.declared.instr.PrintPart.{PrintPart}
 use Rattle.stapl_code.specs.declared.instr.PrintPart.TheVariants as parts
 use Rattle.stapl_code.specs.declared.instr.Instr.{Instr}
-use Rattle.stapl_code.specs.declared.instr.Instr.TheVariants.{Turn, Push, PushBit, Load, Store, Binary, Jump, JumpIfZero, EndProc, Print, CheckChar, Exit}
-use Rattle.stapl_code.specs.Operators.{operator_table}
+use Rattle.stapl_code.specs.declared.instr.Instr.TheVariants.{Turn, Push, PushBit, Load, Store, Unary, Binary, Jump, JumpIfZero, EndProc, Print, CheckChar, Exit}
+use Rattle.stapl_code.specs.Operators.{operator_table, unary_kinds, unary_results}
 
 -- What an instruction makes of the operands that it takes: a value that goes on top, or what a statement does.
 pub data Made : Type 0 where
@@ -54,6 +54,10 @@ operated_by (Some operator) x y = combined operator.op x y
 abbrev pub operated : ℕ → Value → Value → Got Value
 operated n x y = operated_by (slice_get operator_table n) x y
 
+abbrev pub signed_by : Option (Value → Got Value) → Value → Got Value
+signed_by None x = Stuck
+signed_by (Some result) x = result x
+
 -- The kind of an operand: this one, or that of the scalar of a number.
 pub data Slot : Type 0 where
   Of : ValueKind → Slot
@@ -67,10 +71,15 @@ abbrev pub result_of : Option Operator → List Slot
 result_of None = []
 result_of (Some operator) = Of operator.result ∷ []
 
+abbrev pub slot_of : Option ValueKind → List Slot
+slot_of None = []
+slot_of (Some kind) = Of kind ∷ []
+
 abbrev pub part_slots : List PrintPart → List Slot
 part_slots [] = []
 part_slots (parts.Text n ∷ rest) = part_slots rest
 part_slots (parts.Int ∷ rest) = Of kinds.Int ∷ part_slots rest
+part_slots (parts.Bit ∷ rest) = Of kinds.Bit ∷ part_slots rest
 part_slots (parts.Char ∷ rest) = Of kinds.Int ∷ part_slots rest
 
 -- The table of instructions.
@@ -78,6 +87,7 @@ part_slots (parts.Char ∷ rest) = Of kinds.Int ∷ part_slots rest
 -- the kinds of the operands that it takes, the topmost last
 abbrev pub takes : Instr → List Slot
 takes (Store n) = OfScalar n ∷ []
+takes (Unary op) = slot_of (slice_get unary_kinds op)
 takes (Binary op) = sides_of (slice_get operator_table op)
 takes (JumpIfZero to) = Of kinds.Bit ∷ []
 takes (Print list) = part_slots list
@@ -90,6 +100,7 @@ abbrev pub gives : Instr → List Slot
 gives (Push z) = Of kinds.Int ∷ []
 gives (PushBit b) = Of kinds.Bit ∷ []
 gives (Load n) = OfScalar n ∷ []
+gives (Unary op) = slot_of (slice_get unary_kinds op)
 gives (Binary op) = result_of (slice_get operator_table op)
 gives CheckChar = Of kinds.Int ∷ []
 gives _ = []
@@ -113,7 +124,9 @@ module _ (entries : List ℕ) (texts : List (List ℕ)) where
   parts_text (parts.Text n ∷ rest) vs =
       then_get (known_text (slice_get texts n)) (λ bytes. then_get (parts_text rest vs) (λ more. Known (bytes ++ more)))
   parts_text (parts.Int ∷ rest) [] = Stuck
-  parts_text (parts.Int ∷ rest) (v ∷ vs) = after_integer v (parts_text rest vs)
+  parts_text (parts.Int ∷ rest) (v ∷ vs) = after_value v (parts_text rest vs)
+  parts_text (parts.Bit ∷ rest) [] = Stuck
+  parts_text (parts.Bit ∷ rest) (v ∷ vs) = after_value v (parts_text rest vs)
   parts_text (parts.Char ∷ rest) [] = Stuck
   parts_text (parts.Char ∷ rest) (v ∷ vs) = after_character v (parts_text rest vs)
 
@@ -124,6 +137,7 @@ module _ (entries : List ℕ) (texts : List (List ℕ)) where
   made (PushBit b) vs s = puts (bit_of b)
   made (Load n) vs s = puts (scalar_of (slice_get s.store.variables n))
   made (Store n) vs s = does (assigned n vs s)
+  made (Unary op) vs s = one vs (signed_by (slice_get unary_results op))
   made (Binary op) vs s = two vs (operated op)
   made (Jump to) vs s = does (jumped vs s)
   made (JumpIfZero to) vs s = does (parted vs s)

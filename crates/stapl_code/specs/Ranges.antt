@@ -5,13 +5,13 @@ use Rattle.stapl_syntax.specs.Contents.{IsFreeName}
 use Rattle.stapl_code.specs.declared.instr.PrintPart.{PrintPart}
 use Rattle.stapl_code.specs.declared.instr.PrintPart.TheVariants as parts
 use Rattle.stapl_code.specs.declared.instr.Instr.{Instr}
-use Rattle.stapl_code.specs.declared.instr.Instr.TheVariants.{Turn, PushBit, Load, Store, Binary, Print}
+use Rattle.stapl_code.specs.declared.instr.Instr.TheVariants.{Turn, PushBit, Load, Store, Unary, Binary, Print}
 use Rattle.stapl_code.specs.declared.raw.VarDef.{VarDef}
 use Rattle.stapl_code.specs.declared.raw.ProcDef.{ProcDef}
 use Rattle.stapl_code.specs.declared.raw.ItemDef.{ItemDef}
 use Rattle.stapl_code.specs.declared.raw.ActionDef.{ActionDef}
 use Rattle.stapl_code.specs.declared.raw.CodeLists.{CodeLists}
-use Rattle.stapl_code.specs.Operators.{operator_table}
+use Rattle.stapl_code.specs.Operators.{operator_table, unary_kinds}
 
 -- a variable: kind 0 is an INTEGER scalar, 1 a BOOLEAN scalar, 2 an INTEGER array, 3 a BOOLEAN array
 pub record IsVariable (v : VarDef) : Type 0 where
@@ -63,6 +63,7 @@ IsInstr variables texts (Turn piece) = (1 ≤ piece) × (piece ≤ 100000)
 IsInstr variables texts (PushBit b) = b ≤ 1
 IsInstr variables texts (Load n) = n < variables
 IsInstr variables texts (Store n) = n < variables
+IsInstr variables texts (Unary op) = op < length unary_kinds
 IsInstr variables texts (Binary op) = op < length operator_table
 IsInstr variables texts (Print list) = (1 ≤ length list) × All (IsPart texts) list
 IsInstr variables texts _ = Unit {0}

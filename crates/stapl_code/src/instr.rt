@@ -8,6 +8,8 @@ pub enum PrintPart {
     Text(u32),
     /// An integer, from the operands.
     Int,
+    /// A Boolean, from the operands, as 0 or 1.
+    Bit,
     /// A character, whose number is from the operands.
     Char,
 }
@@ -26,6 +28,9 @@ pub enum Instr {
     Load(u32),
     /// Takes a value off the operands, into a scalar variable.
     Store(u32),
+    /// Takes an operand off, and puts on what the operator of a number makes of it: 0 negates, 1 complements, 2 is ABS,
+    /// 3 is not.
+    Unary(u8),
     /// Takes two operands off, and puts on what the operator of a number makes of them.
     Binary(u8),
     /// Goes to a turn of the same procedure.

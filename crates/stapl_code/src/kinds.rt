@@ -1,10 +1,10 @@
 //! The kinds of operands.
 ghost use Rattle.std.specs.Prelude.{◌≡◌, ◌∷◌, List, Some, None, IfOk, if◌then◌else◌, slice_get};
-ghost use Rattle.stapl_code.specs.Machine.{part_slots, sides_of, result_of, takes, gives};
+ghost use Rattle.stapl_code.specs.Machine.{part_slots, slot_of, sides_of, result_of, takes, gives};
 ghost use Rattle.stapl_code.specs.Kinds.{off, variable_kind, put_on, taken_off, clears, all_off, all_on, kinds_behind};
 
 use crate::instr::{Instr, PrintPart};
-use crate::operators::{Operator, operator_of};
+use crate::operators::{Operator, operator_of, unary_kind};
 use crate::raw::VarDef;
 use base::Stack;
 use stapl_meaning::ValueKind;
@@ -30,6 +30,7 @@ fn take_part(kinds: &mut Stack<ValueKind>, part: PrintPart) -> bool
     match part {
         PrintPart::Text(_) => true,
         PrintPart::Int | PrintPart::Char => take(kinds, ValueKind::Int),
+        PrintPart::Bit => take(kinds, ValueKind::Bit),
     }
 }
 
@@ -91,6 +92,17 @@ fn take_sides(kinds: &mut Stack<ValueKind>, operator: Option<Operator>) -> bool
     }
 }
 
+// Takes off the kind of what an operator before a value wants, where there is one, and answers whether it was there.
+fn take_signed(kinds: &mut Stack<ValueKind>, kind: Option<ValueKind>) -> bool
+    ensures { (variables : List VarDef) →
+        all_off variables (slot_of kind) kinds.old ≡ (if result then Some kinds.new else None) }
+{
+    match kind {
+        None => true,
+        Some(kind) => take(kinds, kind),
+    }
+}
+
 // Takes off the kinds of the operands of an instruction, and answers whether they were there.
 fn take_operands(variables: &[VarDef], instr: &Instr, kinds: &mut Stack<ValueKind>) -> bool
     ensures { all_off variables.now (takes instr.now) kinds.old ≡ (if result then Some kinds.new else None) }
@@ -103,6 +115,7 @@ fn take_operands(variables: &[VarDef], instr: &Instr, kinds: &mut Stack<ValueKin
         | Instr::Jump(_)
         | Instr::EndProc => true,
         Instr::Store(n) => take_some(kinds, kind_at(variables, *n)),
+        Instr::Unary(op) => take_signed(kinds, unary_kind(*op)),
         Instr::Binary(op) => take_sides(kinds, operator_of(*op)),
         Instr::JumpIfZero(_) => take(kinds, ValueKind::Bit),
         Instr::Print(parts) => take_parts(kinds, parts.as_slice()),
@@ -121,6 +134,7 @@ fn clears(instr: &Instr) -> bool
         | Instr::PushBit(_)
         | Instr::Load(_)
         | Instr::Store(_)
+        | Instr::Unary(_)
         | Instr::Binary(_)
         | Instr::Print(_)
         | Instr::CheckChar => false,
@@ -136,6 +150,20 @@ fn put_result(kinds: &mut Stack<ValueKind>, operator: Option<Operator>) -> Resul
         None => Ok(true),
         Some(operator) => {
             kinds.push(operator.result)?;
+            Ok(true)
+        }
+    }
+}
+
+// Puts on the kind of what an operator before a value makes, where there is one.
+fn put_signed(kinds: &mut Stack<ValueKind>, kind: Option<ValueKind>) -> Result<bool, AllocError>
+    ensures { IfOk result (λ found. (variables : List VarDef) →
+        all_on variables (slot_of kind) kinds.old ≡ (if found then Some kinds.new else None)) }
+{
+    match kind {
+        None => Ok(true),
+        Some(kind) => {
+            kinds.push(kind)?;
             Ok(true)
         }
     }
@@ -161,6 +189,10 @@ fn put_operands(
         }
         Instr::Load(n) => {
             let found = put(kinds, kind_at(variables, *n))?;
+            Ok(found)
+        }
+        Instr::Unary(op) => {
+            let found = put_signed(kinds, unary_kind(*op))?;
             Ok(found)
         }
         Instr::Binary(op) => {

@@ -12,6 +12,6 @@ mod raw;
 mod valid;
 
 pub use instr::{Instr, PrintPart};
-pub use operators::{Operator, operator_of};
+pub use operators::{Operator, operator_of, unary_kind};
 pub use raw::{ActionDef, CodeLists, ItemDef, ProcDef, RawCode, VarDef};
 pub use valid::{Code, ValidateRefused, validate};

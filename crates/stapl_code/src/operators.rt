@@ -1,6 +1,6 @@
 //! The operators of the machine.
 ghost use Rattle.std.specs.Prelude.{◌≡◌, slice_get};
-ghost use Rattle.stapl_code.specs.Operators.{operator_table};
+ghost use Rattle.stapl_code.specs.Operators.{operator_table, unary_kinds};
 
 use stapl_lexer::BinOp;
 use stapl_meaning::ValueKind;
@@ -74,6 +74,17 @@ pub fn operator_of(number: u8) -> Option<Operator>
         20 => logic(BinOp::Or),
         21 => logic(BinOp::Equal),
         22 => logic(BinOp::NotEqual),
+        _ => None,
+    }
+}
+
+/// The kind of what the operator of a number before a value wants, and of what it makes.
+pub fn unary_kind(number: u8) -> Option<ValueKind>
+    ensures { result ≡ slice_get unary_kinds number }
+{
+    match number {
+        0 | 1 | 2 => Some(ValueKind::Int),
+        3 => Some(ValueKind::Bit),
         _ => None,
     }
 }

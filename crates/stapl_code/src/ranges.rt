@@ -85,7 +85,7 @@ fn is_part(texts: usize, part: &PrintPart) -> bool
 {
     match part {
         PrintPart::Text(n) => (*n as usize) < texts,
-        PrintPart::Int | PrintPart::Char => true,
+        PrintPart::Int | PrintPart::Bit | PrintPart::Char => true,
     }
 }
 
@@ -96,6 +96,7 @@ fn is_instr(variables: usize, texts: usize, instr: &Instr) -> bool
         Instr::Turn(piece) => 1 <= *piece && *piece <= 100_000,
         Instr::Load(n) | Instr::Store(n) => (*n as usize) < variables,
         Instr::PushBit(bit) => *bit <= 1,
+        Instr::Unary(op) => *op < 4,
         Instr::Binary(op) => *op < 23,
         Instr::Print(parts) => {
             let parts = parts.as_slice();
