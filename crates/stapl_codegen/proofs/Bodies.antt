@@ -74,7 +74,7 @@ module _ (place : ℕ → ℕ) (entries : List ℕ) (texts : List (List ℕ)) (t
   -- The last instruction of a row is tied to the row: it takes as many operands, does the same with them, and leads to the
   -- same target.
   pub record Tied (first : ℕ) (b : BodyTree) : Type 0 where
-    pub count : length (takes (last scope place first b)) ≡ length (operands b)
+    pub count : length (takes (last scope place first b)) ≡ length (operands scope b)
     pub same : (vs : List Value) (s : State) → made entries texts (last scope place first b) vs s ≡ does (effect scope b vs s)
     pub leads : (here : ℕ) → lands here (last scope place first b) ≡ target_placed place (target scope b)
 
@@ -97,13 +97,13 @@ module _ (place : ℕ → ℕ) (entries : List ℕ) (texts : List (List ℕ)) (t
       stretch entries texts total (row_code scope place first b rest) [] s ≡ placed place (carried scope b s go)
   row_follows s first b rest go tied entry_is more =
       let i : Instr = last scope place first b in
-      let values : Got (List Value) = values_of scope.variable s.store.variables (operands b) in
+      let values : Got (List Value) = values_of scope.look s.store.variables (operands scope b) in
       let behind : List Value → Turned = λ vs. with_got (effect scope b vs s) s (λ did. led scope.entry (target scope b) did go) in
       let here : ℕ = total - suc (length rest) in
       let made_of : List Value → List Value → Step = λ vs below. on_made entries (lands here i) below s (made entries texts i vs s) in
-      operands_follow entries texts total s scope.variable (operands b) (i ∷ rest) []
+      operands_follow entries texts total s scope.look (operands scope b) (i ∷ rest) []
       ∙ with_known values s _ (λ vs. placed place (behind vs)) (λ vs e.
-      ap (λ n. continues (on_taken (taken n (onto vs [])) made_of) (stretch entries texts total rest)) (tied.count ∙ one_each scope.variable s (operands b) vs e)
+      ap (λ n. continues (on_taken (taken n (onto vs [])) made_of) (stretch entries texts total rest)) (tied.count ∙ one_each scope.look s (operands scope b) vs e)
       ∙ ap (λ o. continues (on_taken o made_of) (stretch entries texts total rest)) (taken-onto vs [])
       ∙ ap (λ g. continues (on_made entries (lands here i) [] s g) (stretch entries texts total rest)) (tied.same vs s)
       ∙ ap (λ to. continues (on_made entries to [] s (does (effect scope b vs s))) (stretch entries texts total rest)) (tied.leads here)
@@ -117,8 +117,8 @@ module _ (place : ℕ → ℕ) (entries : List ℕ) (texts : List (List ℕ)) (t
   row_tied first (goto name) has = record { count = refl; same = λ vs s. refl; leads = λ here. refl }
   row_tied first (if_then e body) has = record { count = refl; same = λ vs s. refl; leads = λ here. refl }
   row_tied first (print list) has = record {
-    count = parts_count list first;
-    same = λ vs s. ap (λ g. does (printed g s)) (parts_are_joined entries texts list first vs has);
+    count = parts_count scope.look list first;
+    same = λ vs s. ap (λ g. does (printed g s)) (parts_are_joined entries texts scope.look list first vs has);
     leads = λ here. refl;
   }
   row_tied first (exit e) has = record { count = refl; same = λ vs s. refl; leads = λ here. refl }

@@ -1,10 +1,16 @@
 -- A definition more of a code.
-use Rattle.std.proofs.Common.{◌≡◌, ℕ, zero, suc, ◌+◌, List, [], ◌∷◌, ◌++◌, arith, refl, sym, ap, ◌∙◌, append_assoc}
+use Rattle.std.proofs.Common.{◌≡◌, ℕ, zero, suc, ◌+◌, List, [], ◌∷◌, ◌++◌, map, drop, slice_get, Some, arith, refl, sym, ap, ◌∙◌, append_assoc}
 use Rattle.std.specs.List.{range_with_len}
 use Rattle.stapl_syntax.specs.Trees.{BodyTree, action, procedure, StmtTree}
 use Rattle.stapl_code.specs.declared.raw.ProcDef.{ProcDef}
 use Rattle.stapl_code.specs.declared.raw.ActionDef.{ActionDef}
 use Rattle.stapl_codegen.specs.Emit.{procedure_def, procedures_from, action_def, actions_from}
+use Rattle.std.proofs.lemmas.List.{drop_more}
+use Rattle.std.proofs.lemmas.Option.{get_or_from_slice_get, slice_get_within}
+use Rattle.stapl_syntax.specs.declared.names.Key.{Key}
+use Rattle.stapl_syntax.specs.declared.names.Variable.{Variable}
+use Rattle.stapl_code.specs.declared.raw.VarDef.{VarDef}
+use Rattle.stapl_codegen.specs.Generated.{variable_def}
 
 pub range_more : (a n : ℕ) → range_with_len a (n + 1) ≡ range_with_len a n ++ (a + n) ∷ []
 range_more a n = let next : n + 1 ≡ suc n = omega arith in ap (range_with_len a) next ∙ by a n
@@ -39,3 +45,14 @@ pub actions_more : (program : List StmtTree) (st : StmtTree) (rest all : List St
 actions_more program st rest all old new done is after so_far =
     one_more old (action_def program st.body []) (actions_from program rest) done new after
     (ap (λ l. old ++ l) (sym (action_first program st.body (actions_from program rest))) ∙ sym (ap (λ l. old ++ actions_from program l) is) ∙ so_far)
+
+-- a variable more
+pub variables_more : (vs : List (Key × Variable)) (i : ℕ) (v : Key × Variable) (defs defs' : List VarDef) (def : VarDef) (all : List VarDef) →
+    defs ++ map variable_def (drop i vs) ≡ all → slice_get vs i ≡ Some v → def ≡ variable_def v → defs' ≡ defs ++ def ∷ [] → defs' ++ map variable_def (drop (i + 1) vs) ≡ all
+variables_more vs i v defs defs' def all so_far at is more =
+    let rest : List (Key × Variable) = drop (i + 1) vs in
+    let here : drop i vs ≡ v ∷ rest = drop_more vs i v (slice_get_within vs i v at) ∙ ap (λ x. x ∷ rest) (get_or_from_slice_get vs i v v at) in
+    ap (λ l. l ++ map variable_def rest) (more ∙ ap (λ d. defs ++ d ∷ []) is)
+    ∙ append_assoc defs (variable_def v ∷ []) (map variable_def rest)
+    ∙ ap (λ l. defs ++ map variable_def l) (sym here)
+    ∙ so_far

@@ -7,7 +7,9 @@ use Rattle.std.proofs.Math.Seq.{get_or-append_seam}
 use Rattle.stapl_syntax.specs.Trees.{StmtTree}
 use Rattle.stapl_syntax.specs.Statements.{is_outer}
 use Rattle.stapl_syntax.specs.Programs.{piece_limit}
+use Rattle.stapl_lexer.specs.Pieces.{text_limit}
 use Rattle.stapl_built.specs.Built.{IsBuilt}
+use Rattle.stapl_built.specs.Sizes.{statements_size}
 use Rattle.stapl_syntax.specs.Names.{numbered_from, numbered, inside_behind, inside_from, inside_after}
 use Rattle.stapl_meaning.specs.Scopes.{block_at, program_names, entry_from, scope_at}
 use Rattle.stapl_code.specs.declared.instr.Instr.{Instr}
@@ -17,7 +19,7 @@ use Rattle.stapl_codegen.specs.Emit.{body_code, body_texts, texts_of, first_text
 use Rattle.stapl_codegen.specs.Drafts.{Site, Draft, site_at, site_behind, scope_of_site, piece_code_in, StartsTo, IsDraft}
 use Rattle.stapl_codegen.proofs.Heads.{head_of, get_head}
 use Rattle.stapl_codegen.proofs.Lists.{body_same, piece_append}
-use Rattle.stapl_codegen.proofs.Sizes.{pieces_size}
+use Rattle.stapl_codegen.proofs.Sizes.{pieces_length}
 
 pub take_more : {A : Type 0} (i : ℕ) (xs : List A) (x : A) (rest : List A) → drop i xs ≡ x ∷ rest → take (i + 1) xs ≡ take i xs ++ x ∷ []
 take_more {A = A} i xs x rest e = let next : i + 1 ≡ suc i = omega arith in ap (λ k. take k xs) next ∙ by_place i xs e
@@ -122,10 +124,10 @@ module _ (program : List StmtTree) (i : ℕ) (d : Draft) (starts : List ℕ) (so
     begins = subst (StartsTo program (i + 1)) (sym more) (starts_more program i start starts so_far.begins (start_more program i st is d.code start so_far.code at));
   }
 
-  pub drafted_size : All IsBuilt program → length program ≤ piece_limit → length d.code ≤ 900000
-  drafted_size built few =
-      let size = pieces_size program (λ j. j) 0 program built in
-      omega (arith, size, few, ap length so_far.code, length-append d.code (pieces_code program (λ j. j) i (drop i program)))
+  pub drafted_size : All IsBuilt program → statements_size program ≤ text_limit → length program ≤ piece_limit → length d.code ≤ 4294304
+  drafted_size built size few =
+      let all = pieces_length program (λ j. j) 0 program built in
+      omega (arith, all, size, few, ap length so_far.code, length-append d.code (pieces_code program (λ j. j) i (drop i program)))
 
   -- all pieces are written
   pub is_draft : i ≡ length program → IsDraft program d.code d.texts starts

@@ -3,19 +3,20 @@ use Rattle.std.proofs.Common.{◌≡◌, ℕ, suc, List, [], ◌∷◌, ◌++◌
 use Rattle.std.proofs.lemmas.List.{append-nil}
 use Rattle.stapl_syntax.specs.Trees.{ExprTree, BodyTree, if_then, PartTree, string, value, character}
 use Rattle.stapl_meaning.specs.declared.values.ValueKind.TheVariants as kinds
+use Rattle.stapl_meaning.specs.Values.{Lookup}
 use Rattle.stapl_meaning.specs.Operands.{part_operands}
 use Rattle.stapl_code.specs.declared.instr.Instr.{Instr}
 use Rattle.stapl_code.specs.declared.instr.Instr.TheVariants.{JumpIfZero, CheckChar}
 use Rattle.stapl_code.specs.declared.instr.PrintPart.{PrintPart}
 use Rattle.stapl_codegen.specs.Emit.{operands_code, print_parts, part_texts}
-use Rattle.stapl_codegen.specs.Drafts.{Draft, Site, scope_of_site, expr_code_in, operands_code_in, body_code_in}
+use Rattle.stapl_codegen.specs.Drafts.{Draft, Site, scope_of_site, expr_code_in, operands_code_in, part_operands_in, print_parts_in, body_code_in}
 use Rattle.stapl_codegen.proofs.Lists.{expr_append, expr_before}
 
 -- what a draft was before a PRINT, what it is after some of its parts, and which parts are left
 pub record AreWritten (start : Draft) (all : List PartTree) (d : Draft) (list : List PrintPart) (rest : List PartTree) : Type 0 where
-  pub code : d.code ++ operands_code_in start (part_operands rest) ≡ start.code ++ operands_code_in start (part_operands all)
+  pub code : d.code ++ operands_code_in start (part_operands_in start rest) ≡ start.code ++ operands_code_in start (part_operands_in start all)
   pub texts : d.texts ++ part_texts rest ≡ start.texts ++ part_texts all
-  pub printed : list ++ print_parts (length d.texts) rest ≡ print_parts (length start.texts) all
+  pub printed : list ++ print_parts_in d rest ≡ print_parts_in start all
   pub site : d.site ≡ start.site
 
 one_longer : {A : Type 0} (xs : List A) (x : A) → length (xs ++ x ∷ []) ≡ suc (length xs)
@@ -24,31 +25,31 @@ one_longer (y ∷ xs) x = ap suc (one_longer xs x)
 
 -- a part, and then the others
 module _ (part : PartTree) (rest : List PartTree) where
-  operands_first : (part : PartTree) (variable : List ℕ → ℕ) → operands_code variable (part_operands (part ∷ rest)) [] ≡ operands_code variable (part_operands (part ∷ [])) [] ++ operands_code variable (part_operands rest) []
-  operands_first (string bytes) variable = refl
-  operands_first (value e) variable = expr_append variable _ e [] (operands_code variable (part_operands rest) [])
-  operands_first (character e) variable = expr_append variable _ e (CheckChar ∷ []) (operands_code variable (part_operands rest) [])
+  operands_first : (part : PartTree) (look : Lookup) → operands_code look (part_operands look (part ∷ rest)) [] ≡ operands_code look (part_operands look (part ∷ [])) [] ++ operands_code look (part_operands look rest) []
+  operands_first (string bytes) look = refl
+  operands_first (value e) look = expr_append look _ e [] (operands_code look (part_operands look rest) [])
+  operands_first (character e) look = expr_append look _ e (CheckChar ∷ []) (operands_code look (part_operands look rest) [])
 
   texts_first : (part : PartTree) → part_texts (part ∷ rest) ≡ part_texts (part ∷ []) ++ part_texts rest
   texts_first (string bytes) = refl
   texts_first (value e) = refl
   texts_first (character e) = refl
 
-  printed_first : (part : PartTree) (texts texts' : List (List ℕ)) → texts' ≡ texts ++ part_texts (part ∷ []) → print_parts (length texts) (part ∷ rest) ≡ print_parts (length texts) (part ∷ []) ++ print_parts (length texts') rest
-  printed_first (string bytes) texts texts' is = ap (λ n. print_parts (length texts) (string bytes ∷ []) ++ print_parts n rest) (sym (ap length is ∙ one_longer texts bytes))
-  printed_first (value e) texts texts' is = ap (λ n. print_parts (length texts) (value e ∷ []) ++ print_parts n rest) (sym (ap length (is ∙ append-nil texts)))
-  printed_first (character e) texts texts' is = ap (λ n. print_parts (length texts) (character e ∷ []) ++ print_parts n rest) (sym (ap length (is ∙ append-nil texts)))
+  printed_first : (look : Lookup) (part : PartTree) (texts texts' : List (List ℕ)) → texts' ≡ texts ++ part_texts (part ∷ []) → print_parts look (length texts) (part ∷ rest) ≡ print_parts look (length texts) (part ∷ []) ++ print_parts look (length texts') rest
+  printed_first look (string bytes) texts texts' is = ap (λ n. print_parts look (length texts) (string bytes ∷ []) ++ print_parts look n rest) (sym (ap length is ∙ one_longer texts bytes))
+  printed_first look (value e) texts texts' is = ap (λ n. print_parts look (length texts) (value e ∷ []) ++ print_parts look n rest) (sym (ap length (is ∙ append-nil texts)))
+  printed_first look (character e) texts texts' is = ap (λ n. print_parts look (length texts) (character e ∷ []) ++ print_parts look n rest) (sym (ap length (is ∙ append-nil texts)))
 
   module _ (start d d' : Draft) (all : List PartTree) (list list' : List PrintPart) (printed : PrintPart) (so_far : AreWritten start all d list (part ∷ rest)) where
-    code_more : d'.code ≡ d.code ++ operands_code_in d (part_operands (part ∷ [])) →
-        d'.code ++ operands_code_in start (part_operands rest) ≡ start.code ++ operands_code_in start (part_operands all)
+    code_more : d'.code ≡ d.code ++ operands_code_in d (part_operands_in d (part ∷ [])) →
+        d'.code ++ operands_code_in start (part_operands_in start rest) ≡ start.code ++ operands_code_in start (part_operands_in start all)
     code_more code =
-        let variable : List ℕ → ℕ = (scope_of_site start.site).variable in
-        let one : List Instr = operands_code variable (part_operands (part ∷ [])) [] in
-        let others : List Instr = operands_code variable (part_operands rest) [] in
-        ap (λ c. c ++ others) (code ∙ ap (λ (s : Site). d.code ++ operands_code (scope_of_site s).variable (part_operands (part ∷ [])) []) so_far.site)
+        let look : Lookup = (scope_of_site start.site).look in
+        let one : List Instr = operands_code look (part_operands look (part ∷ [])) [] in
+        let others : List Instr = operands_code look (part_operands look rest) [] in
+        ap (λ c. c ++ others) (code ∙ ap (λ (s : Site). d.code ++ operands_code (scope_of_site s).look (part_operands (scope_of_site s).look (part ∷ [])) []) so_far.site)
         ∙ append_assoc d.code one others
-        ∙ ap (λ c. d.code ++ c) (sym (operands_first part variable))
+        ∙ ap (λ c. d.code ++ c) (sym (operands_first part look))
         ∙ so_far.code
 
     texts_more : d'.texts ≡ d.texts ++ part_texts (part ∷ []) → d'.texts ++ part_texts rest ≡ start.texts ++ part_texts all
@@ -58,20 +59,22 @@ module _ (part : PartTree) (rest : List PartTree) where
         ∙ ap (λ t. d.texts ++ t) (sym (texts_first part))
         ∙ so_far.texts
 
-    list_more : d'.texts ≡ d.texts ++ part_texts (part ∷ []) → printed ∷ [] ≡ print_parts (length d.texts) (part ∷ []) → list' ≡ list ++ printed ∷ [] →
-        list' ++ print_parts (length d'.texts) rest ≡ print_parts (length start.texts) all
-    list_more texts print more =
-        ap (λ l. l ++ print_parts (length d'.texts) rest) more
-        ∙ append_assoc list (printed ∷ []) (print_parts (length d'.texts) rest)
-        ∙ ap (λ l. list ++ (l ++ print_parts (length d'.texts) rest)) print
-        ∙ ap (λ l. list ++ l) (sym (printed_first part d.texts d'.texts texts))
+    list_more : d'.texts ≡ d.texts ++ part_texts (part ∷ []) → d'.site ≡ d.site → printed ∷ [] ≡ print_parts_in d (part ∷ []) → list' ≡ list ++ printed ∷ [] →
+        list' ++ print_parts_in d' rest ≡ print_parts_in start all
+    list_more texts site print more =
+        let look : Lookup = (scope_of_site d.site).look in
+        ap (λ (s : Site). list' ++ print_parts (scope_of_site s).look (length d'.texts) rest) site
+        ∙ ap (λ l. l ++ print_parts look (length d'.texts) rest) more
+        ∙ append_assoc list (printed ∷ []) (print_parts look (length d'.texts) rest)
+        ∙ ap (λ l. list ++ (l ++ print_parts look (length d'.texts) rest)) print
+        ∙ ap (λ l. list ++ l) (sym (printed_first look part d.texts d'.texts texts))
         ∙ so_far.printed
 
-    pub part_more : d'.code ≡ d.code ++ operands_code_in d (part_operands (part ∷ [])) →
-        d'.texts ≡ d.texts ++ part_texts (part ∷ []) → d'.site ≡ d.site → printed ∷ [] ≡ print_parts (length d.texts) (part ∷ []) →
+    pub part_more : d'.code ≡ d.code ++ operands_code_in d (part_operands_in d (part ∷ [])) →
+        d'.texts ≡ d.texts ++ part_texts (part ∷ []) → d'.site ≡ d.site → printed ∷ [] ≡ print_parts_in d (part ∷ []) →
         list' ≡ list ++ printed ∷ [] → AreWritten start all d' list' rest
     part_more code texts site print more =
-        record { code = code_more code; texts = texts_more texts; printed = list_more texts print more; site = site ∙ so_far.site }
+        record { code = code_more code; texts = texts_more texts; printed = list_more texts site print more; site = site ∙ so_far.site }
 
 -- an IF, and then its inner statement
 pub if_written : (e : ExprTree) (b : BodyTree) (start d done : Draft) →
@@ -86,4 +89,4 @@ if_written e b start d done code texts site more =
     ∙ ap (λ (t : List (List ℕ)). d.code ++ body_code_in (record { code = []; texts = t; site = start.site }) b) texts
     ∙ ap (λ c. c ++ inner) code
     ∙ append_assoc start.code (test ++ jump) inner
-    ∙ ap (λ c. start.code ++ c) (append_assoc test jump inner ∙ sym (expr_before (scope_of_site start.site).variable kinds.Bit e (jump ++ inner)))
+    ∙ ap (λ c. start.code ++ c) (append_assoc test jump inner ∙ sym (expr_before (scope_of_site start.site).look kinds.Bit e (jump ++ inner)))

@@ -1,18 +1,18 @@
 -- The code of expressions, operands, rows and pieces: what stands behind it, and its targets.
 use Rattle.std.proofs.Common.{◌≡◌, ℕ, zero, suc, ◌+◌, Bool, true, false, cond, List, [], ◌∷◌, ◌++◌, length, map, drop, arith, refl, ap, ◌∙◌}
 use Rattle.std.specs.Prelude.{ℤ, pos, negsuc, Option}
-use Rattle.stapl_syntax.specs.Trees.{ExprTree, number, scalar, binary, BodyTree, end_procedure, assign, goto, if_then, print, exit, StmtTree}
+use Rattle.stapl_syntax.specs.Trees.{ExprTree, number, scalar, unary, binary, abs, BodyTree, end_procedure, assign, goto, if_then, print, exit, StmtTree}
 use Rattle.stapl_syntax.specs.Statements.{is_outer}
 use Rattle.stapl_syntax.specs.Names.{Names}
 use Rattle.stapl_meaning.specs.declared.values.ValueKind.{ValueKind}
 use Rattle.stapl_meaning.specs.declared.values.ValueKind.TheVariants as kinds
-use Rattle.stapl_meaning.specs.Values.{side}
+use Rattle.stapl_meaning.specs.Values.{Lookup, unary_side, sides}
 use Rattle.stapl_meaning.specs.Operands.{Test, Plain, Character, Operand}
 use Rattle.stapl_meaning.specs.Scopes.{Scope, scope_of, scope_at}
 use Rattle.stapl_meaning.specs.Turns.{operands, rows}
 use Rattle.stapl_code.specs.declared.instr.Instr.{Instr}
-use Rattle.stapl_code.specs.declared.instr.Instr.TheVariants.{Turn, Binary}
-use Rattle.stapl_codegen.specs.Emit.{operator_number, literal_code, test_code, expr_code, operands_code, last, row_texts, past, row_code, rows_code, body_code, first_text, piece_code, pieces_code, retarget}
+use Rattle.stapl_code.specs.declared.instr.Instr.TheVariants.{Turn, Unary, Binary}
+use Rattle.stapl_codegen.specs.Emit.{operator_number, sign_number, absolute_number, literal_code, test_code, expr_code, operands_code, last, row_texts, past, row_code, rows_code, body_code, first_text, piece_code, pieces_code, retarget}
 
 literal_retarget : (place : ℕ → ℕ) (kind : ValueKind) (z : ℤ) → retarget place (literal_code kind z) ≡ literal_code kind z
 literal_retarget place kinds.Int z = refl
@@ -21,51 +21,57 @@ literal_retarget place kinds.Bit (pos (suc zero)) = refl
 literal_retarget place kinds.Bit (pos (suc (suc n))) = refl
 literal_retarget place kinds.Bit (negsuc n) = refl
 
-module _ (variable : List ℕ → ℕ) where
-  pub expr_append : (kind : ValueKind) (e : ExprTree) (c d : List Instr) → expr_code variable kind e (c ++ d) ≡ expr_code variable kind e c ++ d
+module _ (look : Lookup) where
+  pub expr_append : (kind : ValueKind) (e : ExprTree) (c d : List Instr) → expr_code look kind e (c ++ d) ≡ expr_code look kind e c ++ d
   expr_append kind (number z) c d = refl
   expr_append kind (scalar name) c d = refl
+  expr_append kind (unary op e) c d = expr_append (unary_side op) e (Unary (sign_number op) ∷ c) d
   expr_append kind (binary op a b) c d =
-      ap (expr_code variable (side op) a) (expr_append (side op) b (Binary (operator_number op) ∷ c) d)
-      ∙ expr_append (side op) a (expr_code variable (side op) b (Binary (operator_number op) ∷ c)) d
+      let side : ValueKind = sides look op a b in
+      ap (expr_code look side a) (expr_append side b (Binary (operator_number op side) ∷ c) d)
+      ∙ expr_append side a (expr_code look side b (Binary (operator_number op side) ∷ c)) d
+  expr_append kind (abs e) c d = expr_append kinds.Int e (Unary absolute_number ∷ c) d
   expr_append kind _ c d = refl
 
   test_append : (t : Test) (c d : List Instr) → test_code t (c ++ d) ≡ test_code t c ++ d
   test_append Plain c d = refl
   test_append Character c d = refl
 
-  pub operands_append : (os : List Operand) (c d : List Instr) → operands_code variable os (c ++ d) ≡ operands_code variable os c ++ d
+  pub operands_append : (os : List Operand) (c d : List Instr) → operands_code look os (c ++ d) ≡ operands_code look os c ++ d
   operands_append [] c d = refl
   operands_append (o ∷ os) c d =
-      ap (λ l. expr_code variable o.kind o.expr (test_code o.test l)) (operands_append os c d)
-      ∙ ap (expr_code variable o.kind o.expr) (test_append o.test (operands_code variable os c) d)
-      ∙ expr_append o.kind o.expr (test_code o.test (operands_code variable os c)) d
+      ap (λ l. expr_code look o.kind o.expr (test_code o.test l)) (operands_append os c d)
+      ∙ ap (expr_code look o.kind o.expr) (test_append o.test (operands_code look os c) d)
+      ∙ expr_append o.kind o.expr (test_code o.test (operands_code look os c)) d
 
-  pub expr_before : (kind : ValueKind) (e : ExprTree) (c : List Instr) → expr_code variable kind e c ≡ expr_code variable kind e [] ++ c
+  pub expr_before : (kind : ValueKind) (e : ExprTree) (c : List Instr) → expr_code look kind e c ≡ expr_code look kind e [] ++ c
   expr_before kind e c = expr_append kind e [] c
 
-  pub operands_before : (os : List Operand) (c : List Instr) → operands_code variable os c ≡ operands_code variable os [] ++ c
+  pub operands_before : (os : List Operand) (c : List Instr) → operands_code look os c ≡ operands_code look os [] ++ c
   operands_before os c = operands_append os [] c
 
   module _ (place : ℕ → ℕ) where
-    expr_retarget : (kind : ValueKind) (e : ExprTree) (c : List Instr) → map (retarget place) (expr_code variable kind e c) ≡ expr_code variable kind e (map (retarget place) c)
+    expr_retarget : (kind : ValueKind) (e : ExprTree) (c : List Instr) → map (retarget place) (expr_code look kind e c) ≡ expr_code look kind e (map (retarget place) c)
     expr_retarget kind (number z) c = ap (λ i. i ∷ map (retarget place) c) (literal_retarget place kind z)
     expr_retarget kind (scalar name) c = refl
+    expr_retarget kind (unary op e) c = expr_retarget (unary_side op) e (Unary (sign_number op) ∷ c)
     expr_retarget kind (binary op a b) c =
-        expr_retarget (side op) a (expr_code variable (side op) b (Binary (operator_number op) ∷ c))
-        ∙ ap (expr_code variable (side op) a) (expr_retarget (side op) b (Binary (operator_number op) ∷ c))
+        let side : ValueKind = sides look op a b in
+        expr_retarget side a (expr_code look side b (Binary (operator_number op side) ∷ c))
+        ∙ ap (expr_code look side a) (expr_retarget side b (Binary (operator_number op side) ∷ c))
+    expr_retarget kind (abs e) c = expr_retarget kinds.Int e (Unary absolute_number ∷ c)
     expr_retarget kind _ c = refl
 
     test_retarget : (t : Test) (c : List Instr) → map (retarget place) (test_code t c) ≡ test_code t (map (retarget place) c)
     test_retarget Plain c = refl
     test_retarget Character c = refl
 
-    operands_retarget : (os : List Operand) (c : List Instr) → map (retarget place) (operands_code variable os c) ≡ operands_code variable os (map (retarget place) c)
+    operands_retarget : (os : List Operand) (c : List Instr) → map (retarget place) (operands_code look os c) ≡ operands_code look os (map (retarget place) c)
     operands_retarget [] c = refl
     operands_retarget (o ∷ os) c =
-        expr_retarget o.kind o.expr (test_code o.test (operands_code variable os c))
-        ∙ ap (expr_code variable o.kind o.expr) (test_retarget o.test (operands_code variable os c))
-        ∙ ap (λ l. expr_code variable o.kind o.expr (test_code o.test l)) (operands_retarget os c)
+        expr_retarget o.kind o.expr (test_code o.test (operands_code look os c))
+        ∙ ap (expr_code look o.kind o.expr) (test_retarget o.test (operands_code look os c))
+        ∙ ap (λ l. expr_code look o.kind o.expr (test_code o.test l)) (operands_retarget os c)
 
 module _ (scope : Scope) (place : ℕ → ℕ) where
   rows_append : (first : ℕ) (bs : List BodyTree) (c d : List Instr) → rows_code scope place first bs (c ++ d) ≡ rows_code scope place first bs c ++ d
@@ -73,7 +79,7 @@ module _ (scope : Scope) (place : ℕ → ℕ) where
   rows_append first (b ∷ bs) c d =
       let more : List Instr = rows_code scope place (past first (row_texts b)) bs c in
       ap (row_code scope place first b) (rows_append (past first (row_texts b)) bs c d)
-      ∙ operands_append scope.variable (operands b) (last scope place first b ∷ more) d
+      ∙ operands_append scope.look (operands scope b) (last scope place first b ∷ more) d
 
   pub body_append : (first : ℕ) (b : BodyTree) (c d : List Instr) → body_code scope place first b (c ++ d) ≡ body_code scope place first b c ++ d
   body_append first b c d = rows_append first (rows b) c d
@@ -95,8 +101,8 @@ module _ (scope : Scope) (place : ℕ → ℕ) where
   rows_retarget first [] c = refl
   rows_retarget first (b ∷ bs) c =
       let first' : ℕ = past first (row_texts b) in
-      operands_retarget scope.variable place (operands b) (last scope (λ i. i) first b ∷ rows_code scope (λ i. i) first' bs c)
-      ∙ ap (λ i. operands_code scope.variable (operands b) (i ∷ map (retarget place) (rows_code scope (λ i. i) first' bs c))) (last_retarget first b)
+      operands_retarget scope.look place (operands scope b) (last scope (λ i. i) first b ∷ rows_code scope (λ i. i) first' bs c)
+      ∙ ap (λ i. operands_code scope.look (operands scope b) (i ∷ map (retarget place) (rows_code scope (λ i. i) first' bs c))) (last_retarget first b)
       ∙ ap (row_code scope place first b) (rows_retarget first' bs c)
 
   pub body_retarget : (first : ℕ) (b : BodyTree) (c : List Instr) → map (retarget place) (body_code scope (λ i. i) first b c) ≡ body_code scope place first b (map (retarget place) c)
@@ -123,7 +129,7 @@ module _ (names : Names) (entry entry' : ℕ → ℕ) (count : ℕ) (inside : Op
   rows_same : (first : ℕ) (bs : List BodyTree) → rows_code One place first bs [] ≡ rows_code Other place first bs []
   rows_same first [] = refl
   rows_same first (b ∷ bs) =
-      ap (λ i. operands_code One.variable (operands b) (i ∷ rows_code One place (past first (row_texts b)) bs [])) (last_same first b)
+      ap (λ i. operands_code One.look (operands One b) (i ∷ rows_code One place (past first (row_texts b)) bs [])) (last_same first b)
       ∙ ap (row_code Other place first b) (rows_same (past first (row_texts b)) bs)
 
   pub body_same : (first : ℕ) (b : BodyTree) → body_code One place first b [] ≡ body_code Other place first b []

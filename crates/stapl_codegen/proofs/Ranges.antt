@@ -1,28 +1,44 @@
 -- The fields of the code of an accepted program are in their ranges.
-use Rattle.std.proofs.Common.{◌≡◌, ℕ, zero, suc, ◌+◌, ◌*◌, ◌<◌, ◌≤◌, Bool, true, false, cond, List, [], ◌∷◌, ◌++◌, length, length-append, map, replicate, Option, Some, None, is_some, arith, refl, sym, ap, subst}
-use Rattle.std.specs.Prelude.{slice_get, All, sum_by}
+use Rattle.std.proofs.Common.{◌≡◌, ℕ, zero, suc, ◌+◌, ◌<◌, ◌≤◌, Bool, true, false, cond, List, [], ◌∷◌, ◌++◌, length, length-append, map, Option, Some, None, is_some, option_map, arith, refl, ap, subst, ◌∙◌}
+use Rattle.std.specs.Prelude.{ℤ, pos, negsuc, nat_abs, nat_lt, ◌||◌, slice_get, take, All, sum_by}
+use Rattle.std.specs.List.{cons_option, list_all}
+use Rattle.std.specs.Map.{lookup}
+use Rattle.std.proofs.lemmas.Bool.{and_parts, ltb-true}
 use Rattle.std.proofs.lemmas.List.{append-nil}
-use Rattle.std.proofs.lemmas.List.Folds.{sum_by-replicate}
+use Rattle.std.proofs.lemmas.List.Elements.{All-head, All-tail}
+use Rattle.std.proofs.lemmas.List.Sums.{sum_by-cons}
+use Rattle.std.proofs.lemmas.Option.{slice_get-map, same_Some}
 use Rattle.stapl_lexer.specs.declared.terminal.BinOp.{BinOp}
 use Rattle.stapl_lexer.specs.declared.terminal.BinOp.TheVariants as operators
-use Rattle.stapl_syntax.specs.Trees.{ExprTree, number, scalar, binary, PartTree, string, value, character, BodyTree, end_procedure, integer, assign, goto, if_then, print, exit, StmtTree}
-use Rattle.std.specs.List.{cons_option}
-use Rattle.std.specs.Map.{lookup}
-use Rattle.stapl_syntax.specs.Names.{Numbered, numbered_from, numbered, inside_behind, declared_from, declared, variable_of, firsts_behind, key_eq}
-use Rattle.stapl_meaning.specs.Scopes.{Scope, program_names}
-use Rattle.stapl_code.specs.declared.instr.Instr.{Instr}
-use Rattle.stapl_code.specs.declared.instr.Instr.TheVariants.{Store, Binary, JumpIfZero, Print, Exit}
+use Rattle.stapl_syntax.specs.declared.signs.UnOp.{UnOp}
+use Rattle.stapl_syntax.specs.declared.signs.UnOp.TheVariants as signs
+use Rattle.stapl_syntax.specs.declared.names.Found.{Found}
+use Rattle.stapl_syntax.specs.declared.names.Found.TheVariants as found
+use Rattle.stapl_syntax.specs.declared.names.Key.{Key}
+use Rattle.stapl_syntax.specs.declared.names.Variable.{Variable}
+use Rattle.stapl_syntax.specs.declared.names.VarKind.{VarKind}
+use Rattle.stapl_syntax.specs.declared.names.VarKind.TheVariants as variables
+use Rattle.stapl_syntax.specs.Kinds.{expr_kind, is_bit, operands_suit}
+use Rattle.stapl_syntax.specs.Names.{Names, Numbered, numbered_from, numbered, inside_behind, inside_from, declared_from, declared, declaration, variable_entry, variable_in, variable_of, firsts_behind, key_eq, found_from, kind_of_found}
+use Rattle.stapl_syntax.specs.Trees.{ExprTree, number, scalar, unary, binary, abs, PartTree, string, value, character, BodyTree, end_procedure, boolean, boolean_array, integer, integer_array, assign, goto, if_then, print, exit, StmtTree}
+use Rattle.stapl_built.specs.Built.{is_built_expr, is_built_part, is_built_simple, is_built_inner, is_built_outer, IsBuilt}
 use Rattle.stapl_meaning.specs.declared.values.ValueKind.{ValueKind}
 use Rattle.stapl_meaning.specs.declared.values.ValueKind.TheVariants as kinds
-use Rattle.stapl_meaning.specs.Values.{side}
-use Rattle.stapl_meaning.specs.Operands.{Test, Plain, Character, Operand, an_integer, a_boolean, part_operands}
-use Rattle.stapl_code.specs.Operators.{operator_table}
+use Rattle.stapl_meaning.specs.Values.{Lookup, unary_side, sides}
+use Rattle.stapl_meaning.specs.Operands.{Test, Plain, Character, Operand, an_integer, a_boolean, plain, given_kind, printed_kind, part_operands}
+use Rattle.stapl_meaning.specs.Scopes.{Scope, program_names, number_found, lookup_from}
+use Rattle.stapl_meaning.proofs.Entries.{all_at, all_declared, all_firsts}
+use Rattle.stapl_code.specs.declared.instr.Instr.{Instr}
+use Rattle.stapl_code.specs.declared.instr.Instr.TheVariants.{Store, Unary, Binary, JumpIfZero, Print, Exit}
+use Rattle.stapl_code.specs.declared.raw.VarDef.{VarDef}
+use Rattle.stapl_code.specs.Operators.{operator_table, unary_kinds}
 use Rattle.stapl_code.specs.Kinds.{variable_kind}
 use Rattle.stapl_code.specs.Ranges.{IsVariable, elements_of, AreVariables, IsPart, IsInstr}
-use Rattle.stapl_codegen.specs.Generated.{integer_def}
-use Rattle.stapl_codegen.specs.Emit.{literal_code, expr_code, test_code, operands_code, print_parts, part_texts, body_texts, operator_number, body_code}
-use Rattle.stapl_meaning.specs.Typed.{IsInteger, IsBoolean, IsTypedBody}
-use Rattle.stapl_codegen.proofs.WellKinded.{HasKind, AllTyped, parts_typed, arithmetic_side, comparison_side}
+use Rattle.stapl_codegen.specs.Generated.{kind_number, variable_def}
+use Rattle.stapl_codegen.specs.Emit.{literal_code, expr_code, test_code, operands_code, shown_part, print_parts, part_texts, body_texts, operator_number, sign_number, absolute_number, body_code}
+use Rattle.stapl_codegen.proofs.Sides.{fits, held_kind, scalar_fits, unary_fits, absolute_fits, operates}
+use Rattle.stapl_codegen.proofs.WellKinded.{Agrees, AllTyped, parts_typed, no_bit}
+use Rattle.stapl_codegen.proofs.WellPlaced.{given_fits}
 
 -- something is so of each element
 abbrev pub Each : {A : Type 0} → (A → Type 0) → List A → Type 0
@@ -34,29 +50,87 @@ each_all P [] each k d below = absurd (omega (arith, below))
 each_all P (x ∷ xs) each zero d below = each.0
 each_all P (x ∷ xs) each (suc k) d below = each_all P xs each.1 k d (omega (arith, below))
 
-pub integer_is : IsVariable integer_def
-integer_is = record {
-  kind = omega arith;
-  some = omega arith;
-  scalar = λ low. refl;
-  boolean_array = λ is. absurd cc;
+-- ---- the variables
+
+-- a variable of a program without arrays
+record IsScalar (v : Key × Variable) : Type 0 where
+  ranged : IsVariable (variable_def v)
+  integers : elements_of 0 2 (variable_def v) ≤ 1
+  booleans : elements_of 1 3 (variable_def v) ≤ 1
+
+scalar_entry : (block : List ℕ) (n : ℕ) (name : List ℕ) (kind : VarKind) → kind_number kind ≤ 1 →
+    IsScalar (variable_entry block n (record { name = name; kind = kind; size = pos 1 }))
+scalar_entry block n name variables.Integer low = record {
+  ranged = record { kind = omega arith; some = omega arith; scalar = λ low. refl; boolean_array = λ is. absurd cc };
+  integers = omega arith;
+  booleans = omega arith;
 }
-
-integers_each : (n : ℕ) → Each IsVariable (replicate n integer_def)
-integers_each zero = tt
-integers_each (suc n) = (integer_is, integers_each n)
-
-pub integers_are : (n : ℕ) → n ≤ 1048576 → AreVariables (replicate n integer_def)
-integers_are n few = record {
-  each = each_all IsVariable (replicate n integer_def) (integers_each n);
-  integers = let sum : sum_by (elements_of 0 2) (replicate n integer_def) ≡ n * 1 = sum_by-replicate (elements_of 0 2) n integer_def in omega (arith, sum, few);
-  booleans = let sum : sum_by (elements_of 1 3) (replicate n integer_def) ≡ n * 0 = sum_by-replicate (elements_of 1 3) n integer_def in omega (arith, sum);
+scalar_entry block n name variables.Boolean low = record {
+  ranged = record { kind = omega arith; some = omega arith; scalar = λ low. refl; boolean_array = λ is. absurd cc };
+  integers = omega arith;
+  booleans = omega arith;
 }
+scalar_entry block n name variables.IntegerArray low = absurd (omega (arith, low))
+scalar_entry block n name variables.BooleanArray low = absurd (omega (arith, low))
 
-pub all_integers : (m n : ℕ) → n < length (replicate m integer_def) → variable_kind (slice_get (replicate m integer_def) n) ≡ Some kinds.Int
-all_integers zero n below = absurd (omega (arith, below))
-all_integers (suc m) zero below = refl
-all_integers (suc m) (suc n) below = all_integers m n (omega (arith, below))
+-- what a built statement declares
+declares_scalar : (now : Option (List ℕ)) (n : ℕ) (b : BodyTree) (e : Key × Variable) → (is_built_outer b || is_built_inner b) ≡ true → variable_in now n (declaration b) ≡ Some e → IsScalar e
+declares_scalar (Some block) n (boolean name None) e built is = subst IsScalar (same_Some _ e is) (scalar_entry block n name variables.Boolean (omega arith))
+declares_scalar (Some block) n (integer name None) e built is = subst IsScalar (same_Some _ e is) (scalar_entry block n name variables.Integer (omega arith))
+declares_scalar (Some block) n (boolean name (Some b)) e built is = absurd cc
+declares_scalar (Some block) n (integer name (Some z)) e built is = absurd cc
+declares_scalar (Some block) n (boolean_array name size bits) e built is = absurd cc
+declares_scalar (Some block) n (integer_array name size values) e built is = absurd cc
+declares_scalar None n b e built is = absurd cc
+declares_scalar (Some block) n _ e built is = absurd cc
+
+all_scalars : (program : List StmtTree) → All IsBuilt program → All IsScalar (program_names program).variables
+all_scalars program built =
+    all_firsts key_eq IsScalar (declared variable_of (numbered (map Some program)))
+    (all_declared variable_of IsScalar program None 1
+    (λ i st e at is. declares_scalar (inside_from None (numbered_from 1 (take i (map Some program)))) (1 + i) st.body e (all_at IsBuilt program i st built at) is))
+
+scalars_ranged : (vs : List (Key × Variable)) → All IsScalar vs → Each IsVariable (map variable_def vs)
+scalars_ranged [] all = tt
+scalars_ranged (v ∷ vs) all = ((All-head IsScalar v vs all).ranged, scalars_ranged vs (All-tail IsScalar v vs all))
+
+few_elements : (one many : ℕ) (vs : List (Key × Variable)) → All (λ v. elements_of one many (variable_def v) ≤ 1) vs → sum_by (elements_of one many) (map variable_def vs) ≤ length vs
+few_elements one many [] all = omega arith
+few_elements one many (v ∷ vs) all =
+    let P : Key × Variable → Type 0 = λ v. elements_of one many (variable_def v) ≤ 1 in
+    let first = All-head P v vs all in
+    let more = few_elements one many vs (All-tail P v vs all) in
+    omega (arith, sum_by-cons (elements_of one many) (variable_def v) (map variable_def vs), first, more)
+
+pub variables_are : (program : List StmtTree) → All IsBuilt program → length (program_names program).variables ≤ 1048576 → AreVariables (map variable_def (program_names program).variables)
+variables_are program built few =
+    let vs = (program_names program).variables in
+    let all = all_scalars program built in
+    let integers = few_elements 0 2 vs (λ i d below. (all i d below).integers) in
+    let booleans = few_elements 1 3 vs (λ i d below. (all i d below).booleans) in
+    record {
+      each = each_all IsVariable (map variable_def vs) (scalars_ranged vs all);
+      integers = omega (arith, integers, few);
+      booleans = omega (arith, booleans, few);
+    }
+
+-- a scalar that a name stands for has its kind among the variables of the code
+held_same : (o : Option (Key × Variable)) (kind : ValueKind) → held_kind (option_map (λ e. e.1.kind) o) ≡ Some kind → variable_kind (option_map variable_def o) ≡ Some kind
+held_same None kind h = absurd cc
+held_same (Some v) kind h = by v.1.kind (nat_abs v.1.size) h
+  where
+    by : (k : VarKind) (n : ℕ) → held_kind (Some k) ≡ Some kind → variable_kind (Some (record { kind = kind_number k; size = n })) ≡ Some kind
+    by variables.Integer n h = h
+    by variables.Boolean n h = h
+    by variables.IntegerArray n h = absurd cc
+    by variables.BooleanArray n h = absurd cc
+
+pub agrees_from : (names : Names) (inside : Option (List ℕ)) → Agrees (map variable_def names.variables) (lookup_from names inside)
+agrees_from names inside name kind h = by (found_from names inside name) h
+  where
+    by : (f : Found) → held_kind (kind_of_found names f) ≡ Some kind → variable_kind (slice_get (map variable_def names.variables) (number_found names f)) ≡ Some kind
+    by (found.Variable n) h = ap variable_kind (slice_get-map variable_def names.variables n) ∙ held_same (slice_get names.variables n) kind h
+    by _ h = absurd cc
 
 -- a program has at most as many variables as statements
 declared_few : {K V : Type 0} (declares : Option (List ℕ) → ℕ → StmtTree → Option (K × V)) (now : Option (List ℕ)) (pieces : List Numbered) →
@@ -87,87 +161,129 @@ few_variables program =
     let pieces = numbered (map Some program) in
     omega (arith, firsts_few key_eq (declared variable_of pieces) [], declared_few variable_of None pieces, numbered_length 1 program)
 
-parts_range : (texts first : ℕ) (list : List PartTree) → first + length (part_texts list) ≤ texts → Each (IsPart texts) (print_parts first list)
-parts_range texts first [] few = tt
-parts_range texts first (string bytes ∷ list) few = (omega (arith, few), parts_range texts (suc first) list (omega (arith, few)))
-parts_range texts first (value e ∷ list) few = (tt, parts_range texts first list few)
-parts_range texts first (character e ∷ list) few = (tt, parts_range texts first list few)
+-- ---- the instructions
 
-parts_count : (first : ℕ) (list : List PartTree) → length (print_parts first list) ≡ length list
-parts_count first [] = refl
-parts_count first (string bytes ∷ list) = ap suc (parts_count (suc first) list)
-parts_count first (value e ∷ list) = ap suc (parts_count first list)
-parts_count first (character e ∷ list) = ap suc (parts_count first list)
+-- a variable with a kind is there
+there : (vs : List VarDef) (n : ℕ) (kind : ValueKind) → variable_kind (slice_get vs n) ≡ Some kind → n < length vs
+there [] n kind h = absurd cc
+there (v ∷ vs) zero kind h = omega arith
+there (v ∷ vs) (suc n) kind h = let below = there vs n kind h in omega (arith, below)
 
-number_range : (op : BinOp) → operator_number op < length operator_table
-number_range operators.Multiply = omega arith
-number_range operators.Divide = omega arith
-number_range operators.Remainder = omega arith
-number_range operators.Add = omega arith
-number_range operators.Subtract = omega arith
-number_range operators.ShiftLeft = omega arith
-number_range operators.ShiftRight = omega arith
-number_range operators.Less = omega arith
-number_range operators.AtMost = omega arith
-number_range operators.Greater = omega arith
-number_range operators.AtLeast = omega arith
-number_range operators.Equal = omega arith
-number_range operators.NotEqual = omega arith
-number_range operators.BitAnd = omega arith
-number_range operators.BitXor = omega arith
-number_range operators.BitOr = omega arith
-number_range operators.And = omega arith
-number_range operators.Or = omega arith
+parts_range : (texts : ℕ) (look : Lookup) (first : ℕ) (list : List PartTree) → first + length (part_texts list) ≤ texts → Each (IsPart texts) (print_parts look first list)
+parts_range texts look first [] few = tt
+parts_range texts look first (string bytes ∷ list) few = (omega (arith, few), parts_range texts look (suc first) list (omega (arith, few)))
+parts_range texts look first (value e ∷ list) few = (shown (printed_kind (expr_kind look.kind e)), parts_range texts look first list few)
+  where
+    shown : (kind : ValueKind) → IsPart texts (shown_part kind)
+    shown kinds.Int = tt
+    shown kinds.Bit = tt
+parts_range texts look first (character e ∷ list) few = (tt, parts_range texts look first list few)
 
-module _ (variables texts : ℕ) where
+parts_count : (look : Lookup) (first : ℕ) (list : List PartTree) → length (print_parts look first list) ≡ length list
+parts_count look first [] = refl
+parts_count look first (string bytes ∷ list) = ap suc (parts_count look (suc first) list)
+parts_count look first (value e ∷ list) = ap suc (parts_count look first list)
+parts_count look first (character e ∷ list) = ap suc (parts_count look first list)
+
+operator_range : (op : BinOp) (side : ValueKind) → operator_number op side < length operator_table
+operator_range operators.Multiply side = omega arith
+operator_range operators.Divide side = omega arith
+operator_range operators.Remainder side = omega arith
+operator_range operators.Add side = omega arith
+operator_range operators.Subtract side = omega arith
+operator_range operators.ShiftLeft side = omega arith
+operator_range operators.ShiftRight side = omega arith
+operator_range operators.Less side = omega arith
+operator_range operators.AtMost side = omega arith
+operator_range operators.Greater side = omega arith
+operator_range operators.AtLeast side = omega arith
+operator_range operators.Equal kinds.Int = omega arith
+operator_range operators.Equal kinds.Bit = omega arith
+operator_range operators.NotEqual kinds.Int = omega arith
+operator_range operators.NotEqual kinds.Bit = omega arith
+operator_range operators.BitAnd kinds.Int = omega arith
+operator_range operators.BitAnd kinds.Bit = omega arith
+operator_range operators.BitXor kinds.Int = omega arith
+operator_range operators.BitXor kinds.Bit = omega arith
+operator_range operators.BitOr kinds.Int = omega arith
+operator_range operators.BitOr kinds.Bit = omega arith
+operator_range operators.And side = omega arith
+operator_range operators.Or side = omega arith
+
+sign_range : (op : UnOp) → sign_number op < length unary_kinds
+sign_range signs.Negate = omega arith
+sign_range signs.Complement = omega arith
+sign_range signs.Not = omega arith
+
+module _ (defs : List VarDef) (texts : ℕ) where
   abbrev pub InRange : List Instr → Type 0
-  InRange code = Each (IsInstr variables texts) code
+  InRange code = Each (IsInstr (length defs) texts) code
 
-  module _ (Leads : List ℕ → Type 0) (v : List ℕ → ℕ) where
-    integer_range : (kind : ValueKind) (e : ExprTree) (rest : List Instr) → IsInteger v variables Leads e → kind ≡ kinds.Int → InRange rest → InRange (expr_code v kind e rest)
-    integer_range kind (number z) rest typed is more = subst (λ k. InRange (literal_code k z ∷ rest)) (sym is) (tt, more)
-    integer_range kind (scalar name) rest typed is more = (typed, more)
-    integer_range kind (binary op a b) rest typed is more =
-        let same = arithmetic_side op typed.0 in
-        integer_range (side op) a (expr_code v (side op) b (Binary (operator_number op) ∷ rest)) typed.1 same
-        (integer_range (side op) b (Binary (operator_number op) ∷ rest) typed.2 same (number_range op, more))
-    integer_range kind _ rest typed is more = absurd typed
+  literal_range : (kind : ValueKind) (z : ℤ) (rest : List Instr) → fits kind (expr_kind (λ name. None) (number z)) ≡ true → InRange rest → InRange (literal_code kind z ∷ rest)
+  literal_range kinds.Int z rest h more = (tt, more)
+  literal_range kinds.Bit (pos zero) rest h more = (omega arith, more)
+  literal_range kinds.Bit (pos (suc zero)) rest h more = (omega arith, more)
+  literal_range kinds.Bit (pos (suc (suc n))) rest h more = absurd (no_bit n h)
+  literal_range kinds.Bit (negsuc n) rest h more = absurd cc
 
-    boolean_range : (e : ExprTree) (rest : List Instr) → IsBoolean v variables Leads e → InRange rest → InRange (expr_code v kinds.Bit e rest)
-    boolean_range (binary op a b) rest typed more =
-        let same = comparison_side op typed.0 in
-        integer_range (side op) a (expr_code v (side op) b (Binary (operator_number op) ∷ rest)) typed.1 same
-        (integer_range (side op) b (Binary (operator_number op) ∷ rest) typed.2 same (number_range op, more))
-    boolean_range _ rest typed more = absurd typed
-
-    expr_range : (kind : ValueKind) (e : ExprTree) (rest : List Instr) → HasKind v variables Leads kind e → InRange rest → InRange (expr_code v kind e rest)
-    expr_range kinds.Int e rest typed more = integer_range kinds.Int e rest typed refl more
-    expr_range kinds.Bit e rest typed more = boolean_range e rest typed more
+  module _ (look : Lookup) (agrees : Agrees defs look) where
+    expr_range : (kind : ValueKind) (e : ExprTree) (rest : List Instr) → is_built_expr e ≡ true → fits kind (expr_kind look.kind e) ≡ true → InRange rest → InRange (expr_code look kind e rest)
+    expr_range kind (number z) rest built h more = literal_range kind z rest h more
+    expr_range kind (scalar name) rest built h more = (there defs (look.variable name) kind (agrees name kind (scalar_fits kind (look.kind name) h)), more)
+    expr_range kind (unary op e) rest built h more =
+        expr_range (unary_side op) e (Unary (sign_number op) ∷ rest) built (unary_fits op kind (expr_kind look.kind e) h).0 (sign_range op, more)
+    expr_range kind (binary op a b) rest built h more =
+        let s : ValueKind = sides look op a b in
+        let t = operates defs op kind (expr_kind look.kind a) (expr_kind look.kind b) h in
+        let are = and_parts (is_built_expr a) (is_built_expr b) built in
+        expr_range s a (expr_code look s b (Binary (operator_number op s) ∷ rest)) are.0 t.both.0
+        (expr_range s b (Binary (operator_number op s) ∷ rest) are.1 t.both.1 (operator_range op s, more))
+    expr_range kind (abs e) rest built h more =
+        expr_range kinds.Int e (Unary absolute_number ∷ rest) built (absolute_fits kind (expr_kind look.kind e) h).0 (omega arith, more)
+    expr_range kind _ rest built h more = absurd cc
 
     test_range : (t : Test) (rest : List Instr) → InRange rest → InRange (test_code t rest)
     test_range Plain rest more = more
     test_range Character rest more = (tt, more)
 
-    operands_range : (os : List Operand) (rest : List Instr) → AllTyped v variables Leads os → InRange rest → InRange (operands_code v os rest)
+    operands_range : (os : List Operand) (rest : List Instr) → AllTyped look os → InRange rest → InRange (operands_code look os rest)
     operands_range [] rest typed more = more
     operands_range (o ∷ os) rest typed more =
-        expr_range o.kind o.expr (test_code o.test (operands_code v os rest)) typed.0 (test_range o.test (operands_code v os rest) (operands_range os rest typed.2 more))
+        expr_range o.kind o.expr (test_code o.test (operands_code look os rest)) typed.0.built typed.0.fits (test_range o.test (operands_code look os rest) (operands_range os rest typed.1 more))
 
-  pub body_range : (Leads : List ℕ → Type 0) (scope : Scope) (place : ℕ → ℕ) (first : ℕ) (b : BodyTree) (rest : List Instr) →
-      IsTypedBody scope.variable variables Leads b → first + length (body_texts b) ≤ texts → InRange rest → InRange (body_code scope place first b rest)
-  body_range Leads scope place first end_procedure rest typed few more = (tt, more)
-  body_range Leads scope place first (integer name None) rest typed few more = more
-  body_range Leads scope place first (assign name e) rest typed few more =
-      operands_range Leads scope.variable (an_integer e ∷ []) (Store (scope.variable name) ∷ rest) (typed.1, tt, tt) (typed.0, more)
-  body_range Leads scope place first (goto name) rest typed few more = (tt, more)
-  body_range Leads scope place first (if_then e b) rest typed few more =
-      operands_range Leads scope.variable (a_boolean e ∷ []) (JumpIfZero (place scope.follow) ∷ body_code scope place first b rest) (typed.0, tt, tt)
-      (tt, body_range Leads scope place first b rest typed.2 few more)
-  body_range Leads scope place first (print list) rest typed few more =
-      let some : 1 ≤ length (print_parts first list) = omega (arith, parts_count first list, typed.0) in
-      let within : first + length (part_texts list) ≤ texts = omega (arith, few, ap length (append-nil (part_texts list))) in
-      operands_range Leads scope.variable (part_operands list) (Print (print_parts first list) ∷ rest) (parts_typed scope.variable variables Leads list typed.1)
-      ((some, each_all (IsPart texts) (print_parts first list) (parts_range texts first list within)), more)
-  body_range Leads scope place first (exit e) rest typed few more =
-      operands_range Leads scope.variable (an_integer e ∷ []) (Exit ∷ rest) (typed, tt, tt) (tt, more)
-  body_range Leads scope place first _ rest typed few more = absurd typed
+  module _ (scope : Scope) (agrees : Agrees defs scope.look) (place : ℕ → ℕ) where
+    simple_range : (first : ℕ) (b : BodyTree) (rest : List Instr) → is_built_simple b ≡ true → operands_suit scope.look.kind b ≡ true →
+        first + length (body_texts b) ≤ texts → InRange rest → InRange (body_code scope place first b rest)
+    simple_range first (assign name e) rest built suit few more =
+        let t = given_fits (scope.look.kind name) (expr_kind scope.look.kind e) suit in
+        let kind : ValueKind = given_kind (scope.look.kind name) in
+        operands_range scope.look agrees (plain kind e ∷ []) (Store (scope.look.variable name) ∷ rest) (record { built = built; fits = t.0; test = tt }, tt)
+        (there defs (scope.look.variable name) kind (agrees name kind t.1), more)
+    simple_range first (goto name) rest built suit few more = (tt, more)
+    simple_range first (if_then e b) rest built suit few more =
+        let are = and_parts (is_built_expr e) (is_built_simple b) built in
+        let suits = and_parts (is_bit (expr_kind scope.look.kind e)) (operands_suit scope.look.kind b) suit in
+        operands_range scope.look agrees (a_boolean e ∷ []) (JumpIfZero (place scope.follow) ∷ body_code scope place first b rest)
+        (record { built = are.0; fits = suits.0; test = tt }, tt)
+        (tt, simple_range first b rest are.1 suits.1 few more)
+    simple_range first (print list) rest built suit few more =
+        let are = and_parts (nat_lt 0 (length list)) (list_all is_built_part list) built in
+        let some : 1 ≤ length (print_parts scope.look first list) = omega (arith, parts_count scope.look first list, ltb-true 0 (length list) are.0) in
+        let within : first + length (part_texts list) ≤ texts = omega (arith, few, ap length (append-nil (part_texts list))) in
+        operands_range scope.look agrees (part_operands scope.look list) (Print (print_parts scope.look first list) ∷ rest) (parts_typed scope.look list are.1 suit)
+        ((some, each_all (IsPart texts) (print_parts scope.look first list) (parts_range texts scope.look first list within)), more)
+    simple_range first (exit e) rest built suit few more =
+        operands_range scope.look agrees (an_integer e ∷ []) (Exit ∷ rest) (record { built = built; fits = suit; test = tt }, tt) (tt, more)
+    simple_range first _ rest built suit few more = absurd cc
+
+    pub body_range : (first : ℕ) (b : BodyTree) (rest : List Instr) → is_built_inner b ≡ true → operands_suit scope.look.kind b ≡ true →
+        first + length (body_texts b) ≤ texts → InRange rest → InRange (body_code scope place first b rest)
+    body_range first end_procedure rest built suit few more = (tt, more)
+    body_range first (boolean name None) rest built suit few more = more
+    body_range first (integer name None) rest built suit few more = more
+    body_range first (assign name e) rest built suit few more = simple_range first (assign name e) rest built suit few more
+    body_range first (goto name) rest built suit few more = simple_range first (goto name) rest built suit few more
+    body_range first (if_then e b) rest built suit few more = simple_range first (if_then e b) rest built suit few more
+    body_range first (print list) rest built suit few more = simple_range first (print list) rest built suit few more
+    body_range first (exit e) rest built suit few more = simple_range first (exit e) rest built suit few more
+    body_range first _ rest built suit few more = absurd cc

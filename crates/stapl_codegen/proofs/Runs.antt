@@ -2,7 +2,7 @@
 use Rattle.std.proofs.Common.{◌≡◌, ◌≢◌, ℕ, zero, suc, ◌+◌, ◌-◌, ◌≤◌, Bool, true, false, cond, List, [], ◌∷◌, length, drop, Some, None, refl, sym, ap, subst, ◌∙◌, add-one}
 use Rattle.std.specs.Prelude.{slice_get}
 use Rattle.std.proofs.lemmas.List.{drop_all}
-use Rattle.stapl_syntax.specs.Trees.{BodyTree, end_procedure, integer, assign, goto, if_then, print, exit, StmtTree}
+use Rattle.stapl_syntax.specs.Trees.{BodyTree, end_procedure, boolean, integer, assign, goto, if_then, print, exit, StmtTree}
 use Rattle.stapl_syntax.specs.Statements.{is_outer}
 use Rattle.stapl_meaning.specs.States.{State, Turned, Leads, Over, Broken, NoTurn, turn_of_piece, next_chosen}
 use Rattle.stapl_meaning.specs.Scopes.{Scope, scope_at, entry_from, zeros_of}
@@ -26,6 +26,7 @@ closed_drop (suc n) (st ∷ rest) c = closed_drop n rest c.1
 
 outer_stays : (scope : Scope) (s : State) (b : BodyTree) → is_outer b ≡ true → done scope s b ≡ NoTurn []
 outer_stays scope s end_procedure e = absurd cc
+outer_stays scope s (boolean name start) e = absurd cc
 outer_stays scope s (integer name start) e = absurd cc
 outer_stays scope s (assign name x) e = absurd cc
 outer_stays scope s (goto name) e = absurd cc

@@ -1,19 +1,23 @@
 -- No play of an accepted program gets stuck.
-use Rattle.std.proofs.Common.{◌≡◌, ◌≢◌, ℕ, ◌+◌, List, [], ◌∷◌, length, replicate, map, refl, sym, ap, subst, ◌∙◌}
+use Rattle.std.proofs.Common.{◌≡◌, ◌≢◌, ℕ, ◌+◌, List, [], ◌∷◌, length, map, false, refl, sym, ap, subst, ◌∙◌}
+use Rattle.std.specs.Prelude.{pos, nat_abs}
+use Rattle.std.proofs.lemmas.List.{length-replicate}
 use Rattle.stapl_syntax.specs.declared.names.Key.{Key}
+use Rattle.stapl_syntax.specs.declared.names.VarKind.{VarKind}
+use Rattle.stapl_syntax.specs.declared.names.VarKind.TheVariants as variables
 use Rattle.stapl_syntax.specs.declared.names.Variable.{Variable}
 use Rattle.stapl_syntax.specs.Trees.{StmtTree}
 use Rattle.stapl_meaning.specs.States.{State, Turned, Leads, Over, Broken, NoTurn}
-use Rattle.stapl_meaning.specs.Scopes.{program_names, procedures_in, zero_of, zeros_of}
+use Rattle.stapl_meaning.specs.Scopes.{program_names, procedures_in, zero_by, zero_of, zeros_of}
 use Rattle.stapl_meaning.specs.Turns.{turn, IsFound}
 use Rattle.stapl_meaning.specs.Plays.{Outcome, Going, Stopped, Run, after, goes_on, run, play, continued}
 use Rattle.stapl_code.specs.declared.raw.CodeLists.{CodeLists}
 use Rattle.stapl_code.specs.Machine.{code_play}
-use Rattle.stapl_code.specs.Safe.{entries_of, AllFit, AllBelow, NeverStuck}
+use Rattle.stapl_code.specs.Safe.{entries_of, Fits, AllFit, AllBelow, NeverStuck}
 use Rattle.stapl_codegen.specs.Emit.{start_of}
 use Rattle.stapl_codegen.specs.Correct.{placed_outcome}
 use Rattle.stapl_codegen.specs.Accepted.{IsAccepted}
-use Rattle.stapl_codegen.specs.Generated.{integer_def, lists_of}
+use Rattle.stapl_codegen.specs.Generated.{kind_number, variable_def, lists_of}
 use Rattle.stapl_codegen.specs.Unstuck.{HasOneTurn, IsNotStuck, ProgramsAreNotStuck}
 use Rattle.stapl_meaning.proofs.RunLaws.{plays_add}
 use Rattle.stapl_meaning.proofs.TurnLemmas.{is_turn, one_turn}
@@ -41,9 +45,15 @@ has_turn program chosen n place more going =
 all_not_stuck : (program : List StmtTree) (chosen : List ℕ) → ((n : ℕ) → (play program chosen n).outcome ≢ Stopped) → (n : ℕ) → IsNotStuck program chosen n
 all_not_stuck program chosen never n = record { stands = never n; goes_on = λ place going. has_turn program chosen n place (never (n + 1)) going }
 
-integers_fit : (vs : List (Key × Variable)) → AllFit (replicate (length vs) integer_def) (map zero_of vs)
-integers_fit [] = tt
-integers_fit (v ∷ vs) = (refl, integers_fit vs)
+pub variables_fit : (vs : List (Key × Variable)) → AllFit (map variable_def vs) (map zero_of vs)
+variables_fit [] = tt
+variables_fit (v ∷ vs) = (fit v.1.kind (nat_abs v.1.size), variables_fit vs)
+  where
+    fit : (k : VarKind) (n : ℕ) → Fits (record { kind = kind_number k; size = n }) (zero_by k n)
+    fit variables.Integer n = refl
+    fit variables.Boolean n = refl
+    fit variables.IntegerArray n = (refl, length-replicate n (pos 0))
+    fit variables.BooleanArray n = (refl, length-replicate n false)
 
 never_stops : NeverStuck → (program : List StmtTree) → IsAccepted program → (chosen : List ℕ) → AllBelow (procedures_in program) chosen → (n : ℕ) →
     (play program chosen n).outcome ≢ Stopped
@@ -54,7 +64,7 @@ never_stops never program accepted chosen below n =
     ap (λ (r : Run). r.outcome) ((code program accepted).stands chosen n) in
     λ stopped.
     never lists (in_range program accepted) (is_valid program accepted.built accepted.typed) chosen (subst (λ (k : ℕ). AllBelow k chosen) (sym many) below)
-    (zeros_of program) (integers_fit (program_names program).variables) n (same ∙ ap (placed_outcome (start_of program)) stopped)
+    (zeros_of program) (variables_fit (program_names program).variables) n (same ∙ ap (placed_outcome (start_of program)) stopped)
 
 pub programs_not_stuck : NeverStuck → ProgramsAreNotStuck
 programs_not_stuck never program accepted chosen below = all_not_stuck program chosen (never_stops never program accepted chosen below)

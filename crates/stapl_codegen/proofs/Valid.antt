@@ -1,21 +1,26 @@
 -- The code of a procedure of an accepted program breaks no rule.
-use Rattle.std.proofs.Common.{◌≡◌, ℕ, zero, suc, ◌+◌, ◌-◌, ◌<◌, ◌≤◌, Bool, true, false, cond, ◌&&◌, List, [], ◌∷◌, ◌++◌, length, length-append, replicate, drop, Option, Some, None, arith, refl, sym, ap, subst, ◌∙◌, add-one, nat_lt, true≢false}
+use Rattle.std.proofs.Common.{◌≡◌, ℕ, zero, suc, ◌+◌, ◌-◌, ◌<◌, ◌≤◌, Bool, true, false, cond, ◌&&◌, List, [], ◌∷◌, ◌++◌, length, length-append, map, drop, Option, Some, None, arith, refl, sym, ap, subst, ◌∙◌, add-one, nat_lt, true≢false}
 use Rattle.std.specs.Prelude.{slice_get, All, nat_le}
-use Rattle.std.proofs.lemmas.List.{length-replicate, drop_at}
+use Rattle.std.proofs.lemmas.List.{drop_at}
 use Rattle.std.proofs.lemmas.Bool.{le-leb, ltb-true, ltb-false}
 use Rattle.std.proofs.lemmas.Option.{same_Some}
 use Rattle.stapl_syntax.specs.Trees.{BodyTree, procedure, data_block, end_data, end_procedure, StmtTree}
 use Rattle.stapl_syntax.specs.Statements.{is_outer, ends_procedure}
-use Rattle.stapl_built.specs.Built.{IsBuilt}
+use Rattle.stapl_built.specs.Built.{is_built_inner, IsBuilt}
 use Rattle.stapl_syntax.specs.Names.{inside_behind}
 use Rattle.stapl_meaning.specs.Scopes.{scope_at, block_at, program_names}
-use Rattle.stapl_meaning.specs.Typed.{IsTypedBody, IsInBlock, IsTyped}
+use Rattle.stapl_meaning.specs.Typed.{IsInBlock, IsTyped}
+use Rattle.stapl_meaning.proofs.Resolved.{built_is_inner}
+use Rattle.stapl_meaning.proofs.Entries.{all_at}
+use Rattle.std.specs.List.{AllByRecursion}
+use Rattle.stapl_syntax.specs.Kinds.{operands_suit}
+use Rattle.stapl_syntax.specs.Mentions.{labels_named}
+use Rattle.stapl_codegen.specs.Generated.{variable_def}
 use Rattle.stapl_code.specs.declared.instr.Instr.{Instr}
 use Rattle.stapl_code.specs.declared.instr.Instr.TheVariants.{Turn, EndProc}
 use Rattle.stapl_code.specs.declared.raw.VarDef.{VarDef}
 use Rattle.stapl_code.specs.Valid.{is_turn, is_last, is_target, procedure_break}
 use Rattle.stapl_codegen.specs.Emit.{body_code, first_text, pieces_code, program_code, start_of}
-use Rattle.stapl_codegen.specs.Generated.{integer_def}
 use Rattle.stapl_codegen.proofs.Heads.{head_of, get_head, drop_tail, drop_front}
 use Rattle.stapl_codegen.proofs.Lists.{pieces_split, pieces_append}
 use Rattle.stapl_codegen.proofs.Drafts.{inside_more}
@@ -24,7 +29,8 @@ use Rattle.stapl_codegen.proofs.Opened.{IsProcedure, opened, once}
 use Rattle.stapl_codegen.proofs.WellKinded.{Fine, Follows, fine_step}
 use Rattle.stapl_codegen.proofs.WellPlaced.{body_last, body_fine, turn_stands}
 use Rattle.stapl_codegen.proofs.Pieces.{start_is, code_from}
-use Rattle.stapl_codegen.proofs.Ranges.{all_integers}
+use Rattle.stapl_codegen.proofs.Ranges.{agrees_from}
+use Rattle.stapl_codegen.proofs.WellKinded.{Agrees}
 
 -- a place below the length is that of an element
 pub record Stands {A : Type 0} (k : ℕ) (xs : List A) : Type 0 where
@@ -96,11 +102,8 @@ module _ (program : List StmtTree) (built : All IsBuilt program) (typed : IsType
   abbrev pub From : ℕ → List StmtTree → List Instr
   From i sts = pieces_code program (start_of program) i sts
 
-  abbrev pub count : ℕ
-  count = length (program_names program).variables
-
   abbrev pub defs : List VarDef
-  defs = replicate count integer_def
+  defs = map variable_def (program_names program).variables
 
   -- a piece of a procedure begins with its turn
   begins_with_turn : (i : ℕ) (st : StmtTree) (rest : List StmtTree) → is_outer st.body ≡ false →
@@ -271,19 +274,31 @@ module _ (program : List StmtTree) (built : All IsBuilt program) (typed : IsType
     abbrev Leads : ℕ → List ℕ → Type 0
     Leads j label = IsInBlock program name ((scope_at program j).label label)
 
-    pub typed_in : (k j : ℕ) (st : StmtTree) (rest : List StmtTree) → j ≡ h + 1 + k → drop k own ≡ st ∷ rest →
-        IsTypedBody (scope_at program j).variable (length defs) (Leads j) st.body
+    record IsTypedIn (j : ℕ) (st : StmtTree) : Type 0 where
+      is_inner : is_built_inner st.body ≡ true
+      suits : operands_suit (scope_at program j).look.kind st.body ≡ true
+      leads : AllByRecursion (Leads j) (labels_named st.body)
+
+    typed_in : (k j : ℕ) (st : StmtTree) (rest : List StmtTree) → j ≡ h + 1 + k → drop k own ≡ st ∷ rest → IsTypedIn j st
     typed_in k j st rest is e =
-        let t = typed.statements j st (got k j st rest is e) (own_inner own k st rest are e) in
+        let inner = own_inner own k st rest are e in
+        let at = got k j st rest is e in
+        let t = typed.statements j st at inner in
         let same : t.block ≡ name = same_Some t.block name (sym t.inside ∙ open_in k j st rest is e) in
-        subst (λ (n : ℕ). IsTypedBody (scope_at program j).variable n (Leads j) st.body) (sym (length-replicate count integer_def))
-        (subst (λ (b : List ℕ). IsTypedBody (scope_at program j).variable count (λ label. IsInBlock program b ((scope_at program j).label label)) st.body) same t.typed)
+        record {
+          is_inner = built_is_inner st (all_at IsBuilt program j st built at) inner;
+          suits = t.suits;
+          leads = subst (λ (b : List ℕ). AllByRecursion (λ label. IsInBlock program b ((scope_at program j).label label)) (labels_named st.body)) same t.leads;
+        }
+
+    agrees : (j : ℕ) → Agrees defs (scope_at program j).look
+    agrees j = agrees_from (program_names program) (block_at program j)
 
     leads_to : (j : ℕ) (label : List ℕ) → Leads j label → is_target entry procedure_code (start_of program ((scope_at program j).label label)) ≡ true
     leads_to j label leads = target name ((scope_at program j).label label) refl leads
 
     abbrev FineFrom : Bool → List Instr → Type 0
-    FineFrom must instrs = Fine defs entry procedure_code (all_integers count) must [] instrs
+    FineFrom must instrs = Fine defs entry procedure_code must [] instrs
 
     -- a piece that is not the last one
     piece_fine : (k j : ℕ) (st next : StmtTree) (rest : List StmtTree) → j ≡ h + 1 + k → drop k own ≡ st ∷ next ∷ rest →
@@ -296,13 +311,14 @@ module _ (program : List StmtTree) (built : All IsBuilt program) (typed : IsType
         let e' : drop (suc k) own ≡ next ∷ rest = drop_tail k own ∙ ap (drop 1) e in
         let next_is : is_target entry procedure_code (start_of program (j + 1)) ≡ true = is_place (suc k) (j + 1) next rest (omega (arith, is)) e' in
         let some : is_last after ≡ false = ap is_last (begins_with_turn (j + 1) next rest (own_inner own (suc k) next rest are e')) in
-        let follows : Follows defs entry procedure_code (all_integers count) scope.variable (Leads j) after = record { some = some; fine = more } in
+        let t = typed_in k j st (next ∷ rest) is e in
+        let follows : Follows defs entry procedure_code after = record { some = some; fine = more } in
         subst (FineFrom must) (sym (begins_with_turn j st (next ∷ rest) (own_inner own k st (next ∷ rest) are e)))
-        (fine_step defs entry procedure_code (all_integers count) must (Turn (j + 1)) [] [] body refl
-        (turn_stands defs entry procedure_code (all_integers count) must (j + 1) (is_last body)
-        (body_last defs entry procedure_code (all_integers count) (Leads j) scope (start_of program) (leads_to j) next_is first st.body after some))
-        (body_fine defs entry procedure_code (all_integers count) (Leads j) scope (start_of program) (leads_to j) next_is first st.body after
-        (typed_in k j st (next ∷ rest) is e) (own_goes_on own k st next rest are e) follows))
+        (fine_step defs entry procedure_code must (Turn (j + 1)) [] [] body refl
+        (turn_stands defs entry procedure_code must (j + 1) (is_last body)
+        (body_last defs entry procedure_code (Leads j) scope (start_of program) (agrees j) (leads_to j) next_is first st.body after some))
+        (body_fine defs entry procedure_code (Leads j) scope (start_of program) (agrees j) (leads_to j) next_is first st.body after
+        t.is_inner t.suits t.leads (own_goes_on own k st next rest are e) follows))
 
     -- the last piece is ENDPROC
     last_fine : (k j : ℕ) (st : StmtTree) → drop k own ≡ st ∷ [] → (must : Bool) → FineFrom must (From j (st ∷ []))
@@ -311,9 +327,9 @@ module _ (program : List StmtTree) (built : All IsBuilt program) (typed : IsType
         begins_with_turn j st [] (own_inner own k st [] are e)
         ∙ ap (λ b. Turn (j + 1) ∷ body_code (scope_at program j) (start_of program) (first_text program j) b []) (own_ends own k st are e) in
         subst (FineFrom must) (sym code_is)
-        (fine_step defs entry procedure_code (all_integers count) must (Turn (j + 1)) [] [] (EndProc ∷ []) refl
-        (turn_stands defs entry procedure_code (all_integers count) must (j + 1) false refl)
-        (fine_step defs entry procedure_code (all_integers count) false EndProc [] [] [] refl refl (λ i. refl)))
+        (fine_step defs entry procedure_code must (Turn (j + 1)) [] [] (EndProc ∷ []) refl
+        (turn_stands defs entry procedure_code must (j + 1) false refl)
+        (fine_step defs entry procedure_code false EndProc [] [] [] refl refl (λ i. refl)))
 
     own_fine : (sts : List StmtTree) (k j : ℕ) → j ≡ h + 1 + k → drop k own ≡ sts → k < length own → (must : Bool) → FineFrom must (From j sts)
     own_fine [] k j is e below must = let s = stands_at k own below in absurd (no_item s.item s.rest (sym e ∙ s.is))

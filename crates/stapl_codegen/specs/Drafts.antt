@@ -1,14 +1,15 @@
 -- What is written so far of the code of a program, and where its pieces begin.
 use Rattle.std.specs.Prelude.{◌≡◌, ℕ, ◌+◌, ◌<◌, List, [], ◌∷◌, length, slice_index, Option, if◌then◌else◌}
-use Rattle.stapl_syntax.specs.Trees.{ExprTree, BodyTree, StmtTree}
+use Rattle.stapl_syntax.specs.Trees.{ExprTree, PartTree, BodyTree, StmtTree}
 use Rattle.stapl_syntax.specs.Statements.{is_outer}
 use Rattle.stapl_syntax.specs.Names.{Names, inside_behind}
 use Rattle.stapl_meaning.specs.declared.values.ValueKind.{ValueKind}
-use Rattle.stapl_meaning.specs.Operands.{Operand}
-use Rattle.stapl_meaning.specs.Scopes.{Scope, program_names, block_at, variable_from, label_from}
+use Rattle.stapl_meaning.specs.Operands.{Operand, part_operands}
+use Rattle.stapl_meaning.specs.Scopes.{Scope, program_names, block_at, lookup_from, label_from}
+use Rattle.stapl_code.specs.declared.instr.PrintPart.{PrintPart}
 use Rattle.stapl_code.specs.declared.instr.Instr.{Instr}
 use Rattle.stapl_code.specs.declared.instr.Instr.TheVariants.{Turn}
-use Rattle.stapl_codegen.specs.Emit.{expr_code, operands_code, body_code, texts_of, pieces_code, start_of}
+use Rattle.stapl_codegen.specs.Emit.{expr_code, operands_code, print_parts, body_code, texts_of, pieces_code, start_of}
 
 -- Where a piece stands: the names of its program, how many pieces that has, the block that is open before the piece,
 -- and the number of the piece, which is also the place behind it.
@@ -27,7 +28,7 @@ pub record Draft : Type 0 where
 -- what a statement finds there; its code does not ask where procedures begin
 abbrev pub scope_of_site : Site → Scope
 scope_of_site site = record {
-  variable = variable_from site.names site.inside;
+  look = lookup_from site.names site.inside;
   label = label_from site.names site.count site.inside;
   entry = λ p. 0;
   follow = site.piece;
@@ -45,10 +46,17 @@ site_behind site b =
 
 -- the code of an expression, of operands, of a statement and of a piece that follow on a draft
 abbrev pub expr_code_in : Draft → ValueKind → ExprTree → List Instr
-expr_code_in d kind e = expr_code (scope_of_site d.site).variable kind e []
+expr_code_in d kind e = expr_code (scope_of_site d.site).look kind e []
 
 abbrev pub operands_code_in : Draft → List Operand → List Instr
-operands_code_in d os = operands_code (scope_of_site d.site).variable os []
+operands_code_in d os = operands_code (scope_of_site d.site).look os []
+
+-- the operands of the parts of a PRINT, and what its instruction prints
+abbrev pub part_operands_in : Draft → List PartTree → List Operand
+part_operands_in d parts = part_operands (scope_of_site d.site).look parts
+
+abbrev pub print_parts_in : Draft → List PartTree → List PrintPart
+print_parts_in d parts = print_parts (scope_of_site d.site).look (length d.texts) parts
 
 abbrev pub body_code_in : Draft → BodyTree → List Instr
 body_code_in d b = body_code (scope_of_site d.site) (λ j. j) (length d.texts) b []

@@ -2,18 +2,21 @@
 use Rattle.std.specs.Prelude.{ℕ, zero, suc, ℤ, pos, ◌+◌, ◌-◌, List, [], ◌∷◌, ◌++◌, length, take, drop, map, Option, Some, None, if◌then◌else◌, slice_get}
 use Rattle.stapl_lexer.specs.declared.terminal.BinOp.{BinOp}
 use Rattle.stapl_lexer.specs.declared.terminal.BinOp.TheVariants as operators
-use Rattle.stapl_syntax.specs.Trees.{ExprTree, number, scalar, binary, PartTree, string, value, character, ItemTree, BodyTree, action, procedure, end_procedure, assign, goto, if_then, print, exit, StmtTree}
+use Rattle.stapl_syntax.specs.Trees.{ExprTree, number, scalar, unary, binary, abs, PartTree, string, value, character, ItemTree, BodyTree, action, procedure, end_procedure, assign, goto, if_then, print, exit, StmtTree}
+use Rattle.stapl_syntax.specs.declared.signs.UnOp.{UnOp}
+use Rattle.stapl_syntax.specs.declared.signs.UnOp.TheVariants as signs
+use Rattle.stapl_syntax.specs.Kinds.{expr_kind}
 use Rattle.stapl_syntax.specs.Statements.{is_outer}
 use Rattle.stapl_meaning.specs.declared.values.ValueKind.{ValueKind}
 use Rattle.stapl_meaning.specs.declared.values.ValueKind.TheVariants as kinds
-use Rattle.stapl_meaning.specs.Values.{side}
-use Rattle.stapl_meaning.specs.Operands.{Test, Plain, Character, Operand}
+use Rattle.stapl_meaning.specs.Values.{Lookup, unary_side, sides}
+use Rattle.stapl_meaning.specs.Operands.{Test, Plain, Character, Operand, printed_kind}
 use Rattle.stapl_meaning.specs.Scopes.{Scope, scope_at, procedure_number}
 use Rattle.stapl_meaning.specs.Turns.{operands, rows}
 use Rattle.stapl_code.specs.declared.instr.PrintPart.{PrintPart}
 use Rattle.stapl_code.specs.declared.instr.PrintPart.TheVariants as parts
 use Rattle.stapl_code.specs.declared.instr.Instr.{Instr}
-use Rattle.stapl_code.specs.declared.instr.Instr.TheVariants.{Turn, Push, PushBit, Load, Store, Binary, Jump, JumpIfZero, EndProc, Print, CheckChar, Exit}
+use Rattle.stapl_code.specs.declared.instr.Instr.TheVariants.{Turn, Push, PushBit, Load, Store, Unary, Binary, Jump, JumpIfZero, EndProc, Print, CheckChar, Exit}
 use Rattle.stapl_code.specs.declared.raw.ProcDef.{ProcDef}
 use Rattle.stapl_code.specs.declared.raw.ItemDef.{ItemDef}
 use Rattle.stapl_code.specs.declared.raw.ActionDef.{ActionDef}
@@ -24,26 +27,38 @@ use Rattle.stapl_code.specs.Safe.{entries_of}
 abbrev pub no_operator : ℕ
 no_operator = 255
 
--- the number of an operator
-abbrev pub operator_number : BinOp → ℕ
-operator_number operators.Add = 0
-operator_number operators.Subtract = 1
-operator_number operators.Multiply = 2
-operator_number operators.Divide = 3
-operator_number operators.Remainder = 4
-operator_number operators.BitAnd = 5
-operator_number operators.BitOr = 6
-operator_number operators.BitXor = 7
-operator_number operators.ShiftLeft = 8
-operator_number operators.ShiftRight = 9
-operator_number operators.Equal = 10
-operator_number operators.NotEqual = 11
-operator_number operators.Less = 12
-operator_number operators.AtMost = 13
-operator_number operators.Greater = 14
-operator_number operators.AtLeast = 15
-operator_number operators.And = 19
-operator_number operators.Or = 20
+-- the number of an operator whose sides are of a kind
+abbrev pub by_kind : ValueKind → ℕ → ℕ → ℕ
+by_kind kinds.Int integers booleans = integers
+by_kind kinds.Bit integers booleans = booleans
+
+abbrev pub operator_number : BinOp → ValueKind → ℕ
+operator_number operators.Add side = 0
+operator_number operators.Subtract side = 1
+operator_number operators.Multiply side = 2
+operator_number operators.Divide side = 3
+operator_number operators.Remainder side = 4
+operator_number operators.BitAnd side = by_kind side 5 16
+operator_number operators.BitOr side = by_kind side 6 17
+operator_number operators.BitXor side = by_kind side 7 18
+operator_number operators.ShiftLeft side = 8
+operator_number operators.ShiftRight side = 9
+operator_number operators.Equal side = by_kind side 10 21
+operator_number operators.NotEqual side = by_kind side 11 22
+operator_number operators.Less side = 12
+operator_number operators.AtMost side = 13
+operator_number operators.Greater side = 14
+operator_number operators.AtLeast side = 15
+operator_number operators.And side = 19
+operator_number operators.Or side = 20
+
+abbrev pub sign_number : UnOp → ℕ
+sign_number signs.Negate = 0
+sign_number signs.Complement = 1
+sign_number signs.Not = 3
+
+abbrev pub absolute_number : ℕ
+absolute_number = 2
 
 -- a number where a value of a kind is wanted
 abbrev pub literal_code : ValueKind → ℤ → Instr
@@ -57,13 +72,20 @@ abbrev pub test_code : Test → List Instr → List Instr
 test_code Plain rest = rest
 test_code Character rest = CheckChar ∷ rest
 
--- where a name stands for the variable of a number
-module _ (variable : List ℕ → ℕ) where
+-- how a value of a kind is printed
+abbrev pub shown_part : ValueKind → PrintPart
+shown_part kinds.Int = parts.Int
+shown_part kinds.Bit = parts.Bit
+
+module _ (look : Lookup) where
   -- the code of an expression where a value of a kind is wanted, before the rest
   abbrev pub expr_code : ValueKind → ExprTree → List Instr → List Instr
   expr_code kind (number z) rest = literal_code kind z ∷ rest
-  expr_code kind (scalar name) rest = Load (variable name) ∷ rest
-  expr_code kind (binary op a b) rest = expr_code (side op) a (expr_code (side op) b (Binary (operator_number op) ∷ rest))
+  expr_code kind (scalar name) rest = Load (look.variable name) ∷ rest
+  expr_code kind (unary op e) rest = expr_code (unary_side op) e (Unary (sign_number op) ∷ rest)
+  expr_code kind (binary op a b) rest =
+      expr_code (sides look op a b) a (expr_code (sides look op a b) b (Binary (operator_number op (sides look op a b)) ∷ rest))
+  expr_code kind (abs e) rest = expr_code kinds.Int e (Unary absolute_number ∷ rest)
   expr_code kind _ rest = Binary no_operator ∷ rest
 
   -- the code of operands, before the rest
@@ -71,12 +93,12 @@ module _ (variable : List ℕ → ℕ) where
   operands_code [] rest = rest
   operands_code (o ∷ os) rest = expr_code o.kind o.expr (test_code o.test (operands_code os rest))
 
--- the parts of a PRINT whose first text has a number
-abbrev pub print_parts : ℕ → List PartTree → List PrintPart
-print_parts first [] = []
-print_parts first (string bytes ∷ list) = parts.Text first ∷ print_parts (suc first) list
-print_parts first (value e ∷ list) = parts.Int ∷ print_parts first list
-print_parts first (character e ∷ list) = parts.Char ∷ print_parts first list
+  -- the parts of a PRINT whose first text has a number
+  abbrev pub print_parts : ℕ → List PartTree → List PrintPart
+  print_parts first [] = []
+  print_parts first (string bytes ∷ list) = parts.Text first ∷ print_parts (suc first) list
+  print_parts first (value e ∷ list) = shown_part (printed_kind (expr_kind look.kind e)) ∷ print_parts first list
+  print_parts first (character e ∷ list) = parts.Char ∷ print_parts first list
 
 -- the strings among the parts of a PRINT
 abbrev pub part_texts : List PartTree → List (List ℕ)
@@ -90,10 +112,10 @@ part_texts (character e ∷ list) = part_texts list
 
 abbrev pub last : Scope → (ℕ → ℕ) → ℕ → BodyTree → Instr
 last scope place first end_procedure = EndProc
-last scope place first (assign name e) = Store (scope.variable name)
+last scope place first (assign name e) = Store (scope.look.variable name)
 last scope place first (goto name) = Jump (place (scope.label name))
 last scope place first (if_then e body) = JumpIfZero (place scope.follow)
-last scope place first (print list) = Print (print_parts first list)
+last scope place first (print list) = Print (print_parts scope.look first list)
 last scope place first (exit e) = Exit
 last scope place first _ = Binary no_operator
 
@@ -116,7 +138,7 @@ body_texts b = rows_texts (rows b)
 
 -- the code of a row, of rows one after the other, and of a statement, before the rest
 abbrev pub row_code : Scope → (ℕ → ℕ) → ℕ → BodyTree → List Instr → List Instr
-row_code scope place first b rest = operands_code scope.variable (operands b) (last scope place first b ∷ rest)
+row_code scope place first b rest = operands_code scope.look (operands scope b) (last scope place first b ∷ rest)
 
 abbrev pub rows_code : Scope → (ℕ → ℕ) → ℕ → List BodyTree → List Instr → List Instr
 rows_code scope place first [] rest = rest

@@ -1,5 +1,9 @@
 -- The lists of the code of a program.
-use Rattle.std.specs.Prelude.{◌≡◌, List, length, replicate}
+use Rattle.std.specs.Prelude.{◌≡◌, ℕ, nat_abs, List, map}
+use Rattle.stapl_syntax.specs.declared.names.Key.{Key}
+use Rattle.stapl_syntax.specs.declared.names.Variable.{Variable}
+use Rattle.stapl_syntax.specs.declared.names.VarKind.{VarKind}
+use Rattle.stapl_syntax.specs.declared.names.VarKind.TheVariants as kinds
 use Rattle.stapl_syntax.specs.Trees.{StmtTree}
 use Rattle.stapl_meaning.specs.Scopes.{program_names, zeros_of}
 use Rattle.stapl_code.specs.declared.raw.VarDef.{VarDef}
@@ -8,14 +12,20 @@ use Rattle.stapl_code.specs.Safe.{entries_of}
 use Rattle.stapl_codegen.specs.Emit.{texts_of, start_of, procedures_of, actions_of, program_code}
 use Rattle.stapl_codegen.specs.Correct.{Stands}
 
--- an INTEGER scalar
-abbrev pub integer_def : VarDef
-integer_def = record { kind = 0; size = 1 }
+-- the number of a kind of variables
+abbrev pub kind_number : VarKind → ℕ
+kind_number kinds.Integer = 0
+kind_number kinds.Boolean = 1
+kind_number kinds.IntegerArray = 2
+kind_number kinds.BooleanArray = 3
 
--- the lists of the code: each variable is an INTEGER scalar
+abbrev pub variable_def : Key × Variable → VarDef
+variable_def v = record { kind = kind_number v.1.kind; size = nat_abs v.1.size }
+
+-- the lists of the code
 abbrev pub lists_of : List StmtTree → CodeLists
 lists_of program = record {
-  variables = replicate (length (program_names program).variables) integer_def;
+  variables = map variable_def (program_names program).variables;
   texts = texts_of program;
   procedures = procedures_of program;
   actions = actions_of program;

@@ -11,7 +11,7 @@ ghost use Rattle.stapl_code.specs.Valid.{IsValid};
 ghost use Rattle.stapl_codegen.specs.Accepted.{IsAccepted};
 ghost use Rattle.stapl_codegen.specs.Generated.{lists_of, IsCodeOf};
 
-use crate::definitions::{actions, integers, procedures};
+use crate::definitions::{actions, procedures, variables};
 use crate::draft::write_program;
 use crate::laws::{accepted_code_is_valid, programs_are_accepted};
 use base::ItemList;
@@ -50,7 +50,7 @@ fn program_lists(alloc: Global, program: &[Stmt]) -> Result<CodeLists, AllocErro
 {
     let names = names_of_program(alloc, program)?;
     let written = write_program(alloc, program, &names)?;
-    let variables = integers(alloc, names.variables())?;
+    let variables = variables(alloc, &names)?;
     let procedures = procedures(alloc, program, &written.starts)?;
     let actions = actions(alloc, program, &names)?;
     Ok(CodeLists {

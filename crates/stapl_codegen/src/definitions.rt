@@ -6,21 +6,46 @@ ghost use Rattle.stapl_meaning.specs.Scopes.{program_names};
 ghost use Rattle.stapl_meaning.specs.Typed.{procedure_names};
 ghost use Rattle.stapl_codegen.specs.Emit.{start_of, procedure_def, procedures_from, procedures_of, item_def, action_def, actions_from, actions_of};
 ghost use Rattle.stapl_codegen.specs.Drafts.{AreStarts};
-ghost use Rattle.stapl_codegen.specs.Generated.{integer_def};
+ghost use Rattle.stapl_codegen.specs.Generated.{kind_number, variable_def};
 
 use crate::draft::start_of_place;
 use base::ItemList;
 use stapl_code::{ActionDef, ItemDef, ProcDef, VarDef};
 use stapl_names::Names;
-use stapl_syntax::{Body, Item, Stmt};
+use stapl_syntax::{Body, Item, Key, Stmt, VarKind, Variable};
 use std::alloc::{AllocError, Global};
 
-/// So many INTEGER scalars.
-pub(crate) fn integers(alloc: Global, count: u32) -> Result<Vec<VarDef>, AllocError>
-    ensures { IfOk result (λ variables. variables.items ≡ replicate count integer_def) }
+// The number of a kind of variables.
+fn kind_number(kind: VarKind) -> u8
+    ensures { result ≡ kind_number kind }
 {
-    let variables = vec![in alloc; VarDef { kind: 0, size: 1 }; count as usize]?;
-    Ok(variables)
+    match kind {
+        VarKind::Integer => 0,
+        VarKind::Boolean => 1,
+        VarKind::IntegerArray => 2,
+        VarKind::BooleanArray => 3,
+    }
+}
+
+// A variable: its kind and how many elements it has.
+fn variable_def(variable: &Variable) -> VarDef
+    ensures { (key : Key) → result ≡ variable_def (key, variable.now) }
+{
+    VarDef {
+        kind: kind_number(variable.kind),
+        size: variable.size.unsigned_abs(),
+    }
+}
+
+/// The variables of a program.
+pub(crate) fn variables(alloc: Global, names: &Names) -> Result<Vec<VarDef>, AllocError>
+    ensures { IfOk result (λ defs. defs.items ≡ map variable_def names.now.variables) }
+{
+    let mut defs = Vec::new(alloc);
+    for number in 0..names.variables() {
+        defs.push(variable_def(names.variable(number)))?;
+    }
+    Ok(defs)
 }
 
 // The procedure that a statement begins, whose code begins at an entry, if it begins one.

@@ -2,7 +2,9 @@
 ghost use Rattle.std.specs.Prelude.{◌≡◌, All, ◌<◌, ◌≤◌, ◌^◌, ◌-◌, length, map, IfOk, if◌then◌else◌};
 ghost use Rattle.stapl_syntax.specs.Trees.{body_tree, stmt_tree, trees};
 ghost use Rattle.stapl_syntax.specs.Statements.{is_outer};
+ghost use Rattle.stapl_lexer.specs.Pieces.{text_limit};
 ghost use Rattle.stapl_built.specs.Built.{IsBuilt};
+ghost use Rattle.stapl_built.specs.Sizes.{statements_size};
 ghost use Rattle.stapl_syntax.specs.Programs.{piece_limit};
 ghost use Rattle.stapl_meaning.specs.Scopes.{program_names};
 ghost use Rattle.stapl_code.specs.Machine.{nowhere};
@@ -41,6 +43,7 @@ fn draft_program(alloc: Global, program: &[Stmt], names: &Names) -> Result<Writt
     requires names { names.now ≡ program_names (trees program.now) }
     requires built { All IsBuilt (trees program.now) }
     requires few { length program.now ≤ piece_limit }
+    requires small { statements_size (trees program.now) ≤ text_limit }
     ensures { IfOk result (λ w. IsDraft (trees program.now) w.code.items w.texts.items w.starts.items) }
 {
     let mut emitter = Emitter::new(alloc, names, program.len() as u32);
@@ -106,6 +109,7 @@ pub(crate) fn write_program(
     requires names { names.now ≡ program_names (trees program.now) }
     requires built { All IsBuilt (trees program.now) }
     requires few { length program.now ≤ piece_limit }
+    requires small { statements_size (trees program.now) ≤ text_limit }
     ensures code { IfOk result (λ w. w.code.items ≡ program_code (trees program.now)) }
     ensures texts { IfOk result (λ w. w.texts.items ≡ texts_of (trees program.now)) }
     ensures starts { IfOk result (λ w. AreStarts (trees program.now) w.starts.items) }

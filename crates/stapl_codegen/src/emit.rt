@@ -1,27 +1,38 @@
 //! The instructions of statements. Their targets are places of the program.
-ghost use Rattle.std.specs.Prelude.{◌≡◌, [], ◌∷◌, ◌++◌, ◌<◌, ◌^◌, ◌-◌, length, map, OnOk, IfOk};
+ghost use Rattle.std.specs.Prelude.{◌≡◌, [], ◌∷◌, ◌++◌, ◌<◌, ◌^◌, ◌-◌, length, map, option_map, slice_get, OnOk, IfOk};
 ghost use Rattle.stapl_syntax.specs.Trees.{print, expr_tree, part_tree, body_tree, stmt_tree};
-ghost use Rattle.stapl_meaning.specs.Values.{side};
-ghost use Rattle.stapl_meaning.specs.Operands.{a_character, part_operands};
+ghost use Rattle.stapl_meaning.specs.Values.{alike, side, sides, unary_side};
+ghost use Rattle.stapl_meaning.specs.Operands.{a_character, given_kind, printed_kind};
 ghost use Rattle.stapl_code.specs.declared.instr.Instr.TheVariants.{JumpIfZero};
-ghost use Rattle.stapl_codegen.specs.Emit.{operator_number, literal_code, print_parts, part_texts, body_texts};
+ghost use Rattle.stapl_codegen.specs.Emit.{by_kind, operator_number, sign_number, literal_code, shown_part, part_texts, body_texts};
 ghost use Rattle.stapl_codegen.specs.Drafts.{scope_of_site, site_behind};
-ghost use Rattle.stapl_codegen.specs.Drafts.{expr_code_in, operands_code_in, body_code_in, piece_code_in};
+ghost use Rattle.stapl_codegen.specs.Drafts.{expr_code_in, operands_code_in, part_operands_in, print_parts_in, body_code_in, piece_code_in};
 
 use base::ItemList;
 use stapl_code::Instr;
 use stapl_lexer::{BinOp, Name};
 use stapl_meaning::{Text, ValueKind};
-use stapl_names::{Names, inside_behind};
-use stapl_syntax::{Body, Expr, Found, PrintPart, Stmt};
+use stapl_names::{Names, VariableKinds, expr_kind, inside_behind, is_bit_alone};
+use stapl_syntax::{Body, Expr, Found, Kind, PrintPart, Stmt, UnOp, VarKind};
 use std::alloc::{AllocError, Global};
 use std::marker::Model;
 
 /// The number of no operator. No machine carries out a Binary with it, so it stands for what is not built.
 const NO_OPERATOR: u8 = 255;
 
-fn operator_number(op: BinOp) -> u8
-    ensures { result ≡ operator_number op }
+// One of two numbers, by the kind of the sides of an operator.
+fn by_kind(side: ValueKind, integers: u8, booleans: u8) -> u8
+    ensures { result ≡ by_kind side integers booleans }
+{
+    match side {
+        ValueKind::Int => integers,
+        ValueKind::Bit => booleans,
+    }
+}
+
+// The number of an operator whose sides are of a kind.
+fn operator_number(op: BinOp, side: ValueKind) -> u8
+    ensures { result ≡ operator_number op side }
 {
     match op {
         BinOp::Add => 0,
@@ -29,13 +40,13 @@ fn operator_number(op: BinOp) -> u8
         BinOp::Multiply => 2,
         BinOp::Divide => 3,
         BinOp::Remainder => 4,
-        BinOp::BitAnd => 5,
-        BinOp::BitOr => 6,
-        BinOp::BitXor => 7,
+        BinOp::BitAnd => by_kind(side, 5, 16),
+        BinOp::BitOr => by_kind(side, 6, 17),
+        BinOp::BitXor => by_kind(side, 7, 18),
         BinOp::ShiftLeft => 8,
         BinOp::ShiftRight => 9,
-        BinOp::Equal => 10,
-        BinOp::NotEqual => 11,
+        BinOp::Equal => by_kind(side, 10, 21),
+        BinOp::NotEqual => by_kind(side, 11, 22),
         BinOp::Less => 12,
         BinOp::AtMost => 13,
         BinOp::Greater => 14,
@@ -45,12 +56,70 @@ fn operator_number(op: BinOp) -> u8
     }
 }
 
-// The kind of the sides of an operator.
-fn side(op: BinOp) -> ValueKind
-    ensures { result ≡ side op }
+/// The number of ABS among the operators before a value.
+const ABSOLUTE: u8 = 2;
+
+fn sign_number(op: UnOp) -> u8
+    ensures { result ≡ sign_number op }
+{
+    match op {
+        UnOp::Negate => 0,
+        UnOp::Complement => 1,
+        UnOp::Not => 3,
+    }
+}
+
+// The kind of what an operator before a value wants.
+fn unary_side(op: UnOp) -> ValueKind
+    ensures { result ≡ unary_side op }
+{
+    match op {
+        UnOp::Not => ValueKind::Bit,
+        UnOp::Negate | UnOp::Complement => ValueKind::Int,
+    }
+}
+
+// Booleans if one of two expressions of these kinds is a Boolean, else integers.
+fn alike(left: Option<Kind>, right: Option<Kind>) -> ValueKind
+    ensures { result ≡ alike left right }
+{
+    if is_bit_alone(left) || is_bit_alone(right) {
+        ValueKind::Bit
+    } else {
+        ValueKind::Int
+    }
+}
+
+// The kind of both sides of an operator, by the kinds of the expressions.
+fn side(op: BinOp, left: Option<Kind>, right: Option<Kind>) -> ValueKind
+    ensures { result ≡ side op left right }
 {
     match op {
         BinOp::And | BinOp::Or => ValueKind::Bit,
+        BinOp::Equal | BinOp::NotEqual | BinOp::BitAnd | BinOp::BitXor | BinOp::BitOr => {
+            alike(left, right)
+        }
+        _ => ValueKind::Int,
+    }
+}
+
+// The kind of what is printed of an expression of this kind.
+fn printed_kind(kind: Option<Kind>) -> ValueKind
+    ensures { result ≡ printed_kind kind }
+{
+    if is_bit_alone(kind) {
+        ValueKind::Bit
+    } else {
+        ValueKind::Int
+    }
+}
+
+// The kind of what a variable without brackets is given.
+fn given_kind(kind: Option<VarKind>) -> ValueKind
+    ensures { result ≡ given_kind kind }
+{
+    match kind {
+        Some(VarKind::Boolean) => ValueKind::Bit,
         _ => ValueKind::Int,
     }
 }
@@ -67,6 +136,27 @@ fn literal(kind: ValueKind, n: i32) -> Instr
             _ => Instr::Binary(NO_OPERATOR),
         },
     }
+}
+
+// How a value of a kind is printed.
+fn shown_part(kind: ValueKind) -> stapl_code::PrintPart
+    ensures { result ≡ shown_part kind }
+{
+    match kind {
+        ValueKind::Int => stapl_code::PrintPart::Int,
+        ValueKind::Bit => stapl_code::PrintPart::Bit,
+    }
+}
+
+// The kind of the variable of a number, if there is one.
+#[tactic(auto, using(std::proofs::lemmas::Option::slice_get_past))]
+fn kind_at(names: &Names, number: u32) -> Option<VarKind>
+    ensures { result ≡ option_map (λ e. e.1.kind) (slice_get names.now.variables number) }
+{
+    if number >= names.variables() {
+        return None;
+    }
+    Some(names.variable(number).kind)
 }
 
 /// What is written so far of the code of a program, and where the next piece stands.
@@ -96,6 +186,18 @@ impl<'a> Model for Emitter<'a> {
     } };
 }
 
+impl<'a> VariableKinds for Emitter<'a> {
+    ghost kinds = { λ e. (scope_of_site e.site).look.kind };
+
+    fn kind(&self, name: &Name) -> Option<VarKind> {
+        let names = self.names;
+        match names.found(&self.inside, name) {
+            Found::Variable(number) => kind_at(names, number),
+            Found::Hidden | Found::Absent => None,
+        }
+    }
+}
+
 impl<'a> Emitter<'a> {
     /// Nothing is written yet, and the first of so many pieces follows.
     pub(crate) fn new(alloc: Global, names: &'a Names, count: u32) -> Emitter<'a>
@@ -116,7 +218,7 @@ impl<'a> Emitter<'a> {
 
     // The number of the variable that a name stands for.
     fn variable(&self, name: &Name) -> u32
-        ensures { result ≡ (scope_of_site self.now.site).variable name.now }
+        ensures { result ≡ (scope_of_site self.now.site).look.variable name.now }
     {
         let names = self.names;
         match names.found(&self.inside, name) {
@@ -137,6 +239,15 @@ impl<'a> Emitter<'a> {
             Some(piece) => piece.saturating_sub(1),
             None => self.count,
         }
+    }
+
+    // The kind of both sides of an operator between two expressions.
+    fn sides(&self, op: BinOp, a: &Expr, b: &Expr) -> ValueKind
+        ensures { result ≡ sides (scope_of_site self.now.site).look op (expr_tree a.now) (expr_tree b.now) }
+    {
+        let left = expr_kind(self, a);
+        let right = expr_kind(self, b);
+        side(op, left, right)
     }
 
     // An instruction more.
@@ -162,10 +273,21 @@ impl<'a> Emitter<'a> {
                 let number = self.variable(name);
                 self.put(Instr::Load(number))
             }
+            Expr::Unary(op, a) => {
+                self.expr(unary_side(*op), a)?;
+                self.put(Instr::Unary(sign_number(*op)))?;
+                Ok(())
+            }
             Expr::Binary(op, a, b) => {
-                self.expr(side(*op), a)?;
-                self.expr(side(*op), b)?;
-                self.put(Instr::Binary(operator_number(*op)))?;
+                let kind = self.sides(*op, a, b);
+                self.expr(kind, a)?;
+                self.expr(kind, b)?;
+                self.put(Instr::Binary(operator_number(*op, kind)))?;
+                Ok(())
+            }
+            Expr::Abs(a) => {
+                self.expr(ValueKind::Int, a)?;
+                self.put(Instr::Unary(ABSOLUTE))?;
                 Ok(())
             }
             _ => self.put(Instr::Binary(NO_OPERATOR)),
@@ -201,10 +323,10 @@ impl<'a> Emitter<'a> {
     // A part of a PRINT more: its operand and its text, and what it prints.
     fn part(&mut self, part: &PrintPart) -> Result<stapl_code::PrintPart, AllocError>
         ensures code { OnOk result
-            (self.new.code ≡ self.old.code ++ operands_code_in self.old (part_operands (part_tree part.now ∷ []))) }
+            (self.new.code ≡ self.old.code ++ operands_code_in self.old (part_operands_in self.old (part_tree part.now ∷ []))) }
         ensures texts { OnOk result (self.new.texts ≡ self.old.texts ++ part_texts (part_tree part.now ∷ [])) }
         ensures printed { IfOk result
-            (λ printed. printed ∷ [] ≡ print_parts (length self.old.texts) (part_tree part.now ∷ [])) }
+            (λ printed. printed ∷ [] ≡ print_parts_in self.old (part_tree part.now ∷ [])) }
         ensures site { self.new.site ≡ self.old.site }
     {
         match part {
@@ -213,8 +335,9 @@ impl<'a> Emitter<'a> {
                 Ok(stapl_code::PrintPart::Text(number))
             }
             PrintPart::Value(e) => {
-                self.expr(ValueKind::Int, e)?;
-                Ok(stapl_code::PrintPart::Int)
+                let kind = printed_kind(expr_kind(self, e));
+                self.expr(kind, e)?;
+                Ok(shown_part(kind))
             }
             PrintPart::Character(e) => {
                 self.character(e)?;
@@ -226,10 +349,10 @@ impl<'a> Emitter<'a> {
     // The parts of a PRINT more: their operands and texts, and what they print.
     fn parts(&mut self, parts: &[PrintPart]) -> Result<Vec<stapl_code::PrintPart>, AllocError>
         ensures code { OnOk result
-            (self.new.code ≡ self.old.code ++ operands_code_in self.old (part_operands (map part_tree parts.now))) }
+            (self.new.code ≡ self.old.code ++ operands_code_in self.old (part_operands_in self.old (map part_tree parts.now))) }
         ensures texts { OnOk result (self.new.texts ≡ self.old.texts ++ part_texts (map part_tree parts.now)) }
         ensures printed { IfOk result
-            (λ list. list.items ≡ print_parts (length self.old.texts) (map part_tree parts.now)) }
+            (λ list. list.items ≡ print_parts_in self.old (map part_tree parts.now)) }
         ensures site { self.new.site ≡ self.old.site }
     {
         let mut list = Vec::new(self.alloc);
@@ -274,11 +397,12 @@ impl<'a> Emitter<'a> {
         ensures site { self.new.site ≡ self.old.site }
     {
         match b {
-            Body::Integer(_, None) => Ok(()),
+            Body::Boolean(_, None) | Body::Integer(_, None) => Ok(()),
             Body::EndProcedure => self.put(Instr::EndProc),
             Body::Assign(name, e) => {
+                let kind = given_kind(self.kind(name));
                 let number = self.variable(name);
-                self.expr(ValueKind::Int, e)?;
+                self.expr(kind, e)?;
                 self.put(Instr::Store(number))?;
                 Ok(())
             }

@@ -9,7 +9,7 @@ ghost use Rattle.stapl_codegen.specs.Correct.{CodeStands};
 ghost use Rattle.stapl_codegen.specs.Generated.{lists_of, IsCodeOf};
 ghost use Rattle.stapl_codegen.specs.Unstuck.{ProgramsAreNotStuck};
 
-use stapl_built::laws::programs_are_built;
+use stapl_built::laws::{programs_are_built, statements_are_no_longer_than_their_text};
 use stapl_code::laws::never_stuck;
 use stapl_meaning::laws::programs_are_typed;
 use stapl_syntax::laws::{blocks_are_well_named, texts_of_prints_are_short};
@@ -25,6 +25,7 @@ pub fn programs_are_accepted()
 {
     programs_are_typed();
     programs_are_built();
+    statements_are_no_longer_than_their_text();
     blocks_are_well_named();
     texts_of_prints_are_short();
 }

@@ -11,7 +11,7 @@ use Rattle.stapl_codegen.proofs.draft.draft_program.Goals as goal
 pub start_at-requires : goal.start_at-requires
 start_at-requires c =
     let program = c.args.program.now in
-    let size = drafted_size (trees program) c.loop-st.st-index c.loop-st.emitter c.loop-st.starts.items c.loop-st.invariant c.requires.built (omega (arith, c.requires.few, length-map program stmt_tree)) in
+    let size = drafted_size (trees program) c.loop-st.st-index c.loop-st.emitter c.loop-st.starts.items c.loop-st.invariant c.requires.built c.requires.small (omega (arith, c.requires.few, length-map program stmt_tree)) in
     omega (arith, size, c.len.ensures)
 
 pub loop-st-preserved : goal.loop-st-preserved
