@@ -33,6 +33,9 @@ abs_below : (a : ℤ) → FitsSigned w32 a → unsigned_abs a < 2 ^ 32
 abs_below (pos n) fits = omega (arith, fits.sfits)
 abs_below (negsuc n) fits = omega (arith, fits.sfits)
 
+pub absolute-wraps : (a : ℤ) → FitsSigned w32 a → cast_signed w32 (unsigned_abs a) ≡ int_wrap w32 (pos (unsigned_abs a))
+absolute-wraps a fits = cast_signed-wraps (unsigned_abs a) (abs_below a fits)
+
 abs-neg : (n : ℕ) → unsigned_abs (neg_ℤ (pos n)) ≡ n
 abs-neg zero = refl
 abs-neg (suc n) = refl

@@ -5,11 +5,12 @@ ghost use Rattle.stapl_code.specs.Machine.{made, takes, lands};
 ghost use Rattle.stapl_machine.specs.Acts.{IsMade, IsActed, step_of};
 
 use crate::effects::{
-    Made, assign, bit, check_character, end_procedure, exit, jump, load, operate_two, part_ways,
+    Made, assign, bit, check_character, end_procedure, exit, jump, load, operate_one, operate_two,
+    part_ways,
 };
 use crate::operate::Stop;
 use crate::printing::{count_operands, print};
-use stapl_code::{CodeLists, Instr, operator_of};
+use stapl_code::{CodeLists, Instr, operator_of, unary_kind};
 use stapl_meaning::{Held, Text, Value};
 
 /// What a run keeps: the variables, the operands in the order in which they were put on, the text of the last Print,
@@ -47,6 +48,7 @@ fn make(
             Ok(Made::Put(value))
         }
         Instr::Store(n) => assign(variables, *n, values),
+        Instr::Unary(number) => operate_one(*number, values),
         Instr::Binary(number) => operate_two(*number, values),
         Instr::JumpIfZero(_) => part_ways(values),
         Instr::EndProc => end_procedure(values),
@@ -68,6 +70,10 @@ fn takes(instr: &Instr) -> usize
         | Instr::Jump(_)
         | Instr::EndProc => 0,
         Instr::Store(_) | Instr::JumpIfZero(_) | Instr::CheckChar | Instr::Exit => 1,
+        Instr::Unary(number) => match unary_kind(*number) {
+            Some(_) => 1,
+            None => 0,
+        },
         Instr::Binary(number) => match operator_of(*number) {
             Some(_) => 2,
             None => 0,

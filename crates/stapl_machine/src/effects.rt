@@ -5,13 +5,15 @@ ghost use Rattle.stapl_meaning.specs.Operands.{character_of};
 ghost use Rattle.stapl_meaning.specs.States.{State};
 ghost use Rattle.stapl_meaning.specs.Plays.{start};
 ghost use Rattle.stapl_meaning.specs.Effects.{with_scalar, scalar_written, assigned, jumped, parted, returned, exited};
-ghost use Rattle.stapl_code.specs.Machine.{bit_of, operated, one, two, puts, does};
+ghost use Rattle.stapl_code.specs.Machine.{bit_of, operated, signed_by, one, two, puts, does};
+ghost use Rattle.stapl_code.specs.Operators.{unary_results};
 ghost use Rattle.stapl_machine.specs.Found.{IsValue, if_written};
 ghost use Rattle.stapl_machine.specs.Acts.{IsMade};
 
-use crate::operate::{Stop, combine};
+use crate::operate::{Stop, absolute, combine, sign};
 use stapl_code::operator_of;
 use stapl_meaning::{Ending, Held, RunFault, Value};
+use stapl_syntax::UnOp;
 
 /// What an instruction made.
 #[derive(Clone, Copy, Debug, PartialEq, Eq)]
@@ -102,6 +104,33 @@ fn operate(number: u8, left: Value, right: Value) -> Result<Value, Stop>
     match operator_of(number) {
         Some(operator) => combine(operator.op, left, right),
         None => Err(Stop::Wrong),
+    }
+}
+
+// What the operator of a number makes of a value before which it stands.
+fn operate_before(number: u8, value: Value) -> Result<Value, Stop>
+    ensures { IsValue result (signed_by (slice_get unary_results number) value) }
+{
+    match number {
+        0 => sign(UnOp::Negate, value),
+        1 => sign(UnOp::Complement, value),
+        2 => absolute(value),
+        3 => sign(UnOp::Not, value),
+        _ => Err(Stop::Wrong),
+    }
+}
+
+/// What the operator of a number makes of one value.
+pub fn operate_one(number: u8, values: &[Value]) -> Result<Made, Stop>
+    ensures { (text : List ℕ) (s : State) →
+        IsMade result text s s (one values.now (signed_by (slice_get unary_results number))) }
+{
+    match values {
+        [value] => {
+            let value = operate_before(number, *value)?;
+            Ok(Made::Put(value))
+        }
+        _ => Err(Stop::Wrong),
     }
 }
 

@@ -1,13 +1,14 @@
 //! What the operators do to values.
-ghost use Rattle.std.specs.Prelude.{◌≡◌, ◌≢◌, ◌<◌, ◌^◌, pos, ◌+ℤ◌, ◌-ℤ◌, ◌*ℤ◌, ◌&&◌, ◌||◌};
-ghost use Rattle.std.specs.Prelude.{int_div, int_rem};
+ghost use Rattle.std.specs.Prelude.{◌≡◌, ◌≢◌, ◌<◌, ◌^◌, pos, ◌+ℤ◌, ◌-ℤ◌, ◌*ℤ◌, neg_ℤ, negsuc, ◌&&◌, ◌||◌};
+ghost use Rattle.std.specs.Prelude.{int_div, int_rem, unsigned_abs};
 ghost use Rattle.std.specs.Int.{int_wrap, int_div_euclid, w32};
-ghost use Rattle.stapl_meaning.specs.Values.{combined, combined_booleans, combined_integers};
+ghost use Rattle.stapl_meaning.specs.Values.{absolute, combined, combined_booleans, combined_integers, signed};
 ghost use Rattle.stapl_meaning.specs.Values.{bitwise, differ, divided_by, shifted_by};
 ghost use Rattle.stapl_machine.specs.Found.{IsValue};
 
 use stapl_lexer::BinOp;
 use stapl_meaning::{RunFault, Value};
+use stapl_syntax::UnOp;
 
 /// Why nothing was made.
 #[derive(Clone, Copy, Debug, PartialEq, Eq)]
@@ -149,6 +150,24 @@ fn combine_booleans(op: BinOp, a: bool, b: bool) -> Result<Value, Stop>
     }
 }
 
+fn negative(a: i32) -> i32
+    ensures { result ≡ int_wrap w32 (neg_ℤ a) }
+{
+    a.wrapping_neg()
+}
+
+fn complement(a: i32) -> i32
+    ensures { result ≡ negsuc 0 -ℤ a }
+{
+    !a
+}
+
+fn magnitude(a: i32) -> i32
+    ensures { result ≡ int_wrap w32 (pos (unsigned_abs a)) }
+{
+    a.wrapping_abs()
+}
+
 /// The value of two values with an operator between them.
 pub fn combine(op: BinOp, left: Value, right: Value) -> Result<Value, Stop>
     ensures { IsValue result (combined op left right) }
@@ -157,5 +176,27 @@ pub fn combine(op: BinOp, left: Value, right: Value) -> Result<Value, Stop>
         (Value::Int(a), Value::Int(b)) => combine_integers(op, a, b),
         (Value::Bit(a), Value::Bit(b)) => combine_booleans(op, a, b),
         _ => Err(Stop::Wrong),
+    }
+}
+
+/// The value of a value with an operator before it.
+pub fn sign(op: UnOp, value: Value) -> Result<Value, Stop>
+    ensures { IsValue result (signed op value) }
+{
+    match (op, value) {
+        (UnOp::Negate, Value::Int(a)) => Ok(Value::Int(negative(a))),
+        (UnOp::Not, Value::Bit(a)) => Ok(Value::Bit(!a)),
+        (UnOp::Complement, Value::Int(a)) => Ok(Value::Int(complement(a))),
+        _ => Err(Stop::Wrong),
+    }
+}
+
+/// The absolute value.
+pub fn absolute(value: Value) -> Result<Value, Stop>
+    ensures { IsValue result (absolute value) }
+{
+    match value {
+        Value::Int(a) => Ok(Value::Int(magnitude(a))),
+        Value::Bit(_) => Err(Stop::Wrong),
     }
 }

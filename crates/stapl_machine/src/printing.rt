@@ -3,7 +3,7 @@ ghost use Rattle.std.specs.Prelude.{◌≡◌, ◌≤◌, ◌+◌, ◌∷◌, �
 ghost use Rattle.std.specs.Fmt.{signed_decimal};
 ghost use Rattle.stapl_meaning.specs.Values.{Got, Known, then_get, integer_of};
 ghost use Rattle.stapl_meaning.specs.Operands.{character_of};
-ghost use Rattle.stapl_meaning.specs.Effects.{after_integer, after_character, printed};
+ghost use Rattle.stapl_meaning.specs.Effects.{digit_of, shown, after_value, after_character, printed};
 ghost use Rattle.stapl_meaning.specs.States.{State};
 ghost use Rattle.stapl_code.specs.Machine.{part_slots, known_text, parts_text, does};
 ghost use Rattle.stapl_machine.specs.Found.{IsGot};
@@ -23,7 +23,7 @@ fn operands_taken(part: PrintPart) -> usize
 {
     match part {
         PrintPart::Text(_) => 0,
-        PrintPart::Int | PrintPart::Char => 1,
+        PrintPart::Int | PrintPart::Bit | PrintPart::Char => 1,
     }
 }
 
@@ -69,14 +69,29 @@ fn put_text(texts: &[Text], n: u32, text: &mut Vec<u8>) -> Result<(), Stop>
     }
 }
 
-// Puts an integer.
-fn put_integer(value: Value, text: &mut Vec<u8>) -> Result<(), Stop>
-    ensures { (rest : Got (List ℕ)) → IsPut result text.old.items (after_integer value rest) text.new.items rest }
+// A Boolean as a digit.
+fn digit_of(bit: bool) -> u8
+    ensures { result ≡ digit_of bit }
+{
+    if bit { b'1' } else { b'0' }
+}
+
+// Puts what is printed of a value.
+fn put_shown(value: Value, text: &mut Vec<u8>) -> Result<(), Stop>
+    ensures put { OnOk result (text.new.items ≡ text.old.items ++ shown value) }
+    ensures memory { IfErr result (λ e. e ≡ Stop.Memory) }
 {
     match value {
         Value::Int(n) => put_digits(text, n),
-        Value::Bit(_) => Err(Stop::Wrong),
+        Value::Bit(b) => put(text, &[digit_of(b)]),
     }
+}
+
+// Puts a value.
+fn put_value(value: Value, text: &mut Vec<u8>) -> Result<(), Stop>
+    ensures { (rest : Got (List ℕ)) → IsPut result text.old.items (after_value value rest) text.new.items rest }
+{
+    put_shown(value, text)
 }
 
 // The byte of a character.
@@ -126,7 +141,11 @@ fn join_part(
         PrintPart::Text(n) => put_text(texts, n, text),
         PrintPart::Int => {
             let value = next_value(values, at)?;
-            put_integer(value, text)
+            put_value(value, text)
+        }
+        PrintPart::Bit => {
+            let value = next_value(values, at)?;
+            put_value(value, text)
         }
         PrintPart::Char => {
             let value = next_value(values, at)?;
