@@ -1,9 +1,9 @@
 -- On plays of a program through its code.
-use Rattle.std.proofs.Common.{◌≡◌, ◌≢◌, ◌<◌, ◌+◌, ℕ, pos, List, [], ◌∷◌, length, map, replicate, refl, sym, ap, ◌∙◌, subst, suc, zero, arith, Bool, true, false, Option, Some, None, if◌then◌else◌, codes, get_or, drop, ◌≤◌}
+use Rattle.std.proofs.Common.{◌≡◌, ◌≢◌, ◌<◌, ◌+◌, ℕ, pos, List, [], ◌∷◌, length, map, refl, sym, ap, ◌∙◌, subst, suc, zero, arith, Bool, true, false, Option, Some, None, if◌then◌else◌, codes, get_or, drop, ◌≤◌}
 use Rattle.std.proofs.Math.Seq.{drop-cons}
 use Rattle.std.proofs.Math.ListN.{drop_of_length-le}
 use Rattle.std.specs.List.{flat_map}
-use Rattle.std.specs.Prelude.{All}
+use Rattle.std.specs.Prelude.{All, nat_abs}
 use Rattle.std.specs.Str.{bytes_eq}
 use Rattle.std.proofs.lemmas.List.Elements.{All-head, All-tail}
 use Rattle.std.proofs.lemmas.Option.{same_Some, none-some}
@@ -14,6 +14,8 @@ use Rattle.tool_io.proofs.BytesLemmas.{moves_front_nothing}
 use Rattle.tool_io.proofs.PutLemmas.{put_then_front, front_with, front_written, finish_front}
 use Rattle.stapl_syntax.specs.declared.names.Key.{Key}
 use Rattle.stapl_syntax.specs.declared.names.Variable.{Variable}
+use Rattle.stapl_syntax.specs.declared.names.VarKind.{VarKind}
+use Rattle.stapl_syntax.specs.declared.names.VarKind.TheVariants as variables
 use Rattle.stapl_syntax.specs.Trees.{ItemTree, BodyTree, action, StmtTree}
 use Rattle.stapl_meaning.specs.declared.events.Event.{Event}
 use Rattle.stapl_meaning.specs.declared.events.Ending.{Ending}
@@ -31,7 +33,8 @@ use Rattle.stapl_code.specs.Ranges.{IsItem, IsAction}
 use Rattle.stapl_code.specs.Safe.{AllFit, AllBelow}
 use Rattle.stapl_codegen.specs.Emit.{start_of, item_def, action_def, actions_from}
 use Rattle.stapl_codegen.specs.Correct.{placed_outcome, placed_run}
-use Rattle.stapl_codegen.specs.Generated.{integer_def, IsCodeOf}
+use Rattle.stapl_codegen.specs.Generated.{kind_number, variable_def, IsCodeOf}
+use Rattle.stapl_codegen.proofs.Unstuck.{variables_fit}
 use Rattle.stapl_machine.specs.Zeros.{zero_of, zeros_of_code}
 use Rattle.stapl_machine.specs.Machines.{play_of}
 use Rattle.play_tool.specs.declared.status.Status.{Status}
@@ -42,20 +45,27 @@ use Rattle.play_tool.specs.CodePlays.{procedures_in, procedures_named, HasEnding
 
 -- The variables of the code of a program begin as the program's do.
 
-zeros_are : (vs : List (Key × Variable)) → map zero_of (replicate (length vs) integer_def) ≡ map scopes.zero_of vs
+zero_same : (v : Key × Variable) → zero_of (variable_def v) ≡ scopes.zero_of v
+zero_same v = by v.1.kind (nat_abs v.1.size)
+  where
+    by : (k : VarKind) (n : ℕ) → zero_of (record { kind = kind_number k; size = n }) ≡ scopes.zero_by k n
+    by variables.Integer n = refl
+    by variables.Boolean n = refl
+    by variables.IntegerArray n = refl
+    by variables.BooleanArray n = refl
+
+zeros_are : (vs : List (Key × Variable)) → map zero_of (map variable_def vs) ≡ map scopes.zero_of vs
 zeros_are [] = refl
-zeros_are (v ∷ vs) = ap (λ (z : List Held). held.Int (pos 0) ∷ z) (zeros_are vs)
+zeros_are (v ∷ vs) = λ j. zero_same v j ∷ zeros_are vs j
 
 pub same_zeros : (program : List StmtTree) (code : CodeLists) → IsCodeOf program code → zeros_of_code code ≡ zeros_of program
 same_zeros program code is = ap zeros_of_code is.lists ∙ zeros_are (program_names program).variables
 
-integers_fit : (n : ℕ) → AllFit (replicate n integer_def) (map zero_of (replicate n integer_def))
-integers_fit zero = tt
-integers_fit (suc n) = (refl, integers_fit n)
-
 pub zeros_fit : (program : List StmtTree) (code : CodeLists) → IsCodeOf program code → AllFit code.variables (zeros_of_code code)
 zeros_fit program code is =
-    subst (λ (lists : CodeLists). AllFit lists.variables (zeros_of_code lists)) (sym is.lists) (integers_fit (length (program_names program).variables))
+    let vs : List (Key × Variable) = (program_names program).variables in
+    subst (λ (lists : CodeLists). AllFit lists.variables (zeros_of_code lists)) (sym is.lists)
+    (subst (AllFit (map variable_def vs)) (sym (zeros_are vs)) (variables_fit vs))
 
 -- The code's action of a name has the program's procedures.
 
