@@ -1,5 +1,5 @@
 //! What instructions make of the operands that they take, the topmost last.
-ghost use Rattle.std.specs.Prelude.{◌≡◌, List, ℕ, slice_get};
+ghost use Rattle.std.specs.Prelude.{◌≡◌, ◌≢◌, IfErr, List, ℕ, slice_get};
 ghost use Rattle.stapl_meaning.specs.Values.{scalar_of};
 ghost use Rattle.stapl_meaning.specs.Operands.{character_of};
 ghost use Rattle.stapl_meaning.specs.States.{State};
@@ -72,9 +72,10 @@ fn store(variables: &mut Vec<Held>, n: u32, value: Value) -> bool
 
 /// A value goes into a scalar variable.
 pub fn assign(variables: &mut Vec<Held>, n: u32, values: &[Value]) -> Result<Made, Stop>
-    ensures { (text chosen : List ℕ) →
+    ensures made { (text chosen : List ℕ) →
         IsMade result text (start chosen variables.old.items) (start chosen variables.new.items)
         (does (assigned n values.now (start chosen variables.old.items))) }
+    ensures sure { IfErr result (λ stop. stop ≢ Stop.Memory) }
 {
     match values {
         [value] => {
@@ -122,8 +123,9 @@ fn operate_before(number: u8, value: Value) -> Result<Value, Stop>
 
 /// What the operator of a number makes of one value.
 pub fn operate_one(number: u8, values: &[Value]) -> Result<Made, Stop>
-    ensures { (text : List ℕ) (s : State) →
+    ensures made { (text : List ℕ) (s : State) →
         IsMade result text s s (one values.now (signed_by (slice_get unary_results number))) }
+    ensures sure { IfErr result (λ stop. stop ≢ Stop.Memory) }
 {
     match values {
         [value] => {
@@ -136,7 +138,8 @@ pub fn operate_one(number: u8, values: &[Value]) -> Result<Made, Stop>
 
 /// What the operator of a number makes of two values.
 pub fn operate_two(number: u8, values: &[Value]) -> Result<Made, Stop>
-    ensures { (text : List ℕ) (s : State) → IsMade result text s s (two values.now (operated number)) }
+    ensures made { (text : List ℕ) (s : State) → IsMade result text s s (two values.now (operated number)) }
+    ensures sure { IfErr result (λ stop. stop ≢ Stop.Memory) }
 {
     match values {
         [left, right] => {
@@ -164,7 +167,8 @@ pub fn character(value: Value) -> Result<Value, Stop>
 
 /// The test of a character.
 pub fn check_character(values: &[Value]) -> Result<Made, Stop>
-    ensures { (text : List ℕ) (s : State) → IsMade result text s s (one values.now character_of) }
+    ensures made { (text : List ℕ) (s : State) → IsMade result text s s (one values.now character_of) }
+    ensures sure { IfErr result (λ stop. stop ≢ Stop.Memory) }
 {
     match values {
         [value] => {
@@ -177,7 +181,8 @@ pub fn check_character(values: &[Value]) -> Result<Made, Stop>
 
 /// To the target.
 pub fn jump(values: &[Value]) -> Result<Made, Stop>
-    ensures { (text : List ℕ) (s : State) → IsMade result text s s (does (jumped values.now s)) }
+    ensures made { (text : List ℕ) (s : State) → IsMade result text s s (does (jumped values.now s)) }
+    ensures sure { IfErr result (λ stop. stop ≢ Stop.Memory) }
 {
     match values {
         [] => Ok(Made::Jump),
@@ -187,7 +192,8 @@ pub fn jump(values: &[Value]) -> Result<Made, Stop>
 
 /// On where a Boolean is 1, else to the target.
 pub fn part_ways(values: &[Value]) -> Result<Made, Stop>
-    ensures { (text : List ℕ) (s : State) → IsMade result text s s (does (parted values.now s)) }
+    ensures made { (text : List ℕ) (s : State) → IsMade result text s s (does (parted values.now s)) }
+    ensures sure { IfErr result (λ stop. stop ≢ Stop.Memory) }
 {
     match values {
         [Value::Bit(true)] => Ok(Made::On),
@@ -198,7 +204,8 @@ pub fn part_ways(values: &[Value]) -> Result<Made, Stop>
 
 /// The procedure is over.
 pub fn end_procedure(values: &[Value]) -> Result<Made, Stop>
-    ensures { (text : List ℕ) (s : State) → IsMade result text s s (does (returned values.now s)) }
+    ensures made { (text : List ℕ) (s : State) → IsMade result text s s (does (returned values.now s)) }
+    ensures sure { IfErr result (λ stop. stop ≢ Stop.Memory) }
 {
     match values {
         [] => Ok(Made::Returned),
@@ -208,7 +215,8 @@ pub fn end_procedure(values: &[Value]) -> Result<Made, Stop>
 
 /// The play is over.
 pub fn exit(values: &[Value]) -> Result<Made, Stop>
-    ensures { (text : List ℕ) (s : State) → IsMade result text s s (does (exited values.now s)) }
+    ensures made { (text : List ℕ) (s : State) → IsMade result text s s (does (exited values.now s)) }
+    ensures sure { IfErr result (λ stop. stop ≢ Stop.Memory) }
 {
     match values {
         [Value::Int(code)] => Ok(Made::Over(Ending::Exit(*code))),

@@ -6,7 +6,7 @@ ghost use Rattle.stapl_meaning.specs.Operands.{character_of};
 ghost use Rattle.stapl_meaning.specs.Effects.{digit_of, shown, after_value, after_character, printed};
 ghost use Rattle.stapl_meaning.specs.States.{State};
 ghost use Rattle.stapl_code.specs.Machine.{part_slots, known_text, parts_text, does};
-ghost use Rattle.stapl_machine.specs.Found.{IsGot};
+ghost use Rattle.stapl_machine.specs.Found.{IsGot, IsSure};
 ghost use Rattle.stapl_machine.specs.Prints.{IsPut, Follows};
 ghost use Rattle.stapl_machine.specs.Acts.{IsMade};
 
@@ -96,7 +96,7 @@ fn put_value(value: Value, text: &mut Vec<u8>) -> Result<(), Stop>
 
 // The byte of a character.
 fn byte_of(value: Value) -> Result<u8, Stop>
-    ensures { IsGot (λ byte g. g ≡ Known (pos byte)) result (then_get (character_of value) integer_of) }
+    ensures { IsSure (λ byte g. g ≡ Known (pos byte)) result (then_get (character_of value) integer_of) }
 {
     match character(value)? {
         Value::Int(z) => Ok(z as u8),
