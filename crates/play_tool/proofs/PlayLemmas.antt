@@ -1,5 +1,5 @@
 -- On plays of a program through its code.
-use Rattle.std.proofs.Common.{◌≡◌, ◌≢◌, ◌<◌, ◌+◌, ℕ, pos, List, [], ◌∷◌, length, map, refl, sym, ap, ◌∙◌, subst, suc, zero, arith, Bool, true, false, Option, Some, None, if◌then◌else◌, codes, get_or, drop, ◌≤◌}
+use Rattle.std.proofs.Common.{◌≡◌, ◌≢◌, ◌<◌, ◌+◌, ℕ, List, [], ◌∷◌, length, map, refl, sym, ap, ◌∙◌, subst, suc, zero, arith, Bool, true, false, Option, Some, None, if◌then◌else◌, codes, get_or, drop, ◌≤◌}
 use Rattle.std.proofs.Math.Seq.{drop-cons}
 use Rattle.std.proofs.Math.ListN.{drop_of_length-le}
 use Rattle.std.specs.List.{flat_map}
@@ -19,8 +19,6 @@ use Rattle.stapl_syntax.specs.declared.names.VarKind.TheVariants as variables
 use Rattle.stapl_syntax.specs.Trees.{ItemTree, BodyTree, action, StmtTree}
 use Rattle.stapl_meaning.specs.declared.events.Event.{Event}
 use Rattle.stapl_meaning.specs.declared.events.Ending.{Ending}
-use Rattle.stapl_meaning.specs.declared.values.Held.{Held}
-use Rattle.stapl_meaning.specs.declared.values.Held.TheVariants as held
 use Rattle.stapl_meaning.specs.Scopes.{program_names, zeros_of, procedure_number, item_procedure, chosen_before, chosen_from, chosen_of}
 use Rattle.stapl_meaning.specs.Scopes as scopes
 use Rattle.stapl_meaning.specs.Plays.{Outcome, Ended, Going, Stopped, Run, play, ending_of}
