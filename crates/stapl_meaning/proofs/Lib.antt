@@ -3,5 +3,7 @@ pub mod RunLaws
 pub mod Entries
 pub mod Sound
 pub mod Ordered
+pub mod Declared
+pub mod Sized
 pub mod Resolved
 pub mod Apart

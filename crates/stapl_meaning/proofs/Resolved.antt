@@ -23,6 +23,8 @@ use Rattle.stapl_meaning.specs.Typed.{IsInBlock, IsTypedAt, NamesProcedure, Name
 use Rattle.stapl_meaning.proofs.Entries.{name_same, key_same, all_at, all_from_each, all_declared, all_firsts, found_holds}
 use Rattle.stapl_meaning.proofs.Sound.{IsSound}
 use Rattle.stapl_meaning.proofs.Ordered.{IsNoData, HasNoData, stands_at}
+use Rattle.stapl_meaning.proofs.Declared.{declared_at}
+use Rattle.stapl_meaning.proofs.Sized.{few_values_at}
 
 -- ---- what is not undefined, by kinds of names
 
@@ -101,6 +103,8 @@ module _ (program : List StmtTree) (sound : IsSound program) (plain : HasNoData 
             inside = e;
             suits = (and_parts procedures (operands_suit (scope_at program i).look.kind st.body) kinded).1;
             leads = subst (λ inside. AllByRecursion (λ name. IsInBlock program block (label_from names (length program) inside name)) (labels_named st.body)) (sym e) labels;
+            declares = declared_at program sound i st at block e;
+            few_values = few_values_at program sound i st at;
           }
 
 -- ---- items of an ACTION

@@ -1,5 +1,6 @@
 use Rattle.stapl_meaning.proofs.Sound.{sound}
 use Rattle.stapl_meaning.proofs.Ordered.{has_no_data, ordered}
+use Rattle.stapl_meaning.proofs.Sized.{sized}
 use Rattle.stapl_meaning.proofs.Resolved.{typed_at, items_named}
 use Rattle.stapl_meaning.proofs.Apart.{procedures_apart, actions_apart, some_action}
 use Rattle.stapl_meaning.proofs.laws.programs_are_typed.Goals as goal
@@ -17,4 +18,5 @@ returns c = λ text program is.
       procedures_apart = procedures_apart program kept plain;
       actions_apart = actions_apart program kept;
       some_action = some_action program kept;
+      sized = sized program kept;
     }
