@@ -1,3 +1,4 @@
 pub mod ReasonLemmas
+pub mod LiteralLemmas
 pub mod SymbolLemmas
 pub mod MappedLists

@@ -1,8 +1,10 @@
--- What holds of the symbols of a piece: a name is spelled as one and is no reserved word, and a string is no longer
--- than the text.
-use Rattle.std.proofs.Common.{◌≡◌, ◌↔◌, ℕ, ℤ, ◌-◌, ◌≤◌, Bool, true, false, List, [], ◌∷◌, ◌++◌, length, length-drop, drop, map, Option, Some, None, arith, refl, sym, ap, subst, ◌∙◌}
-use Rattle.std.specs.Prelude.{All, if◌then◌else◌}
+-- What holds of the symbols of a piece: a name is spelled as one and is no reserved word, a string is no longer than
+-- the text, and a literal has bits.
+use Rattle.std.proofs.Common.{◌≡◌, ◌↔◌, ℕ, ℤ, ◌-◌, ◌≤◌, Bool, true, false, List, [], ◌∷◌, ◌++◌, length, length-drop, drop, map, slice_range, Option, Some, None, arith, refl, sym, ap, subst, ◌∙◌}
+use Rattle.std.specs.Prelude.{All, IfSome, if◌then◌else◌}
+use Rattle.std.specs.List.{list_all}
 use Rattle.std.specs.Str.{str_to_ascii_uppercase}
+use Rattle.std.proofs.lemmas.Bool.{and_parts}
 use Rattle.std.proofs.lemmas.List.{length-take}
 use Rattle.std.proofs.lemmas.List.Elements.{All-nil, All-cons}
 use Rattle.stapl_lexer.specs.declared.piece.Piece.{Piece}
@@ -14,18 +16,19 @@ use Rattle.stapl_lexer.specs.declared.token.TokenKind.{TokenKind}
 use Rattle.stapl_lexer.specs.declared.token.TokenKind.TheVariants as kinds
 use Rattle.stapl_lexer.specs.Names.{is_name, IsUpperName}
 use Rattle.stapl_lexer.specs.PieceFaults.{tokens_of, AreTokens}
-use Rattle.stapl_lexer.specs.PieceTokens.{token_bytes, terminal_of, first_word, Lexeme, HasLexemes}
+use Rattle.stapl_lexer.specs.PieceTokens.{token_bytes, terminal_of, first_word, Spells, Lexeme, HasLexemes}
 use Rattle.stapl_lexer.specs.ReservedWords.{word_terminal, is_reserved_word}
 use Rattle.stapl_lexer.proofs.NameLemmas.{upper_is_name, upper_name, free_words}
 use Rattle.stapl_syntax.specs.declared.signs.Sign.{Sign}
 use Rattle.stapl_syntax.specs.declared.signs.Sign.TheVariants as signs
-use Rattle.stapl_syntax.specs.Symbols.{Symbol, Plain, Text, terminal_sign, word_sign, mark_sign, symbol_as, symbols_of}
-use Rattle.stapl_syntax.specs.Expressions.{name}
-use Rattle.stapl_syntax.specs.Trees.{PartTree, BodyTree, action, procedure, if_then, print, StmtTree}
-use Rattle.stapl_syntax.specs.Parts.{IsPart, Separated, IsPrintPart, of_string, of_value, of_character, a_print_part, item_part, comma, join}
+use Rattle.stapl_syntax.specs.Symbols.{Symbol, Plain, Text, Literal, terminal_sign, word_sign, mark_sign, symbol_as, symbols_of}
+use Rattle.stapl_syntax.specs.Expressions.{IsArray, of_literal, of_target, of_whole, of_range, of_expr, name}
+use Rattle.stapl_syntax.specs.Trees.{ArrayTree, PartTree, BodyTree, action, procedure, boolean_array, assign_array, assign_range, if_then, print, StmtTree}
+use Rattle.stapl_syntax.specs.Parts.{IsPart, Separated, IsPrintPart, of_string, of_value, of_character, a_print_part, item_part, bits_part, comma, join}
 use Rattle.stapl_syntax.specs.Statements.{IsBody, IsLabelled}
 use Rattle.stapl_syntax.specs.Programs.{AreReadAs, IsProgram}
-use Rattle.stapl_syntax.specs.Contents.{IsFreeName, IsWellNamed, IsShortPart, PrintsShortStrings}
+use Rattle.stapl_syntax.specs.Contents.{IsFreeName, IsWellNamed, IsShortPart, PrintsShortStrings, AreLiteralBits, HoldsLiteral, HoldsLiterals}
+use Rattle.stapl_syntax.proofs.LiteralLemmas.{binary_bits, hex_bits}
 
 -- ---- names
 
@@ -93,40 +96,45 @@ no_mark v None e = cc
 
 -- ---- symbols
 
--- a name is free, and a string has at most so many bytes
+-- a name is free, a string has at most so many bytes, and a literal the bits of one in so many bytes
 abbrev IsSound : ℕ → Symbol → Type 0
 IsSound n (Plain sign) = (v : List ℕ) → name_in sign ≡ Some v → IsFreeName v
 IsSound n (Text bytes) = length bytes ≤ n
+IsSound n (Literal bits) = AreLiteralBits n bits
 IsSound n _ = Unit {0}
 
 abbrev AreSound : ℕ → List Symbol → Type 0
 AreSound n [] = Unit {0}
 AreSound n (t ∷ s) = IsSound n t × AreSound n s
 
-sound_as : (n : ℕ) (kind : TokenKind) (value : ℤ) (terminal : Option Terminal) (own : List ℕ) → terminal ≡ terminal_of kind own → length own ≤ n →
-    IsSound n (symbol_as kind value terminal own)
-sound_as n kinds.Word value terminal own is short = λ v e. free_word own v terminal is e
-sound_as n kinds.Number value terminal own is short = λ v e. absurd cc
-sound_as n kinds.Text value terminal own is short = omega (arith, length-take (length own - 2) (drop 1 own), length-drop 1 own, short)
-sound_as n kinds.Binary value terminal own is short = tt
-sound_as n kinds.Hexadecimal value terminal own is short = tt
-sound_as n kinds.Mark value terminal own is short = λ v e. absurd (no_mark v terminal e)
-sound_as n kinds.Hex4 value terminal own is short = tt
+sound_as : (n : ℕ) (kind : TokenKind) (value : ℤ) (terminal : Option Terminal) (own behind : List ℕ) → terminal ≡ terminal_of kind own → length own ≤ n →
+    Spells kind true own behind → IsSound n (symbol_as kind value terminal own)
+sound_as n kinds.Word value terminal own behind is short spelled = λ v e. free_word own v terminal is e
+sound_as n kinds.Number value terminal own behind is short spelled = λ v e. absurd cc
+sound_as n kinds.Text value terminal own behind is short spelled = omega (arith, length-take (length own - 2) (drop 1 own), length-drop 1 own, short)
+sound_as n kinds.Binary value terminal own behind is short spelled = binary_bits own behind n short spelled
+sound_as n kinds.Hexadecimal value terminal own behind is short spelled = hex_bits own behind n short spelled
+sound_as n kinds.Mark value terminal own behind is short spelled = λ v e. absurd (no_mark v terminal e)
+sound_as n kinds.Hex4 value terminal own behind is short spelled = tt
 
 sound_lexemes : (text : List ℕ) (first : Option Bool) (at limit : ℕ) (lexemes : List Lexeme) → HasLexemes text first at limit lexemes →
-    AreSound (length text) (symbols_of text (tokens_of lexemes))
-sound_lexemes text first at limit [] has = tt
-sound_lexemes text first at limit (l ∷ ls) has =
-    let own : length (token_bytes text l.token) ≤ length text =
+    list_all (λ lexeme. lexeme.good) lexemes ≡ true → AreSound (length text) (symbols_of text (tokens_of lexemes))
+sound_lexemes text first at limit [] has good = tt
+sound_lexemes text first at limit (l ∷ ls) has good =
+    let own = token_bytes text l.token in
+    let behind = slice_range text l.token.end limit in
+    let both = and_parts l.good (list_all (λ lexeme. lexeme.good) ls) good in
+    let short : length own ≤ length text =
     omega (arith, length-take (l.token.end - l.token.start) (drop l.token.start text), length-drop l.token.start text) in (
-      sound_as (length text) l.token.kind l.token.value l.token.terminal (token_bytes text l.token) has.0.terminal own,
-      sound_lexemes text (first_word first l.token.kind (token_bytes text l.token)) l.token.end limit ls has.1,
+      sound_as (length text) l.token.kind l.token.value l.token.terminal own behind has.0.terminal short
+          (subst (λ g. Spells l.token.kind g own behind) both.0 has.0.spelled),
+      sound_lexemes text (first_word first l.token.kind own) l.token.end limit ls has.1 both.1,
     )
 
 sound_tokens : (text : List ℕ) (piece : Piece) (tokens : List Token) → AreTokens text piece tokens → AreSound (length text) (symbols_of text tokens)
 sound_tokens text piece tokens are =
     subst (λ (t : List Token). AreSound (length text) (symbols_of text t)) (sym are.good.tokens_are)
-    (sound_lexemes text None piece.start piece.end are.good.lexemes are.good.has)
+    (sound_lexemes text None piece.start piece.end are.good.lexemes are.good.has are.good.good)
 
 sound_left : (n : ℕ) (a b : List Symbol) → AreSound n (a ++ b) → AreSound n a
 sound_left n [] b sound = tt
@@ -156,6 +164,48 @@ short_body n s (print parts) is sound = short_parts n is.0 parts is.2 (subst (Ar
 short_body n s (if_then e body) is sound =
     short_body n is.1 body is.6 (sound_right n is.0 (join joins.Then ∷ is.1) (subst (AreSound n) is.2 sound).1).1
 short_body n s _ is sound = tt
+
+sound_after : (n : ℕ) (t : Symbol) (r s : List Symbol) → s ≡ t ∷ r → AreSound n s → AreSound n r
+sound_after n t r s is sound = (subst (AreSound n) is sound).1
+
+sound_second : (n : ℕ) (a b s : List Symbol) → s ≡ a ++ b → AreSound n s → AreSound n b
+sound_second n a b s is sound = sound_right n a b (subst (AreSound n) is sound)
+
+literal_array : (n : ℕ) (s : List Symbol) (a : ArrayTree) → IsArray s a → AreSound n s → HoldsLiteral n a
+literal_array n _ _ of_literal sound = sound.0
+literal_array n _ _ (of_target of_whole) sound = tt
+literal_array n _ _ (of_target (of_range x y)) sound = tt
+literal_array n _ _ (of_expr e) sound = tt
+
+literal_start : (n : ℕ) (bits : Option (List Bool)) (s : List Symbol) → IsPart bits_part bits s → AreSound n s → IfSome bits (AreLiteralBits n)
+literal_start n None s is sound = tt
+literal_start n (Some bits) s is sound = (subst (AreSound n) is.2 (sound_after n _ is.0 s is.1 sound)).0
+
+literals : (n : ℕ) (s : List Symbol) (body : BodyTree) → IsBody s body → AreSound n s → HoldsLiterals n body
+literals n s (boolean_array v size bits) is sound =
+    let sized = is.2.4 in
+    literal_start n bits sized.1 sized.4
+    (sound_second n sized.0 sized.1 is.2.1 sized.2 (sound_second n is.2.0 is.2.1 is.0 is.2.2 (sound_after n _ is.0 s is.1 sound)))
+literals n s (assign_array v a) is sound =
+    let opened = is.4 in
+    let closed = opened.2 in
+    let given = closed.2 in
+    literal_array n given.0 a given.2
+    (sound_after n _ given.0 closed.0 given.1 (sound_after n _ closed.0 opened.0 closed.1 (sound_after n _ opened.0 is.1 opened.1 (sound_second n is.0 is.1 s is.2 sound))))
+literals n s (assign_range v high low a) is sound =
+    let opened = is.4 in
+    let upper = opened.2 in
+    let ranged = upper.4 in
+    let lower = ranged.2 in
+    let closed = lower.4 in
+    let given = closed.2 in
+    let behind_name = sound_after n _ opened.0 is.1 opened.1 (sound_second n is.0 is.1 s is.2 sound) in
+    let behind_dots = sound_after n _ ranged.0 upper.1 ranged.1 (sound_second n upper.0 upper.1 opened.0 upper.2 behind_name) in
+    let behind_range = sound_after n _ closed.0 lower.1 closed.1 (sound_second n lower.0 lower.1 ranged.0 lower.2 behind_dots) in
+    literal_array n given.0 a given.2 (sound_after n _ given.0 closed.0 given.1 behind_range)
+literals n s (if_then e body) is sound =
+    literals n is.1 body is.6 (sound_right n is.0 (join joins.Then ∷ is.1) (subst (AreSound n) is.2 sound).1).1
+literals n s _ is sound = tt
 
 free_name : (n : ℕ) (v : List ℕ) (w : Symbol) (a b r s : List Symbol) → s ≡ w ∷ r → r ≡ a ++ b → a ≡ name v ∷ [] → AreSound n s → IsFreeName v
 free_name n v w a b r s first rest is sound =
@@ -192,3 +242,6 @@ well_named_blocks text statements program = of_pieces IsWellNamed text (well_nam
 
 pub short_strings : (text : List ℕ) (statements : List StmtTree) → IsProgram text statements → All (λ (st : StmtTree). PrintsShortStrings (length text) st.body) statements
 short_strings text statements program = of_pieces (PrintsShortStrings (length text)) text (short_body (length text)) program.pieces statements program.read
+
+pub literals_hold : (text : List ℕ) (statements : List StmtTree) → IsProgram text statements → All (λ (st : StmtTree). HoldsLiterals (length text) st.body) statements
+literals_hold text statements program = of_pieces (HoldsLiterals (length text)) text (literals (length text)) program.pieces statements program.read

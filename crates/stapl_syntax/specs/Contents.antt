@@ -1,8 +1,8 @@
--- What the names and strings of statements are (JESD71, names, strings).
-use Rattle.std.specs.Prelude.{◌≡◌, ℕ, ◌≤◌, List, false, length, All}
+-- What the names, strings and literals of statements are (JESD71, names, strings, Boolean array literals).
+use Rattle.std.specs.Prelude.{◌≡◌, ℕ, ◌*◌, ◌≤◌, List, Bool, false, IfSome, length, All}
 use Rattle.stapl_lexer.specs.Names.{IsUpperName}
 use Rattle.stapl_lexer.specs.ReservedWords.{is_reserved_word}
-use Rattle.stapl_syntax.specs.Trees.{PartTree, string, BodyTree, action, procedure, if_then, print}
+use Rattle.stapl_syntax.specs.Trees.{ArrayTree, literal, PartTree, string, BodyTree, action, procedure, boolean_array, assign_array, assign_range, if_then, print}
 
 -- a name that a block or an action may bear
 pub record IsFreeName (name : List ℕ) : Type 0 where
@@ -25,3 +25,21 @@ abbrev pub PrintsShortStrings : ℕ → BodyTree → Type 0
 PrintsShortStrings n (print parts) = All (IsShortPart n) parts
 PrintsShortStrings n (if_then e body) = PrintsShortStrings n body
 PrintsShortStrings n _ = Unit {0}
+
+-- Bits of a literal that stands in so many bytes: at least one, and at most four for each byte.
+pub record AreLiteralBits (n : ℕ) (bits : List Bool) : Type 0 where
+  pub some : 1 ≤ length bits
+  pub few : length bits ≤ 4 * n
+
+-- an array, if it is a literal, has the bits of one in so many bytes
+abbrev pub HoldsLiteral : ℕ → ArrayTree → Type 0
+HoldsLiteral n (literal bits) = AreLiteralBits n bits
+HoldsLiteral n _ = Unit {0}
+
+-- each literal that stands in a declaration or an assignment as the array has the bits of one in so many bytes
+abbrev pub HoldsLiterals : ℕ → BodyTree → Type 0
+HoldsLiterals n (boolean_array name size bits) = IfSome bits (AreLiteralBits n)
+HoldsLiterals n (assign_array name array) = HoldsLiteral n array
+HoldsLiterals n (assign_range name high low array) = HoldsLiteral n array
+HoldsLiterals n (if_then e body) = HoldsLiterals n body
+HoldsLiterals n _ = Unit {0}

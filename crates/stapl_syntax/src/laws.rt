@@ -10,7 +10,7 @@ ghost use Rattle.stapl_syntax.specs.Symbols.{word_sign};
 ghost use Rattle.stapl_syntax.specs.Trees.{StmtTree};
 ghost use Rattle.stapl_syntax.specs.Reasons.{SmallestReason};
 ghost use Rattle.stapl_syntax.specs.Programs.{IsProgram};
-ghost use Rattle.stapl_syntax.specs.Contents.{IsWellNamed, PrintsShortStrings};
+ghost use Rattle.stapl_syntax.specs.Contents.{IsWellNamed, PrintsShortStrings, HoldsLiterals};
 
 /// The names of the ACTIONs and PROCEDUREs of a program are spelled as names and no reserved words, and each ACTION
 /// names a procedure.
@@ -23,6 +23,13 @@ pub fn blocks_are_well_named()
 pub fn texts_of_prints_are_short()
     ensures { (text : List ℕ) (statements : List StmtTree) →
         IsProgram text statements → All (λ st. PrintsShortStrings (length text) st.body) statements }
+{}
+
+/// A literal that stands in a declaration or an assignment as the array has at least one bit, and at most four for each
+/// byte of the text.
+pub fn literals_have_bits()
+    ensures { (text : List ℕ) (statements : List StmtTree) →
+        IsProgram text statements → All (λ st. HoldsLiterals (length text) st.body) statements }
 {}
 
 /// A piece has at most one smallest reason.
