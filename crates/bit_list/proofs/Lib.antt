@@ -1,4 +1,5 @@
 pub mod DigitBits
 pub mod IntegerBits
+pub mod Padding
 pub mod SameBits
 pub mod Steps

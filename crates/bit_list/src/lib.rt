@@ -1,7 +1,7 @@
 //! Lists of bits, the lowest index first.
 #![tactic(auto)]
 
-ghost use Rattle.std.specs.Prelude.{◌≡◌, ◌<◌, ◌≤◌, ◌+◌, ◌↔◌, ◌++◌, ℕ, Bool, false, [], IsTrue, IfOk, OnOk, All, length, replicate, drop, slice_get, slice_set};
+ghost use Rattle.std.specs.Prelude.{◌≡◌, ◌<◌, ◌≤◌, ◌+◌, ◌↔◌, ◌++◌, ℕ, Bool, false, [], IsTrue, IfOk, OnOk, All, length, replicate, take, drop, slice_get, slice_set};
 ghost use Rattle.std.specs.Bool.{beq};
 ghost use Rattle.std.specs.Cmp.Lexicographic.{pointwise};
 ghost use Rattle.bit_list.specs.Digits.{IsDigit, IsFirstBadDigit, bits_of_binary, bits_of_hex};
@@ -134,6 +134,39 @@ impl Bits {
         let (at, low, n) = (at as usize, low as usize, n as usize);
         let source = &from.bits[low..low + n];
         self.bits[at..at + n].copy_from_slice(source);
+    }
+
+    /// Copies the n bits from index `low` on to the indexes from `at` on; the other bits stay. All are read before one
+    /// is written.
+    pub fn copy_within(&mut self, at: u32, low: u32, n: u32)
+        requires target { at + n ≤ length self.old }
+        requires source { low + n ≤ length self.old }
+        ensures copied { self.new ≡ spliced at (taken low n self.old) self.old }
+        ensures length { length self.new ≡ length self.old }
+    {
+        let (at, low, n) = (at as usize, low as usize, n as usize);
+        self.bits.copy_within(low..low + n, at);
+    }
+
+    /// Sets the n bits from index `at` on to the lowest ones of `from`, and to 0 where it has none; the other bits stay.
+    pub fn copy_padded(&mut self, at: u32, from: &Bits, n: u32)
+        requires target { at + n ≤ length self.old }
+        ensures copied { self.new ≡ spliced at (take n (from.now ++ replicate n false)) self.old }
+        ensures length { length self.new ≡ length self.old }
+    {
+        let (at, n) = (at as usize, n as usize);
+        parts::write_padded(&mut self.bits[at..at + n], &from.bits);
+    }
+
+    /// Sets the n bits from index `at` on to the lowest ones of an integer in two's complement; the other bits stay.
+    pub fn set_low_bits(&mut self, at: u32, value: i32, n: u32)
+        requires width { n ≤ 32 }
+        requires target { at + n ≤ length self.old }
+        ensures bits { self.new ≡ spliced at (take n (bits_of_int value)) self.old }
+        ensures length { length self.new ≡ length self.old }
+    {
+        let (at, n) = (at as usize, n as usize);
+        parts::write_low_part(&mut self.bits[at..at + n], value);
     }
 
     /// Whether the lowest n bits of two lists agree wherever the mask has a 1.

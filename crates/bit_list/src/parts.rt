@@ -1,6 +1,7 @@
 //! Ranges of bits in memory, one byte a bit.
-ghost use Rattle.std.specs.Prelude.{◌≡◌, ◌≤◌, ◌↔◌, ◌++◌, IsTrue, length, drop};
+ghost use Rattle.std.specs.Prelude.{◌≡◌, ◌≤◌, ◌↔◌, ◌++◌, false, IsTrue, length, replicate, take, drop};
 ghost use Rattle.base.specs.Bits.{low_bits, number_of};
+ghost use Rattle.bit_list.specs.Integers.{bits_of_int};
 ghost use Rattle.bit_list.specs.Ranges.{AgreeUnderMask};
 
 /// Sets the first n bits to the lowest ones of a number; the other bits stay.
@@ -13,6 +14,24 @@ pub fn write_low_bits(bits: &mut [bool], n: usize, number: u32)
         bits[i] = rest % 2 == 1;
         rest /= 2;
     }
+}
+
+/// Sets all bits, of which there are at most 32, to the lowest ones of an integer in two's complement.
+pub fn write_low_part(bits: &mut [bool], value: i32)
+    requires { length bits.old ≤ 32 }
+    ensures { bits.new ≡ take (length bits.old) (bits_of_int value) }
+{
+    let n = bits.len();
+    write_low_bits(bits, n, value.cast_unsigned());
+}
+
+/// Sets all bits to the first ones of a list, and to 0 where it has none.
+pub fn write_padded(bits: &mut [bool], from: &[bool])
+    ensures { bits.new ≡ take (length bits.old) (from.now ++ replicate (length bits.old) false) }
+{
+    let n = bits.len().min(from.len());
+    bits[..n].copy_from_slice(&from[..n]);
+    bits[n..].fill(false);
 }
 
 /// The number with these bits.
