@@ -15,7 +15,7 @@ use Rattle.stapl_lexer.specs.Pieces.{is_blank, is_semicolon, piece_of, pieces_fr
 use Rattle.stapl_lexer.specs.Segments.{Segment, spelling}
 use Rattle.stapl_lexer.proofs.PieceLemmas.{cut_lies}
 use Rattle.stapl_syntax.specs.Symbols.{Symbol, symbol_of, symbols_of}
-use Rattle.stapl_syntax.specs.Trees.{ExprTree, ArrayTree, PartTree, BodyTree, assign, assign_element, assign_array, assign_range, if_then, for_loop, push, print, exit, end_data, end_procedure, StmtTree}
+use Rattle.stapl_syntax.specs.Trees.{ExprTree, ArrayTree, PartTree, BodyTree, boolean, integer, assign, assign_element, assign_array, assign_range, if_then, for_loop, push, print, exit, end_data, end_procedure, StmtTree}
 use Rattle.stapl_syntax.specs.Expressions.{operator, dots, right_round, right_square, IsExpr, of_unary, tighter, of_binary, IsUnary, negation, complement, negated, of_primary, IsPrimary, of_number, of_cell, of_brackets, of_abs, of_array, IsCell, of_scalar, of_element, IsTarget, of_whole, of_range, IsArray, of_literal, of_target, of_expr}
 use Rattle.stapl_syntax.specs.Parts.{IsPrintPart, of_string, of_value, of_character, IsPart, a_print_part, step_part, Separated, comma, join}
 use Rattle.stapl_syntax.specs.Statements.{IsBody, IsLabelled, IsPieceStatement}
@@ -136,6 +136,10 @@ body_fits s (for_loop v a b c) is =
 body_fits s (push e) is = after_fits is.1 (expr_fits is.2)
 body_fits s (print parts) is = after_fits is.1 (parts_fit is.0 parts is.2)
 body_fits s (exit e) is = after_fits is.1 (expr_fits is.2)
+body_fits s (boolean v (Some b)) is =
+    omega (arith, ap length is.1, ap length is.2.2, length-append is.2.0 is.2.1, ap length is.2.3)
+body_fits s (integer v (Some z)) is =
+    omega (arith, ap length is.1, ap length is.2.2, length-append is.2.0 is.2.1, ap length is.2.3)
 body_fits s end_data is = omega (arith, ap length is)
 body_fits s end_procedure is = omega (arith, ap length is)
 body_fits s _ is = omega (arith, ap length is.1)

@@ -1,37 +1,28 @@
 -- Which statements are built: those that the compiler takes. Which these are is this profile's, and grows.
-use Rattle.std.specs.Prelude.{◌≡◌, nat_lt, length, Bool, true, false, ◌&&◌, ◌||◌, None, Some}
+use Rattle.std.specs.Prelude.{◌≡◌, nat_lt, length, Bool, true, false, ◌||◌, None, Some}
 use Rattle.std.specs.List.{list_all}
-use Rattle.stapl_syntax.specs.Trees.{ExprTree, number, scalar, unary, binary, abs, ItemTree, PartTree, string, value, character, BodyTree, note, action, procedure, crc, end_procedure, boolean, integer, assign, goto, if_then, print, exit, StmtTree}
-
--- an expression: elements of arrays, and INT of an array, are not built
-abbrev pub is_built_expr : ExprTree → Bool
-is_built_expr (number z) = true
-is_built_expr (scalar name) = true
-is_built_expr (unary op e) = is_built_expr e
-is_built_expr (binary op a b) = is_built_expr a && is_built_expr b
-is_built_expr (abs e) = is_built_expr e
-is_built_expr _ = false
-
--- a part of a PRINT
-abbrev pub is_built_part : PartTree → Bool
-is_built_part (string bytes) = true
-is_built_part (value e) = is_built_expr e
-is_built_part (character e) = is_built_expr e
+use Rattle.stapl_syntax.specs.Trees.{ItemTree, BodyTree, note, action, procedure, crc, end_procedure, boolean, boolean_array, integer, integer_array, assign, assign_element, assign_array, assign_range, goto, if_then, print, exit, StmtTree}
 
 -- a statement that may stand after THEN; each PRINT of a program has a part
 abbrev pub is_built_simple : BodyTree → Bool
-is_built_simple (assign name e) = is_built_expr e
+is_built_simple (assign name e) = true
+is_built_simple (assign_element name index e) = true
+is_built_simple (assign_array name a) = true
+is_built_simple (assign_range name high low a) = true
 is_built_simple (goto name) = true
-is_built_simple (if_then e body) = is_built_expr e && is_built_simple body
-is_built_simple (print parts) = nat_lt 0 (length parts) && list_all is_built_part parts
-is_built_simple (exit e) = is_built_expr e
+is_built_simple (if_then e body) = is_built_simple body
+is_built_simple (print parts) = nat_lt 0 (length parts)
+is_built_simple (exit e) = true
 is_built_simple _ = false
 
--- a statement of a procedure: a declaration is that of a scalar without an initial value
+-- a statement of a procedure; each INTEGER array of a program that has initial values has one
 abbrev pub is_built_inner : BodyTree → Bool
 is_built_inner end_procedure = true
-is_built_inner (boolean name None) = true
-is_built_inner (integer name None) = true
+is_built_inner (boolean name start) = true
+is_built_inner (boolean_array name size bits) = true
+is_built_inner (integer name start) = true
+is_built_inner (integer_array name size None) = true
+is_built_inner (integer_array name size (Some zs)) = nat_lt 0 (length zs)
 is_built_inner body = is_built_simple body
 
 -- a procedure that always runs

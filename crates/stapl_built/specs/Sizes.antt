@@ -2,7 +2,7 @@
 -- not counted. This measure is this profile's.
 use Rattle.std.specs.Prelude.{ℕ, ◌+◌, List, Option, None, Some}
 use Rattle.std.specs.List.{sum_by}
-use Rattle.stapl_syntax.specs.Trees.{ExprTree, number, scalar, element, unary, binary, abs, int, ArrayTree, literal, whole, range, of_int, PartTree, string, value, character, BodyTree, assign, assign_element, assign_array, assign_range, if_then, for_loop, push, print, exit, StmtTree}
+use Rattle.stapl_syntax.specs.Trees.{ExprTree, number, scalar, element, unary, binary, abs, int, ArrayTree, literal, whole, range, of_int, PartTree, string, value, character, BodyTree, boolean, integer, assign, assign_element, assign_array, assign_range, if_then, for_loop, push, print, exit, StmtTree}
 
 abbrev mutual
   -- an expression, without brackets around it
@@ -35,6 +35,8 @@ step_size (Some x) = expr_size x
 
 -- a statement without its label; each form that is not named here counts as one symbol
 abbrev pub body_size : BodyTree → ℕ
+body_size (boolean name (Some b)) = 2
+body_size (integer name (Some z)) = 2
 body_size (assign name x) = 2 + expr_size x
 body_size (assign_element name index x) = 2 + expr_size index + expr_size x
 body_size (assign_array name a) = 2 + array_size a

@@ -1,46 +1,17 @@
 //! Which statements are built.
 ghost use Rattle.std.specs.Prelude.{◌≡◌, map};
 ghost use Rattle.std.specs.List.{list_all};
-ghost use Rattle.stapl_syntax.specs.Trees.{print, expr_tree, item_tree, part_tree, body_tree, stmt_tree};
-ghost use Rattle.stapl_built.specs.Built.{is_built_expr, is_built_part, is_built_simple, is_built_inner, is_built_item, is_built_outer, is_built};
+ghost use Rattle.stapl_syntax.specs.Trees.{print, item_tree, part_tree, body_tree, stmt_tree};
+ghost use Rattle.stapl_built.specs.Built.{is_built_simple, is_built_inner, is_built_item, is_built_outer, is_built};
 
-use stapl_syntax::{Body, Expr, Item, PrintPart, Stmt};
+use stapl_syntax::{Body, Item, PrintPart, Stmt};
 
-// An expression.
-fn is_built_expr(expr: &Expr) -> bool
-    ensures { result ≡ is_built_expr (expr_tree expr.now) }
-{
-    match expr {
-        Expr::Number(_) | Expr::Scalar(_) => true,
-        Expr::Unary(_, operand) | Expr::Abs(operand) => is_built_expr(operand),
-        Expr::Binary(_, left, right) => is_built_expr(left) && is_built_expr(right),
-        Expr::Element(_, _) | Expr::Int(_) => false,
-    }
-}
-
-// A part of a PRINT.
-fn is_built_part(part: &PrintPart) -> bool
-    ensures { result ≡ is_built_part (part_tree part.now) }
-{
-    match part {
-        PrintPart::Text(_) => true,
-        PrintPart::Value(expr) => is_built_expr(expr),
-        PrintPart::Character(expr) => is_built_expr(expr),
-    }
-}
-
-fn all_parts_are_built(parts: &[PrintPart]) -> bool
-    ensures { result ≡ list_all (λ part. is_built_part (part_tree part)) parts.now }
-{
-    parts.iter().all(|part| is_built_part(part))
-}
-
-// The parts of a PRINT.
-#[tactic(auto, using(stapl_syntax::proofs::MappedLists::mapped_lists, crate::proofs::BuiltLemmas::some_mapped))]
-fn are_built_parts(parts: &[PrintPart]) -> bool
+// Each PRINT of a program has a part.
+#[tactic(auto, using(crate::proofs::BuiltLemmas::some_mapped))]
+fn has_parts(parts: &[PrintPart]) -> bool
     ensures { result ≡ is_built_simple (print (map part_tree parts.now)) }
 {
-    0 < parts.len() && all_parts_are_built(parts)
+    0 < parts.len()
 }
 
 // A statement that may stand after THEN.
@@ -48,11 +19,14 @@ fn is_simple(body: &Body) -> bool
     ensures { result ≡ is_built_simple (body_tree body.now) }
 {
     match body {
-        Body::Assign(_, expr) => is_built_expr(expr),
-        Body::Goto(_) => true,
-        Body::If(expr, body) => is_built_expr(expr) && is_simple(body),
-        Body::Print(parts) => are_built_parts(parts.as_slice()),
-        Body::Exit(expr) => is_built_expr(expr),
+        Body::Assign(_, _)
+        | Body::AssignElement(_, _, _)
+        | Body::AssignArray(_, _)
+        | Body::AssignRange(_, _, _, _)
+        | Body::Goto(_)
+        | Body::Exit(_) => true,
+        Body::If(_, body) => is_simple(body),
+        Body::Print(parts) => has_parts(parts.as_slice()),
         _ => false,
     }
 }
@@ -62,7 +36,12 @@ fn is_inner(body: &Body) -> bool
     ensures { result ≡ is_built_inner (body_tree body.now) }
 {
     match body {
-        Body::EndProcedure | Body::Boolean(_, None) | Body::Integer(_, None) => true,
+        Body::EndProcedure
+        | Body::Boolean(_, _)
+        | Body::BooleanArray(_, _, _)
+        | Body::Integer(_, _)
+        | Body::IntegerArray(_, _, None) => true,
+        Body::IntegerArray(_, _, Some(values)) => 0 < values.len(),
         _ => is_simple(body),
     }
 }
