@@ -1,14 +1,16 @@
 -- What values do to the state. Statements and instructions share these. Source: JESD71, statements.
-use Rattle.std.specs.Prelude.{ℕ, nat_abs, Bool, true, false, List, [], ◌∷◌, ◌++◌, Option, Some, None, slice_get, slice_set}
+use Rattle.std.specs.Prelude.{ℕ, ℤ, pos, nat_abs, Bool, true, false, List, [], ◌∷◌, ◌++◌, length, Option, Some, None, slice_get, slice_set}
 use Rattle.std.specs.Fmt.{signed_decimal}
+use Rattle.bit_list.specs.Ranges.{spliced}
 use Rattle.stapl_syntax.specs.Trees.{PartTree, string, value, character}
 use Rattle.stapl_meaning.specs.declared.events.Event.TheVariants.{Print}
 use Rattle.stapl_meaning.specs.declared.events.Ending.TheVariants.{Exit}
+use Rattle.stapl_meaning.specs.declared.events.RunFault.TheVariants.{IndexOutOfRange}
 use Rattle.stapl_meaning.specs.declared.values.Value.{Value}
 use Rattle.stapl_meaning.specs.declared.values.Value.TheVariants.{Int, Bit}
 use Rattle.stapl_meaning.specs.declared.values.Held.{Held}
 use Rattle.stapl_meaning.specs.declared.values.Held.TheVariants as held
-use Rattle.stapl_meaning.specs.Values.{Got, Known, Stuck, then_get, integer_of}
+use Rattle.stapl_meaning.specs.Values.{Got, Known, Stuck, then_get, is_index, passed, bits_held, Span, span_of, Source, source_bits, padded, asked, integer_of}
 use Rattle.stapl_meaning.specs.Operands.{character_of}
 use Rattle.stapl_meaning.specs.States.{State, Did, Falls, Jumps, Returns, Ends}
 
@@ -39,6 +41,54 @@ written s variables = then_get variables (λ list. Known (Falls [] (with_variabl
 abbrev pub assigned : ℕ → List Value → State → Got Did
 assigned n (v ∷ []) s = written s (scalar_written s.store.variables n (slice_get s.store.variables n) v)
 assigned n _ s = Stuck
+
+-- an array with another element of its kind
+abbrev pub with_element : Held → ℤ → Value → Got Held
+with_element (held.Ints zs) i (Int z) = passed (is_index i (length zs)) IndexOutOfRange (held.Ints (slice_set zs (nat_abs i) z))
+with_element (held.Bits bs) i (Bit b) = passed (is_index i (length bs)) IndexOutOfRange (held.Bits (slice_set bs (nat_abs i) b))
+with_element _ _ _ = Stuck
+
+-- the variables after a write to an element of the array of number n, which holds this
+abbrev pub element_written : List Held → ℕ → Option Held → ℤ → Value → Got (List Held)
+element_written variables n None i v = Stuck
+element_written variables n (Some h) i v = replaced variables n (with_element h i v)
+
+-- a value is assigned to the element at an index of the array of number n
+abbrev pub element_assigned : ℕ → List Value → State → Got Did
+element_assigned n (Int i ∷ v ∷ []) s = written s (element_written s.store.variables n (slice_get s.store.variables n) i v)
+element_assigned n _ s = Stuck
+
+-- Where bits go: into the whole of the BOOLEAN array of a number, or into a range of it by two indexes.
+pub data Target : Type 0 where
+  IntoWhole : ℕ → Target
+  IntoRange : ℕ → Target
+
+-- As many bits of a source as a part of the array of number n has go there. All are read before the first is written.
+abbrev pub span_written : ℕ → List Bool → Source → List Value → State → Span → Got Did
+span_written n old source values s span =
+    then_get (source_bits s.store.variables source values) (λ bits.
+    then_get (asked source span.count bits) (λ new.
+    Known (Falls [] (with_variables s (slice_set s.store.variables n (held.Bits (spliced span.low new old)))))))
+
+-- bits are copied into an array, by the values of its indexes and of those of the source
+abbrev pub copied : Target → Source → List Value → State → Got Did
+copied (IntoWhole n) source values s =
+    then_get (bits_held (slice_get s.store.variables n))
+    (λ old. span_written n old source values s (record { low = 0; count = length old }))
+copied (IntoRange n) source (high ∷ low ∷ values) s =
+    then_get (bits_held (slice_get s.store.variables n))
+    (λ old. then_get (span_of (length old) high low) (span_written n old source values s))
+copied (IntoRange n) source _ s = Stuck
+
+-- an INTEGER array with these elements from index 0 on, and 0 behind them
+abbrev pub with_integers : List ℤ → Option Held → Got Held
+with_integers zs (Some (held.Ints old)) = Known (held.Ints (padded (pos 0) (length old) zs))
+with_integers zs _ = Stuck
+
+-- the INTEGER array of number n is set
+abbrev pub integers_set : ℕ → List ℤ → List Value → State → Got Did
+integers_set n zs [] s = written s (replaced s.store.variables n (with_integers zs (slice_get s.store.variables n)))
+integers_set n zs _ s = Stuck
 
 -- to the target
 abbrev pub jumped : List Value → State → Got Did

@@ -1,25 +1,27 @@
 -- The operands of a statement: each an expression, the kind that is wanted of it, and the test that stands behind it.
 -- Source: JESD71, statements. That a statement takes all its operands from left to right before it does anything, and
 -- tests each before the next, is this profile's rule.
-use Rattle.std.specs.Prelude.{ℕ, ℤ, pos, negsuc, nat_lt, Bool, true, false, List, [], ◌∷◌, Option, Some, if◌then◌else◌}
+use Rattle.std.specs.Prelude.{ℕ, ℤ, pos, Bool, true, false, List, [], ◌∷◌, Option, None, Some, if◌then◌else◌, slice_get}
 use Rattle.stapl_syntax.specs.declared.names.Kind.{Kind}
 use Rattle.stapl_syntax.specs.declared.names.VarKind.{VarKind}
 use Rattle.stapl_syntax.specs.declared.names.VarKind.TheVariants as variables
 use Rattle.stapl_syntax.specs.Kinds.{is_bit_alone, expr_kind}
-use Rattle.stapl_syntax.specs.Trees.{ExprTree, PartTree, string, value, character}
-use Rattle.stapl_meaning.specs.declared.events.RunFault.{RunFault}
+use Rattle.stapl_syntax.specs.Trees.{ExprTree, ArrayTree, literal as bit_literal, whole, range, of_int, PartTree, string, value, character}
 use Rattle.stapl_meaning.specs.declared.events.RunFault.TheVariants.{BadChar}
 use Rattle.stapl_meaning.specs.declared.values.ValueKind.{ValueKind}
 use Rattle.stapl_meaning.specs.declared.values.ValueKind.TheVariants as kinds
 use Rattle.stapl_meaning.specs.declared.values.Value.{Value}
 use Rattle.stapl_meaning.specs.declared.values.Value.TheVariants.{Int, Bit}
 use Rattle.stapl_meaning.specs.declared.values.Held.{Held}
-use Rattle.stapl_meaning.specs.Values.{Got, Known, Faults, Stuck, then_get, Lookup, value_of}
+use Rattle.stapl_meaning.specs.Values.{Got, Known, Stuck, then_get, is_index, passed, index_held, range_held, Lookup, value_of}
 
--- no test, or that the value is the number of a character
+-- No test; that the value is the number of a character; that it is an index of the array of a number; or that it is the
+-- low index of a range of such an array, whose high index stands before it.
 pub data Test : Type 0 where
   Plain : Test
   Character : Test
+  Index : ℕ → Test
+  Range : ℕ → Test
 
 pub record Operand : Type 0 where
   pub expr : ExprTree
@@ -39,35 +41,40 @@ a_boolean e = plain kinds.Bit e
 abbrev pub a_character : ExprTree → Operand
 a_character e = record { expr = e; kind = kinds.Int; test = Character }
 
--- an index of a list of so many items
-abbrev pub is_index : ℤ → ℕ → Bool
-is_index (pos i) n = nat_lt i n
-is_index (negsuc i) n = false
+-- an index of the array of a number
+abbrev pub an_index : ℕ → ExprTree → Operand
+an_index n e = record { expr = e; kind = kinds.Int; test = Index n }
 
--- a value that passes, or the fault of one that does not
-abbrev pub passed : Bool → RunFault → Value → Got Value
-passed true k v = Known v
-passed false k v = Faults k
+-- the high index and the low index of a range of the array of a number
+abbrev pub a_range : ℕ → ExprTree → ExprTree → List Operand
+a_range n high low = an_integer high ∷ record { expr = low; kind = kinds.Int; test = Range n } ∷ []
 
 -- the number of a character
 abbrev pub character_of : Value → Got Value
 character_of (Int z) = passed (is_index z 256) BadChar (Int z)
 character_of (Bit b) = Stuck
 
--- a value behind its test
-abbrev pub tested : Test → Value → Got Value
-tested Plain v = Known v
-tested Character v = character_of v
-
 module _ (look : Lookup) (variables : List Held) where
+  -- a value behind its test; another may stand before it
+  abbrev pub tested : Test → Option Value → Value → Got Value
+  tested Plain before v = Known v
+  tested Character before v = character_of v
+  tested (Index n) before v = index_held (slice_get variables n) v
+  tested (Range n) None v = Stuck
+  tested (Range n) (Some high) v = range_held (slice_get variables n) high v
+
   -- the value of an operand
-  abbrev pub operand_value : Operand → Got Value
-  operand_value o = then_get (value_of look variables o.kind o.expr) (tested o.test)
+  abbrev pub operand_value : Option Value → Operand → Got Value
+  operand_value before o = then_get (value_of look variables o.kind o.expr) (tested o.test before)
 
   -- the values of operands, from left to right
+  abbrev pub values_behind : Option Value → List Operand → Got (List Value)
+  values_behind before [] = Known []
+  values_behind before (o ∷ os) =
+      then_get (operand_value before o) (λ v. then_get (values_behind (Some v) os) (λ vs. Known (v ∷ vs)))
+
   abbrev pub values_of : List Operand → Got (List Value)
-  values_of [] = Known []
-  values_of (o ∷ os) = then_get (operand_value o) (λ v. then_get (values_of os) (λ vs. Known (v ∷ vs)))
+  values_of os = values_behind None os
 
 -- the kind of what is printed of an expression of this kind: a literal is an integer
 abbrev pub printed_kind : Option Kind → ValueKind
@@ -80,7 +87,20 @@ part_operands look (string bytes ∷ parts) = part_operands look parts
 part_operands look (value e ∷ parts) = plain (printed_kind (expr_kind look.kind e)) e ∷ part_operands look parts
 part_operands look (character e ∷ parts) = a_character e ∷ part_operands look parts
 
--- the kind of what a variable without brackets is given
+-- the operands of an array: the indexes of a range, or the integer
+abbrev pub array_operands : Lookup → ArrayTree → List Operand
+array_operands look (bit_literal bits) = []
+array_operands look (whole name) = []
+array_operands look (range name high low) = a_range (look.variable name) high low
+array_operands look (of_int e) = an_integer e ∷ []
+
+-- the kind of what a variable without brackets is given, or an element
 abbrev pub given_kind : Option VarKind → ValueKind
 given_kind (Some variables.Boolean) = kinds.Bit
+given_kind (Some variables.BooleanArray) = kinds.Bit
 given_kind _ = kinds.Int
+
+-- the number of a Boolean
+abbrev pub bit_number : Bool → ℤ
+bit_number false = pos 0
+bit_number true = pos 1

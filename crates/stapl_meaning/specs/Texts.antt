@@ -5,7 +5,7 @@ use Rattle.std.specs.Fmt.{signed_decimal}
 use Rattle.stapl_meaning.specs.declared.events.Event.{Event}
 use Rattle.stapl_meaning.specs.declared.events.Event.TheVariants.{Print}
 use Rattle.stapl_meaning.specs.declared.events.RunFault.{RunFault}
-use Rattle.stapl_meaning.specs.declared.events.RunFault.TheVariants.{DivideByZero, ShiftCount, BadChar}
+use Rattle.stapl_meaning.specs.declared.events.RunFault.TheVariants.{DivideByZero, IndexOutOfRange, RangeReversed, LengthMismatch, ShiftCount, BadChar}
 use Rattle.stapl_meaning.specs.declared.events.Ending.{Ending}
 use Rattle.stapl_meaning.specs.declared.events.Ending.TheVariants.{Exit, Fault, Spent}
 
@@ -29,6 +29,9 @@ event_line (Print bytes) = codes "P " ++ escaped bytes ++ 10 ∷ []
 
 abbrev pub fault_name : RunFault → List ℕ
 fault_name DivideByZero = codes "DivideByZero"
+fault_name IndexOutOfRange = codes "IndexOutOfRange"
+fault_name RangeReversed = codes "RangeReversed"
+fault_name LengthMismatch = codes "LengthMismatch"
 fault_name ShiftCount = codes "ShiftCount"
 fault_name BadChar = codes "BadChar"
 

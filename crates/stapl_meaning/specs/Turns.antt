@@ -1,22 +1,28 @@
 -- Turns: the execution of one piece. Source: JESD71, statements. Statements are rows of a table with three columns: the
 -- operands, what their values do, and where the statement leads if it does not go on to what follows.
-use Rattle.std.specs.Prelude.{◌≡◌, ℕ, ◌+◌, List, [], ◌∷◌, Option, Some, None, slice_get}
-use Rattle.stapl_syntax.specs.Trees.{BodyTree, end_procedure, boolean, integer, assign, goto, if_then, print, exit, StmtTree}
+use Rattle.std.specs.Prelude.{◌≡◌, ℕ, ◌+◌, List, [], ◌∷◌, ◌++◌, Option, Some, None, slice_get}
+use Rattle.stapl_syntax.specs.Trees.{number, BodyTree, end_procedure, boolean, boolean_array, integer, integer_array, assign, assign_element, assign_array, assign_range, goto, if_then, print, exit, StmtTree}
 use Rattle.stapl_meaning.specs.declared.events.Event.{Event}
 use Rattle.stapl_meaning.specs.declared.events.RunFault.{RunFault}
 use Rattle.stapl_meaning.specs.declared.events.Ending.{Ending}
 use Rattle.stapl_meaning.specs.declared.values.Value.{Value}
-use Rattle.stapl_meaning.specs.Values.{Got, Known, Faults, Stuck}
-use Rattle.stapl_meaning.specs.Operands.{Operand, plain, an_integer, a_boolean, given_kind, part_operands, values_of}
+use Rattle.stapl_meaning.specs.Values.{Got, Known, Faults, Stuck, These, source_of}
+use Rattle.stapl_meaning.specs.Operands.{Operand, plain, an_integer, a_boolean, an_index, a_range, bit_number, given_kind, array_operands, part_operands, values_of}
 use Rattle.stapl_meaning.specs.States.{State, Did, Falls, Jumps, Returns, Ends, Turned, Leads, Over, Broken, NoTurn, with_got, preceded, turn_of_piece, next_chosen, led}
-use Rattle.stapl_meaning.specs.Effects.{assigned, jumped, parted, returned, exited, joined, printed}
+use Rattle.stapl_meaning.specs.Effects.{assigned, element_assigned, IntoWhole, IntoRange, copied, integers_set, jumped, parted, returned, exited, joined, printed}
 use Rattle.stapl_meaning.specs.Scopes.{Scope, scope_at}
 
 -- The table. A statement that is not built has no operands, and finds nothing to do.
 
 -- its operands, in the written order
 abbrev pub operands : Scope → BodyTree → List Operand
+operands scope (boolean name (Some b)) = a_boolean (number (bit_number b)) ∷ []
+operands scope (integer name (Some z)) = an_integer (number z) ∷ []
 operands scope (assign name e) = plain (given_kind (scope.look.kind name)) e ∷ []
+operands scope (assign_element name index e) =
+    an_index (scope.look.variable name) index ∷ plain (given_kind (scope.look.kind name)) e ∷ []
+operands scope (assign_array name a) = array_operands scope.look a
+operands scope (assign_range name high low a) = a_range (scope.look.variable name) high low ++ array_operands scope.look a
 operands scope (if_then e body) = a_boolean e ∷ []
 operands scope (print parts) = part_operands scope.look parts
 operands scope (exit e) = an_integer e ∷ []
@@ -25,7 +31,15 @@ operands scope _ = []
 -- what their values do
 abbrev pub effect : Scope → BodyTree → List Value → State → Got Did
 effect scope end_procedure values s = returned values s
+effect scope (boolean name (Some b)) values s = assigned (scope.look.variable name) values s
+effect scope (boolean_array name size (Some bits)) values s = copied (IntoWhole (scope.look.variable name)) (These bits) values s
+effect scope (integer name (Some z)) values s = assigned (scope.look.variable name) values s
+effect scope (integer_array name size (Some zs)) values s = integers_set (scope.look.variable name) zs values s
 effect scope (assign name e) values s = assigned (scope.look.variable name) values s
+effect scope (assign_element name index e) values s = element_assigned (scope.look.variable name) values s
+effect scope (assign_array name a) values s = copied (IntoWhole (scope.look.variable name)) (source_of scope.look a) values s
+effect scope (assign_range name high low a) values s =
+    copied (IntoRange (scope.look.variable name)) (source_of scope.look a) values s
 effect scope (goto name) values s = jumped values s
 effect scope (if_then e body) values s = parted values s
 effect scope (print parts) values s = printed (joined parts values) s
@@ -39,10 +53,13 @@ target scope (if_then e body) = Some scope.follow
 target scope _ = None
 
 -- The rows of a statement, which are carried out one after the other. An IF has its own, which decides whether those of
--- its inner statement follow. A declaration has none.
+-- its inner statement follow. A declaration without an initial value has none; one with a value sets the variable each
+-- time.
 abbrev pub rows : BodyTree → List BodyTree
 rows (boolean name None) = []
+rows (boolean_array name size None) = []
 rows (integer name None) = []
+rows (integer_array name size None) = []
 rows (if_then e body) = if_then e body ∷ rows body
 rows body = body ∷ []
 

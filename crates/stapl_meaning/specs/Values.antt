@@ -1,11 +1,12 @@
--- Values of expressions. Source: JESD71, expressions. That integers wrap modulo 2 to the power of 32, and what faults,
--- are this profile's rules.
-use Rattle.std.specs.Prelude.{ℕ, zero, suc, ◌^◌, nat_lt, if◌then◌else◌, Bool, true, false, not, ◌&&◌, ◌||◌, List, [], ◌∷◌, Option, Some, slice_get}
+-- Values of expressions. Source: JESD71, expressions and Boolean arrays. That integers wrap modulo 2 to the power of 32,
+-- and what faults, are this profile's rules.
+use Rattle.std.specs.Prelude.{ℕ, zero, suc, ◌+◌, ◌-◌, ◌^◌, nat_lt, nat_le, nat_abs, if◌then◌else◌, Bool, true, false, not, ◌&&◌, ◌||◌, List, [], ◌∷◌, ◌++◌, length, take, replicate, Option, None, Some, slice_get}
 use Rattle.std.specs.Prelude.{ℤ, pos, negsuc, ◌+ℤ◌, ◌-ℤ◌, ◌*ℤ◌, neg_ℤ, int_lt, int_le, int_div, int_rem, unsigned_abs}
 use Rattle.std.specs.Int.{int_wrap, int_div_euclid, w32}
 use Rattle.std.specs.Bool.{beq}
 use Rattle.std.specs.Ordering.{int_eq}
 use Rattle.bit_list.specs.Integers.{int_of, bits_of_int}
+use Rattle.bit_list.specs.Ranges.{taken}
 use Rattle.stapl_lexer.specs.declared.terminal.BinOp.{BinOp}
 use Rattle.stapl_lexer.specs.declared.terminal.BinOp.TheVariants.{Multiply, Divide, Remainder, Add, Subtract}
 use Rattle.stapl_lexer.specs.declared.terminal.BinOp.TheVariants.{ShiftLeft, ShiftRight, BitAnd, BitXor, BitOr, And, Or}
@@ -14,9 +15,9 @@ use Rattle.stapl_syntax.specs.declared.signs.UnOp.{UnOp}
 use Rattle.stapl_syntax.specs.declared.signs.UnOp.TheVariants.{Negate, Complement, Not}
 use Rattle.stapl_syntax.specs.declared.names.Kind.{Kind}
 use Rattle.stapl_syntax.specs.Kinds.{VarKinds, is_bit_alone, expr_kind}
-use Rattle.stapl_syntax.specs.Trees.{ExprTree, number, scalar, unary, binary, abs}
+use Rattle.stapl_syntax.specs.Trees.{ExprTree, number, scalar, element, unary, binary, abs, int, ArrayTree, literal as bit_literal, whole, range, of_int}
 use Rattle.stapl_meaning.specs.declared.events.RunFault.{RunFault}
-use Rattle.stapl_meaning.specs.declared.events.RunFault.TheVariants.{DivideByZero, ShiftCount}
+use Rattle.stapl_meaning.specs.declared.events.RunFault.TheVariants.{DivideByZero, IndexOutOfRange, RangeReversed, LengthMismatch, ShiftCount}
 use Rattle.stapl_meaning.specs.declared.values.ValueKind.{ValueKind}
 use Rattle.stapl_meaning.specs.declared.values.ValueKind.TheVariants as kinds
 use Rattle.stapl_meaning.specs.declared.values.Value.{Value}
@@ -122,6 +123,102 @@ scalar_of (Some (held.Int z)) = Known (Int z)
 scalar_of (Some (held.Bit b)) = Known (Bit b)
 scalar_of _ = Stuck
 
+-- Arrays.
+
+-- an index of a list of so many items
+abbrev pub is_index : ℤ → ℕ → Bool
+is_index (pos i) n = nat_lt i n
+is_index (negsuc i) n = false
+
+-- what passes, or the fault of what does not
+abbrev pub passed : {A : Type 0} → Bool → RunFault → A → Got A
+passed true k x = Known x
+passed false k x = Faults k
+
+-- the item at an index
+abbrev pub item_of : {A : Type 0} → (A → Value) → Option A → Got Value
+item_of make None = Faults IndexOutOfRange
+item_of make (Some x) = Known (make x)
+
+abbrev pub item_at : {A : Type 0} → (A → Value) → List A → ℤ → Got Value
+item_at make xs (pos i) = item_of make (slice_get xs i)
+item_at make xs (negsuc i) = Faults IndexOutOfRange
+
+-- the element of an array at an index
+abbrev pub element_of : Option Held → Value → Got Value
+element_of (Some (held.Ints zs)) (Int i) = item_at Int zs i
+element_of (Some (held.Bits bs)) (Int i) = item_at Bit bs i
+element_of _ _ = Stuck
+
+-- an index that is one of an array
+abbrev pub index_held : Option Held → Value → Got Value
+index_held (Some (held.Ints zs)) (Int i) = passed (is_index i (length zs)) IndexOutOfRange (Int i)
+index_held (Some (held.Bits bs)) (Int i) = passed (is_index i (length bs)) IndexOutOfRange (Int i)
+index_held _ _ = Stuck
+
+-- the bits of a BOOLEAN array
+abbrev pub bits_held : Option Held → Got (List Bool)
+bits_held (Some (held.Bits bs)) = Known bs
+bits_held _ = Stuck
+
+-- a part of an array: its lowest index, and how many bits it has
+pub record Span : Type 0 where
+  pub low : ℕ
+  pub count : ℕ
+
+-- The part from a high index down to a low one, of an array of so many bits. The high index is tested first.
+abbrev pub span_between : ℕ → ℤ → ℤ → Got Span
+span_between n high low =
+    if not (is_index high n && is_index low n) then Faults IndexOutOfRange
+    else passed (int_le low high) RangeReversed (record { low = nat_abs low; count = nat_abs high + 1 - nat_abs low })
+
+abbrev pub span_of : ℕ → Value → Value → Got Span
+span_of n (Int high) (Int low) = span_between n high low
+span_of n _ _ = Stuck
+
+-- the low index of a range whose high index is this one, if it is a range of the array
+abbrev pub range_held : Option Held → Value → Value → Got Value
+range_held array high low =
+    then_get (bits_held array) (λ bits. then_get (span_of (length bits) high low) (λ span. Known low))
+
+-- the bits of a part of an array
+abbrev pub bits_between : Option Held → Value → Value → Got (List Bool)
+bits_between array high low =
+    then_get (bits_held array) (λ bits. then_get (span_of (length bits) high low) (λ span. Known (taken span.low span.count bits)))
+
+-- Where bits come from: these bits, the whole of the variable of a number, a range of it by two indexes, an integer.
+pub data Source : Type 0 where
+  These : List Bool → Source
+  Whole : ℕ → Source
+  Range : ℕ → Source
+  OfInt : Source
+
+-- the bits of a source, by the values of its indexes or of its integer
+abbrev pub source_bits : List Held → Source → List Value → Got (List Bool)
+source_bits variables (These bits) [] = Known bits
+source_bits variables (Whole n) [] = bits_held (slice_get variables n)
+source_bits variables (Range n) (high ∷ low ∷ []) = bits_between (slice_get variables n) high low
+source_bits variables OfInt (Int z ∷ []) = Known (bits_of_int z)
+source_bits variables _ _ = Stuck
+
+-- so many items, the first of a list; missing ones are this one
+abbrev pub padded : {A : Type 0} → A → ℕ → List A → List A
+padded missing n xs = take n (xs ++ replicate n missing)
+
+-- So many bits of a source that has these: the lowest. Missing bits of a literal are 0; no other source may miss one.
+abbrev pub asked : Source → ℕ → List Bool → Got (List Bool)
+asked (These own) n bits = Known (padded false n bits)
+asked (Whole v) n bits = passed (nat_le n (length bits)) LengthMismatch (take n bits)
+asked (Range v) n bits = passed (nat_le n (length bits)) LengthMismatch (take n bits)
+asked OfInt n bits = passed (nat_le n (length bits)) LengthMismatch (take n bits)
+
+-- the integer whose lowest bits these are: missing bits are 0, and those from index 32 on are dropped
+abbrev pub integer_from : List Bool → Value
+integer_from bits = Int (int_of (take 32 bits))
+
+abbrev pub source_integer : List Held → Source → List Value → Got Value
+source_integer variables source values = then_get (source_bits variables source values) (λ bits. Known (integer_from bits))
+
 -- the value of a number where a value of a kind is wanted
 abbrev pub literal : ValueKind → ℤ → Got Value
 literal kinds.Int z = Known (Int z)
@@ -158,17 +255,33 @@ pub record Lookup : Type 0 where
 abbrev pub sides : Lookup → BinOp → ExprTree → ExprTree → ValueKind
 sides look op a b = side op (expr_kind look.kind a) (expr_kind look.kind b)
 
+-- where the bits of an array come from
+abbrev pub source_of : Lookup → ArrayTree → Source
+source_of look (bit_literal bits) = These bits
+source_of look (whole name) = Whole (look.variable name)
+source_of look (range name high low) = Range (look.variable name)
+source_of look (of_int e) = OfInt
+
 module _ (look : Lookup) (variables : List Held) where
-  -- The value of an expression where one of a kind is wanted. Operands are taken from left to right. An expression that
-  -- is not built is stuck.
-  abbrev pub value_of : ValueKind → ExprTree → Got Value
-  value_of kind (number z) = literal kind z
-  value_of kind (scalar name) = scalar_of (slice_get variables (look.variable name))
-  value_of kind (unary op e) = then_get (value_of (unary_side op) e) (signed op)
-  value_of kind (binary op a b) =
-      then_get (value_of (sides look op a b) a) (λ x. then_get (value_of (sides look op a b) b) (λ y. combined op x y))
-  value_of kind (abs e) = then_get (value_of kinds.Int e) absolute
-  value_of kind _ = Stuck
+  abbrev mutual
+    -- The value of an expression where one of a kind is wanted. Operands are taken from left to right.
+    pub value_of : ValueKind → ExprTree → Got Value
+    value_of kind (number z) = literal kind z
+    value_of kind (scalar name) = scalar_of (slice_get variables (look.variable name))
+    value_of kind (element name index) = then_get (value_of kinds.Int index) (element_of (slice_get variables (look.variable name)))
+    value_of kind (unary op e) = then_get (value_of (unary_side op) e) (signed op)
+    value_of kind (binary op a b) =
+        then_get (value_of (sides look op a b) a) (λ x. then_get (value_of (sides look op a b) b) (λ y. combined op x y))
+    value_of kind (abs e) = then_get (value_of kinds.Int e) absolute
+    value_of kind (int a) = then_get (source_values a) (source_integer variables (source_of look a))
+
+    -- the values of the indexes of an array, or of its integer
+    pub source_values : ArrayTree → Got (List Value)
+    source_values (bit_literal bits) = Known []
+    source_values (whole name) = Known []
+    source_values (range name high low) =
+        then_get (value_of kinds.Int high) (λ h. then_get (value_of kinds.Int low) (λ l. Known (h ∷ l ∷ [])))
+    source_values (of_int e) = then_get (value_of kinds.Int e) (λ v. Known (v ∷ []))
 
 -- the integer that a value is
 abbrev pub integer_of : Value → Got ℤ

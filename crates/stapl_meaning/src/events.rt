@@ -19,6 +19,12 @@ pub enum Event {
 pub enum RunFault {
     /// The right side of `/` or `%` is 0.
     DivideByZero,
+    /// An index is not one of its array.
+    IndexOutOfRange,
+    /// Both indexes of a range are in its array, and the high one is below the low one.
+    RangeReversed,
+    /// An array that is no literal has fewer bits than are asked of it.
+    LengthMismatch,
     /// A shift count is not in 0 to 31.
     ShiftCount,
     /// The number of a character is not in 0 to 255.
@@ -32,6 +38,9 @@ impl RunFault {
     {
         match self {
             RunFault::DivideByZero => b"DivideByZero",
+            RunFault::IndexOutOfRange => b"IndexOutOfRange",
+            RunFault::RangeReversed => b"RangeReversed",
+            RunFault::LengthMismatch => b"LengthMismatch",
             RunFault::ShiftCount => b"ShiftCount",
             RunFault::BadChar => b"BadChar",
         }
