@@ -1,15 +1,16 @@
 -- How the number of operands grows.
 use Rattle.std.proofs.Common.{◌≡◌, suc, ◌+◌, ◌≤◌, Bool, true, false, List, [], ◌∷◌, Option, Some, None, length, arith, refl, ap}
-use Rattle.std.specs.Prelude.{slice_get}
+use Rattle.std.specs.Prelude.{slice_get, if◌then◌else◌}
+use Rattle.std.specs.List.{list_all}
 use Rattle.stapl_meaning.specs.declared.values.ValueKind.{ValueKind}
 use Rattle.stapl_meaning.specs.declared.values.ValueKind.TheVariants as kinds
 use Rattle.stapl_code.specs.declared.raw.VarDef.{VarDef}
 use Rattle.stapl_code.specs.declared.operators.Operator.{Operator}
 use Rattle.stapl_code.specs.declared.instr.Instr.{Instr}
 use Rattle.stapl_code.specs.declared.instr.Instr.TheVariants.{Unary, Binary}
-use Rattle.stapl_code.specs.Operators.{operator_table, unary_kinds}
-use Rattle.stapl_code.specs.Machine.{Slot, slot_of, result_of, takes, gives}
-use Rattle.stapl_code.specs.Kinds.{off, then_kinds, put_on, taken_off, left_by, clears, slot_kind, all_off, all_on, kinds_behind}
+use Rattle.stapl_code.specs.Operators.{operator_table}
+use Rattle.stapl_code.specs.Machine.{Slot, result_of, takes, gives, wants}
+use Rattle.stapl_code.specs.Kinds.{off, then_kinds, put_on, taken_off, left_by, clears, slot_kind, is_met, all_off, all_on, kinds_moved, kinds_behind}
 
 pub then_some : (o : Option (List ValueKind)) (go : List ValueKind → Option (List ValueKind)) (after : List ValueKind) →
     then_kinds o go ≡ Some after → (below : List ValueKind) × (o ≡ Some below) × (go below ≡ Some after)
@@ -19,7 +20,7 @@ then_some (Some below) go after e = (below, refl, e)
 same_count : (ks after : List ValueKind) → Some ks ≡ Some after → length after ≤ length ks
 same_count ks after e = let same : ks ≡ after = cc in omega (arith, ap length same)
 
-off_count : (k : ValueKind) (ks after : List ValueKind) → off k ks ≡ Some after → length after ≤ length ks
+off_count : (k : ValueKind) (ks after : List ValueKind) → off k ks ≡ Some after → suc (length after) ≤ length ks
 off_count k [] after e = absurd cc
 off_count kinds.Int (kinds.Int ∷ ks) after e = omega (arith, same_count ks after e)
 off_count kinds.Bit (kinds.Bit ∷ ks) after e = omega (arith, same_count ks after e)
@@ -27,7 +28,7 @@ off_count kinds.Int (kinds.Bit ∷ ks) after e = absurd cc
 off_count kinds.Bit (kinds.Int ∷ ks) after e = absurd cc
 
 taken_count : (o : Option ValueKind) (ks after : List ValueKind) → taken_off o ks ≡ Some after →
-    length after ≤ length ks
+    suc (length after) ≤ length ks
 taken_count None ks after e = absurd cc
 taken_count (Some k) ks after e = off_count k ks after e
 
@@ -45,19 +46,27 @@ one_result : (o : Option Operator) → length (result_of o) ≤ 1
 one_result None = omega arith
 one_result (Some operator) = omega arith
 
-one_slot : (o : Option ValueKind) → length (slot_of o) ≤ 1
-one_slot None = omega arith
-one_slot (Some k) = omega arith
+-- an instruction gives at most one operand more than it takes
+given_count : (x : Instr) → length (gives x) ≤ suc (length (takes x))
+given_count (Unary op) = omega arith
+given_count (Binary op) = omega (arith, one_result (slice_get operator_table op))
+given_count _ = omega arith
 
-one_given : (x : Instr) → length (gives x) ≤ 1
-one_given (Unary op) = one_slot (slice_get unary_kinds op)
-one_given (Binary op) = one_result (slice_get operator_table op)
-one_given _ = omega arith
+met_and_moved : (met : Bool) (moved : Option (List ValueKind)) (after : List ValueKind) →
+    (if met then moved else None) ≡ Some after → (met ≡ true) × (moved ≡ Some after)
+met_and_moved true moved after e = (refl, e)
+met_and_moved false moved after e = absurd cc
 
 module _ (variables : List VarDef) where
+  -- the kinds behind an instruction say that its variables are what they have to be, and that it moves the kinds
+  pub met_and_behind : (x : Instr) (ks after : List ValueKind) → kinds_behind variables x ks ≡ Some after →
+      (list_all (is_met variables) (wants x) ≡ true) × (kinds_moved variables x ks ≡ Some after)
+  met_and_behind x ks after e =
+      met_and_moved (list_all (is_met variables) (wants x)) (kinds_moved variables x ks) after e
+
   off_all_count : (wanted : List Slot) (ks after : List ValueKind) → all_off variables wanted ks ≡ Some after →
-      length after ≤ length ks
-  off_all_count [] ks after e = same_count ks after e
+      length after + length wanted ≤ length ks
+  off_all_count [] ks after e = omega (arith, same_count ks after e)
   off_all_count (slot ∷ wanted) ks after e =
       let t = then_some (all_off variables wanted ks) (taken_off (slot_kind variables slot)) after e in
       omega (arith, off_all_count wanted ks t.0 t.1, taken_count (slot_kind variables slot) t.0 after t.2)
@@ -69,13 +78,14 @@ module _ (variables : List VarDef) where
       let t = then_some (put_on (slot_kind variables slot) ks) (all_on variables given) after e in
       omega (arith, put_count (slot_kind variables slot) ks t.0 t.1, on_all_count given t.0 after t.2)
 
-  -- an instruction gives at most one operand more than it takes
+  -- behind an instruction there is at most one operand more
   pub one_more : (x : Instr) (ks after : List ValueKind) → kinds_behind variables x ks ≡ Some after →
       length after ≤ suc (length ks)
   one_more x ks after e =
+      let moved = (met_and_behind x ks after e).1 in
       let behind : List ValueKind → Option (List ValueKind) = λ ks. then_kinds (left_by (clears x) ks) (all_on variables (gives x)) in
-      let t = then_some (all_off variables (takes x) ks) behind after e in
+      let t = then_some (all_off variables (takes x) ks) behind after moved in
       let u = then_some (left_by (clears x) t.0) (all_on variables (gives x)) after t.2 in
       let off = off_all_count (takes x) ks t.0 t.1 in
       let on = on_all_count (gives x) u.0 after u.2 in
-      omega (arith, off, left_count (clears x) t.0 u.0 u.1, on, one_given x)
+      omega (arith, off, left_count (clears x) t.0 u.0 u.1, on, given_count x)

@@ -1,6 +1,8 @@
 pub mod Bounds
 pub mod Operands
 pub mod OperatorKinds
+pub mod Fitting
+pub mod ArraySteps
 pub mod OneStep
 pub mod ValidRuns
 pub mod Pairs

@@ -2,6 +2,8 @@
 -- and one rule.
 use Rattle.std.proofs.Common.{◌≡◌, ℕ, zero, suc, ◌+◌, ◌<◌, ◌≤◌, Bool, true, false, List, [], ◌∷◌, ◌++◌, Option, Some, None, length, arith, refl, sym, ap, ◌∙◌, subst}
 use Rattle.std.specs.Prelude.{ℤ, nat_abs, slice_get, slice_set, All}
+use Rattle.std.specs.List.{list_all}
+use Rattle.std.proofs.lemmas.Bool.{and_parts}
 use Rattle.std.proofs.lemmas.List.{append-nil}
 use Rattle.stapl_meaning.specs.declared.events.Event.{Event}
 use Rattle.stapl_meaning.specs.declared.events.RunFault.TheVariants.{BadChar}
@@ -11,45 +13,28 @@ use Rattle.stapl_meaning.specs.declared.values.Value.{Value}
 use Rattle.stapl_meaning.specs.declared.values.Value.TheVariants.{Int, Bit}
 use Rattle.stapl_meaning.specs.declared.values.ValueKind.{ValueKind}
 use Rattle.stapl_meaning.specs.declared.values.ValueKind.TheVariants as kinds
-use Rattle.stapl_meaning.specs.Values.{Got, Known, Faults, Stuck, then_get, combined, integer_of, scalar_of}
-use Rattle.stapl_meaning.specs.Operands.{is_index, passed}
-use Rattle.stapl_meaning.specs.States.{State, Turned, Leads, Over, Broken, NoTurn, next_chosen, jumps_to}
+use Rattle.stapl_meaning.specs.Values.{Got, Known, Faults, Stuck, then_get, combined, is_index, passed, range_held, element_of, index_held, source_integer, integer_of, scalar_of}
+use Rattle.stapl_meaning.specs.States.{State, Did, Turned, Leads, Over, Broken, NoTurn, next_chosen, jumps_to}
 use Rattle.stapl_meaning.specs.States as did
-use Rattle.stapl_meaning.specs.Effects.{scalar_written, written, way_of, after_value, printed}
+use Rattle.stapl_meaning.specs.Effects.{scalar_written, element_assigned, IntoWhole, copied, integers_set, written, way_of, after_value, printed}
 use Rattle.stapl_code.specs.declared.raw.VarDef.{VarDef}
 use Rattle.stapl_code.specs.declared.operators.Operator.{Operator}
 use Rattle.stapl_code.specs.declared.instr.PrintPart.{PrintPart}
 use Rattle.stapl_code.specs.declared.instr.PrintPart.TheVariants as parts
+use Rattle.stapl_code.specs.declared.instr.Source.{Source}
 use Rattle.stapl_code.specs.declared.instr.Instr.{Instr}
-use Rattle.stapl_code.specs.declared.instr.Instr.TheVariants.{Turn, Push, PushBit, Load, Store, Unary, Binary, Jump, JumpIfZero, EndProc, Print, CheckChar, Exit}
+use Rattle.stapl_code.specs.declared.instr.Instr.TheVariants.{Turn, Push, PushBit, Load, LoadAt, CheckIndex, CheckRange, Store, StoreAt, Unary, Binary, ToInt, CopyBits, SetBits, SetInts, Jump, JumpIfZero, EndProc, Print, CheckChar, Exit}
 use Rattle.stapl_code.specs.Operators.{operator_table, unary_kinds, unary_results}
-use Rattle.stapl_code.specs.Machine.{Made, Puts, Does, puts, does, one, two, bit_of, operated_by, signed_by, Slot, Of, OfScalar, slot_of, sides_of, result_of, part_slots, takes, gives, known_text, parts_text, made, lands, Step, Falls, Emits, Stops, Faulted, Wrong, taken_onto, taken, on_taken, emitted, entry_of, on_made, step}
-use Rattle.stapl_code.specs.Ranges.{IsPart, IsInstr}
-use Rattle.stapl_code.specs.Kinds.{then_kinds, scalar_kind, variable_kind, put_on, left_by, clears, slot_kind, all_off, all_on, kinds_behind}
+use Rattle.stapl_code.specs.Machine.{Constants, AnArray, OfBits, OfInts, source_slots, source_wants, dest_slots, dest_want, target_of, known_literal, known_source, Made, Puts, PutsTwo, Does, puts, does, one, two, bit_of, operated_by, signed_by, Slot, Of, OfScalar, OfElement, slot_of, sides_of, result_of, part_slots, takes, gives, wants, known_text, parts_text, made, lands, Step, Falls, Emits, Stops, Faulted, Wrong, taken_onto, taken, on_taken, emitted, entry_of, on_made, step}
+use Rattle.stapl_code.specs.Ranges.{IsPart, IsSource, IsInstr}
+use Rattle.stapl_code.specs.Kinds.{then_kinds, scalar_kind, variable_kind, element_kind, is_met, put_on, left_by, clears, slot_kind, all_off, all_on, kinds_behind}
 use Rattle.stapl_code.specs.Valid.{is_turn, is_target, leads_well}
 use Rattle.stapl_code.specs.Safe.{Fits, AllFit, AllBelow}
-use Rattle.stapl_code.proofs.KindCounts.{then_some}
+use Rattle.stapl_code.proofs.KindCounts.{then_some, met_and_behind}
+use Rattle.stapl_code.proofs.Fitting.{FitAt, fit_at, fit_set}
+use Rattle.stapl_code.proofs.ArraySteps.{IsGot, IsAnswer, element_good, index_good, range_good, Resolves, source_good, integer_good, Writes, element_stored, integers_good, Copies, copy_good, bits_good}
 use Rattle.stapl_code.proofs.Operands.{kind_of, kinds_of, EachOf, each_of, each_more, Each, each_at, each_map, taken_as}
 use Rattle.stapl_code.proofs.OperatorKinds.{GotOf, CombinesAt, combined_good, Signs, signed_good}
-
--- a variable beside what it holds
-abbrev FitAt : Option VarDef → Option Held → Type 0
-FitAt None None = Unit {0}
-FitAt (Some v) (Some h) = Fits v h
-FitAt _ _ = ⊥
-
-fit_at : (vs : List VarDef) (hs : List Held) (n : ℕ) → AllFit vs hs → FitAt (slice_get vs n) (slice_get hs n)
-fit_at [] [] n f = tt
-fit_at (v ∷ vs) (h ∷ hs) zero f = f.0
-fit_at (v ∷ vs) (h ∷ hs) (suc n) f = fit_at vs hs n f.1
-fit_at _ _ n f = absurd f
-
-fit_set : (vs : List VarDef) (hs : List Held) (n : ℕ) (v : VarDef) (h : Held) → AllFit vs hs → slice_get vs n ≡ Some v →
-    Fits v h → AllFit vs (slice_set hs n h)
-fit_set (u ∷ us) (g ∷ gs) zero v h f e k = let same : u ≡ v = cc in (subst (λ w. Fits w h) (sym same) k, f.1)
-fit_set (u ∷ us) (g ∷ gs) (suc n) v h f e k = (f.0, fit_set us gs n v h f.1 e k)
-fit_set [] [] n v h f e k = tt
-fit_set _ _ n v h f e k = absurd f
 
 none_are_left : (ops : List Value) (after : List ValueKind) → left_by true (kinds_of ops) ≡ Some after → ops ≡ []
 none_are_left [] after e = refl
@@ -95,7 +80,7 @@ character_good true z Stuck h = absurd h
 character_good false z more h = tt
 
 module _
-    (variables : List VarDef) (procedures : ℕ) (entries : List ℕ) (texts : List (List ℕ)) (IsPlace : ℕ → Type 0) where
+    (variables : List VarDef) (procedures : ℕ) (entries : List ℕ) (constants : Constants) (IsPlace : ℕ → Type 0) where
   -- what holds of the state between two instructions
   pub record Good (s : State) : Type 0 where
     pub variables_fit : AllFit variables s.store.variables
@@ -126,6 +111,7 @@ module _
   -- what an instruction makes of its operands is what its columns say
   abbrev MadeGood : List Slot → Bool → Option ℕ → Got Made → Type 0
   MadeGood gs clear to (Known (Puts v)) = Adds gs (kind_of v ∷ [])
+  MadeGood gs clear to (Known (PutsTwo x y)) = Adds gs (kind_of y ∷ kind_of x ∷ [])
   MadeGood gs clear to (Known (Does (did.Falls events t))) = Adds gs [] × Good t
   MadeGood gs clear to (Known (Does (did.Jumps t))) = (clear ≡ true) × IsTarget to × Good t
   MadeGood gs clear to (Known (Does (did.Returns t))) = (clear ≡ true) × Good t
@@ -147,6 +133,12 @@ module _
   passed_good : (b : Bool) (z : ℤ) → GotOf (Some kinds.Int) (passed b BadChar (Int z))
   passed_good true z = refl
   passed_good false z = tt
+
+  kept_good : (x y : ℤ) (g : Got Value) → IsAnswer g →
+      MadeGood (Of kinds.Int ∷ Of kinds.Int ∷ []) false None (then_get g (λ z. Known (PutsTwo (Int x) (Int y))))
+  kept_good x y (Known z) h = λ below. refl
+  kept_good x y (Faults k) h = tt
+  kept_good x y Stuck h = absurd h
 
   is_put : (o : Option ValueKind) (mid after : List ValueKind) → then_kinds (put_on o mid) (all_on variables []) ≡ Some after →
       (k : ValueKind) × (o ≡ Some k)
@@ -181,27 +173,27 @@ module _
       (λ x. puts_good clear to (Of k) (result x)) c
 
   abbrev PartsGood : List PrintPart → List Value → Type 0
-  PartsGood list vs = TextGood (parts_text entries texts list vs)
+  PartsGood list vs = TextGood (parts_text entries constants list vs)
 
   -- each part of a Print finds its text or its operand
-  parts_good : (list : List PrintPart) → All (IsPart (length texts)) list → Each variables (part_slots list) (PartsGood list)
+  parts_good : (list : List PrintPart) → All (IsPart (length constants.texts)) list → Each variables (part_slots list) (PartsGood list)
   parts_good [] r = tt
   parts_good (parts.Text n ∷ rest) r =
-      let there : IsThere (slice_get texts n) = text_there n texts (r 0 parts.Int (omega arith)) in
+      let there : IsThere (slice_get constants.texts n) = text_there n constants.texts (r 0 parts.Int (omega arith)) in
       each_map variables (part_slots rest) (PartsGood rest) (PartsGood (parts.Text n ∷ rest))
-      (λ vs. text_good (slice_get texts n) (parts_text entries texts rest vs) there)
+      (λ vs. text_good (slice_get constants.texts n) (parts_text entries constants rest vs) there)
       (parts_good rest (λ j d h. r (suc j) d (omega arith)))
   parts_good (parts.Int ∷ rest) r = λ z.
       each_map variables (part_slots rest) (PartsGood rest) (λ vs. PartsGood (parts.Int ∷ rest) (Int z ∷ vs))
-      (λ vs. value_good (Int z) (parts_text entries texts rest vs))
+      (λ vs. value_good (Int z) (parts_text entries constants rest vs))
       (parts_good rest (λ j d h. r (suc j) d (omega arith)))
   parts_good (parts.Bit ∷ rest) r = λ b.
       each_map variables (part_slots rest) (PartsGood rest) (λ vs. PartsGood (parts.Bit ∷ rest) (Bit b ∷ vs))
-      (λ vs. value_good (Bit b) (parts_text entries texts rest vs))
+      (λ vs. value_good (Bit b) (parts_text entries constants rest vs))
       (parts_good rest (λ j d h. r (suc j) d (omega arith)))
   parts_good (parts.Char ∷ rest) r = λ z.
       each_map variables (part_slots rest) (PartsGood rest) (λ vs. PartsGood (parts.Char ∷ rest) (Int z ∷ vs))
-      (λ vs. character_good (is_index z 256) z (parts_text entries texts rest vs))
+      (λ vs. character_good (is_index z 256) z (parts_text entries constants rest vs))
       (parts_good rest (λ j d h. r (suc j) d (omega arith)))
 
   jumps_good : (to : Option ℕ) (s : State) → IsTarget to → Good s → TurnedGood (jumps_to to s)
@@ -220,6 +212,17 @@ module _
     printed_good clear to (Faults k) h = tt
     printed_good clear to Stuck h = absurd h
 
+    wrote_good : (g : Got Did) → IsGot (Writes variables s) g → MadeGood [] false None (does g)
+    wrote_good (Known (did.Falls events t)) h =
+        let good_now : Good t = record {
+          variables_fit = h.1;
+          chosen_below = subst (AllBelow procedures) (sym h.0) good.chosen_below;
+        } in
+        (λ below. refl, good_now)
+    wrote_good (Known _) h = absurd h
+    wrote_good (Faults k) h = tt
+    wrote_good Stuck h = absurd h
+
     way_good : (to : ℕ) → IsPlace to → (b : Bool) → MadeGood [] true (Some to) (Known (Does (way_of b s)))
     way_good to there true = (λ below. refl, good)
     way_good to there false = (refl, there, good)
@@ -231,11 +234,11 @@ module _
       chosen_below = good.chosen_below;
     }
 
-    abbrev Writes : ℕ → Option Held → Value → Type 0
-    Writes n oh x = MadeGood [] false None (does (written s (scalar_written s.store.variables n oh x)))
+    abbrev Stores : ℕ → Option Held → Value → Type 0
+    Stores n oh x = MadeGood [] false None (does (written s (scalar_written s.store.variables n oh x)))
 
     store_good : (n : ℕ) (ov : Option VarDef) (oh : Option Held) (x : Value) → slice_get variables n ≡ ov → FitAt ov oh →
-        variable_kind ov ≡ Some (kind_of x) → Writes n oh x
+        variable_kind ov ≡ Some (kind_of x) → Stores n oh x
     store_good n None oh x at f e = absurd cc
     store_good n (Some v) None x at f e = absurd f
     store_good n (Some v) (Some (held.Int old)) (Int z) at f e = (λ below. refl, stored n v (held.Int z) at f)
@@ -268,6 +271,7 @@ module _
       -- what was made leads on as its columns say
       made_good : (g : Got Made) → MadeGood gs clear to g → StepGood after (on_made entries to ops s g)
       made_good (Known (Puts v)) m = (kinds_above (kind_of v ∷ []) m, good)
+      made_good (Known (PutsTwo x y)) m = (kinds_above (kind_of y ∷ kind_of x ∷ []) m, good)
       made_good (Known (Does (did.Falls events t))) m = emitted_good events ops t after (kinds_above [] m.0) m.1
       made_good (Known (Does (did.Jumps t))) m = (none_below m.0, jumps_good to t m.1 m.2)
       made_good (Known (Does (did.Returns t))) m = (none_below m.0, chosen_good t m.1 t.chosen m.1.chosen_below)
@@ -279,54 +283,101 @@ module _
         (entry : ℕ) (procedure : List Instr) (targets : (to : ℕ) → is_target entry procedure to ≡ true → IsPlace to) (s : State)
         (good : Good s) (here : ℕ) (after : List ValueKind) where
       abbrev Makes : Instr → List Value → Type 0
-      Makes x vs = MadeGood (gives x) (clears x) (lands here x) (made entries texts x vs s)
+      Makes x vs = MadeGood (gives x) (clears x) (lands here x) (made entries constants x vs s)
 
       fits : (n : ℕ) → FitAt (slice_get variables n) (slice_get s.store.variables n)
       fits n = fit_at variables s.store.variables n good.variables_fit
 
+      abbrev Stands : Instr → Type 0
+      Stands x = IsInstr variables (length constants.literals) (length constants.texts) x
+
+      -- its variables are what they have to be
+      abbrev IsMet : Instr → Type 0
+      IsMet x = list_all (is_met variables) (wants x) ≡ true
+
+      resolves : (source : Source) → IsSource (length variables) (length constants.literals) source →
+          list_all (is_met variables) (source_wants source) ≡ true → Resolves variables constants.literals s.store.variables source
+      resolves source = source_good variables constants.literals s.store.variables source good.variables_fit
+
       -- a line for each instruction
-      row_good : (x : Instr) (mid : List ValueKind) → all_on variables (gives x) mid ≡ Some after →
-          leads_well entry procedure x ≡ true → IsInstr (length variables) (length texts) x →
-          (is_turn (Some x) ≡ true → IsPlace here) → Each variables (takes x) (Makes x)
-      row_good (Turn piece) mid on leads r at = (refl, at refl, good)
-      row_good (Push z) mid on leads r at = λ below. refl
-      row_good (PushBit b) mid on leads r at = puts_good false None (Of kinds.Bit) (bit_of b) (bit_good b r)
-      row_good (Load n) mid on leads r at =
+      row_good : (x : Instr) (mid : List ValueKind) → all_on variables (gives x) mid ≡ Some after → IsMet x →
+          leads_well entry procedure x ≡ true → Stands x → (is_turn (Some x) ≡ true → IsPlace here) → Each variables (takes x) (Makes x)
+      row_good (Turn piece) mid on met leads r at = (refl, at refl, good)
+      row_good (Push z) mid on met leads r at = λ below. refl
+      row_good (PushBit b) mid on met leads r at = puts_good false None (Of kinds.Bit) (bit_of b) (bit_good b r)
+      row_good (Load n) mid on met leads r at =
           let kind = is_put (variable_kind (slice_get variables n)) mid after on in
           puts_good false None (OfScalar n) (scalar_of (slice_get s.store.variables n))
           (load_good (slice_get variables n) (slice_get s.store.variables n) kind.0 (fits n) kind.1)
-      row_good (Store n) mid on leads r at =
-          each_of (variable_kind (slice_get variables n)) (Writes s good n (slice_get s.store.variables n))
+      row_good (LoadAt n) mid on met leads r at = λ i.
+          let kind = is_put (element_kind (slice_get variables n)) mid after on in
+          puts_good false None (OfElement n) (element_of (slice_get s.store.variables n) (Int i))
+          (element_good (slice_get variables n) (slice_get s.store.variables n) kind.0 i (fits n) kind.1)
+      row_good (CheckIndex n) mid on met leads r at = λ i.
+          let array = (and_parts (is_met variables (AnArray n)) true met).0 in
+          puts_good false None (Of kinds.Int) (index_held (slice_get s.store.variables n) (Int i))
+          (index_good (slice_get variables n) (slice_get s.store.variables n) i (fits n) array)
+      row_good (CheckRange n) mid on met leads r at = λ high low.
+          let bits = (and_parts (is_met variables (OfBits n)) true met).0 in
+          kept_good high low (range_held (slice_get s.store.variables n) (Int high) (Int low))
+          (range_good (slice_get variables n) (slice_get s.store.variables n) (fits n) bits high low)
+      row_good (Store n) mid on met leads r at =
+          each_of (variable_kind (slice_get variables n)) (Stores s good n (slice_get s.store.variables n))
           (λ v. store_good s good n (slice_get variables n) (slice_get s.store.variables n) v refl (fits n))
-      row_good (Unary op) mid on leads r at =
+      row_good (StoreAt n) mid on met leads r at = λ i.
+          each_of (element_kind (slice_get variables n)) (λ v. Makes (StoreAt n) (Int i ∷ v ∷ []))
+          (λ v e. wrote_good s good (element_assigned n (Int i ∷ v ∷ []) s)
+          (element_stored variables s good.variables_fit n (slice_get variables n) (slice_get s.store.variables n) i v refl (fits n) e))
+      row_good (Unary op) mid on met leads r at =
           unary_good false None (slice_get unary_kinds op) (slice_get unary_results op) (signed_good op r)
-      row_good (Binary op) mid on leads r at = binary_good false None (slice_get operator_table op) (combined_good op r)
-      row_good (Jump to) mid on leads r at = (refl, targets to leads, good)
-      row_good (JumpIfZero to) mid on leads r at = way_good s good to (targets to leads)
-      row_good EndProc mid on leads r at = (refl, good)
-      row_good (Print list) mid on leads r at =
+      row_good (Binary op) mid on met leads r at = binary_good false None (slice_get operator_table op) (combined_good op r)
+      row_good (ToInt source) mid on met leads r at =
+          let integer : List Value → Got Value =
+          λ vs. then_get (known_source constants.literals source) (λ from. source_integer s.store.variables from vs)
+          in
+          each_map variables (source_slots source) (λ vs. GotOf (Some kinds.Int) (integer vs)) (Makes (ToInt source))
+          (λ vs. puts_good false None (Of kinds.Int) (integer vs))
+          (integer_good variables constants.literals s.store.variables source (resolves source r met))
+      row_good (CopyBits dest source) mid on met leads r at =
+          let both = and_parts (is_met variables (dest_want dest)) (list_all (is_met variables) (source_wants source)) met in
+          each_map variables (dest_slots dest (source_slots source)) (Copies variables s good.variables_fit constants.literals dest source)
+          (Makes (CopyBits dest source))
+          (λ vs. wrote_good s good (then_get (known_source constants.literals source) (λ from. copied (target_of dest) from vs s)))
+          (copy_good variables s good.variables_fit constants.literals dest source both.0 (resolves source r.1 both.1))
+      row_good (SetBits n literal) mid on met leads r at =
+          let bits = (and_parts (is_met variables (OfBits n)) true met).0 in
+          wrote_good s good (then_get (known_literal (slice_get constants.literals literal)) (λ from. copied (IntoWhole n) from [] s))
+          (bits_good variables s good.variables_fit constants.literals n literal bits r.1)
+      row_good (SetInts n list) mid on met leads r at =
+          let integers = (and_parts (is_met variables (OfInts n)) true met).0 in
+          wrote_good s good (integers_set n list [] s) (integers_good variables s good.variables_fit n list integers)
+      row_good (Jump to) mid on met leads r at = (refl, targets to leads, good)
+      row_good (JumpIfZero to) mid on met leads r at = way_good s good to (targets to leads)
+      row_good EndProc mid on met leads r at = (refl, good)
+      row_good (Print list) mid on met leads r at =
           each_map variables (part_slots list) (PartsGood list) (Makes (Print list))
-          (λ vs. printed_good s good false None (parts_text entries texts list vs)) (parts_good list r.1)
-      row_good CheckChar mid on leads r at = λ z.
+          (λ vs. printed_good s good false None (parts_text entries constants list vs)) (parts_good list r.1)
+      row_good CheckChar mid on met leads r at = λ z.
           puts_good false None (Of kinds.Int) (passed (is_index z 256) BadChar (Int z)) (passed_good (is_index z 256) z)
-      row_good Exit mid on leads r at = λ z. refl
+      row_good Exit mid on met leads r at = λ z. refl
 
       pub step_good : (x : Instr) (ops : List Value) → kinds_behind variables x (kinds_of ops) ≡ Some after →
-          leads_well entry procedure x ≡ true → IsInstr (length variables) (length texts) x →
-          (is_turn (Some x) ≡ true → IsPlace here) → StepGood after (step entries texts here x ops s)
+          leads_well entry procedure x ≡ true → Stands x → (is_turn (Some x) ≡ true → IsPlace here) →
+          StepGood after (step entries constants here x ops s)
       step_good x ops e leads r at =
           let behind : List ValueKind → Option (List ValueKind) = λ ks. then_kinds (left_by (clears x) ks) (all_on variables (gives x)) in
-          let off = then_some (all_off variables (takes x) (kinds_of ops)) behind after e in
+          let both = met_and_behind variables x (kinds_of ops) after e in
+          let off = then_some (all_off variables (takes x) (kinds_of ops)) behind after both.1 in
           let on = then_some (left_by (clears x) off.0) (all_on variables (gives x)) after off.2 in
           let t = taken_as variables (takes x) 0 [] ops off.0 off.1 in
           let count : length (takes x) ≡ length (takes x) + 0 = omega arith in
-          let go : List Value → List Value → Step = λ vs ops. on_made entries (lands here x) ops s (made entries texts x vs s) in
+          let go : List Value → List Value → Step = λ vs ops. on_made entries (lands here x) ops s (made entries constants x vs s) in
           let is : on_taken (taken (length (takes x)) ops) go ≡ go t.values t.rest =
           ap (λ (n : ℕ). on_taken (taken_onto n [] ops) go) count
           ∙ ap (λ o. on_taken o go) t.are
           ∙ ap (λ vs. go vs t.rest) (append-nil t.values)
           in
-          let makes = each_at variables (takes x) (Makes x) (row_good x on.0 on.2 leads r at) t.values t.fill in
+          let makes = each_at variables (takes x) (Makes x) (row_good x on.0 on.2 both.0 leads r at) t.values t.fill in
           let left = ap (left_by (clears x)) t.left ∙ on.1 in
           subst (StepGood after) (sym is)
-          (made_good s good (gives x) (clears x) (lands here x) t.rest on.0 after left on.2 (made entries texts x t.values s) makes)
+          (made_good s good (gives x) (clears x) (lands here x) t.rest on.0 after left on.2 (made entries constants x t.values s) makes)

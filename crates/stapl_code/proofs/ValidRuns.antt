@@ -1,6 +1,6 @@
 -- Runs of a valid code.
 use Rattle.std.proofs.Common.{◌≡◌, ◌≢◌, ℕ, zero, suc, ◌+◌, ◌-◌, ◌<◌, ◌≤◌, Bool, true, false, List, [], ◌∷◌, ◌++◌, Option, Some, None, length, take, drop, arith, refl, sym, ap, ◌∙◌, subst, length-drop, length-take, add-one}
-use Rattle.std.specs.Prelude.{slice_get, slice_range, ◌&&◌, ◌||◌, not, nat_lt, nat_le, All, AllPairs, if◌then◌else◌}
+use Rattle.std.specs.Prelude.{ℤ, slice_get, slice_range, ◌&&◌, ◌||◌, not, nat_lt, nat_le, All, AllPairs, if◌then◌else◌}
 use Rattle.std.specs.List.{list_all}
 use Rattle.std.proofs.lemmas.Bool.Decides.{nat_tests}
 use Rattle.std.proofs.lemmas.List.{take-append-drop, drop-append-le, drop-drop}
@@ -10,19 +10,20 @@ use Rattle.stapl_meaning.specs.declared.values.Held.TheVariants as held
 use Rattle.stapl_meaning.specs.declared.values.Value.{Value}
 use Rattle.stapl_meaning.specs.declared.values.Value.TheVariants as values
 use Rattle.stapl_meaning.specs.States.{State, Turned, Leads, Over, Broken, NoTurn, preceded, next_chosen, turn_of_piece}
-use Rattle.stapl_meaning.specs.Effects.{scalar_written, written}
+use Rattle.stapl_meaning.specs.Effects.{scalar_written, written, replaced, span_written, with_integers}
+use Rattle.stapl_meaning.specs.Values.{then_get, bits_held}
 use Rattle.stapl_meaning.specs.Plays.{goes_on, Stopped, start}
 use Rattle.stapl_meaning.specs.declared.values.ValueKind.{ValueKind}
 use Rattle.stapl_code.specs.declared.raw.VarDef.{VarDef}
 use Rattle.stapl_code.specs.declared.raw.ProcDef.{ProcDef}
 use Rattle.stapl_code.specs.declared.raw.CodeLists.{CodeLists}
 use Rattle.stapl_code.specs.declared.instr.Instr.{Instr}
-use Rattle.stapl_code.specs.declared.instr.Instr.TheVariants.{Turn, Push, PushBit, Store, EndProc}
-use Rattle.stapl_code.specs.Machine.{does, puts, bit_of, Step, Falls, Emits, Stops, Faulted, Wrong, on_made, entry_of, step, at_end, continues, stretch, begins, code_turn, code_run, begun, code_play}
+use Rattle.stapl_code.specs.declared.instr.Instr.TheVariants.{Turn, Push, PushBit, Store, SetBits, SetInts, EndProc}
+use Rattle.stapl_code.specs.Machine.{does, puts, bit_of, known_literal, Step, Falls, Emits, Stops, Faulted, Wrong, on_made, entry_of, step, at_end, continues, stretch, begins, code_turn, code_run, begun, code_play}
 use Rattle.stapl_code.specs.Ranges.{IsInstr, IsInRange}
 use Rattle.stapl_code.specs.Kinds.{kinds_behind}
 use Rattle.stapl_code.specs.Valid.{is_turn, is_end, sets_up, departs, is_last, agree, kinds_kept, judged, first_of, is_target, leads_well, stands_well, prologue_break, rest_break, procedure_break, next_entry, procedures_break, entry_break, IsValid}
-use Rattle.stapl_code.specs.Safe.{AllFit, AllBelow, entries_of}
+use Rattle.stapl_code.specs.Safe.{AllFit, AllBelow, entries_of, constants_of}
 use Rattle.stapl_code.specs.Ticks.{ticks_then}
 use Rattle.stapl_code.specs.Depth.{on_kinds, deepest, procedures_depth, depth_of, held_behind, held, begin_held, turn_held, run_held, play_held}
 use Rattle.stapl_code.proofs.Operands.{kinds_of}
@@ -141,6 +142,20 @@ module _ (entries : List ℕ) (to : Option ℕ) (ops : List Value) (s : State) w
   write_never_stops variables n (Some (held.Ints zs)) v = tt
   write_never_stops variables n (Some (held.Bits bs)) v = tt
 
+  bits_never_stop : (n : ℕ) (o : Option (List Bool)) (h : Option Held) →
+      NeverStops (on_made entries to ops s (does
+      (then_get (known_literal o) (λ from. then_get (bits_held h) (λ old. span_written n old from [] s (record { low = 0; count = length old }))))))
+  bits_never_stop n None h = tt
+  bits_never_stop n (Some bits) None = tt
+  bits_never_stop n (Some bits) (Some (held.Bits old)) = tt
+  bits_never_stop n (Some bits) (Some _) = tt
+
+  integers_never_stop : (variables : List Held) (n : ℕ) (zs : List ℤ) (h : Option Held) →
+      NeverStops (on_made entries to ops s (does (written s (replaced variables n (with_integers zs h)))))
+  integers_never_stop variables n zs None = tt
+  integers_never_stop variables n zs (Some (held.Ints old)) = tt
+  integers_never_stop variables n zs (Some _) = tt
+
 kinds_count : (ops : List Value) → length (kinds_of ops) ≡ length ops
 kinds_count [] = refl
 kinds_count (v ∷ ops) = ap suc (kinds_count ops)
@@ -167,13 +182,13 @@ module _ (code : CodeLists) where
     deep : deepest code.variables [] procedure ≤ depth_of code
 
   abbrev Ready : State → Type 0
-  Ready s = Good code.variables (length code.procedures) (entries_of code.procedures) code.texts IsPlace s
+  Ready s = Good code.variables (length code.procedures) (entries_of code.procedures) (constants_of code) IsPlace s
 
   abbrev Ends : Turned → Type 0
-  Ends t = TurnedGood code.variables (length code.procedures) (entries_of code.procedures) code.texts IsPlace t
+  Ends t = TurnedGood code.variables (length code.procedures) (entries_of code.procedures) (constants_of code) IsPlace t
 
   abbrev Follows : List ValueKind → Step → Type 0
-  Follows after st = StepGood code.variables (length code.procedures) (entries_of code.procedures) code.texts IsPlace after st
+  Follows after st = StepGood code.variables (length code.procedures) (entries_of code.procedures) (constants_of code) IsPlace after st
 
   -- the rest of a turn that ends well, and so many operands
   abbrev Safe : Turned → ℕ → Type 0
@@ -289,9 +304,9 @@ module _ (code : CodeLists) where
         let r = procedure_at code.procedures p h (λ i j d less inside. (range.procedures.in_order i j d less inside).1) within rest_ok.0 in
         subst IsPlace (sym r.entry_is) (procedure_place r.entry r.end r.some r.most r.whole (omega (arith, r.deep)))
 
-    falls_inside : (here : ℕ) (x : Instr) (ops : List Value) (s : State) → FallsOnly (is_end x) (step (entries_of code.procedures) code.texts here x ops s)
+    falls_inside : (here : ℕ) (x : Instr) (ops : List Value) (s : State) → FallsOnly (is_end x) (step (entries_of code.procedures) (constants_of code) here x ops s)
     falls_inside here EndProc ops s = tt
-    falls_inside here x ops s = never_an_end (step (entries_of code.procedures) code.texts here x ops s)
+    falls_inside here x ops s = never_an_end (step (entries_of code.procedures) (constants_of code) here x ops s)
 
     preceded_good : (events : List Event) (t : Turned) → Ends t → Ends (preceded events t)
     preceded_good events (Leads more place s) g = g
@@ -326,7 +341,7 @@ module _ (code : CodeLists) where
       }
 
       -- the rest of a turn
-      rest_good : (rest : List Instr) (j : ℕ) (must : Bool) (ops : List Value) (s : State) → Ready s → drop j procedure ≡ rest → drop (entry + j) code.instrs ≡ rest ++ behind → 0 < length rest → rest_break code.variables entry procedure (entry + j) must (kinds_of ops) rest ≡ None → deepest code.variables (kinds_of ops) rest ≤ depth_of code → Safe (stretch (entries_of code.procedures) code.texts total (rest ++ behind) ops s) (held (entries_of code.procedures) code.texts total (rest ++ behind) ops s)
+      rest_good : (rest : List Instr) (j : ℕ) (must : Bool) (ops : List Value) (s : State) → Ready s → drop j procedure ≡ rest → drop (entry + j) code.instrs ≡ rest ++ behind → 0 < length rest → rest_break code.variables entry procedure (entry + j) must (kinds_of ops) rest ≡ None → deepest code.variables (kinds_of ops) rest ≤ depth_of code → Safe (stretch (entries_of code.procedures) (constants_of code) total (rest ++ behind) ops s) (held (entries_of code.procedures) (constants_of code) total (rest ++ behind) ops s)
       rest_good [] j must ops s good d at some e below = absurd (omega arith)
       rest_good (x ∷ rest) j must ops s good d at some e below =
           let k = judged_none (kinds_behind code.variables x (kinds_of ops)) (stands_well entry procedure must x (is_last rest)) (entry + j) (λ after. rest_break code.variables entry procedure (entry + j + 1) (departs x) after rest) e in
@@ -335,10 +350,10 @@ module _ (code : CodeLists) where
           let one : entry + (j + 1) ≡ suc (entry + j) = omega arith in
           let again : entry + (j + 1) ≡ entry + j + 1 = omega arith in
           let next : drop (entry + (j + 1)) code.instrs ≡ rest ++ behind = ap (λ (n : ℕ). drop n code.instrs) one ∙ drop_tail (entry + j) code.instrs ∙ ap (drop 1) at in
-          let r = all_dropped (IsInstr (length code.variables) (length code.texts)) (entry + j) code.instrs x (rest ++ behind) range.instrs at in
-          let sg = step_good code.variables (length code.procedures) (entries_of code.procedures) code.texts IsPlace begin entry procedure (target_place entry procedure behind whole stands deep) s good (total - suc (length (rest ++ behind))) k.0 x ops k.1 (target_stands entry procedure must x (is_last rest) k.2) r (λ t. subst IsPlace (sym here) (turn_place j x rest d t)) in
+          let r = all_dropped (IsInstr code.variables (length code.literals) (length code.texts)) (entry + j) code.instrs x (rest ++ behind) range.instrs at in
+          let sg = step_good code.variables (length code.procedures) (entries_of code.procedures) (constants_of code) IsPlace begin entry procedure (target_place entry procedure behind whole stands deep) s good (total - suc (length (rest ++ behind))) k.0 x ops k.1 (target_stands entry procedure must x (is_last rest) k.2) r (λ t. subst IsPlace (sym here) (turn_place j x rest d t)) in
           let under = deeper x (kinds_of ops) k.0 rest k.1 in
-          let c = continue_good (is_end x) k.0 (step (entries_of code.procedures) code.texts (total - suc (length (rest ++ behind))) x ops s) (stretch (entries_of code.procedures) code.texts total (rest ++ behind)) (held (entries_of code.procedures) code.texts total (rest ++ behind)) sg (falls_inside _ x ops s) (λ o t end kinds g.
+          let c = continue_good (is_end x) k.0 (step (entries_of code.procedures) (constants_of code) (total - suc (length (rest ++ behind))) x ops s) (stretch (entries_of code.procedures) (constants_of code) total (rest ++ behind)) (held (entries_of code.procedures) (constants_of code) total (rest ++ behind)) sg (falls_inside _ x ops s) (λ o t end kinds g.
           rest_good rest (j + 1) (departs x) o t g more next (more_follow rest (not_last (is_end x) (is_last rest) (end_stands entry procedure must x (is_last rest) k.2) end))
           (ap (λ n. rest_break code.variables entry procedure n (departs x) (kinds_of o) rest) again ∙ ap (λ ks. rest_break code.variables entry procedure (entry + j + 1) (departs x) ks rest) kinds ∙ k.3)
           (subst (λ ks. deepest code.variables ks rest ≤ depth_of code) (sym kinds) (omega (arith, under.1, below)))) in
@@ -346,7 +361,7 @@ module _ (code : CodeLists) where
           (c.0, omega (arith, c.1, few))
 
       -- a turn that begins in the procedure
-      turn_from : (j : ℕ) (s : State) → Ready s → is_turn (slice_get procedure j) ≡ true → SafePiece (code_turn (entries_of code.procedures) code.texts code.instrs (entry + j) s) (turn_held (entries_of code.procedures) code.texts code.instrs (entry + j) s)
+      turn_from : (j : ℕ) (s : State) → Ready s → is_turn (slice_get procedure j) ≡ true → SafePiece (code_turn (entries_of code.procedures) (constants_of code) code.instrs (entry + j) s) (turn_held (entries_of code.procedures) (constants_of code) code.instrs (entry + j) s)
       turn_from j s good e = from (drop j procedure) refl
         where
           some : (l : List Instr) → drop j procedure ≡ l → is_turn (head_of l) ≡ true
@@ -355,7 +370,7 @@ module _ (code : CodeLists) where
           at_most : (l : List Instr) → drop j procedure ≡ l → 0 < length l → j ≤ length procedure
           at_most l d h = omega (arith, ap length d, length-drop j procedure)
 
-          by_turn : (piece : ℕ) (rest : List Instr) → drop j procedure ≡ Turn piece ∷ rest → drop (entry + j) code.instrs ≡ Turn piece ∷ rest ++ behind → SafePiece (begins (entries_of code.procedures) code.texts total (Turn piece ∷ rest ++ behind) s) (begin_held (entries_of code.procedures) code.texts total (Turn piece ∷ rest ++ behind) s)
+          by_turn : (piece : ℕ) (rest : List Instr) → drop j procedure ≡ Turn piece ∷ rest → drop (entry + j) code.instrs ≡ Turn piece ∷ rest ++ behind → SafePiece (begins (entries_of code.procedures) (constants_of code) total (Turn piece ∷ rest ++ behind) s) (begin_held (entries_of code.procedures) (constants_of code) total (Turn piece ∷ rest ++ behind) s)
           by_turn piece rest d at =
               let r = reached entry procedure j entry true [] procedure whole in
               let k = judged_none (kinds_behind code.variables (Turn piece) r.1) (stands_well entry procedure r.0 (Turn piece) (is_last rest)) (entry + j) (λ after. rest_break code.variables entry procedure (entry + j + 1) (departs (Turn piece)) after rest) (ap (rest_break code.variables entry procedure (entry + j) r.0 r.1) (sym d) ∙ r.2) in
@@ -369,20 +384,20 @@ module _ (code : CodeLists) where
               let r = rest_good rest (j + 1) false [] s good more next (more_follow rest (not_last false (is_last rest) (end_stands entry procedure r.0 (Turn piece) (is_last rest) k.2) refl))
               (ap (λ n. rest_break code.variables entry procedure n false [] rest) again ∙ ap (λ ks. rest_break code.variables entry procedure (entry + j + 1) false ks rest) (sym none) ∙ k.3)
               (subst (λ ks. deepest code.variables ks rest ≤ depth_of code) none below) in
-              (piece_good piece (stretch (entries_of code.procedures) code.texts total (rest ++ behind) [] s) r.0, r.1)
+              (piece_good piece (stretch (entries_of code.procedures) (constants_of code) total (rest ++ behind) [] s) r.0, r.1)
 
-          from : (l : List Instr) → drop j procedure ≡ l → SafePiece (begins (entries_of code.procedures) code.texts total (drop (entry + j) code.instrs) s) (begin_held (entries_of code.procedures) code.texts total (drop (entry + j) code.instrs) s)
+          from : (l : List Instr) → drop j procedure ≡ l → SafePiece (begins (entries_of code.procedures) (constants_of code) total (drop (entry + j) code.instrs) s) (begin_held (entries_of code.procedures) (constants_of code) total (drop (entry + j) code.instrs) s)
           from [] d = absurd (let a = some [] d in cc)
           from (x ∷ rest) d =
               let t = is_a_turn x (some (x ∷ rest) d) in
               let is : drop j procedure ≡ Turn t.0 ∷ rest = d ∙ ap (λ y. y ∷ rest) t.1 in
               let at : drop (entry + j) code.instrs ≡ Turn t.0 ∷ rest ++ behind = sym (drop-drop j entry code.instrs) ∙ ap (drop j) stands ∙ drop-append-le j procedure behind (at_most (x ∷ rest) d (omega arith)) ∙ ap (λ l. l ++ behind) is in
-              subst (λ l. SafePiece (begins (entries_of code.procedures) code.texts total l s) (begin_held (entries_of code.procedures) code.texts total l s)) (sym at) (by_turn t.0 rest is at)
+              subst (λ l. SafePiece (begins (entries_of code.procedures) (constants_of code) total l s) (begin_held (entries_of code.procedures) (constants_of code) total l s)) (sym at) (by_turn t.0 rest is at)
 
-    turn_good : (place : ℕ) (s : State) → IsPlace place → Ready s → SafePiece (code_turn (entries_of code.procedures) code.texts code.instrs place s) (turn_held (entries_of code.procedures) code.texts code.instrs place s)
+    turn_good : (place : ℕ) (s : State) → IsPlace place → Ready s → SafePiece (code_turn (entries_of code.procedures) (constants_of code) code.instrs place s) (turn_held (entries_of code.procedures) (constants_of code) code.instrs place s)
     turn_good place s at good =
         let same : at.entry + (place - at.entry) ≡ place = omega (arith, at.from) in
-        subst (λ n. SafePiece (code_turn (entries_of code.procedures) code.texts code.instrs n s) (turn_held (entries_of code.procedures) code.texts code.instrs n s)) same (turn_from at.entry at.procedure at.behind at.whole at.stands at.deep (place - at.entry) s good at.turn)
+        subst (λ n. SafePiece (code_turn (entries_of code.procedures) (constants_of code) code.instrs n s) (turn_held (entries_of code.procedures) (constants_of code) code.instrs n s)) same (turn_from at.entry at.procedure at.behind at.whole at.stands at.deep (place - at.entry) s good at.turn)
 
     place_turn : (place : ℕ) → IsPlace place → is_turn (head_of (drop place code.instrs)) ≡ true
     place_turn place at = from (drop j at.procedure) refl
@@ -424,21 +439,27 @@ module _ (code : CodeLists) where
     continue_begins after (Faulted k t) go count g f rest = absurd f
     continue_begins after Wrong go count g f rest = absurd g
 
-    store_never_stops : (n here : ℕ) (ops : List Value) (s : State) → NeverStops (step (entries_of code.procedures) code.texts here (Store n) ops s)
+    store_never_stops : (n here : ℕ) (ops : List Value) (s : State) → NeverStops (step (entries_of code.procedures) (constants_of code) here (Store n) ops s)
     store_never_stops n here [] s = tt
     store_never_stops n here (v ∷ ops) s =
         write_never_stops (entries_of code.procedures) None ops s s.store.variables n (slice_get s.store.variables n) v
 
-    never_stops : (x : Instr) (here : ℕ) (ops : List Value) (s : State) → sets_up x ≡ true → NeverStops (step (entries_of code.procedures) code.texts here x ops s)
+    never_stops : (x : Instr) (here : ℕ) (ops : List Value) (s : State) → sets_up x ≡ true → NeverStops (step (entries_of code.procedures) (constants_of code) here x ops s)
     never_stops (Push z) here ops s e = tt
     never_stops (PushBit b) here ops s e = bit_never_stops (entries_of code.procedures) None ops s b
     never_stops (Store n) here ops s e = store_never_stops n here ops s
+    never_stops (SetBits n literal) here ops s e =
+        bits_never_stop (entries_of code.procedures) None ops s n (slice_get code.literals literal) (slice_get s.store.variables n)
+    never_stops (SetInts n list) here ops s e =
+        integers_never_stop (entries_of code.procedures) None ops s s.store.variables n list (slice_get s.store.variables n)
     never_stops _ here ops s e = absurd cc
 
     leads_nowhere : (x : Instr) → sets_up x ≡ true → leads_well 0 [] x ≡ true
     leads_nowhere (Push z) e = refl
     leads_nowhere (PushBit b) e = refl
     leads_nowhere (Store n) e = refl
+    leads_nowhere (SetBits n literal) e = refl
+    leads_nowhere (SetInts n list) e = refl
     leads_nowhere _ e = absurd cc
 
     no_turn : (x : Instr) → sets_up x ≡ true → is_turn (Some x) ≡ true → ⊥
@@ -459,21 +480,21 @@ module _ (code : CodeLists) where
     no_operands [] e = refl
     no_operands (v ∷ ops) e = absurd cc
 
-    prologue_good : (prologue behind : List Instr) (i : ℕ) (ops : List Value) (s : State) → is_turn (head_of behind) ≡ true → Ready s → drop i code.instrs ≡ prologue ++ behind → (prologue ≡ [] → ops ≡ []) → prologue_break code.variables i (kinds_of ops) prologue ≡ None → deepest code.variables (kinds_of ops) prologue ≤ depth_of code → BeginsSafe (stretch (entries_of code.procedures) code.texts total (prologue ++ behind) ops s) (held (entries_of code.procedures) code.texts total (prologue ++ behind) ops s)
+    prologue_good : (prologue behind : List Instr) (i : ℕ) (ops : List Value) (s : State) → is_turn (head_of behind) ≡ true → Ready s → drop i code.instrs ≡ prologue ++ behind → (prologue ≡ [] → ops ≡ []) → prologue_break code.variables i (kinds_of ops) prologue ≡ None → deepest code.variables (kinds_of ops) prologue ≤ depth_of code → BeginsSafe (stretch (entries_of code.procedures) (constants_of code) total (prologue ++ behind) ops s) (held (entries_of code.procedures) (constants_of code) total (prologue ++ behind) ops s)
     prologue_good [] [] i ops s turn good at none e below = absurd cc
     prologue_good [] (y ∷ behind) i ops s turn good at none e below =
         let t = is_a_turn y turn in
-        subst (λ o. BeginsSafe (stretch (entries_of code.procedures) code.texts total (y ∷ behind) o s) (held (entries_of code.procedures) code.texts total (y ∷ behind) o s)) (sym (none refl))
-        (subst (λ z. BeginsSafe (stretch (entries_of code.procedures) code.texts total (z ∷ behind) [] s) (held (entries_of code.procedures) code.texts total (z ∷ behind) [] s)) (sym t.1) (good, omega arith))
+        subst (λ o. BeginsSafe (stretch (entries_of code.procedures) (constants_of code) total (y ∷ behind) o s) (held (entries_of code.procedures) (constants_of code) total (y ∷ behind) o s)) (sym (none refl))
+        (subst (λ z. BeginsSafe (stretch (entries_of code.procedures) (constants_of code) total (z ∷ behind) [] s) (held (entries_of code.procedures) (constants_of code) total (z ∷ behind) [] s)) (sym t.1) (good, omega arith))
     prologue_good (x ∷ rest) behind i ops s turn good at none e below =
         let k = judged_none (kinds_kept (is_last rest) (kinds_behind code.variables x (kinds_of ops))) (sets_up x) i (λ after. prologue_break code.variables (i + 1) after rest) e in
         let kept = none_kept rest (kinds_behind code.variables x (kinds_of ops)) k.0 k.1 in
         let next : drop (i + 1) code.instrs ≡ rest ++ behind = rw add-one (drop_tail i code.instrs ∙ ap (drop 1) at) in
-        let r = all_dropped (IsInstr (length code.variables) (length code.texts)) i code.instrs x (rest ++ behind) range.instrs at in
+        let r = all_dropped (IsInstr code.variables (length code.literals) (length code.texts)) i code.instrs x (rest ++ behind) range.instrs at in
         let here = total - suc (length (rest ++ behind)) in
-        let sg = step_good code.variables (length code.procedures) (entries_of code.procedures) code.texts IsPlace begin 0 [] no_target s good here k.0 x ops kept.0 (leads_nowhere x k.2) r (λ t. absurd (no_turn x k.2 t)) in
+        let sg = step_good code.variables (length code.procedures) (entries_of code.procedures) (constants_of code) IsPlace begin 0 [] no_target s good here k.0 x ops kept.0 (leads_nowhere x k.2) r (λ t. absurd (no_turn x k.2 t)) in
         let under = deeper x (kinds_of ops) k.0 rest kept.0 in
-        let c = continue_begins k.0 (step (entries_of code.procedures) code.texts here x ops s) (stretch (entries_of code.procedures) code.texts total (rest ++ behind)) (held (entries_of code.procedures) code.texts total (rest ++ behind)) sg (never_stops x here ops s k.2) (λ o t kinds g.
+        let c = continue_begins k.0 (step (entries_of code.procedures) (constants_of code) here x ops s) (stretch (entries_of code.procedures) (constants_of code) total (rest ++ behind)) (held (entries_of code.procedures) (constants_of code) total (rest ++ behind)) sg (never_stops x here ops s k.2) (λ o t kinds g.
         prologue_good rest behind (i + 1) o t turn g next (λ f. no_operands o (kinds ∙ kept.1 f)) (ap (λ ks. prologue_break code.variables (i + 1) ks rest) kinds ∙ k.3)
         (subst (λ ks. deepest code.variables ks rest ≤ depth_of code) (sym kinds) (omega (arith, under.1, below)))) in
         let few : length ops ≤ depth_of code = omega (arith, under.0, below, kinds_count ops) in
@@ -483,9 +504,9 @@ module _ (code : CodeLists) where
         EndsPiece (preceded events (next_chosen (entry_of (entries_of code.procedures)) s ps))
     chosen_begins events s g [] below = tt
     chosen_begins events s g (p ∷ ps) below =
-        chosen_good code.variables (length code.procedures) (entries_of code.procedures) code.texts IsPlace begin s g (p ∷ ps) below
+        chosen_good code.variables (length code.procedures) (entries_of code.procedures) (constants_of code) IsPlace begin s g (p ∷ ps) below
 
-    begun_good : (t : Turned) → Begins t → EndsPiece (begun (entries_of code.procedures) code.texts t)
+    begun_good : (t : Turned) → Begins t → EndsPiece (begun (entries_of code.procedures) (constants_of code) t)
     begun_good (Leads events place s) g =
         chosen_begins events s g s.chosen g.chosen_below
     begun_good (Over events ending s) g = absurd g
@@ -502,24 +523,24 @@ module _ (code : CodeLists) where
             let first : entry_of (entries_of code.procedures) 0 ≡ p.entry = ap (λ qs. entry_of (entries_of qs) 0) is in
             subst (λ (n : ℕ). is_turn (head_of (drop n code.instrs)) ≡ true) first (place_turn (entry_of (entries_of code.procedures) 0) at)
 
-    never_stopped : (n : ℕ) (t : Turned) (s : State) → EndsPiece t → (goes_on t s (code_run (entries_of code.procedures) code.texts code.instrs n)).outcome ≢ Stopped
+    never_stopped : (n : ℕ) (t : Turned) (s : State) → EndsPiece t → (goes_on t s (code_run (entries_of code.procedures) (constants_of code) code.instrs n)).outcome ≢ Stopped
     never_stopped n (NoTurn events) s g e = g
     never_stopped n (Broken events k u) s g e = g
     never_stopped n (Over events ending u) s g e = cc
     never_stopped zero (Leads events place u) s g e = cc
-    never_stopped (suc n) (Leads events place u) s g e = never_stopped n (code_turn (entries_of code.procedures) code.texts code.instrs place u) u (turn_good place u g.0 g.1).0 e
+    never_stopped (suc n) (Leads events place u) s g e = never_stopped n (code_turn (entries_of code.procedures) (constants_of code) code.instrs place u) u (turn_good place u g.0 g.1).0 e
 
-    run_within : (n : ℕ) (t : Turned) → EndsPiece t → ticks_then t (run_held (entries_of code.procedures) code.texts code.instrs n) ≤ depth_of code
+    run_within : (n : ℕ) (t : Turned) → EndsPiece t → ticks_then t (run_held (entries_of code.procedures) (constants_of code) code.instrs n) ≤ depth_of code
     run_within n (NoTurn events) g = absurd g
     run_within n (Broken events k s) g = absurd g
     run_within n (Over events ending s) g = omega arith
     run_within zero (Leads events place s) g = omega arith
     run_within (suc n) (Leads events place s) g =
         let t = turn_good place s g.0 g.1 in
-        omega (arith, t.1, run_within n (code_turn (entries_of code.procedures) code.texts code.instrs place s) t.0)
+        omega (arith, t.1, run_within n (code_turn (entries_of code.procedures) (constants_of code) code.instrs place s) t.0)
 
     module _ (chosen : List ℕ) (below : AllBelow (length code.procedures) chosen) (variables : List Held) (fit : AllFit code.variables variables) where
-      prologue_runs : BeginsSafe (stretch (entries_of code.procedures) code.texts total code.instrs [] (start chosen variables)) (held (entries_of code.procedures) code.texts total code.instrs [] (start chosen variables))
+      prologue_runs : BeginsSafe (stretch (entries_of code.procedures) (constants_of code) total code.instrs [] (start chosen variables)) (held (entries_of code.procedures) (constants_of code) total code.instrs [] (start chosen variables))
       prologue_runs =
           let s : State = start chosen variables in
           let good : Ready s = record { variables_fit = fit; chosen_below = below } in
@@ -528,11 +549,11 @@ module _ (code : CodeLists) where
           let from : first - 0 ≡ first = omega arith in
           let whole : prologue ++ drop first code.instrs ≡ code.instrs = ap (λ (n : ℕ). take n code.instrs ++ drop first code.instrs) from ∙ take-append-drop first code.instrs in
           let deep : deepest code.variables [] prologue ≤ depth_of code = omega arith in
-          subst (λ l. BeginsSafe (stretch (entries_of code.procedures) code.texts total l [] s) (held (entries_of code.procedures) code.texts total l [] s)) whole
+          subst (λ l. BeginsSafe (stretch (entries_of code.procedures) (constants_of code) total l [] s) (held (entries_of code.procedures) (constants_of code) total l [] s)) whole
           (prologue_good prologue (drop first code.instrs) 0 [] s first_turn good (sym whole) (λ _. refl) prologue_ok deep)
 
-      pub never_stuck : (n : ℕ) → (code_play (entries_of code.procedures) code.texts code.instrs chosen variables n).outcome ≢ Stopped
-      never_stuck n = never_stopped n (begun (entries_of code.procedures) code.texts (stretch (entries_of code.procedures) code.texts total code.instrs [] (start chosen variables))) (start chosen variables) (begun_good _ prologue_runs.0)
+      pub never_stuck : (n : ℕ) → (code_play (entries_of code.procedures) (constants_of code) code.instrs chosen variables n).outcome ≢ Stopped
+      never_stuck n = never_stopped n (begun (entries_of code.procedures) (constants_of code) (stretch (entries_of code.procedures) (constants_of code) total code.instrs [] (start chosen variables))) (start chosen variables) (begun_good _ prologue_runs.0)
 
-      pub within_depth : (n : ℕ) → play_held (entries_of code.procedures) code.texts code.instrs chosen variables n ≤ depth_of code
-      within_depth n = omega (arith, prologue_runs.1, run_within n (begun (entries_of code.procedures) code.texts (stretch (entries_of code.procedures) code.texts total code.instrs [] (start chosen variables))) (begun_good _ prologue_runs.0))
+      pub within_depth : (n : ℕ) → play_held (entries_of code.procedures) (constants_of code) code.instrs chosen variables n ≤ depth_of code
+      within_depth n = omega (arith, prologue_runs.1, run_within n (begun (entries_of code.procedures) (constants_of code) (stretch (entries_of code.procedures) (constants_of code) total code.instrs [] (start chosen variables))) (begun_good _ prologue_runs.0))

@@ -10,7 +10,7 @@ use Rattle.stapl_code.specs.declared.raw.ProcDef.{ProcDef}
 use Rattle.stapl_code.specs.declared.raw.CodeLists.{CodeLists}
 use Rattle.stapl_code.specs.declared.instr.Instr.{Instr}
 use Rattle.stapl_code.specs.declared.instr.Instr.TheVariants.{Turn}
-use Rattle.stapl_code.specs.Machine.{Step, Falls, Emits, Stops, Faulted, Wrong, step, stretch, code_turn, begun}
+use Rattle.stapl_code.specs.Machine.{Constants, Step, Falls, Emits, Stops, Faulted, Wrong, step, stretch, code_turn, begun}
 use Rattle.stapl_code.specs.Ticks.{ticks_then}
 use Rattle.stapl_code.specs.Kinds.{kinds_behind}
 use Rattle.stapl_code.specs.Valid.{next_entry}
@@ -44,12 +44,12 @@ held_behind (Stops ops t) go = 0
 held_behind (Faulted k s) go = 0
 held_behind Wrong go = 0
 
-module _ (entries : List ℕ) (texts : List (List ℕ)) where
+module _ (entries : List ℕ) (constants : Constants) where
   -- the most operands before an instruction of the rest of a turn
   abbrev pub held : ℕ → List Instr → List Value → State → ℕ
   held total [] ops s = length ops
   held total (i ∷ rest) ops s =
-      max (length ops) (held_behind (step entries texts (total - suc (length rest)) i ops s) (held total rest))
+      max (length ops) (held_behind (step entries constants (total - suc (length rest)) i ops s) (held total rest))
 
   abbrev pub begin_held : ℕ → List Instr → State → ℕ
   begin_held total (Turn piece ∷ rest) s = held total rest [] s
@@ -62,10 +62,10 @@ module _ (entries : List ℕ) (texts : List (List ℕ)) where
   -- the most operands in at most n turns
   abbrev pub run_held : List Instr → ℕ → ℕ → State → ℕ
   run_held code zero place s = 0
-  run_held code (suc n) place s = max (turn_held code place s) (ticks_then (code_turn entries texts code place s) (run_held code n))
+  run_held code (suc n) place s = max (turn_held code place s) (ticks_then (code_turn entries constants code place s) (run_held code n))
 
   -- the most operands in the prologue and in at most n turns of the chosen procedures
   abbrev pub play_held : List Instr → List ℕ → List Held → ℕ → ℕ
   play_held code chosen variables n =
       max (held (length code) code [] (start chosen variables))
-      (ticks_then (begun entries texts (stretch entries texts (length code) code [] (start chosen variables))) (run_held code n))
+      (ticks_then (begun entries constants (stretch entries constants (length code) code [] (start chosen variables))) (run_held code n))

@@ -1,28 +1,40 @@
 -- What the stack machine does with a code. The machine is this profile's. Places are numbers of instructions, from 0.
-use Rattle.std.specs.Prelude.{ℕ, zero, suc, ◌-◌, ◌^◌, true, false, List, [], ◌∷◌, ◌++◌, length, drop, Option, Some, None, slice_get, slice_index_or}
+use Rattle.std.specs.Prelude.{ℕ, zero, suc, ◌-◌, ◌^◌, Bool, true, false, List, [], ◌∷◌, ◌++◌, length, drop, Option, Some, None, slice_get, slice_index_or}
 use Rattle.stapl_meaning.specs.declared.events.Event.{Event}
 use Rattle.stapl_meaning.specs.declared.events.RunFault.{RunFault}
 use Rattle.stapl_meaning.specs.declared.values.ValueKind.{ValueKind}
 use Rattle.stapl_meaning.specs.declared.values.ValueKind.TheVariants as kinds
 use Rattle.stapl_meaning.specs.declared.values.Value.{Value}
-use Rattle.stapl_meaning.specs.declared.values.Value.TheVariants as values
+use Rattle.stapl_meaning.specs.declared.values.Value.TheVariants as value
 use Rattle.stapl_meaning.specs.declared.values.Held.{Held}
-use Rattle.stapl_meaning.specs.Values.{Got, Known, Faults, Stuck, then_get, combined, scalar_of}
+use Rattle.stapl_meaning.specs.Values.{Got, Known, Faults, Stuck, then_get, combined, scalar_of, element_of, index_held, range_held, source_integer}
+use Rattle.stapl_meaning.specs.Values as values
 use Rattle.stapl_meaning.specs.Operands.{character_of}
 use Rattle.stapl_meaning.specs.States.{State, Did, Turned, Leads, Over, Broken, NoTurn, preceded, turn_of_piece, next_chosen, jumps_to}
 use Rattle.stapl_meaning.specs.States as did
-use Rattle.stapl_meaning.specs.Effects.{assigned, jumped, parted, returned, exited, printed, after_value, after_character}
+use Rattle.stapl_meaning.specs.Effects.{assigned, element_assigned, Target, IntoWhole, IntoRange, copied, integers_set, jumped, parted, returned, exited, printed, after_value, after_character}
 use Rattle.stapl_meaning.specs.Plays.{Run, Going, goes_on, start}
 use Rattle.stapl_code.specs.declared.operators.Operator.{Operator}
 use Rattle.stapl_code.specs.declared.instr.PrintPart.{PrintPart}
 use Rattle.stapl_code.specs.declared.instr.PrintPart.TheVariants as parts
+use Rattle.stapl_code.specs.declared.instr.Source.{Source}
+use Rattle.stapl_code.specs.declared.instr.Source.TheVariants as sources
+use Rattle.stapl_code.specs.declared.instr.Dest.{Dest}
+use Rattle.stapl_code.specs.declared.instr.Dest.TheVariants as dests
 use Rattle.stapl_code.specs.declared.instr.Instr.{Instr}
-use Rattle.stapl_code.specs.declared.instr.Instr.TheVariants.{Turn, Push, PushBit, Load, Store, Unary, Binary, Jump, JumpIfZero, EndProc, Print, CheckChar, Exit}
+use Rattle.stapl_code.specs.declared.instr.Instr.TheVariants.{Turn, Push, PushBit, Load, LoadAt, CheckIndex, CheckRange, Store, StoreAt, Unary, Binary, ToInt, CopyBits, SetBits, SetInts, Jump, JumpIfZero, EndProc, Print, CheckChar, Exit}
 use Rattle.stapl_code.specs.Operators.{operator_table, unary_kinds, unary_results}
 
--- What an instruction makes of the operands that it takes: a value that goes on top, or what a statement does.
+-- what instructions name by number, and no run changes
+pub record Constants : Type 0 where
+  pub texts : List (List ℕ)
+  pub literals : List (List Bool)
+
+-- What an instruction makes of the operands that it takes: a value that goes on top, two of them, the second topmost, or
+-- what a statement does.
 pub data Made : Type 0 where
   Puts : Value → Made
+  PutsTwo : Value → Value → Made
   Does : Did → Made
 
 abbrev pub puts : Got Value → Got Made
@@ -40,10 +52,15 @@ abbrev pub two : List Value → (Value → Value → Got Value) → Got Made
 two (x ∷ y ∷ []) go = puts (go x y)
 two _ go = Stuck
 
+-- two operands that stay if they pass a test
+abbrev pub kept : List Value → (Value → Value → Got Value) → Got Made
+kept (x ∷ y ∷ []) test = then_get (test x y) (λ z. Known (PutsTwo x y))
+kept _ test = Stuck
+
 -- the Boolean of a bit
 abbrev pub bit_of : ℕ → Got Value
-bit_of zero = Known (values.Bit false)
-bit_of (suc zero) = Known (values.Bit true)
+bit_of zero = Known (value.Bit false)
+bit_of (suc zero) = Known (value.Bit true)
 bit_of _ = Stuck
 
 -- what the operator of a number makes of two values
@@ -58,10 +75,17 @@ abbrev pub signed_by : Option (Value → Got Value) → Value → Got Value
 signed_by None x = Stuck
 signed_by (Some result) x = result x
 
--- The kind of an operand: this one, or that of the scalar of a number.
+-- The kind of an operand: this one, or that of the scalar of a number, or of an element of the array of a number.
 pub data Slot : Type 0 where
   Of : ValueKind → Slot
   OfScalar : ℕ → Slot
+  OfElement : ℕ → Slot
+
+-- What a variable has to be: an array, a BOOLEAN array, or an INTEGER array.
+pub data Want : Type 0 where
+  AnArray : ℕ → Want
+  OfBits : ℕ → Want
+  OfInts : ℕ → Want
 
 abbrev pub sides_of : Option Operator → List Slot
 sides_of None = []
@@ -82,13 +106,46 @@ part_slots (parts.Int ∷ rest) = Of kinds.Int ∷ part_slots rest
 part_slots (parts.Bit ∷ rest) = Of kinds.Bit ∷ part_slots rest
 part_slots (parts.Char ∷ rest) = Of kinds.Int ∷ part_slots rest
 
+-- what a source takes, and what it wants
+abbrev pub source_slots : Source → List Slot
+source_slots (sources.Literal n) = []
+source_slots (sources.Whole n) = []
+source_slots (sources.Range n) = Of kinds.Int ∷ Of kinds.Int ∷ []
+source_slots sources.FromInt = Of kinds.Int ∷ []
+
+abbrev pub source_wants : Source → List Want
+source_wants (sources.Literal n) = []
+source_wants (sources.Whole n) = OfBits n ∷ []
+source_wants (sources.Range n) = OfBits n ∷ []
+source_wants sources.FromInt = []
+
+-- what a destination takes in front of those, and what it wants
+abbrev pub dest_slots : Dest → List Slot → List Slot
+dest_slots (dests.Whole n) slots = slots
+dest_slots (dests.Range n) slots = Of kinds.Int ∷ Of kinds.Int ∷ slots
+
+abbrev pub dest_want : Dest → Want
+dest_want (dests.Whole n) = OfBits n
+dest_want (dests.Range n) = OfBits n
+
+-- where a destination puts bits
+abbrev pub target_of : Dest → Target
+target_of (dests.Whole n) = IntoWhole n
+target_of (dests.Range n) = IntoRange n
+
 -- The table of instructions.
 
 -- the kinds of the operands that it takes, the topmost last
 abbrev pub takes : Instr → List Slot
+takes (LoadAt n) = Of kinds.Int ∷ []
+takes (CheckIndex n) = Of kinds.Int ∷ []
+takes (CheckRange n) = Of kinds.Int ∷ Of kinds.Int ∷ []
 takes (Store n) = OfScalar n ∷ []
+takes (StoreAt n) = Of kinds.Int ∷ OfElement n ∷ []
 takes (Unary op) = slot_of (slice_get unary_kinds op)
 takes (Binary op) = sides_of (slice_get operator_table op)
+takes (ToInt source) = source_slots source
+takes (CopyBits dest source) = dest_slots dest (source_slots source)
 takes (JumpIfZero to) = Of kinds.Bit ∷ []
 takes (Print list) = part_slots list
 takes CheckChar = Of kinds.Int ∷ []
@@ -100,10 +157,24 @@ abbrev pub gives : Instr → List Slot
 gives (Push z) = Of kinds.Int ∷ []
 gives (PushBit b) = Of kinds.Bit ∷ []
 gives (Load n) = OfScalar n ∷ []
+gives (LoadAt n) = OfElement n ∷ []
+gives (CheckIndex n) = Of kinds.Int ∷ []
+gives (CheckRange n) = Of kinds.Int ∷ Of kinds.Int ∷ []
 gives (Unary op) = slot_of (slice_get unary_kinds op)
 gives (Binary op) = result_of (slice_get operator_table op)
+gives (ToInt source) = Of kinds.Int ∷ []
 gives CheckChar = Of kinds.Int ∷ []
 gives _ = []
+
+-- what variables have to be that no operand tells
+abbrev pub wants : Instr → List Want
+wants (CheckIndex n) = AnArray n ∷ []
+wants (CheckRange n) = OfBits n ∷ []
+wants (ToInt source) = source_wants source
+wants (CopyBits dest source) = dest_want dest ∷ source_wants source
+wants (SetBits n literal) = OfBits n ∷ []
+wants (SetInts n values) = OfInts n ∷ []
+wants _ = []
 
 -- its target
 abbrev pub goes_to : Instr → Option ℕ
@@ -115,14 +186,25 @@ abbrev pub known_text : Option (List ℕ) → Got (List ℕ)
 known_text None = Stuck
 known_text (Some bytes) = Known bytes
 
--- where the procedures begin, and the texts
-module _ (entries : List ℕ) (texts : List (List ℕ)) where
+abbrev pub known_literal : Option (List Bool) → Got values.Source
+known_literal None = Stuck
+known_literal (Some bits) = Known (values.These bits)
+
+-- a source with the bits of its literal
+abbrev pub known_source : List (List Bool) → Source → Got values.Source
+known_source literals (sources.Literal n) = known_literal (slice_get literals n)
+known_source literals (sources.Whole n) = Known (values.Whole n)
+known_source literals (sources.Range n) = Known (values.Range n)
+known_source literals sources.FromInt = Known values.OfInt
+
+-- where the procedures begin, and the constants
+module _ (entries : List ℕ) (constants : Constants) where
   -- the joined bytes of the parts of a Print with these operands
   abbrev pub parts_text : List PrintPart → List Value → Got (List ℕ)
   parts_text [] [] = Known []
   parts_text [] (v ∷ vs) = Stuck
   parts_text (parts.Text n ∷ rest) vs =
-      then_get (known_text (slice_get texts n)) (λ bytes. then_get (parts_text rest vs) (λ more. Known (bytes ++ more)))
+      then_get (known_text (slice_get constants.texts n)) (λ bytes. then_get (parts_text rest vs) (λ more. Known (bytes ++ more)))
   parts_text (parts.Int ∷ rest) [] = Stuck
   parts_text (parts.Int ∷ rest) (v ∷ vs) = after_value v (parts_text rest vs)
   parts_text (parts.Bit ∷ rest) [] = Stuck
@@ -133,12 +215,23 @@ module _ (entries : List ℕ) (texts : List (List ℕ)) where
   -- what an instruction makes of its operands; its effects are those of statements
   abbrev pub made : Instr → List Value → State → Got Made
   made (Turn piece) vs s = does (jumped vs s)
-  made (Push z) vs s = Known (Puts (values.Int z))
+  made (Push z) vs s = Known (Puts (value.Int z))
   made (PushBit b) vs s = puts (bit_of b)
   made (Load n) vs s = puts (scalar_of (slice_get s.store.variables n))
+  made (LoadAt n) vs s = one vs (element_of (slice_get s.store.variables n))
+  made (CheckIndex n) vs s = one vs (index_held (slice_get s.store.variables n))
+  made (CheckRange n) vs s = kept vs (range_held (slice_get s.store.variables n))
   made (Store n) vs s = does (assigned n vs s)
+  made (StoreAt n) vs s = does (element_assigned n vs s)
   made (Unary op) vs s = one vs (signed_by (slice_get unary_results op))
   made (Binary op) vs s = two vs (operated op)
+  made (ToInt source) vs s =
+      puts (then_get (known_source constants.literals source) (λ from. source_integer s.store.variables from vs))
+  made (CopyBits dest source) vs s =
+      does (then_get (known_source constants.literals source) (λ from. copied (target_of dest) from vs s))
+  made (SetBits n literal) vs s =
+      does (then_get (known_literal (slice_get constants.literals literal)) (λ from. copied (IntoWhole n) from vs s))
+  made (SetInts n list) vs s = does (integers_set n list vs s)
   made (Jump to) vs s = does (jumped vs s)
   made (JumpIfZero to) vs s = does (parted vs s)
   made EndProc vs s = does (returned vs s)
@@ -191,6 +284,7 @@ entry_of entries p = slice_index_or entries p nowhere
 -- what was made, above these operands
 abbrev pub on_made : List ℕ → Option ℕ → List Value → State → Got Made → Step
 on_made entries to below s (Known (Puts v)) = Falls (v ∷ below) s
+on_made entries to below s (Known (PutsTwo x y)) = Falls (y ∷ x ∷ below) s
 on_made entries to below s (Known (Does (did.Falls events t))) = emitted events below t
 on_made entries to below s (Known (Does (did.Jumps t))) = Stops below (jumps_to to t)
 on_made entries to below s (Known (Does (did.Returns t))) = Stops below (next_chosen (entry_of entries) t t.chosen)
@@ -211,11 +305,11 @@ continues (Stops ops t) go = at_end ops t
 continues (Faulted k s) go = Broken [] k s
 continues Wrong go = NoTurn []
 
-module _ (entries : List ℕ) (texts : List (List ℕ)) where
+module _ (entries : List ℕ) (constants : Constants) where
   -- one instruction, which stands at a place
   abbrev pub step : ℕ → Instr → List Value → State → Step
   step here i ops s =
-      on_taken (taken (length (takes i)) ops) (λ vs below. on_made entries (lands here i) below s (made entries texts i vs s))
+      on_taken (taken (length (takes i)) ops) (λ vs below. on_made entries (lands here i) below s (made entries constants i vs s))
 
   -- The rest of a turn: these instructions, which are the last ones of so many. A Turn that is met ends it.
   abbrev pub stretch : ℕ → List Instr → List Value → State → Turned

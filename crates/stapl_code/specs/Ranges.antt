@@ -1,11 +1,15 @@
--- The ranges of a code's fields. They are this profile's. Variables, texts, procedures and instructions are told by
--- their numbers, from 0.
-use Rattle.std.specs.Prelude.{◌≡◌, ◌≢◌, ℕ, ◌<◌, ◌≤◌, ◌^◌, ◌==◌, ◌||◌, List, length, All, AllPairs, sum_by, if◌then◌else◌}
+-- The ranges of a code's fields. They are this profile's. Variables, literals, texts, procedures and instructions are
+-- told by their numbers, from 0.
+use Rattle.std.specs.Prelude.{◌≡◌, ◌≢◌, ℕ, ◌<◌, ◌≤◌, ◌^◌, ◌==◌, ◌||◌, Bool, List, length, All, AllPairs, Option, None, Some, slice_get, sum_by, if◌then◌else◌}
 use Rattle.stapl_syntax.specs.Contents.{IsFreeName}
 use Rattle.stapl_code.specs.declared.instr.PrintPart.{PrintPart}
 use Rattle.stapl_code.specs.declared.instr.PrintPart.TheVariants as parts
+use Rattle.stapl_code.specs.declared.instr.Source.{Source}
+use Rattle.stapl_code.specs.declared.instr.Source.TheVariants as sources
+use Rattle.stapl_code.specs.declared.instr.Dest.{Dest}
+use Rattle.stapl_code.specs.declared.instr.Dest.TheVariants as dests
 use Rattle.stapl_code.specs.declared.instr.Instr.{Instr}
-use Rattle.stapl_code.specs.declared.instr.Instr.TheVariants.{Turn, PushBit, Load, Store, Unary, Binary, Print}
+use Rattle.stapl_code.specs.declared.instr.Instr.TheVariants.{Turn, PushBit, Load, LoadAt, CheckIndex, CheckRange, Store, StoreAt, Unary, Binary, ToInt, CopyBits, SetBits, SetInts, Print}
 use Rattle.stapl_code.specs.declared.raw.VarDef.{VarDef}
 use Rattle.stapl_code.specs.declared.raw.ProcDef.{ProcDef}
 use Rattle.stapl_code.specs.declared.raw.ItemDef.{ItemDef}
@@ -57,22 +61,54 @@ abbrev pub IsPart : ℕ → PrintPart → Type 0
 IsPart texts (parts.Text n) = n < texts
 IsPart texts _ = Unit {0}
 
--- an instruction, where there are so many variables and texts
-abbrev pub IsInstr : ℕ → ℕ → Instr → Type 0
-IsInstr variables texts (Turn piece) = (1 ≤ piece) × (piece ≤ 100000)
-IsInstr variables texts (PushBit b) = b ≤ 1
-IsInstr variables texts (Load n) = n < variables
-IsInstr variables texts (Store n) = n < variables
-IsInstr variables texts (Unary op) = op < length unary_kinds
-IsInstr variables texts (Binary op) = op < length operator_table
-IsInstr variables texts (Print list) = (1 ≤ length list) × All (IsPart texts) list
-IsInstr variables texts _ = Unit {0}
+-- a source and a destination, where there are so many variables and literals
+abbrev pub IsSource : ℕ → ℕ → Source → Type 0
+IsSource variables literals (sources.Literal n) = n < literals
+IsSource variables literals (sources.Whole n) = n < variables
+IsSource variables literals (sources.Range n) = n < variables
+IsSource variables literals sources.FromInt = Unit {0}
+
+abbrev pub IsDest : ℕ → Dest → Type 0
+IsDest variables (dests.Whole n) = n < variables
+IsDest variables (dests.Range n) = n < variables
+
+-- how many elements a variable has, if there is one
+abbrev pub size_of : Option VarDef → ℕ
+size_of None = 0
+size_of (Some v) = v.size
+
+-- an instruction, where these are the variables, and there are so many literals and texts
+abbrev pub IsInstr : List VarDef → ℕ → ℕ → Instr → Type 0
+IsInstr variables literals texts (Turn piece) = (1 ≤ piece) × (piece ≤ 100000)
+IsInstr variables literals texts (PushBit b) = b ≤ 1
+IsInstr variables literals texts (Load n) = n < length variables
+IsInstr variables literals texts (LoadAt n) = n < length variables
+IsInstr variables literals texts (CheckIndex n) = n < length variables
+IsInstr variables literals texts (CheckRange n) = n < length variables
+IsInstr variables literals texts (Store n) = n < length variables
+IsInstr variables literals texts (StoreAt n) = n < length variables
+IsInstr variables literals texts (Unary op) = op < length unary_kinds
+IsInstr variables literals texts (Binary op) = op < length operator_table
+IsInstr variables literals texts (ToInt source) = IsSource (length variables) literals source
+IsInstr variables literals texts (CopyBits dest source) =
+    IsDest (length variables) dest × IsSource (length variables) literals source
+IsInstr variables literals texts (SetBits n literal) = (n < length variables) × (literal < literals)
+IsInstr variables literals texts (SetInts n values) =
+    (n < length variables) × (1 ≤ length values) × (length values ≤ size_of (slice_get variables n))
+IsInstr variables literals texts (Print list) = (1 ≤ length list) × All (IsPart texts) list
+IsInstr variables literals texts _ = Unit {0}
+
+-- a literal
+pub record IsLiteral (bits : List Bool) : Type 0 where
+  pub some : 1 ≤ length bits
+  pub few : length bits ≤ 16777216
 
 -- a code whose fields are in their ranges
 pub record IsInRange (code : CodeLists) : Type 0 where
   pub variables : AreVariables code.variables
+  pub literals : All IsLiteral code.literals
   pub texts : All (λ text. length text ≤ 4194304) code.texts
   pub procedures : AreProcedures code.procedures
   pub actions : AreActions (length code.procedures) code.actions
-  pub instrs : All (IsInstr (length code.variables) (length code.texts)) code.instrs
+  pub instrs : All (IsInstr code.variables (length code.literals) (length code.texts)) code.instrs
   pub countable : length code.instrs < 2 ^ 32

@@ -9,7 +9,7 @@ use Rattle.stapl_code.specs.declared.raw.VarDef.{VarDef}
 use Rattle.stapl_code.specs.declared.raw.ProcDef.{ProcDef}
 use Rattle.stapl_code.specs.declared.raw.CodeLists.{CodeLists}
 use Rattle.stapl_code.specs.declared.instr.Instr.{Instr}
-use Rattle.stapl_code.specs.Machine.{code_play}
+use Rattle.stapl_code.specs.Machine.{Constants, code_play}
 use Rattle.stapl_code.specs.Ticks.{turn_ticks, play_ticks}
 use Rattle.stapl_code.specs.Ranges.{IsInRange}
 use Rattle.stapl_code.specs.Valid.{IsValid}
@@ -18,6 +18,10 @@ use Rattle.stapl_code.specs.Depth.{depth_of, play_held}
 -- where the procedures begin
 abbrev pub entries_of : List ProcDef → List ℕ
 entries_of procedures = map (λ p. p.entry) procedures
+
+-- the constants of a code
+abbrev pub constants_of : CodeLists → Constants
+constants_of code = record { texts = code.texts; literals = code.literals }
 
 -- a variable holds what its kind and size say
 abbrev pub Fits : VarDef → Held → Type 0
@@ -42,22 +46,22 @@ abbrev pub NeverStuck : Type 0
 NeverStuck =
     (code : CodeLists) → IsInRange code → IsValid code → (chosen : List ℕ) → AllBelow (length code.procedures) chosen →
     (variables : List Held) → AllFit code.variables variables → (n : ℕ) →
-    (code_play (entries_of code.procedures) code.texts code.instrs chosen variables n).outcome ≢ Stopped
+    (code_play (entries_of code.procedures) (constants_of code) code.instrs chosen variables n).outcome ≢ Stopped
 
 -- No play of a valid code holds more operands at once than its depth.
 abbrev pub DepthIsKept : Type 0
 DepthIsKept =
     (code : CodeLists) → IsInRange code → IsValid code → (chosen : List ℕ) → AllBelow (length code.procedures) chosen →
     (variables : List Held) → AllFit code.variables variables → (n : ℕ) →
-    play_held (entries_of code.procedures) code.texts code.instrs chosen variables n ≤ depth_of code
+    play_held (entries_of code.procedures) (constants_of code) code.instrs chosen variables n ≤ depth_of code
 
 -- From one Turn to the next a code takes no more instructions than it has.
 abbrev pub TurnsAreBounded : Type 0
 TurnsAreBounded =
-    (entries : List ℕ) (texts : List (List ℕ)) (code : List Instr) (place : ℕ) (s : State) → turn_ticks entries texts code place s ≤ length code
+    (entries : List ℕ) (constants : Constants) (code : List Instr) (place : ℕ) (s : State) → turn_ticks entries constants code place s ≤ length code
 
 -- A play takes no more instructions than the code has, for the prologue and for each of its turns.
 abbrev pub PlaysAreBounded : Type 0
 PlaysAreBounded =
-    (entries : List ℕ) (texts : List (List ℕ)) (code : List Instr) (chosen : List ℕ) (variables : List Held) (n : ℕ) →
-    play_ticks entries texts code chosen variables n ≤ (n + 1) * length code
+    (entries : List ℕ) (constants : Constants) (code : List Instr) (chosen : List ℕ) (variables : List Held) (n : ℕ) →
+    play_ticks entries constants code chosen variables n ≤ (n + 1) * length code

@@ -6,7 +6,7 @@ use Rattle.stapl_meaning.specs.States.{State, Turned, Leads, Over, Broken, NoTur
 use Rattle.stapl_meaning.specs.Plays.{start}
 use Rattle.stapl_code.specs.declared.instr.Instr.{Instr}
 use Rattle.stapl_code.specs.declared.instr.Instr.TheVariants.{Turn}
-use Rattle.stapl_code.specs.Machine.{Step, Falls, Emits, Stops, Faulted, Wrong, step, stretch, code_turn, begun}
+use Rattle.stapl_code.specs.Machine.{Constants, Step, Falls, Emits, Stops, Faulted, Wrong, step, stretch, code_turn, begun}
 
 abbrev pub ticks_behind : Step → (List Value → State → ℕ) → ℕ
 ticks_behind (Falls ops s) go = go ops s
@@ -25,12 +25,12 @@ ticks_then (Over events ending s) go = 0
 ticks_then (Broken events k s) go = 0
 ticks_then (NoTurn events) go = 0
 
-module _ (entries : List ℕ) (texts : List (List ℕ)) where
+module _ (entries : List ℕ) (constants : Constants) where
   -- the instructions of the rest of a turn
   abbrev pub ticks : ℕ → List Instr → List Value → State → ℕ
   ticks total [] ops s = 0
   ticks total (i ∷ rest) ops s =
-      tick_of i + ticks_behind (step entries texts (total - suc (length rest)) i ops s) (ticks total rest)
+      tick_of i + ticks_behind (step entries constants (total - suc (length rest)) i ops s) (ticks total rest)
 
   abbrev pub begin_ticks : ℕ → List Instr → State → ℕ
   begin_ticks total (Turn piece ∷ rest) s = 1 + ticks total rest [] s
@@ -44,10 +44,10 @@ module _ (entries : List ℕ) (texts : List (List ℕ)) where
   abbrev pub run_ticks : List Instr → ℕ → ℕ → State → ℕ
   run_ticks code zero place s = 0
   run_ticks code (suc n) place s =
-      turn_ticks code place s + ticks_then (code_turn entries texts code place s) (run_ticks code n)
+      turn_ticks code place s + ticks_then (code_turn entries constants code place s) (run_ticks code n)
 
   -- the instructions of the prologue and of at most n turns of the chosen procedures
   abbrev pub play_ticks : List Instr → List ℕ → List Held → ℕ → ℕ
   play_ticks code chosen variables n =
       ticks (length code) code [] (start chosen variables)
-      + ticks_then (begun entries texts (stretch entries texts (length code) code [] (start chosen variables))) (run_ticks code n)
+      + ticks_then (begun entries constants (stretch entries constants (length code) code [] (start chosen variables))) (run_ticks code n)

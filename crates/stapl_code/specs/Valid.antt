@@ -3,7 +3,7 @@
 -- The instructions before the first entry are the prologue. A procedure's instructions go from its entry to the next
 -- entry, or to the end of the code. The rules are these, each with the definition that says it; that entries rise is a
 -- range of the fields.
---   The prologue holds only Push, PushBit and Store (sets_up), and leaves no operand (kinds_kept).
+--   The prologue holds only Push, PushBit, Store, SetBits and SetInts (sets_up), and leaves no operand (kinds_kept).
 --   A procedure begins with a Turn (procedure_break), and ends with an EndProc, which stands nowhere else
 --   (stands_well).
 --   An instruction finds operands of its kinds, and variables of the kind that it wants (kinds_behind).
@@ -18,7 +18,7 @@ use Rattle.stapl_code.specs.declared.raw.VarDef.{VarDef}
 use Rattle.stapl_code.specs.declared.raw.ProcDef.{ProcDef}
 use Rattle.stapl_code.specs.declared.raw.CodeLists.{CodeLists}
 use Rattle.stapl_code.specs.declared.instr.Instr.{Instr}
-use Rattle.stapl_code.specs.declared.instr.Instr.TheVariants.{Turn, Push, PushBit, Store, Jump, EndProc, Exit}
+use Rattle.stapl_code.specs.declared.instr.Instr.TheVariants.{Turn, Push, PushBit, Store, SetBits, SetInts, Jump, EndProc, Exit}
 use Rattle.stapl_code.specs.declared.valid.ValidateRefused.{ValidateRefused}
 use Rattle.stapl_code.specs.declared.valid.ValidateRefused.TheVariants.{Invalid, Memory}
 use Rattle.stapl_code.specs.Machine.{goes_to}
@@ -37,6 +37,8 @@ abbrev pub sets_up : Instr → Bool
 sets_up (Push z) = true
 sets_up (PushBit b) = true
 sets_up (Store n) = true
+sets_up (SetBits n literal) = true
+sets_up (SetInts n values) = true
 sets_up _ = false
 
 -- an instruction behind which a Turn has to stand

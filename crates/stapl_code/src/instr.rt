@@ -14,8 +14,30 @@ pub enum PrintPart {
     Char,
 }
 
-/// One instruction. Variables, texts and procedures are told by their numbers, and targets are numbers of instructions,
-/// all from 0.
+/// Where an instruction takes bits from.
+#[derive(Clone, Copy, Debug, PartialEq, Eq)]
+pub enum Source {
+    /// The literal of a number.
+    Literal(u32),
+    /// The whole of a BOOLEAN array.
+    Whole(u32),
+    /// A range of a BOOLEAN array, whose high and low indexes are from the operands.
+    Range(u32),
+    /// The 32 bits of an integer, from the operands.
+    FromInt,
+}
+
+/// Where an instruction puts bits.
+#[derive(Clone, Copy, Debug, PartialEq, Eq)]
+pub enum Dest {
+    /// Into the whole of a BOOLEAN array.
+    Whole(u32),
+    /// Into a range of a BOOLEAN array, whose high and low indexes are from the operands.
+    Range(u32),
+}
+
+/// One instruction. Variables, literals, texts and procedures are told by their numbers, and targets are numbers of
+/// instructions, all from 0.
 #[derive(Drop)]
 pub enum Instr {
     /// The turn of a piece begins. Pieces are counted from 1.
@@ -26,13 +48,29 @@ pub enum Instr {
     PushBit(u8),
     /// Puts the value of a scalar variable on the operands.
     Load(u32),
+    /// Takes an index off the operands, and puts on the element of an array.
+    LoadAt(u32),
+    /// Tests that the topmost operand is an index of an array.
+    CheckIndex(u32),
+    /// Tests that the two topmost operands are the high and the low index of a range of a BOOLEAN array.
+    CheckRange(u32),
     /// Takes a value off the operands, into a scalar variable.
     Store(u32),
+    /// Takes an index and a value off the operands, and puts the value into the element of an array.
+    StoreAt(u32),
     /// Takes an operand off, and puts on what the operator of a number makes of it: 0 negates, 1 complements, 2 is ABS,
     /// 3 is not.
     Unary(u8),
     /// Takes two operands off, and puts on what the operator of a number makes of them.
     Binary(u8),
+    /// Takes the operands of a source off, and puts on the integer with its lowest 32 bits.
+    ToInt(Source),
+    /// Takes the operands of both off, those of the destination first put on, and copies bits.
+    CopyBits(Dest, Source),
+    /// Sets the BOOLEAN array of the first number to the literal of the second.
+    SetBits(u32, u32),
+    /// Sets the elements of an INTEGER array from index 0 on, and those behind them to 0.
+    SetInts(u32, ItemList<i32>),
     /// Goes to a turn of the same procedure.
     Jump(u32),
     /// Takes a Boolean off the operands, and goes to a turn of the same procedure where it is 0.

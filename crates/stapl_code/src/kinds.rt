@@ -1,9 +1,10 @@
 //! The kinds of operands.
 ghost use Rattle.std.specs.Prelude.{◌≡◌, ◌∷◌, List, Some, None, IfOk, if◌then◌else◌, slice_get};
-ghost use Rattle.stapl_code.specs.Machine.{part_slots, slot_of, sides_of, result_of, takes, gives};
-ghost use Rattle.stapl_code.specs.Kinds.{off, variable_kind, put_on, taken_off, clears, all_off, all_on, kinds_behind};
+ghost use Rattle.std.specs.List.{list_all};
+ghost use Rattle.stapl_code.specs.Machine.{Slot, Of, part_slots, slot_of, sides_of, result_of, source_slots, source_wants, dest_slots, dest_want, takes, gives, wants};
+ghost use Rattle.stapl_code.specs.Kinds.{off, variable_kind, element_kind, is_of_kind, is_met, put_on, taken_off, clears, all_off, all_on, kinds_behind};
 
-use crate::instr::{Instr, PrintPart};
+use crate::instr::{Dest, Instr, PrintPart, Source};
 use crate::operators::{Operator, operator_of, unary_kind};
 use crate::raw::VarDef;
 use base::Stack;
@@ -60,6 +61,64 @@ fn kind_at(variables: &[VarDef], n: u32) -> Option<ValueKind>
     }
 }
 
+fn element_kind_at(variables: &[VarDef], n: u32) -> Option<ValueKind>
+    ensures { result ≡ element_kind (slice_get variables.now n) }
+{
+    match variables.get(n as usize) {
+        None => None,
+        Some(variable) => match variable.kind {
+            2 => Some(ValueKind::Int),
+            3 => Some(ValueKind::Bit),
+            _ => None,
+        },
+    }
+}
+
+// Whether a variable is of a kind.
+fn is_of_kind(variables: &[VarDef], kind: u8, n: u32) -> bool
+    ensures { result ≡ is_of_kind kind (slice_get variables.now n) }
+{
+    match variables.get(n as usize) {
+        None => false,
+        Some(variable) => variable.kind == kind,
+    }
+}
+
+// Whether the variable of a source is what it has to be.
+fn source_is_met(variables: &[VarDef], source: Source) -> bool
+    ensures { result ≡ list_all (is_met variables.now) (source_wants source) }
+{
+    match source {
+        Source::Literal(_) | Source::FromInt => true,
+        Source::Whole(n) | Source::Range(n) => is_of_kind(variables, 3, n),
+    }
+}
+
+fn dest_is_met(variables: &[VarDef], dest: Dest) -> bool
+    ensures { result ≡ is_met variables.now (dest_want dest) }
+{
+    match dest {
+        Dest::Whole(n) | Dest::Range(n) => is_of_kind(variables, 3, n),
+    }
+}
+
+// Whether the variables of an instruction are what they have to be, where no operand tells.
+fn wants_are_met(variables: &[VarDef], instr: &Instr) -> bool
+    ensures { result ≡ list_all (is_met variables.now) (wants instr.now) }
+{
+    match instr {
+        Instr::CheckIndex(n) => element_kind_at(variables, *n).is_some(),
+        Instr::CheckRange(n) => is_of_kind(variables, 3, *n),
+        Instr::ToInt(source) => source_is_met(variables, *source),
+        Instr::CopyBits(dest, source) => {
+            dest_is_met(variables, *dest) && source_is_met(variables, *source)
+        }
+        Instr::SetBits(n, _) => is_of_kind(variables, 3, *n),
+        Instr::SetInts(n, _) => is_of_kind(variables, 2, *n),
+        _ => true,
+    }
+}
+
 fn put(kinds: &mut Stack<ValueKind>, kind: Option<ValueKind>) -> Result<bool, AllocError>
     ensures { IfOk result (λ found. put_on kind kinds.old ≡ (if found then Some kinds.new else None)) }
 {
@@ -103,6 +162,39 @@ fn take_signed(kinds: &mut Stack<ValueKind>, kind: Option<ValueKind>) -> bool
     }
 }
 
+// Takes off the kinds of two indexes, and answers whether they were there.
+fn take_indexes(kinds: &mut Stack<ValueKind>) -> bool
+    ensures { (variables : List VarDef) (slots : List Slot) (ks : List ValueKind) →
+        all_off variables slots ks ≡ Some kinds.old →
+        all_off variables (Of ValueKind.Int ∷ Of ValueKind.Int ∷ slots) ks ≡ (if result then Some kinds.new else None) }
+{
+    take(kinds, ValueKind::Int) && take(kinds, ValueKind::Int)
+}
+
+// Takes off the kinds of the operands of a source, and answers whether they were there.
+fn take_source(kinds: &mut Stack<ValueKind>, source: Source) -> bool
+    ensures { (variables : List VarDef) →
+        all_off variables (source_slots source) kinds.old ≡ (if result then Some kinds.new else None) }
+{
+    match source {
+        Source::Literal(_) | Source::Whole(_) => true,
+        Source::Range(_) => take_indexes(kinds),
+        Source::FromInt => take(kinds, ValueKind::Int),
+    }
+}
+
+// Takes off the kinds of the operands of a destination, behind those of a source, and answers whether they were there.
+fn take_dest(kinds: &mut Stack<ValueKind>, dest: Dest) -> bool
+    ensures { (variables : List VarDef) (slots : List Slot) (ks : List ValueKind) →
+        all_off variables slots ks ≡ Some kinds.old →
+        all_off variables (dest_slots dest slots) ks ≡ (if result then Some kinds.new else None) }
+{
+    match dest {
+        Dest::Whole(_) => true,
+        Dest::Range(_) => take_indexes(kinds),
+    }
+}
+
 // Takes off the kinds of the operands of an instruction, and answers whether they were there.
 fn take_operands(variables: &[VarDef], instr: &Instr, kinds: &mut Stack<ValueKind>) -> bool
     ensures { all_off variables.now (takes instr.now) kinds.old ≡ (if result then Some kinds.new else None) }
@@ -112,14 +204,24 @@ fn take_operands(variables: &[VarDef], instr: &Instr, kinds: &mut Stack<ValueKin
         | Instr::Push(_)
         | Instr::PushBit(_)
         | Instr::Load(_)
+        | Instr::SetBits(_, _)
+        | Instr::SetInts(_, _)
         | Instr::Jump(_)
         | Instr::EndProc => true,
+        Instr::CheckRange(_) => take_indexes(kinds),
         Instr::Store(n) => take_some(kinds, kind_at(variables, *n)),
+        Instr::StoreAt(n) => {
+            take_some(kinds, element_kind_at(variables, *n)) && take(kinds, ValueKind::Int)
+        }
+        Instr::ToInt(source) => take_source(kinds, *source),
+        Instr::CopyBits(dest, source) => take_source(kinds, *source) && take_dest(kinds, *dest),
         Instr::Unary(op) => take_signed(kinds, unary_kind(*op)),
         Instr::Binary(op) => take_sides(kinds, operator_of(*op)),
         Instr::JumpIfZero(_) => take(kinds, ValueKind::Bit),
         Instr::Print(parts) => take_parts(kinds, parts.as_slice()),
-        Instr::CheckChar | Instr::Exit => take(kinds, ValueKind::Int),
+        Instr::LoadAt(_) | Instr::CheckIndex(_) | Instr::CheckChar | Instr::Exit => {
+            take(kinds, ValueKind::Int)
+        }
     }
 }
 
@@ -130,14 +232,7 @@ fn clears(instr: &Instr) -> bool
     match instr {
         Instr::Turn(_) | Instr::Jump(_) | Instr::JumpIfZero(_) | Instr::EndProc | Instr::Exit =>
             true,
-        Instr::Push(_)
-        | Instr::PushBit(_)
-        | Instr::Load(_)
-        | Instr::Store(_)
-        | Instr::Unary(_)
-        | Instr::Binary(_)
-        | Instr::Print(_)
-        | Instr::CheckChar => false,
+        _ => false,
     }
 }
 
@@ -179,7 +274,7 @@ fn put_operands(
         all_on variables.now (gives instr.now) kinds.old ≡ (if found then Some kinds.new else None)) }
 {
     match instr {
-        Instr::Push(_) | Instr::CheckChar => {
+        Instr::Push(_) | Instr::CheckIndex(_) | Instr::ToInt(_) | Instr::CheckChar => {
             kinds.push(ValueKind::Int)?;
             Ok(true)
         }
@@ -191,6 +286,15 @@ fn put_operands(
             let found = put(kinds, kind_at(variables, *n))?;
             Ok(found)
         }
+        Instr::LoadAt(n) => {
+            let found = put(kinds, element_kind_at(variables, *n))?;
+            Ok(found)
+        }
+        Instr::CheckRange(_) => {
+            kinds.push(ValueKind::Int)?;
+            kinds.push(ValueKind::Int)?;
+            Ok(true)
+        }
         Instr::Unary(op) => {
             let found = put_signed(kinds, unary_kind(*op))?;
             Ok(found)
@@ -201,6 +305,10 @@ fn put_operands(
         }
         Instr::Turn(_)
         | Instr::Store(_)
+        | Instr::StoreAt(_)
+        | Instr::CopyBits(_, _)
+        | Instr::SetBits(_, _)
+        | Instr::SetInts(_, _)
         | Instr::Jump(_)
         | Instr::JumpIfZero(_)
         | Instr::EndProc
@@ -209,7 +317,8 @@ fn put_operands(
     }
 }
 
-/// Does to the kinds of the operands what an instruction does, and answers whether it found its operands.
+/// Does to the kinds of the operands what an instruction does, and answers whether it found its operands and its variables
+/// are what they have to be.
 pub(crate) fn follow(
     variables: &[VarDef],
     instr: &Instr,
@@ -218,6 +327,9 @@ pub(crate) fn follow(
     ensures { IfOk result (λ found.
         kinds_behind variables.now instr.now kinds.old ≡ (if found then Some kinds.new else None)) }
 {
+    if !wants_are_met(variables, instr) {
+        return Ok(false);
+    }
     if !take_operands(variables, instr, kinds) {
         return Ok(false);
     }

@@ -1,10 +1,11 @@
 //! The test of the ranges of a code's fields.
-ghost use Rattle.std.specs.Prelude.{◌≡◌, ◌≢◌, ◌<◌, ◌≤◌, ◌↔◌, IsTrue, All, AllPairs, sum_by, length};
+ghost use Rattle.std.specs.Prelude.{◌≡◌, ◌≢◌, ◌<◌, ◌≤◌, ◌↔◌, IsTrue, All, AllPairs, sum_by, length, slice_get};
 ghost use Rattle.stapl_syntax.specs.Contents.{IsFreeName};
-ghost use Rattle.stapl_code.specs.Ranges.{IsVariable, elements_of, AreVariables, AreProcedures, IsItem, IsAction, AreActions, IsPart, IsInstr, IsInRange};
+ghost use Rattle.stapl_code.specs.Ranges.{IsVariable, elements_of, AreVariables, AreProcedures, IsItem, IsAction, AreActions, IsPart, IsSource, IsDest, size_of, IsInstr, IsLiteral, IsInRange};
 
-use crate::instr::{Instr, PrintPart};
+use crate::instr::{Dest, Instr, PrintPart, Source};
 use crate::raw::{ActionDef, CodeLists, ItemDef, ProcDef, VarDef};
+use bit_list::Bits;
 use stapl_lexer::Name;
 use stapl_meaning::Text;
 
@@ -52,6 +53,18 @@ fn are_variables(variables: &[VarDef]) -> bool
         && keep_limit(1, 3, 16_777_216, variables)
 }
 
+fn is_literal(bits: &Bits) -> bool
+    ensures { IsTrue result ↔ IsLiteral bits.now }
+{
+    1 <= bits.len() && bits.len() <= 16_777_216
+}
+
+fn are_literals(literals: &[Bits]) -> bool
+    ensures { IsTrue result ↔ All IsLiteral literals.now }
+{
+    literals.iter().all(|bits| is_literal(bits))
+}
+
 fn are_texts(texts: &[Text]) -> bool
     ensures { IsTrue result ↔ All (λ text. length text ≤ 4194304) texts.now }
 {
@@ -89,15 +102,62 @@ fn is_part(texts: usize, part: &PrintPart) -> bool
     }
 }
 
-fn is_instr(variables: usize, texts: usize, instr: &Instr) -> bool
-    ensures { IsTrue result ↔ IsInstr variables texts instr.now }
+fn is_source(variables: usize, literals: usize, source: Source) -> bool
+    ensures { IsTrue result ↔ IsSource variables literals source }
+{
+    match source {
+        Source::Literal(n) => (n as usize) < literals,
+        Source::Whole(n) | Source::Range(n) => (n as usize) < variables,
+        Source::FromInt => true,
+    }
+}
+
+fn is_dest(variables: usize, dest: Dest) -> bool
+    ensures { IsTrue result ↔ IsDest variables dest }
+{
+    match dest {
+        Dest::Whole(n) | Dest::Range(n) => (n as usize) < variables,
+    }
+}
+
+fn size_at(variables: &[VarDef], n: u32) -> u32
+    ensures { result ≡ size_of (slice_get variables.now n) }
+{
+    match variables.get(n as usize) {
+        None => 0,
+        Some(variable) => variable.size,
+    }
+}
+
+/// Whether there is a variable with at least so many elements, and at least one.
+fn has_elements(variables: &[VarDef], n: u32, count: usize) -> bool
+    ensures { IsTrue result ↔ ((n < length variables.now) × (1 ≤ count) × (count ≤ size_of (slice_get variables.now n))) }
+{
+    (n as usize) < variables.len() && 1 <= count && count <= size_at(variables, n) as usize
+}
+
+fn is_instr(variables: &[VarDef], literals: usize, texts: usize, instr: &Instr) -> bool
+    ensures { IsTrue result ↔ IsInstr variables.now literals texts instr.now }
 {
     match instr {
         Instr::Turn(piece) => 1 <= *piece && *piece <= 100_000,
-        Instr::Load(n) | Instr::Store(n) => (*n as usize) < variables,
+        Instr::Load(n)
+        | Instr::LoadAt(n)
+        | Instr::CheckIndex(n)
+        | Instr::CheckRange(n)
+        | Instr::Store(n)
+        | Instr::StoreAt(n) => (*n as usize) < variables.len(),
         Instr::PushBit(bit) => *bit <= 1,
         Instr::Unary(op) => *op < 4,
         Instr::Binary(op) => *op < 23,
+        Instr::ToInt(source) => is_source(variables.len(), literals, *source),
+        Instr::CopyBits(dest, source) => {
+            is_dest(variables.len(), *dest) && is_source(variables.len(), literals, *source)
+        }
+        Instr::SetBits(n, literal) => {
+            (*n as usize) < variables.len() && (*literal as usize) < literals
+        }
+        Instr::SetInts(n, values) => has_elements(variables, *n, values.len()),
         Instr::Print(parts) => {
             let parts = parts.as_slice();
             !parts.is_empty() && parts.iter().all(|part| is_part(texts, part))
@@ -170,10 +230,12 @@ fn are_actions(procedures: usize, actions: &[ActionDef]) -> bool
     !actions.is_empty() && actions.iter().all(|a| is_action(procedures, a)) && are_apart(actions)
 }
 
-fn are_instrs(variables: usize, texts: usize, instrs: &[Instr]) -> bool
-    ensures { IsTrue result ↔ All (IsInstr variables texts) instrs.now }
+fn are_instrs(variables: &[VarDef], literals: usize, texts: usize, instrs: &[Instr]) -> bool
+    ensures { IsTrue result ↔ All (IsInstr variables.now literals texts) instrs.now }
 {
-    instrs.iter().all(|instr| is_instr(variables, texts, instr))
+    instrs
+        .iter()
+        .all(|instr| is_instr(variables, literals, texts, instr))
 }
 
 impl CodeLists {
@@ -183,10 +245,16 @@ impl CodeLists {
     {
         let instrs = self.instrs.as_slice();
         are_variables(self.variables.as_slice())
+            && are_literals(self.literals.as_slice())
             && are_texts(self.texts.as_slice())
             && are_procedures(self.procedures.as_slice())
             && are_actions(self.procedures.len(), self.actions.as_slice())
-            && are_instrs(self.variables.len(), self.texts.len(), instrs)
+            && are_instrs(
+                self.variables.as_slice(),
+                self.literals.len(),
+                self.texts.len(),
+                instrs,
+            )
             && instrs.len() < 1 << 32
     }
 }

@@ -4,6 +4,7 @@ ghost use Rattle.stapl_code.specs.Ranges.{IsInRange};
 
 use crate::instr::Instr;
 use base::ItemList;
+use bit_list::Bits;
 use stapl_lexer::Name;
 use stapl_meaning::Text;
 use std::marker::Model;
@@ -45,6 +46,7 @@ pub struct ActionDef {
 #[derive(Drop)]
 pub struct CodeLists {
     pub variables: ItemList<VarDef>,
+    pub literals: ItemList<Bits>,
     pub texts: ItemList<Text>,
     pub procedures: ItemList<ProcDef>,
     pub actions: ItemList<ActionDef>,

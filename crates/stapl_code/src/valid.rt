@@ -79,7 +79,11 @@ fn sets_up(instr: &Instr) -> bool
     ensures { result ≡ sets_up instr.now }
 {
     match instr {
-        Instr::Push(_) | Instr::PushBit(_) | Instr::Store(_) => true,
+        Instr::Push(_)
+        | Instr::PushBit(_)
+        | Instr::Store(_)
+        | Instr::SetBits(_, _)
+        | Instr::SetInts(_, _) => true,
         _ => false,
     }
 }
