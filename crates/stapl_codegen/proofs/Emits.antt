@@ -1,21 +1,23 @@
 -- Steps of what is written for a statement.
-use Rattle.std.proofs.Common.{◌≡◌, ℕ, suc, List, [], ◌∷◌, ◌++◌, length, append_assoc, refl, sym, ap, ◌∙◌}
-use Rattle.std.proofs.lemmas.List.{append-nil}
-use Rattle.stapl_syntax.specs.Trees.{ExprTree, BodyTree, if_then, PartTree, string, value, character}
+use Rattle.std.proofs.Common.{◌≡◌, ℕ, suc, ◌<◌, Bool, List, [], ◌∷◌, ◌++◌, length, take, drop, arith, append_assoc, refl, sym, ap, ◌∙◌}
+use Rattle.std.proofs.lemmas.List.{append-nil, take_all}
+use Rattle.stapl_syntax.specs.Trees.{ExprTree, ArrayTree, BodyTree, if_then, PartTree, string, value, character}
 use Rattle.stapl_meaning.specs.declared.values.ValueKind.TheVariants as kinds
 use Rattle.stapl_meaning.specs.Values.{Lookup}
-use Rattle.stapl_meaning.specs.Operands.{part_operands}
+use Rattle.stapl_meaning.specs.Operands.{a_range, array_operands, part_operands}
+use Rattle.stapl_code.specs.declared.instr.Source.{Source}
 use Rattle.stapl_code.specs.declared.instr.Instr.{Instr}
 use Rattle.stapl_code.specs.declared.instr.Instr.TheVariants.{JumpIfZero, CheckChar}
 use Rattle.stapl_code.specs.declared.instr.PrintPart.{PrintPart}
-use Rattle.stapl_codegen.specs.Emit.{operands_code, print_parts, part_texts}
-use Rattle.stapl_codegen.specs.Drafts.{Draft, Site, scope_of_site, expr_code_in, operands_code_in, part_operands_in, print_parts_in, body_code_in}
-use Rattle.stapl_codegen.proofs.Lists.{expr_append, expr_before}
+use Rattle.stapl_codegen.specs.Emit.{operands_code, source_code, print_parts, part_texts}
+use Rattle.stapl_codegen.specs.Drafts.{Draft, Site, scope_of_site, expr_code_in, operands_code_in, array_operands_in, source_in, part_operands_in, print_parts_in, body_code_in}
+use Rattle.stapl_codegen.proofs.Lists.{expr_append, expr_before, operands_before}
 
 -- what a draft was before a PRINT, what it is after some of its parts, and which parts are left
 pub record AreWritten (start : Draft) (all : List PartTree) (d : Draft) (list : List PrintPart) (rest : List PartTree) : Type 0 where
   pub code : d.code ++ operands_code_in start (part_operands_in start rest) ≡ start.code ++ operands_code_in start (part_operands_in start all)
   pub texts : d.texts ++ part_texts rest ≡ start.texts ++ part_texts all
+  pub literals : d.literals ≡ start.literals
   pub printed : list ++ print_parts_in d rest ≡ print_parts_in start all
   pub site : d.site ≡ start.site
 
@@ -71,22 +73,57 @@ module _ (part : PartTree) (rest : List PartTree) where
         ∙ so_far.printed
 
     pub part_more : d'.code ≡ d.code ++ operands_code_in d (part_operands_in d (part ∷ [])) →
-        d'.texts ≡ d.texts ++ part_texts (part ∷ []) → d'.site ≡ d.site → printed ∷ [] ≡ print_parts_in d (part ∷ []) →
-        list' ≡ list ++ printed ∷ [] → AreWritten start all d' list' rest
-    part_more code texts site print more =
-        record { code = code_more code; texts = texts_more texts; printed = list_more texts site print more; site = site ∙ so_far.site }
+        d'.texts ≡ d.texts ++ part_texts (part ∷ []) → d'.literals ≡ d.literals → d'.site ≡ d.site →
+        printed ∷ [] ≡ print_parts_in d (part ∷ []) → list' ≡ list ++ printed ∷ [] → AreWritten start all d' list' rest
+    part_more code texts literals site print more = record {
+      code = code_more code;
+      texts = texts_more texts;
+      literals = literals ∙ so_far.literals;
+      printed = list_more texts site print more;
+      site = site ∙ so_far.site;
+    }
+
+-- a literal of fewer bits than an integer has
+pub short_literal : (bits : List Bool) (n : ℕ) → n ≡ length bits → n < 32 → take n (drop 0 bits) ≡ take 32 bits
+short_literal bits n is below = take_all n bits (omega (arith, is)) ∙ sym (take_all 32 bits (omega (arith, is, below)))
 
 -- an IF, and then its inner statement
 pub if_written : (e : ExprTree) (b : BodyTree) (start d done : Draft) →
-    d.code ≡ start.code ++ (expr_code_in start kinds.Bit e ++ JumpIfZero start.site.piece ∷ []) → d.texts ≡ start.texts → d.site ≡ start.site →
+    d.code ≡ start.code ++ (expr_code_in start kinds.Bit e ++ JumpIfZero start.site.piece ∷ []) → d.texts ≡ start.texts → d.literals ≡ start.literals → d.site ≡ start.site →
     done.code ≡ d.code ++ body_code_in d b → done.code ≡ start.code ++ body_code_in start (if_then e b)
-if_written e b start d done code texts site more =
+if_written e b start d done code texts literals site more =
     let test : List Instr = expr_code_in start kinds.Bit e in
     let jump : List Instr = JumpIfZero start.site.piece ∷ [] in
     let inner : List Instr = body_code_in start b in
     more
-    ∙ ap (λ (s : Site). d.code ++ body_code_in (record { code = []; texts = d.texts; site = s }) b) site
-    ∙ ap (λ (t : List (List ℕ)). d.code ++ body_code_in (record { code = []; texts = t; site = start.site }) b) texts
+    ∙ ap (λ (s : Site). d.code ++ body_code_in (record { code = []; texts = d.texts; literals = d.literals; site = s }) b) site
+    ∙ ap (λ (t : List (List ℕ)). d.code ++ body_code_in (record { code = []; texts = t; literals = d.literals; site = start.site }) b) texts
+    ∙ ap (λ (l : List (List Bool)). d.code ++ body_code_in (record { code = []; texts = start.texts; literals = l; site = start.site }) b) literals
     ∙ ap (λ c. c ++ inner) code
     ∙ append_assoc start.code (test ++ jump) inner
     ∙ ap (λ c. start.code ++ c) (append_assoc test jump inner ∙ sym (expr_before (scope_of_site start.site).look kinds.Bit e (jump ++ inner)))
+
+-- the indexes of a range, the operands of an array, and the copy
+pub range_written : (n : ℕ) (high low : ExprTree) (a : ArrayTree) (i : Source → Instr) (start ranged placed : Draft) (source : Source) (code : List Instr) →
+    ranged.code ≡ start.code ++ operands_code_in start (a_range n high low) → ranged.literals ≡ start.literals → ranged.site ≡ start.site →
+    placed.code ≡ ranged.code ++ operands_code_in ranged (array_operands_in ranged a) → source ≡ source_in ranged a → code ≡ placed.code ++ i source ∷ [] →
+    code ≡ start.code ++ operands_code (scope_of_site start.site).look (a_range n high low ++ array_operands_in start a) (i (source_in start a) ∷ [])
+range_written n high low a i start ranged placed source code range literals site array from more =
+    let look : Lookup = (scope_of_site start.site).look in
+    let own : List Instr = operands_code look (a_range n high low) [] in
+    let others : List Instr = operands_code look (array_operands look a) [] in
+    let copy : List Instr = i (source_in start a) ∷ [] in
+    let same : source ≡ source_in start a =
+    from
+    ∙ ap (λ (s : Site). source_code (scope_of_site s).look (length ranged.literals) a) site
+    ∙ ap (λ (l : List (List Bool)). source_code look (length l) a) literals
+    in
+    more
+    ∙ ap (λ (x : Source). placed.code ++ i x ∷ []) same
+    ∙ ap (λ c. c ++ copy) array
+    ∙ ap (λ (s : Site). (ranged.code ++ operands_code (scope_of_site s).look (array_operands (scope_of_site s).look a) []) ++ copy) site
+    ∙ ap (λ c. (c ++ others) ++ copy) range
+    ∙ append_assoc (start.code ++ own) others copy
+    ∙ append_assoc start.code own (others ++ copy)
+    ∙ ap (λ c. start.code ++ (own ++ c)) (sym (operands_before look (array_operands look a) copy))
+    ∙ ap (λ c. start.code ++ c) (sym (operands_before look (a_range n high low) (operands_code look (array_operands look a) copy)))

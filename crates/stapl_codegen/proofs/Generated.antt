@@ -1,28 +1,32 @@
 -- The lists of the code of an accepted program are in their ranges and valid, and stand for it.
 use Rattle.std.proofs.Common.{◌≡◌, ◌≢◌, ℕ, ◌+◌, ◌<◌, ◌≤◌, Bool, true, false, cond, List, [], ◌∷◌, length, map, drop, arith, refl, ap, ◌∙◌, add-one}
-use Rattle.std.specs.Prelude.{All}
+use Rattle.std.specs.Prelude.{All, IfSome, Some, None, Option, nat_abs, slice_get}
+use Rattle.std.specs.Option.{option_map}
+use Rattle.std.proofs.lemmas.Option.{slice_get-map}
+use Rattle.stapl_syntax.specs.declared.names.Declaration.{Declaration}
+use Rattle.stapl_syntax.specs.Names.{declaration}
 use Rattle.stapl_syntax.specs.Trees.{StmtTree}
 use Rattle.stapl_syntax.specs.Statements.{is_outer}
 use Rattle.stapl_syntax.specs.Programs.{piece_limit}
 use Rattle.stapl_meaning.specs.Scopes.{program_names, scope_at}
-use Rattle.stapl_meaning.specs.Typed.{IsTyped}
+use Rattle.stapl_meaning.specs.Typed.{IsDeclaredAt, IsTyped}
 use Rattle.stapl_code.specs.declared.instr.Instr.TheVariants.{Turn}
 use Rattle.stapl_code.specs.declared.raw.ProcDef.{ProcDef}
 use Rattle.stapl_code.specs.declared.raw.VarDef.{VarDef}
 use Rattle.stapl_code.specs.declared.instr.Instr.{Instr}
 use Rattle.stapl_code.specs.Ranges.{AreProcedures, IsInstr, IsInRange}
-use Rattle.stapl_codegen.specs.Emit.{body_code, first_text, texts_of, pieces_code, program_code, start_of, procedures_of}
+use Rattle.stapl_codegen.specs.Emit.{body_code, firsts_at, literals_of, texts_of, pieces_code, program_code, start_of, procedures_of}
 use Rattle.stapl_codegen.specs.Accepted.{IsAccepted}
 use Rattle.stapl_codegen.specs.Generated.{lists_of, IsCodeOf}
 use Rattle.stapl_codegen.proofs.Heads.{head_of, get_head, drop_tail}
-use Rattle.stapl_codegen.proofs.Texts.{texts_below}
+use Rattle.stapl_codegen.proofs.Texts.{texts_below, literals_below}
 use Rattle.stapl_codegen.proofs.Ordered.{closed}
-use Rattle.stapl_codegen.proofs.Ranges.{Each, each_all, InRange, body_range, variables_are, few_variables, agrees_from}
+use Rattle.stapl_codegen.proofs.Ranges.{Each, each_all, InRange, body_range, variables_are, agrees_from}
 use Rattle.stapl_built.specs.Built.{IsBuilt}
 use Rattle.stapl_meaning.proofs.Resolved.{built_is_inner}
 use Rattle.stapl_meaning.proofs.Entries.{all_at}
 use Rattle.stapl_meaning.specs.Scopes.{block_at}
-use Rattle.stapl_codegen.specs.Generated.{variable_def}
+use Rattle.stapl_codegen.specs.Generated.{kind_number, variable_def}
 use Rattle.stapl_codegen.proofs.Sizes.{code_length}
 use Rattle.stapl_codegen.proofs.Runs.{stands}
 use Rattle.stapl_codegen.proofs.Whole.{AreFine, procedures_fine}
@@ -34,23 +38,30 @@ module _ (program : List StmtTree) (built : All IsBuilt program) (typed : IsType
   defs = map variable_def (program_names program).variables
 
   pieces_range : (sts : List StmtTree) (i : ℕ) → drop i program ≡ sts → i + length sts ≤ piece_limit →
-      InRange defs (length (texts_of program)) (pieces_code program (start_of program) i sts)
+      InRange defs (length (literals_of program)) (length (texts_of program)) (pieces_code program (start_of program) i sts)
   pieces_range [] i e few = tt
   pieces_range (st ∷ rest) i e few =
       by (is_outer st.body) refl (pieces_range rest (i + 1) (rw add-one (drop_tail i program ∙ ap (drop 1) e)) (omega (arith, few)))
     where
+      defined : (block : List ℕ) (o : Option Declaration) → IfSome o (IsDeclaredAt program i block) →
+          IfSome o (λ (d : Declaration). slice_get defs ((scope_at program i).look.variable d.name) ≡ Some (record { kind = kind_number d.kind; size = nat_abs d.size }))
+      defined block None is = tt
+      defined block (Some d) is =
+          slice_get-map variable_def (program_names program).variables ((scope_at program i).look.variable d.name) ∙ ap (option_map variable_def) is.entry
+
       after : List Instr
       after = pieces_code program (start_of program) (i + 1) rest
 
-      by : (b : Bool) → is_outer st.body ≡ b → InRange defs (length (texts_of program)) after →
-          InRange defs (length (texts_of program)) (cond b after (Turn (i + 1) ∷ body_code (scope_at program i) (start_of program) (first_text program i) st.body after))
+      by : (b : Bool) → is_outer st.body ≡ b → InRange defs (length (literals_of program)) (length (texts_of program)) after →
+          InRange defs (length (literals_of program)) (length (texts_of program)) (cond b after (Turn (i + 1) ∷ body_code (scope_at program i) (start_of program) (firsts_at program i) st.body after))
       by true outer more = more
       by false inner more =
           let at = get_head i program ∙ ap head_of e in
           let t = typed.statements i st at inner in (
             (omega arith, omega (arith, few)),
-            body_range defs (length (texts_of program)) (scope_at program i) (agrees_from (program_names program) (block_at program i)) (start_of program) (first_text program i) st.body after
-                (built_is_inner st (all_at IsBuilt program i st built at) inner) t.suits (texts_below i program st rest e) more,
+            body_range defs (length (literals_of program)) (length (texts_of program)) (scope_at program i) (agrees_from (program_names program) (block_at program i)) (start_of program) (firsts_at program i) st.body after
+                (built_is_inner st (all_at IsBuilt program i st built at) inner) t.suits (defined t.block (declaration st.body) t.declares) t.few_values
+                (record { few_texts = texts_below i program st rest e; few_literals = literals_below i program st rest e }) more,
           )
 
 -- there is a procedure, which begins at an instruction
@@ -80,14 +91,14 @@ module _ (program : List StmtTree) (accepted : IsAccepted program) where
 
   pub in_range : IsInRange (lists_of program)
   in_range =
-      let few = few_variables program in
       let limit = accepted.typed.few in
       record {
-        variables = variables_are program accepted.built (omega (arith, few, limit));
+        variables = variables_are (program_names program).variables accepted.typed.sized;
+        literals = accepted.literals;
         texts = accepted.texts;
         procedures = procedures;
         actions = actions_are program accepted.typed accepted.named;
-        instrs = each_all (IsInstr (length variables) (length (texts_of program))) (program_code program) (pieces_range program accepted.built accepted.typed program 0 refl (omega (arith, limit)));
+        instrs = each_all (IsInstr variables (length (literals_of program)) (length (texts_of program))) (program_code program) (pieces_range program accepted.built accepted.typed program 0 refl (omega (arith, limit)));
         countable = omega (arith, size);
       }
 

@@ -1,5 +1,6 @@
 pub mod Heads
 pub mod Exprs
+pub mod Constants
 pub mod Prints
 pub mod Lists
 pub mod Bodies

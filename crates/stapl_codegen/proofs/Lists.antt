@@ -1,18 +1,19 @@
 -- The code of expressions, operands, rows and pieces: what stands behind it, and its targets.
 use Rattle.std.proofs.Common.{◌≡◌, ℕ, zero, suc, ◌+◌, Bool, true, false, cond, List, [], ◌∷◌, ◌++◌, length, map, drop, arith, refl, ap, ◌∙◌}
-use Rattle.std.specs.Prelude.{ℤ, pos, negsuc, Option}
-use Rattle.stapl_syntax.specs.Trees.{ExprTree, number, scalar, unary, binary, abs, BodyTree, end_procedure, assign, goto, if_then, print, exit, StmtTree}
+use Rattle.std.specs.Prelude.{ℤ, pos, negsuc, Option, Some}
+use Rattle.stapl_syntax.specs.Trees.{ExprTree, number, scalar, element, unary, binary, abs, int, ArrayTree, literal, whole, range, of_int, BodyTree, end_procedure, boolean, boolean_array, integer, integer_array, assign, assign_element, assign_array, assign_range, goto, if_then, print, exit, StmtTree}
 use Rattle.stapl_syntax.specs.Statements.{is_outer}
 use Rattle.stapl_syntax.specs.Names.{Names}
 use Rattle.stapl_meaning.specs.declared.values.ValueKind.{ValueKind}
 use Rattle.stapl_meaning.specs.declared.values.ValueKind.TheVariants as kinds
 use Rattle.stapl_meaning.specs.Values.{Lookup, unary_side, sides}
-use Rattle.stapl_meaning.specs.Operands.{Test, Plain, Character, Operand}
+use Rattle.stapl_meaning.specs.Operands.{Test, Plain, Character, Index, Range, Operand}
 use Rattle.stapl_meaning.specs.Scopes.{Scope, scope_of, scope_at}
 use Rattle.stapl_meaning.specs.Turns.{operands, rows}
 use Rattle.stapl_code.specs.declared.instr.Instr.{Instr}
-use Rattle.stapl_code.specs.declared.instr.Instr.TheVariants.{Turn, Unary, Binary}
-use Rattle.stapl_codegen.specs.Emit.{operator_number, sign_number, absolute_number, literal_code, test_code, expr_code, operands_code, last, row_texts, past, row_code, rows_code, body_code, first_text, piece_code, pieces_code, retarget}
+use Rattle.stapl_code.specs.declared.instr.Instr.TheVariants.{Turn, LoadAt, Unary, Binary, ToInt}
+use Rattle.stapl_code.specs.declared.instr.Source.TheVariants as sources
+use Rattle.stapl_codegen.specs.Emit.{operator_number, sign_number, absolute_number, literal_code, test_code, expr_code, int_code, operands_code, Firsts, last, behind_row, row_code, rows_code, body_code, firsts_at, piece_code, pieces_code, retarget}
 
 literal_retarget : (place : ℕ → ℕ) (kind : ValueKind) (z : ℤ) → retarget place (literal_code kind z) ≡ literal_code kind z
 literal_retarget place kinds.Int z = refl
@@ -22,20 +23,32 @@ literal_retarget place kinds.Bit (pos (suc (suc n))) = refl
 literal_retarget place kinds.Bit (negsuc n) = refl
 
 module _ (look : Lookup) where
-  pub expr_append : (kind : ValueKind) (e : ExprTree) (c d : List Instr) → expr_code look kind e (c ++ d) ≡ expr_code look kind e c ++ d
-  expr_append kind (number z) c d = refl
-  expr_append kind (scalar name) c d = refl
-  expr_append kind (unary op e) c d = expr_append (unary_side op) e (Unary (sign_number op) ∷ c) d
-  expr_append kind (binary op a b) c d =
-      let side : ValueKind = sides look op a b in
-      ap (expr_code look side a) (expr_append side b (Binary (operator_number op side) ∷ c) d)
-      ∙ expr_append side a (expr_code look side b (Binary (operator_number op side) ∷ c)) d
-  expr_append kind (abs e) c d = expr_append kinds.Int e (Unary absolute_number ∷ c) d
-  expr_append kind _ c d = refl
+  mutual
+    pub expr_append : (kind : ValueKind) (e : ExprTree) (c d : List Instr) → expr_code look kind e (c ++ d) ≡ expr_code look kind e c ++ d
+    expr_append kind (number z) c d = refl
+    expr_append kind (scalar name) c d = refl
+    expr_append kind (element name index) c d = expr_append kinds.Int index (LoadAt (look.variable name) ∷ c) d
+    expr_append kind (unary op e) c d = expr_append (unary_side op) e (Unary (sign_number op) ∷ c) d
+    expr_append kind (binary op a b) c d =
+        let side : ValueKind = sides look op a b in
+        ap (expr_code look side a) (expr_append side b (Binary (operator_number op side) ∷ c) d)
+        ∙ expr_append side a (expr_code look side b (Binary (operator_number op side) ∷ c)) d
+    expr_append kind (abs e) c d = expr_append kinds.Int e (Unary absolute_number ∷ c) d
+    expr_append kind (int a) c d = int_append a c d
+
+    int_append : (a : ArrayTree) (c d : List Instr) → int_code look a (c ++ d) ≡ int_code look a c ++ d
+    int_append (literal bits) c d = refl
+    int_append (whole name) c d = refl
+    int_append (range name a b) c d =
+        let read : List Instr = ToInt (sources.Range (look.variable name)) ∷ c in
+        ap (expr_code look kinds.Int a) (expr_append kinds.Int b read d) ∙ expr_append kinds.Int a (expr_code look kinds.Int b read) d
+    int_append (of_int e) c d = expr_append kinds.Int e (ToInt sources.FromInt ∷ c) d
 
   test_append : (t : Test) (c d : List Instr) → test_code t (c ++ d) ≡ test_code t c ++ d
   test_append Plain c d = refl
   test_append Character c d = refl
+  test_append (Index n) c d = refl
+  test_append (Range n) c d = refl
 
   pub operands_append : (os : List Operand) (c d : List Instr) → operands_code look os (c ++ d) ≡ operands_code look os c ++ d
   operands_append [] c d = refl
@@ -47,24 +60,39 @@ module _ (look : Lookup) where
   pub expr_before : (kind : ValueKind) (e : ExprTree) (c : List Instr) → expr_code look kind e c ≡ expr_code look kind e [] ++ c
   expr_before kind e c = expr_append kind e [] c
 
+  pub int_before : (a : ArrayTree) (c : List Instr) → int_code look a c ≡ int_code look a [] ++ c
+  int_before a c = int_append a [] c
+
   pub operands_before : (os : List Operand) (c : List Instr) → operands_code look os c ≡ operands_code look os [] ++ c
   operands_before os c = operands_append os [] c
 
   module _ (place : ℕ → ℕ) where
-    expr_retarget : (kind : ValueKind) (e : ExprTree) (c : List Instr) → map (retarget place) (expr_code look kind e c) ≡ expr_code look kind e (map (retarget place) c)
-    expr_retarget kind (number z) c = ap (λ i. i ∷ map (retarget place) c) (literal_retarget place kind z)
-    expr_retarget kind (scalar name) c = refl
-    expr_retarget kind (unary op e) c = expr_retarget (unary_side op) e (Unary (sign_number op) ∷ c)
-    expr_retarget kind (binary op a b) c =
-        let side : ValueKind = sides look op a b in
-        expr_retarget side a (expr_code look side b (Binary (operator_number op side) ∷ c))
-        ∙ ap (expr_code look side a) (expr_retarget side b (Binary (operator_number op side) ∷ c))
-    expr_retarget kind (abs e) c = expr_retarget kinds.Int e (Unary absolute_number ∷ c)
-    expr_retarget kind _ c = refl
+    mutual
+      expr_retarget : (kind : ValueKind) (e : ExprTree) (c : List Instr) → map (retarget place) (expr_code look kind e c) ≡ expr_code look kind e (map (retarget place) c)
+      expr_retarget kind (number z) c = ap (λ i. i ∷ map (retarget place) c) (literal_retarget place kind z)
+      expr_retarget kind (scalar name) c = refl
+      expr_retarget kind (element name index) c = expr_retarget kinds.Int index (LoadAt (look.variable name) ∷ c)
+      expr_retarget kind (unary op e) c = expr_retarget (unary_side op) e (Unary (sign_number op) ∷ c)
+      expr_retarget kind (binary op a b) c =
+          let side : ValueKind = sides look op a b in
+          expr_retarget side a (expr_code look side b (Binary (operator_number op side) ∷ c))
+          ∙ ap (expr_code look side a) (expr_retarget side b (Binary (operator_number op side) ∷ c))
+      expr_retarget kind (abs e) c = expr_retarget kinds.Int e (Unary absolute_number ∷ c)
+      expr_retarget kind (int a) c = int_retarget a c
+
+      int_retarget : (a : ArrayTree) (c : List Instr) → map (retarget place) (int_code look a c) ≡ int_code look a (map (retarget place) c)
+      int_retarget (literal bits) c = refl
+      int_retarget (whole name) c = refl
+      int_retarget (range name a b) c =
+          let read : List Instr = ToInt (sources.Range (look.variable name)) ∷ c in
+          expr_retarget kinds.Int a (expr_code look kinds.Int b read) ∙ ap (expr_code look kinds.Int a) (expr_retarget kinds.Int b read)
+      int_retarget (of_int e) c = expr_retarget kinds.Int e (ToInt sources.FromInt ∷ c)
 
     test_retarget : (t : Test) (c : List Instr) → map (retarget place) (test_code t c) ≡ test_code t (map (retarget place) c)
     test_retarget Plain c = refl
     test_retarget Character c = refl
+    test_retarget (Index n) c = refl
+    test_retarget (Range n) c = refl
 
     operands_retarget : (os : List Operand) (c : List Instr) → map (retarget place) (operands_code look os c) ≡ operands_code look os (map (retarget place) c)
     operands_retarget [] c = refl
@@ -74,38 +102,45 @@ module _ (look : Lookup) where
         ∙ ap (λ l. expr_code look o.kind o.expr (test_code o.test l)) (operands_retarget os c)
 
 module _ (scope : Scope) (place : ℕ → ℕ) where
-  rows_append : (first : ℕ) (bs : List BodyTree) (c d : List Instr) → rows_code scope place first bs (c ++ d) ≡ rows_code scope place first bs c ++ d
+  rows_append : (first : Firsts) (bs : List BodyTree) (c d : List Instr) → rows_code scope place first bs (c ++ d) ≡ rows_code scope place first bs c ++ d
   rows_append first [] c d = refl
   rows_append first (b ∷ bs) c d =
-      let more : List Instr = rows_code scope place (past first (row_texts b)) bs c in
-      ap (row_code scope place first b) (rows_append (past first (row_texts b)) bs c d)
+      let more : List Instr = rows_code scope place (behind_row first b) bs c in
+      ap (row_code scope place first b) (rows_append (behind_row first b) bs c d)
       ∙ operands_append scope.look (operands scope b) (last scope place first b ∷ more) d
 
-  pub body_append : (first : ℕ) (b : BodyTree) (c d : List Instr) → body_code scope place first b (c ++ d) ≡ body_code scope place first b c ++ d
+  pub body_append : (first : Firsts) (b : BodyTree) (c d : List Instr) → body_code scope place first b (c ++ d) ≡ body_code scope place first b c ++ d
   body_append first b c d = rows_append first (rows b) c d
 
-  pub body_before : (first : ℕ) (b : BodyTree) (c : List Instr) → body_code scope place first b c ≡ body_code scope place first b [] ++ c
+  pub body_before : (first : Firsts) (b : BodyTree) (c : List Instr) → body_code scope place first b c ≡ body_code scope place first b [] ++ c
   body_before first b c = body_append first b [] c
 
   -- a line for each statement
-  last_retarget : (first : ℕ) (b : BodyTree) → retarget place (last scope (λ i. i) first b) ≡ last scope place first b
+  last_retarget : (first : Firsts) (b : BodyTree) → retarget place (last scope (λ i. i) first b) ≡ last scope place first b
   last_retarget first end_procedure = refl
+  last_retarget first (boolean name (Some b)) = refl
+  last_retarget first (boolean_array name size (Some bits)) = refl
+  last_retarget first (integer name (Some z)) = refl
+  last_retarget first (integer_array name size (Some zs)) = refl
   last_retarget first (assign name e) = refl
+  last_retarget first (assign_element name index e) = refl
+  last_retarget first (assign_array name a) = refl
+  last_retarget first (assign_range name high low a) = refl
   last_retarget first (goto name) = refl
   last_retarget first (if_then e b) = refl
   last_retarget first (print list) = refl
   last_retarget first (exit e) = refl
   last_retarget first _ = refl
 
-  rows_retarget : (first : ℕ) (bs : List BodyTree) (c : List Instr) → map (retarget place) (rows_code scope (λ i. i) first bs c) ≡ rows_code scope place first bs (map (retarget place) c)
+  rows_retarget : (first : Firsts) (bs : List BodyTree) (c : List Instr) → map (retarget place) (rows_code scope (λ i. i) first bs c) ≡ rows_code scope place first bs (map (retarget place) c)
   rows_retarget first [] c = refl
   rows_retarget first (b ∷ bs) c =
-      let first' : ℕ = past first (row_texts b) in
+      let first' : Firsts = behind_row first b in
       operands_retarget scope.look place (operands scope b) (last scope (λ i. i) first b ∷ rows_code scope (λ i. i) first' bs c)
       ∙ ap (λ i. operands_code scope.look (operands scope b) (i ∷ map (retarget place) (rows_code scope (λ i. i) first' bs c))) (last_retarget first b)
       ∙ ap (row_code scope place first b) (rows_retarget first' bs c)
 
-  pub body_retarget : (first : ℕ) (b : BodyTree) (c : List Instr) → map (retarget place) (body_code scope (λ i. i) first b c) ≡ body_code scope place first b (map (retarget place) c)
+  pub body_retarget : (first : Firsts) (b : BodyTree) (c : List Instr) → map (retarget place) (body_code scope (λ i. i) first b c) ≡ body_code scope place first b (map (retarget place) c)
   body_retarget first b c = rows_retarget first (rows b) c
 
 -- the code of a statement does not ask where procedures begin
@@ -117,35 +152,42 @@ module _ (names : Names) (entry entry' : ℕ → ℕ) (count : ℕ) (inside : Op
   Other = scope_of names entry' count inside i
 
   -- a line for each statement
-  last_same : (first : ℕ) (b : BodyTree) → last One place first b ≡ last Other place first b
+  last_same : (first : Firsts) (b : BodyTree) → last One place first b ≡ last Other place first b
   last_same first end_procedure = refl
+  last_same first (boolean name (Some b)) = refl
+  last_same first (boolean_array name size (Some bits)) = refl
+  last_same first (integer name (Some z)) = refl
+  last_same first (integer_array name size (Some zs)) = refl
   last_same first (assign name e) = refl
+  last_same first (assign_element name index e) = refl
+  last_same first (assign_array name a) = refl
+  last_same first (assign_range name high low a) = refl
   last_same first (goto name) = refl
   last_same first (if_then e b) = refl
   last_same first (print list) = refl
   last_same first (exit e) = refl
   last_same first _ = refl
 
-  rows_same : (first : ℕ) (bs : List BodyTree) → rows_code One place first bs [] ≡ rows_code Other place first bs []
+  rows_same : (first : Firsts) (bs : List BodyTree) → rows_code One place first bs [] ≡ rows_code Other place first bs []
   rows_same first [] = refl
   rows_same first (b ∷ bs) =
-      ap (λ i. operands_code One.look (operands One b) (i ∷ rows_code One place (past first (row_texts b)) bs [])) (last_same first b)
-      ∙ ap (row_code Other place first b) (rows_same (past first (row_texts b)) bs)
+      ap (λ i. operands_code One.look (operands One b) (i ∷ rows_code One place (behind_row first b) bs [])) (last_same first b)
+      ∙ ap (row_code Other place first b) (rows_same (behind_row first b) bs)
 
-  pub body_same : (first : ℕ) (b : BodyTree) → body_code One place first b [] ≡ body_code Other place first b []
+  pub body_same : (first : Firsts) (b : BodyTree) → body_code One place first b [] ≡ body_code Other place first b []
   body_same first b = rows_same first (rows b)
 
 module _ (program : List StmtTree) (place : ℕ → ℕ) where
-  piece_append_by : (t : Bool) (i : ℕ) (st : StmtTree) (c d : List Instr) → cond t (c ++ d) (Turn (i + 1) ∷ body_code (scope_at program i) place (first_text program i) st.body (c ++ d)) ≡ cond t c (Turn (i + 1) ∷ body_code (scope_at program i) place (first_text program i) st.body c) ++ d
+  piece_append_by : (t : Bool) (i : ℕ) (st : StmtTree) (c d : List Instr) → cond t (c ++ d) (Turn (i + 1) ∷ body_code (scope_at program i) place (firsts_at program i) st.body (c ++ d)) ≡ cond t c (Turn (i + 1) ∷ body_code (scope_at program i) place (firsts_at program i) st.body c) ++ d
   piece_append_by true i st c d = refl
-  piece_append_by false i st c d = ap (λ l. Turn (i + 1) ∷ l) (body_append (scope_at program i) place (first_text program i) st.body c d)
+  piece_append_by false i st c d = ap (λ l. Turn (i + 1) ∷ l) (body_append (scope_at program i) place (firsts_at program i) st.body c d)
 
   pub piece_append : (i : ℕ) (st : StmtTree) (c d : List Instr) → piece_code program place i st (c ++ d) ≡ piece_code program place i st c ++ d
   piece_append i st c d = piece_append_by (is_outer st.body) i st c d
 
-  piece_retarget_by : (t : Bool) (i : ℕ) (st : StmtTree) (c : List Instr) → map (retarget place) (cond t c (Turn (i + 1) ∷ body_code (scope_at program i) (λ j. j) (first_text program i) st.body c)) ≡ cond t (map (retarget place) c) (Turn (i + 1) ∷ body_code (scope_at program i) place (first_text program i) st.body (map (retarget place) c))
+  piece_retarget_by : (t : Bool) (i : ℕ) (st : StmtTree) (c : List Instr) → map (retarget place) (cond t c (Turn (i + 1) ∷ body_code (scope_at program i) (λ j. j) (firsts_at program i) st.body c)) ≡ cond t (map (retarget place) c) (Turn (i + 1) ∷ body_code (scope_at program i) place (firsts_at program i) st.body (map (retarget place) c))
   piece_retarget_by true i st c = refl
-  piece_retarget_by false i st c = ap (λ l. Turn (i + 1) ∷ l) (body_retarget (scope_at program i) place (first_text program i) st.body c)
+  piece_retarget_by false i st c = ap (λ l. Turn (i + 1) ∷ l) (body_retarget (scope_at program i) place (firsts_at program i) st.body c)
 
   pub pieces_retarget : (i : ℕ) (sts : List StmtTree) → map (retarget place) (pieces_code program (λ j. j) i sts) ≡ pieces_code program place i sts
   pieces_retarget i [] = refl

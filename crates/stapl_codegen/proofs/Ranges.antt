@@ -1,44 +1,46 @@
 -- The fields of the code of an accepted program are in their ranges.
-use Rattle.std.proofs.Common.{◌≡◌, ℕ, zero, suc, ◌+◌, ◌<◌, ◌≤◌, Bool, true, false, cond, List, [], ◌∷◌, ◌++◌, length, length-append, map, Option, Some, None, is_some, option_map, arith, refl, ap, subst, ◌∙◌}
-use Rattle.std.specs.Prelude.{ℤ, pos, negsuc, nat_abs, nat_lt, ◌||◌, slice_get, take, All, sum_by}
-use Rattle.std.specs.List.{cons_option, list_all}
-use Rattle.std.specs.Map.{lookup}
-use Rattle.std.proofs.lemmas.Bool.{and_parts, ltb-true}
+use Rattle.std.proofs.Common.{◌≡◌, ℕ, zero, suc, ◌+◌, ◌<◌, ◌≤◌, Bool, true, false, List, [], ◌∷◌, ◌++◌, length, map, Option, Some, None, is_some, option_map, arith, refl, ap, ◌∙◌}
+use Rattle.std.specs.Prelude.{ℤ, pos, negsuc, nat_abs, ◌&&◌, if◌then◌else◌, slice_get, IfSome, All, sum_by}
+use Rattle.std.proofs.lemmas.Bool.{and_parts, ltb-true, ltb-false}
 use Rattle.std.proofs.lemmas.List.{append-nil}
 use Rattle.std.proofs.lemmas.List.Elements.{All-head, All-tail}
 use Rattle.std.proofs.lemmas.List.Sums.{sum_by-cons}
-use Rattle.std.proofs.lemmas.Option.{slice_get-map, same_Some}
+use Rattle.std.proofs.lemmas.Option.{slice_get-map}
 use Rattle.stapl_lexer.specs.declared.terminal.BinOp.{BinOp}
 use Rattle.stapl_lexer.specs.declared.terminal.BinOp.TheVariants as operators
 use Rattle.stapl_syntax.specs.declared.signs.UnOp.{UnOp}
 use Rattle.stapl_syntax.specs.declared.signs.UnOp.TheVariants as signs
+use Rattle.stapl_syntax.specs.declared.names.Declaration.{Declaration}
 use Rattle.stapl_syntax.specs.declared.names.Found.{Found}
 use Rattle.stapl_syntax.specs.declared.names.Found.TheVariants as found
 use Rattle.stapl_syntax.specs.declared.names.Key.{Key}
 use Rattle.stapl_syntax.specs.declared.names.Variable.{Variable}
 use Rattle.stapl_syntax.specs.declared.names.VarKind.{VarKind}
 use Rattle.stapl_syntax.specs.declared.names.VarKind.TheVariants as variables
-use Rattle.stapl_syntax.specs.Kinds.{expr_kind, is_bit, operands_suit}
-use Rattle.stapl_syntax.specs.Names.{Names, Numbered, numbered_from, numbered, inside_behind, inside_from, declared_from, declared, declaration, variable_entry, variable_in, variable_of, firsts_behind, key_eq, found_from, kind_of_found}
-use Rattle.stapl_syntax.specs.Trees.{ExprTree, number, scalar, unary, binary, abs, PartTree, string, value, character, BodyTree, end_procedure, boolean, boolean_array, integer, integer_array, assign, goto, if_then, print, exit, StmtTree}
-use Rattle.stapl_built.specs.Built.{is_built_expr, is_built_part, is_built_simple, is_built_inner, is_built_outer, IsBuilt}
+use Rattle.stapl_syntax.specs.Kinds.{expr_kind, element_kind, is_array, is_int, is_bit, is_bit_array, suits, operands_suit}
+use Rattle.stapl_syntax.specs.Names.{Names, declaration, found_from, kind_of_found}
+use Rattle.stapl_syntax.specs.Rules.{is_boolean, has_too_many_values}
+use Rattle.stapl_syntax.specs.Trees.{ExprTree, number, scalar, element, unary, binary, abs, int, ArrayTree, literal, whole, range, of_int, PartTree, string, value, character, BodyTree, end_procedure, boolean, boolean_array, integer, integer_array, assign, assign_element, assign_array, assign_range, goto, if_then, print, exit}
+use Rattle.stapl_built.specs.Built.{is_built_simple, is_built_inner}
 use Rattle.stapl_meaning.specs.declared.values.ValueKind.{ValueKind}
 use Rattle.stapl_meaning.specs.declared.values.ValueKind.TheVariants as kinds
 use Rattle.stapl_meaning.specs.Values.{Lookup, unary_side, sides}
-use Rattle.stapl_meaning.specs.Operands.{Test, Plain, Character, Operand, an_integer, a_boolean, plain, given_kind, printed_kind, part_operands}
-use Rattle.stapl_meaning.specs.Scopes.{Scope, program_names, number_found, lookup_from}
-use Rattle.stapl_meaning.proofs.Entries.{all_at, all_declared, all_firsts}
+use Rattle.stapl_meaning.specs.Operands.{Test, Plain, Character, Index, Range, Operand, array_operands, bit_number, given_kind, printed_kind}
+use Rattle.stapl_meaning.specs.Scopes.{Scope, number_found, lookup_from}
+use Rattle.stapl_meaning.specs.Turns.{operands}
+use Rattle.stapl_meaning.specs.Typed.{HasSize, IsSized, integers_of, booleans_of, AreSized}
+use Rattle.stapl_code.specs.declared.instr.Source.TheVariants as sources
 use Rattle.stapl_code.specs.declared.instr.Instr.{Instr}
-use Rattle.stapl_code.specs.declared.instr.Instr.TheVariants.{Store, Unary, Binary, JumpIfZero, Print, Exit}
+use Rattle.stapl_code.specs.declared.instr.Instr.TheVariants.{LoadAt, Unary, Binary, ToInt}
 use Rattle.stapl_code.specs.declared.raw.VarDef.{VarDef}
 use Rattle.stapl_code.specs.Operators.{operator_table, unary_kinds}
-use Rattle.stapl_code.specs.Kinds.{variable_kind}
-use Rattle.stapl_code.specs.Ranges.{IsVariable, elements_of, AreVariables, IsPart, IsInstr}
+use Rattle.stapl_code.specs.Kinds.{variable_kind, element_kind as element_kind_of, is_of_kind}
+use Rattle.stapl_code.specs.Ranges.{IsVariable, elements_of, AreVariables, IsPart, IsSource, size_of, IsInstr}
 use Rattle.stapl_codegen.specs.Generated.{kind_number, variable_def}
-use Rattle.stapl_codegen.specs.Emit.{literal_code, expr_code, test_code, operands_code, shown_part, print_parts, part_texts, body_texts, operator_number, sign_number, absolute_number, body_code}
-use Rattle.stapl_codegen.proofs.Sides.{fits, held_kind, scalar_fits, unary_fits, absolute_fits, operates}
-use Rattle.stapl_codegen.proofs.WellKinded.{Agrees, AllTyped, parts_typed, no_bit}
-use Rattle.stapl_codegen.proofs.WellPlaced.{given_fits}
+use Rattle.stapl_codegen.specs.Emit.{literal_code, expr_code, int_code, test_code, operands_code, source_code, shown_part, print_parts, part_texts, array_literals, Firsts, last, row_code, body_texts, body_literals, operator_number, sign_number, absolute_number, body_code}
+use Rattle.stapl_codegen.proofs.Sides.{fits, scalar_fits, element_fits, indexed_fits, unary_fits, integer_fits, operates}
+use Rattle.stapl_codegen.proofs.WellKinded.{Agrees, scalar_agrees, element_agrees, bits_agree, TestFits, AllTyped, one_typed, parts_typed, range_typed, array_typed, no_bit}
+use Rattle.stapl_codegen.proofs.WellPlaced.{given_fits, item_given, bit_fits, number_fits}
 
 -- something is so of each element
 abbrev pub Each : {A : Type 0} → (A → Type 0) → List A → Type 0
@@ -52,122 +54,82 @@ each_all P (x ∷ xs) each (suc k) d below = each_all P xs each.1 k d (omega (ar
 
 -- ---- the variables
 
--- a variable of a program without arrays
-record IsScalar (v : Key × Variable) : Type 0 where
-  ranged : IsVariable (variable_def v)
-  integers : elements_of 0 2 (variable_def v) ≤ 1
-  booleans : elements_of 1 3 (variable_def v) ≤ 1
-
-scalar_entry : (block : List ℕ) (n : ℕ) (name : List ℕ) (kind : VarKind) → kind_number kind ≤ 1 →
-    IsScalar (variable_entry block n (record { name = name; kind = kind; size = pos 1 }))
-scalar_entry block n name variables.Integer low = record {
-  ranged = record { kind = omega arith; some = omega arith; scalar = λ low. refl; boolean_array = λ is. absurd cc };
-  integers = omega arith;
-  booleans = omega arith;
-}
-scalar_entry block n name variables.Boolean low = record {
-  ranged = record { kind = omega arith; some = omega arith; scalar = λ low. refl; boolean_array = λ is. absurd cc };
-  integers = omega arith;
-  booleans = omega arith;
-}
-scalar_entry block n name variables.IntegerArray low = absurd (omega (arith, low))
-scalar_entry block n name variables.BooleanArray low = absurd (omega (arith, low))
-
--- what a built statement declares
-declares_scalar : (now : Option (List ℕ)) (n : ℕ) (b : BodyTree) (e : Key × Variable) → (is_built_outer b || is_built_inner b) ≡ true → variable_in now n (declaration b) ≡ Some e → IsScalar e
-declares_scalar (Some block) n (boolean name None) e built is = subst IsScalar (same_Some _ e is) (scalar_entry block n name variables.Boolean (omega arith))
-declares_scalar (Some block) n (integer name None) e built is = subst IsScalar (same_Some _ e is) (scalar_entry block n name variables.Integer (omega arith))
-declares_scalar (Some block) n (boolean name (Some b)) e built is = absurd cc
-declares_scalar (Some block) n (integer name (Some z)) e built is = absurd cc
-declares_scalar (Some block) n (boolean_array name size bits) e built is = absurd cc
-declares_scalar (Some block) n (integer_array name size values) e built is = absurd cc
-declares_scalar None n b e built is = absurd cc
-declares_scalar (Some block) n _ e built is = absurd cc
-
-all_scalars : (program : List StmtTree) → All IsBuilt program → All IsScalar (program_names program).variables
-all_scalars program built =
-    all_firsts key_eq IsScalar (declared variable_of (numbered (map Some program)))
-    (all_declared variable_of IsScalar program None 1
-    (λ i st e at is. declares_scalar (inside_from None (numbered_from 1 (take i (map Some program)))) (1 + i) st.body e (all_at IsBuilt program i st built at) is))
-
-scalars_ranged : (vs : List (Key × Variable)) → All IsScalar vs → Each IsVariable (map variable_def vs)
-scalars_ranged [] all = tt
-scalars_ranged (v ∷ vs) all = ((All-head IsScalar v vs all).ranged, scalars_ranged vs (All-tail IsScalar v vs all))
-
-few_elements : (one many : ℕ) (vs : List (Key × Variable)) → All (λ v. elements_of one many (variable_def v) ≤ 1) vs → sum_by (elements_of one many) (map variable_def vs) ≤ length vs
-few_elements one many [] all = omega arith
-few_elements one many (v ∷ vs) all =
-    let P : Key × Variable → Type 0 = λ v. elements_of one many (variable_def v) ≤ 1 in
-    let first = All-head P v vs all in
-    let more = few_elements one many vs (All-tail P v vs all) in
-    omega (arith, sum_by-cons (elements_of one many) (variable_def v) (map variable_def vs), first, more)
-
-pub variables_are : (program : List StmtTree) → All IsBuilt program → length (program_names program).variables ≤ 1048576 → AreVariables (map variable_def (program_names program).variables)
-variables_are program built few =
-    let vs = (program_names program).variables in
-    let all = all_scalars program built in
-    let integers = few_elements 0 2 vs (λ i d below. (all i d below).integers) in
-    let booleans = few_elements 1 3 vs (λ i d below. (all i d below).booleans) in
-    record {
-      each = each_all IsVariable (map variable_def vs) (scalars_ranged vs all);
-      integers = omega (arith, integers, few);
-      booleans = omega (arith, booleans, few);
-    }
-
--- a scalar that a name stands for has its kind among the variables of the code
-held_same : (o : Option (Key × Variable)) (kind : ValueKind) → held_kind (option_map (λ e. e.1.kind) o) ≡ Some kind → variable_kind (option_map variable_def o) ≡ Some kind
-held_same None kind h = absurd cc
-held_same (Some v) kind h = by v.1.kind (nat_abs v.1.size) h
+-- a variable of the code keeps the limits that the variable of the program keeps
+variable_ranged : (v : Key × Variable) → IsSized v → IsVariable (variable_def v)
+variable_ranged v sized = by v.1.kind (nat_abs v.1.size) sized.some sized.fits
   where
-    by : (k : VarKind) (n : ℕ) → held_kind (Some k) ≡ Some kind → variable_kind (Some (record { kind = kind_number k; size = n })) ≡ Some kind
-    by variables.Integer n h = h
-    by variables.Boolean n h = h
-    by variables.IntegerArray n h = absurd cc
-    by variables.BooleanArray n h = absurd cc
+    by : (k : VarKind) (n : ℕ) → 1 ≤ n → HasSize k n → IsVariable (record { kind = kind_number k; size = n })
+    by variables.Integer n some fits = record { kind = omega arith; some = some; scalar = λ low. fits; boolean_array = λ is. absurd cc }
+    by variables.Boolean n some fits = record { kind = omega arith; some = some; scalar = λ low. fits; boolean_array = λ is. absurd cc }
+    by variables.IntegerArray n some fits = record { kind = omega arith; some = some; scalar = λ low. absurd (omega (arith, low)); boolean_array = λ is. absurd cc }
+    by variables.BooleanArray n some fits = record { kind = omega arith; some = some; scalar = λ low. absurd (omega (arith, low)); boolean_array = λ is. fits }
 
+variables_ranged : (vs : List (Key × Variable)) → All IsSized vs → Each IsVariable (map variable_def vs)
+variables_ranged [] all = tt
+variables_ranged (v ∷ vs) all = (variable_ranged v (All-head IsSized v vs all), variables_ranged vs (All-tail IsSized v vs all))
+
+-- the elements of both are counted alike
+elements_same : (one many : ℕ) (count : Key × Variable → ℕ) → ((v : Key × Variable) → elements_of one many (variable_def v) ≡ count v) →
+    (vs : List (Key × Variable)) → sum_by (elements_of one many) (map variable_def vs) ≡ sum_by count vs
+elements_same one many count same [] = refl
+elements_same one many count same (v ∷ vs) =
+    let more = elements_same one many count same vs in
+    omega (arith, sum_by-cons (elements_of one many) (variable_def v) (map variable_def vs), sum_by-cons count v vs, same v, more)
+
+integers_same : (v : Key × Variable) → elements_of 0 2 (variable_def v) ≡ integers_of v
+integers_same v = by v.1.kind (nat_abs v.1.size)
+  where
+    by : (k : VarKind) (n : ℕ) → elements_of 0 2 (record { kind = kind_number k; size = n }) ≡ (if is_boolean k then 0 else n)
+    by variables.Integer n = refl
+    by variables.Boolean n = refl
+    by variables.IntegerArray n = refl
+    by variables.BooleanArray n = refl
+
+booleans_same : (v : Key × Variable) → elements_of 1 3 (variable_def v) ≡ booleans_of v
+booleans_same v = by v.1.kind (nat_abs v.1.size)
+  where
+    by : (k : VarKind) (n : ℕ) → elements_of 1 3 (record { kind = kind_number k; size = n }) ≡ (if is_boolean k then n else 0)
+    by variables.Integer n = refl
+    by variables.Boolean n = refl
+    by variables.IntegerArray n = refl
+    by variables.BooleanArray n = refl
+
+pub variables_are : (vs : List (Key × Variable)) → AreSized vs → AreVariables (map variable_def vs)
+variables_are vs sized = record {
+  each = each_all IsVariable (map variable_def vs) (variables_ranged vs sized.each);
+  integers = let same = elements_same 0 2 integers_of integers_same vs in omega (arith, same, sized.integers);
+  booleans = let same = elements_same 1 3 booleans_of booleans_same vs in omega (arith, same, sized.booleans);
+}
+
+-- a variable that a name stands for has its kind among the variables of the code
 pub agrees_from : (names : Names) (inside : Option (List ℕ)) → Agrees (map variable_def names.variables) (lookup_from names inside)
 agrees_from names inside name kind h = by (found_from names inside name) h
   where
-    by : (f : Found) → held_kind (kind_of_found names f) ≡ Some kind → variable_kind (slice_get (map variable_def names.variables) (number_found names f)) ≡ Some kind
-    by (found.Variable n) h = ap variable_kind (slice_get-map variable_def names.variables n) ∙ held_same (slice_get names.variables n) kind h
+    kind_same : (o : Option (Key × Variable)) → option_map (λ e. e.1.kind) o ≡ Some kind → option_map (λ v. v.kind) (option_map variable_def o) ≡ Some (kind_number kind)
+    kind_same None e = absurd cc
+    kind_same (Some v) e = let same : v.1.kind ≡ kind = cc in ap (λ k. Some (kind_number k)) same
+
+    by : (f : Found) → kind_of_found names f ≡ Some kind → option_map (λ v. v.kind) (slice_get (map variable_def names.variables) (number_found names f)) ≡ Some (kind_number kind)
+    by (found.Variable n) h =
+        ap (option_map (λ v. v.kind)) (slice_get-map variable_def names.variables n) ∙ kind_same (slice_get names.variables n) h
     by _ h = absurd cc
-
--- a program has at most as many variables as statements
-declared_few : {K V : Type 0} (declares : Option (List ℕ) → ℕ → StmtTree → Option (K × V)) (now : Option (List ℕ)) (pieces : List Numbered) →
-    length (declared_from declares now pieces) ≤ length pieces
-declared_few declares now [] = omega arith
-declared_few declares now (p ∷ rest) = by (declares now p.piece p.statement) (declared_few declares (inside_behind now p.statement.body) rest)
-  where
-    by : (o : Option _) → length (declared_from declares (inside_behind now p.statement.body) rest) ≤ length rest →
-        length (cons_option o (declared_from declares (inside_behind now p.statement.body) rest)) ≤ suc (length rest)
-    by None few = omega (arith, few)
-    by (Some e) few = omega (arith, few)
-
-firsts_few : {K V : Type 0} (eq : K → K → Bool) (xs es : List (K × V)) → length (firsts_behind eq es xs) ≤ length es + length xs
-firsts_few eq [] es = omega arith
-firsts_few eq (x ∷ xs) es = by (is_some (lookup (eq x.0) es)) (λ zs. firsts_few eq xs zs)
-  where
-    by : (b : Bool) → ((zs : List (_ × _)) → length (firsts_behind eq zs xs) ≤ length zs + length xs) →
-        length (firsts_behind eq (cond b es (es ++ (x ∷ []))) xs) ≤ length es + suc (length xs)
-    by true few = let less = few es in omega (arith, less)
-    by false few = let less = few (es ++ (x ∷ [])) in omega (arith, less, length-append es (x ∷ []))
-
-numbered_length : (n : ℕ) (program : List StmtTree) → length (numbered_from n (map Some program)) ≡ length program
-numbered_length n [] = refl
-numbered_length n (st ∷ rest) = ap suc (numbered_length (n + 1) rest)
-
-pub few_variables : (program : List StmtTree) → length (program_names program).variables ≤ length program
-few_variables program =
-    let pieces = numbered (map Some program) in
-    omega (arith, firsts_few key_eq (declared variable_of pieces) [], declared_few variable_of None pieces, numbered_length 1 program)
 
 -- ---- the instructions
 
--- a variable with a kind is there
-there : (vs : List VarDef) (n : ℕ) (kind : ValueKind) → variable_kind (slice_get vs n) ≡ Some kind → n < length vs
-there [] n kind h = absurd cc
-there (v ∷ vs) zero kind h = omega arith
-there (v ∷ vs) (suc n) kind h = let below = there vs n kind h in omega (arith, below)
+-- a variable that has a kind, or is what it has to be, is there
+there_if : {A : Type 0} (f : Option VarDef → A) (none : A) → f None ≡ none → (vs : List VarDef) (n : ℕ) → (f (slice_get vs n) ≡ none → ⊥) → n < length vs
+there_if f none at [] n differs = absurd (differs at)
+there_if f none at (v ∷ vs) zero differs = omega arith
+there_if f none at (v ∷ vs) (suc n) differs = let below = there_if f none at vs n differs in omega (arith, below)
+
+scalar_there : (vs : List VarDef) (n : ℕ) (kind : ValueKind) → variable_kind (slice_get vs n) ≡ Some kind → n < length vs
+scalar_there vs n kind h = there_if variable_kind None refl vs n (λ e. cc)
+
+element_there : (vs : List VarDef) (n : ℕ) → is_some (element_kind_of (slice_get vs n)) ≡ true → n < length vs
+element_there vs n h = there_if (λ o. is_some (element_kind_of o)) false refl vs n (λ e. cc)
+
+kind_there : (vs : List VarDef) (k n : ℕ) → is_of_kind k (slice_get vs n) ≡ true → n < length vs
+kind_there vs k n h = there_if (is_of_kind k) false refl vs n (λ e. cc)
 
 parts_range : (texts : ℕ) (look : Lookup) (first : ℕ) (list : List PartTree) → first + length (part_texts list) ≤ texts → Each (IsPart texts) (print_parts look first list)
 parts_range texts look first [] few = tt
@@ -215,9 +177,9 @@ sign_range signs.Negate = omega arith
 sign_range signs.Complement = omega arith
 sign_range signs.Not = omega arith
 
-module _ (defs : List VarDef) (texts : ℕ) where
+module _ (defs : List VarDef) (literals texts : ℕ) where
   abbrev pub InRange : List Instr → Type 0
-  InRange code = Each (IsInstr (length defs) texts) code
+  InRange code = Each (IsInstr defs literals texts) code
 
   literal_range : (kind : ValueKind) (z : ℤ) (rest : List Instr) → fits kind (expr_kind (λ name. None) (number z)) ≡ true → InRange rest → InRange (literal_code kind z ∷ rest)
   literal_range kinds.Int z rest h more = (tt, more)
@@ -227,63 +189,144 @@ module _ (defs : List VarDef) (texts : ℕ) where
   literal_range kinds.Bit (negsuc n) rest h more = absurd cc
 
   module _ (look : Lookup) (agrees : Agrees defs look) where
-    expr_range : (kind : ValueKind) (e : ExprTree) (rest : List Instr) → is_built_expr e ≡ true → fits kind (expr_kind look.kind e) ≡ true → InRange rest → InRange (expr_code look kind e rest)
-    expr_range kind (number z) rest built h more = literal_range kind z rest h more
-    expr_range kind (scalar name) rest built h more = (there defs (look.variable name) kind (agrees name kind (scalar_fits kind (look.kind name) h)), more)
-    expr_range kind (unary op e) rest built h more =
-        expr_range (unary_side op) e (Unary (sign_number op) ∷ rest) built (unary_fits op kind (expr_kind look.kind e) h).0 (sign_range op, more)
-    expr_range kind (binary op a b) rest built h more =
-        let s : ValueKind = sides look op a b in
-        let t = operates defs op kind (expr_kind look.kind a) (expr_kind look.kind b) h in
-        let are = and_parts (is_built_expr a) (is_built_expr b) built in
-        expr_range s a (expr_code look s b (Binary (operator_number op s) ∷ rest)) are.0 t.both.0
-        (expr_range s b (Binary (operator_number op s) ∷ rest) are.1 t.both.1 (operator_range op s, more))
-    expr_range kind (abs e) rest built h more =
-        expr_range kinds.Int e (Unary absolute_number ∷ rest) built (absolute_fits kind (expr_kind look.kind e) h).0 (omega arith, more)
-    expr_range kind _ rest built h more = absurd cc
+    bits_there : (name : List ℕ) → is_bit_array (look.kind name) ≡ true → look.variable name < length defs
+    bits_there name h = kind_there defs 3 (look.variable name) (bits_agree defs look agrees name h)
 
-    test_range : (t : Test) (rest : List Instr) → InRange rest → InRange (test_code t rest)
-    test_range Plain rest more = more
-    test_range Character rest more = (tt, more)
+    mutual
+      expr_range : (kind : ValueKind) (e : ExprTree) (rest : List Instr) → fits kind (expr_kind look.kind e) ≡ true → InRange rest → InRange (expr_code look kind e rest)
+      expr_range kind (number z) rest h more = literal_range kind z rest h more
+      expr_range kind (scalar name) rest h more =
+          (scalar_there defs (look.variable name) kind (scalar_agrees defs look agrees name kind (scalar_fits kind (look.kind name) h)), more)
+      expr_range kind (element name index) rest h more =
+          let t = indexed_fits kind (expr_kind look.kind index) (look.kind name) h in
+          let found = element_agrees defs look agrees name kind (element_fits kind (look.kind name) t.1) in
+          expr_range kinds.Int index (LoadAt (look.variable name) ∷ rest) t.0 (element_there defs (look.variable name) (ap is_some found), more)
+      expr_range kind (unary op e) rest h more =
+          expr_range (unary_side op) e (Unary (sign_number op) ∷ rest) (unary_fits op kind (expr_kind look.kind e) h).0 (sign_range op, more)
+      expr_range kind (binary op a b) rest h more =
+          let s : ValueKind = sides look op a b in
+          let t = operates defs op kind (expr_kind look.kind a) (expr_kind look.kind b) h in
+          expr_range s a (expr_code look s b (Binary (operator_number op s) ∷ rest)) t.both.0
+          (expr_range s b (Binary (operator_number op s) ∷ rest) t.both.1 (operator_range op s, more))
+      expr_range kind (abs e) rest h more =
+          expr_range kinds.Int e (Unary absolute_number ∷ rest) (integer_fits kind (is_int (expr_kind look.kind e)) h).0 (omega arith, more)
+      expr_range kind (int a) rest h more = int_range a rest (integer_fits kind (is_array look.kind a) h).0 more
 
-    operands_range : (os : List Operand) (rest : List Instr) → AllTyped look os → InRange rest → InRange (operands_code look os rest)
-    operands_range [] rest typed more = more
-    operands_range (o ∷ os) rest typed more =
-        expr_range o.kind o.expr (test_code o.test (operands_code look os rest)) typed.0.built typed.0.fits (test_range o.test (operands_code look os rest) (operands_range os rest typed.1 more))
+      int_range : (a : ArrayTree) (rest : List Instr) → is_array look.kind a ≡ true → InRange rest → InRange (int_code look a rest)
+      int_range (literal bits) rest h more = (tt, more)
+      int_range (whole name) rest h more = (bits_there name h, more)
+      int_range (range name a b) rest h more =
+          let t = and_parts (is_bit_array (look.kind name) && is_int (expr_kind look.kind a)) (is_int (expr_kind look.kind b)) h in
+          let u = and_parts (is_bit_array (look.kind name)) (is_int (expr_kind look.kind a)) t.0 in
+          let read : List Instr = ToInt (sources.Range (look.variable name)) ∷ rest in
+          expr_range kinds.Int a (expr_code look kinds.Int b read) u.1 (expr_range kinds.Int b read t.1 (bits_there name u.0, more))
+      int_range (of_int e) rest h more = expr_range kinds.Int e (ToInt sources.FromInt ∷ rest) h (tt, more)
+
+    test_range : (ks : List ValueKind) (kind : ValueKind) (t : Test) (rest : List Instr) → TestFits defs ks kind t → InRange rest → InRange (test_code t rest)
+    test_range ks kind Plain rest fits more = more
+    test_range ks kind Character rest fits more = (tt, more)
+    test_range ks kind (Index n) rest fits more = (element_there defs n fits.1, more)
+    test_range [] kind (Range n) rest fits more = absurd fits
+    test_range (k ∷ ks) kind (Range n) rest fits more = (kind_there defs 3 n fits.2, more)
+
+    operands_range : (ks : List ValueKind) (os : List Operand) (rest : List Instr) → AllTyped defs look ks os → InRange rest → InRange (operands_code look os rest)
+    operands_range ks [] rest typed more = more
+    operands_range ks (o ∷ os) rest typed more =
+        let behind : List Instr = operands_code look os rest in
+        expr_range o.kind o.expr (test_code o.test behind) typed.0.fits
+        (test_range ks o.kind o.test behind typed.0.test (operands_range (o.kind ∷ ks) os rest typed.1 more))
+
+    source_range : (first : ℕ) (a : ArrayTree) → is_array look.kind a ≡ true → first + length (array_literals a) ≤ literals → IsSource (length defs) literals (source_code look first a)
+    source_range first (literal bits) h few = omega (arith, few)
+    source_range first (whole name) h few = bits_there name h
+    source_range first (range name high low) h few =
+        let t = and_parts (is_bit_array (look.kind name) && is_int (expr_kind look.kind high)) (is_int (expr_kind look.kind low)) h in
+        bits_there name (and_parts (is_bit_array (look.kind name)) (is_int (expr_kind look.kind high)) t.0).0
+    source_range first (of_int e) h few = tt
 
   module _ (scope : Scope) (agrees : Agrees defs scope.look) (place : ℕ → ℕ) where
-    simple_range : (first : ℕ) (b : BodyTree) (rest : List Instr) → is_built_simple b ≡ true → operands_suit scope.look.kind b ≡ true →
-        first + length (body_texts b) ≤ texts → InRange rest → InRange (body_code scope place first b rest)
-    simple_range first (assign name e) rest built suit few more =
+    -- the constants of a statement are there
+    pub record AreThere (first : Firsts) (b : BodyTree) : Type 0 where
+      pub few_texts : first.text + length (body_texts b) ≤ texts
+      pub few_literals : first.literal + length (body_literals b) ≤ literals
+
+    -- the one row of a statement has its operands typed, and its last instruction in range
+    one_range : (first : Firsts) (b : BodyTree) (rest : List Instr) → AllTyped defs scope.look [] (operands scope b) → IsInstr defs literals texts (last scope place first b) →
+        InRange rest → InRange (row_code scope place first b rest)
+    one_range first b rest typed own more = operands_range scope.look agrees [] (operands scope b) (last scope place first b ∷ rest) typed (own, more)
+
+    simple_range : (first : Firsts) (b : BodyTree) (rest : List Instr) → is_built_simple b ≡ true → operands_suit scope.look.kind b ≡ true →
+        AreThere first b → InRange rest → InRange (body_code scope place first b rest)
+    simple_range first (assign name e) rest built suit there more =
         let t = given_fits (scope.look.kind name) (expr_kind scope.look.kind e) suit in
         let kind : ValueKind = given_kind (scope.look.kind name) in
-        operands_range scope.look agrees (plain kind e ∷ []) (Store (scope.look.variable name) ∷ rest) (record { built = built; fits = t.0; test = tt }, tt)
-        (there defs (scope.look.variable name) kind (agrees name kind t.1), more)
-    simple_range first (goto name) rest built suit few more = (tt, more)
-    simple_range first (if_then e b) rest built suit few more =
-        let are = and_parts (is_built_expr e) (is_built_simple b) built in
+        one_range first (assign name e) rest (one_typed defs scope.look [] kind e t.0)
+        (scalar_there defs (scope.look.variable name) kind (scalar_agrees defs scope.look agrees name kind t.1)) more
+    simple_range first (assign_element name index e) rest built suit there more =
+        let are = and_parts (is_int (expr_kind scope.look.kind index)) (suits (element_kind (scope.look.kind name)) (expr_kind scope.look.kind e)) suit in
+        let t = item_given (scope.look.kind name) (expr_kind scope.look.kind e) are.1 in
+        let kind : ValueKind = given_kind (scope.look.kind name) in
+        let found = ap is_some (element_agrees defs scope.look agrees name kind t.1) in
+        one_range first (assign_element name index e) rest
+        (record { fits = are.0; test = (refl, found) }, one_typed defs scope.look (kinds.Int ∷ []) kind e t.0)
+        (element_there defs (scope.look.variable name) found) more
+    simple_range first (assign_array name a) rest built suit there more =
+        let t = and_parts (is_bit_array (scope.look.kind name)) (is_array scope.look.kind a) suit in
+        let within : first.literal + length (array_literals a) ≤ literals = omega (arith, there.few_literals, ap length (append-nil (array_literals a))) in
+        one_range first (assign_array name a) rest (array_typed defs scope.look agrees [] a t.1)
+        (bits_there scope.look agrees name t.0, source_range scope.look agrees first.literal a t.1 within) more
+    simple_range first (assign_range name high low a) rest built suit there more =
+        let t = and_parts (is_bit_array (scope.look.kind name) && is_int (expr_kind scope.look.kind high) && is_int (expr_kind scope.look.kind low)) (is_array scope.look.kind a) suit in
+        let u = and_parts (is_bit_array (scope.look.kind name) && is_int (expr_kind scope.look.kind high)) (is_int (expr_kind scope.look.kind low)) t.0 in
+        let v = and_parts (is_bit_array (scope.look.kind name)) (is_int (expr_kind scope.look.kind high)) u.0 in
+        let within : first.literal + length (array_literals a) ≤ literals = omega (arith, there.few_literals, ap length (append-nil (array_literals a))) in
+        one_range first (assign_range name high low a) rest
+        (range_typed defs scope.look agrees [] name high low (array_operands scope.look a) v.0 v.1 u.1 (array_typed defs scope.look agrees (kinds.Int ∷ kinds.Int ∷ []) a t.1))
+        (bits_there scope.look agrees name v.0, source_range scope.look agrees first.literal a t.1 within) more
+    simple_range first (goto name) rest built suit there more = (tt, more)
+    simple_range first (if_then e b) rest built suit there more =
         let suits = and_parts (is_bit (expr_kind scope.look.kind e)) (operands_suit scope.look.kind b) suit in
-        operands_range scope.look agrees (a_boolean e ∷ []) (JumpIfZero (place scope.follow) ∷ body_code scope place first b rest)
-        (record { built = are.0; fits = suits.0; test = tt }, tt)
-        (tt, simple_range first b rest are.1 suits.1 few more)
-    simple_range first (print list) rest built suit few more =
-        let are = and_parts (nat_lt 0 (length list)) (list_all is_built_part list) built in
-        let some : 1 ≤ length (print_parts scope.look first list) = omega (arith, parts_count scope.look first list, ltb-true 0 (length list) are.0) in
-        let within : first + length (part_texts list) ≤ texts = omega (arith, few, ap length (append-nil (part_texts list))) in
-        operands_range scope.look agrees (part_operands scope.look list) (Print (print_parts scope.look first list) ∷ rest) (parts_typed scope.look list are.1 suit)
-        ((some, each_all (IsPart texts) (print_parts scope.look first list) (parts_range texts scope.look first list within)), more)
-    simple_range first (exit e) rest built suit few more =
-        operands_range scope.look agrees (an_integer e ∷ []) (Exit ∷ rest) (record { built = built; fits = suit; test = tt }, tt) (tt, more)
-    simple_range first _ rest built suit few more = absurd cc
+        let inner : AreThere first b = record { few_texts = there.few_texts; few_literals = there.few_literals } in
+        one_range first (if_then e b) (body_code scope place first b rest) (one_typed defs scope.look [] kinds.Bit e suits.0) tt
+        (simple_range first b rest built suits.1 inner more)
+    simple_range first (print list) rest built suit there more =
+        let some : 1 ≤ length (print_parts scope.look first.text list) = omega (arith, parts_count scope.look first.text list, ltb-true 0 (length list) built) in
+        let within : first.text + length (part_texts list) ≤ texts = omega (arith, there.few_texts, ap length (append-nil (part_texts list))) in
+        one_range first (print list) rest (parts_typed defs scope.look [] list suit)
+        (some, each_all (IsPart texts) (print_parts scope.look first.text list) (parts_range texts scope.look first.text list within)) more
+    simple_range first (exit e) rest built suit there more = one_range first (exit e) rest (one_typed defs scope.look [] kinds.Int e suit) tt more
+    simple_range first _ rest built suit there more = absurd cc
 
-    pub body_range : (first : ℕ) (b : BodyTree) (rest : List Instr) → is_built_inner b ≡ true → operands_suit scope.look.kind b ≡ true →
-        first + length (body_texts b) ≤ texts → InRange rest → InRange (body_code scope place first b rest)
-    body_range first end_procedure rest built suit few more = (tt, more)
-    body_range first (boolean name None) rest built suit few more = more
-    body_range first (integer name None) rest built suit few more = more
-    body_range first (assign name e) rest built suit few more = simple_range first (assign name e) rest built suit few more
-    body_range first (goto name) rest built suit few more = simple_range first (goto name) rest built suit few more
-    body_range first (if_then e b) rest built suit few more = simple_range first (if_then e b) rest built suit few more
-    body_range first (print list) rest built suit few more = simple_range first (print list) rest built suit few more
-    body_range first (exit e) rest built suit few more = simple_range first (exit e) rest built suit few more
-    body_range first _ rest built suit few more = absurd cc
+    -- the variable of a declaration has its kind and its size
+    abbrev pub IsDefined : BodyTree → Type 0
+    IsDefined b = IfSome (declaration b) (λ (d : Declaration). slice_get defs (scope.look.variable d.name) ≡ Some (record { kind = kind_number d.kind; size = nat_abs d.size }))
+
+    defined_there : (n : ℕ) (v : VarDef) → slice_get defs n ≡ Some v → n < length defs
+    defined_there n v at = there_if is_some false refl defs n (λ none. absurd (let some = ap is_some at in cc))
+
+    pub body_range : (first : Firsts) (b : BodyTree) (rest : List Instr) → is_built_inner b ≡ true → operands_suit scope.look.kind b ≡ true → IsDefined b → has_too_many_values b ≡ false →
+        AreThere first b → InRange rest → InRange (body_code scope place first b rest)
+    body_range first end_procedure rest built suit at few there more = (tt, more)
+    body_range first (boolean name None) rest built suit at few there more = more
+    body_range first (boolean name (Some b)) rest built suit at few there more =
+        one_range first (boolean name (Some b)) rest (one_typed defs scope.look [] kinds.Bit (number (bit_number b)) (bit_fits b)) (defined_there (scope.look.variable name) _ at) more
+    body_range first (boolean_array name size None) rest built suit at few there more = more
+    body_range first (boolean_array name size (Some bits)) rest built suit at few there more =
+        one_range first (boolean_array name size (Some bits)) rest tt (defined_there (scope.look.variable name) _ at, omega (arith, there.few_literals)) more
+    body_range first (integer name None) rest built suit at few there more = more
+    body_range first (integer name (Some z)) rest built suit at few there more =
+        one_range first (integer name (Some z)) rest (one_typed defs scope.look [] kinds.Int (number z) (number_fits z)) (defined_there (scope.look.variable name) _ at) more
+    body_range first (integer_array name size None) rest built suit at few there more = more
+    body_range first (integer_array name size (Some zs)) rest built suit at few there more =
+        let enough : length zs ≤ size_of (slice_get defs (scope.look.variable name)) =
+        omega (arith, ltb-false (nat_abs size) (length zs) few, ap size_of at) in
+        one_range first (integer_array name size (Some zs)) rest tt (defined_there (scope.look.variable name) _ at, ltb-true 0 (length zs) built, enough) more
+    body_range first (assign name e) rest built suit at few there more = simple_range first (assign name e) rest built suit there more
+    body_range first (assign_element name index e) rest built suit at few there more = simple_range first (assign_element name index e) rest built suit there more
+    body_range first (assign_array name a) rest built suit at few there more = simple_range first (assign_array name a) rest built suit there more
+    body_range first (assign_range name high low a) rest built suit at few there more = simple_range first (assign_range name high low a) rest built suit there more
+    body_range first (goto name) rest built suit at few there more = simple_range first (goto name) rest built suit there more
+    body_range first (if_then e b) rest built suit at few there more = simple_range first (if_then e b) rest built suit there more
+    body_range first (print list) rest built suit at few there more = simple_range first (print list) rest built suit there more
+    body_range first (exit e) rest built suit at few there more = simple_range first (exit e) rest built suit there more
+    body_range first _ rest built suit at few there more = absurd cc

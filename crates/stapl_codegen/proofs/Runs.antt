@@ -2,7 +2,7 @@
 use Rattle.std.proofs.Common.{◌≡◌, ◌≢◌, ℕ, zero, suc, ◌+◌, ◌-◌, ◌≤◌, Bool, true, false, cond, List, [], ◌∷◌, length, drop, Some, None, refl, sym, ap, subst, ◌∙◌, add-one}
 use Rattle.std.specs.Prelude.{slice_get}
 use Rattle.std.proofs.lemmas.List.{drop_all}
-use Rattle.stapl_syntax.specs.Trees.{BodyTree, end_procedure, boolean, integer, assign, goto, if_then, print, exit, StmtTree}
+use Rattle.stapl_syntax.specs.Trees.{BodyTree, end_procedure, boolean, boolean_array, integer, integer_array, assign, assign_element, assign_array, assign_range, goto, if_then, print, exit, StmtTree}
 use Rattle.stapl_syntax.specs.Statements.{is_outer}
 use Rattle.stapl_meaning.specs.States.{State, Turned, Leads, Over, Broken, NoTurn, turn_of_piece, next_chosen}
 use Rattle.stapl_meaning.specs.Scopes.{Scope, scope_at, entry_from, zeros_of}
@@ -10,12 +10,12 @@ use Rattle.stapl_meaning.specs.Turns.{done, turn, turn_of}
 use Rattle.stapl_meaning.specs.Plays.{after, goes_on, run, start}
 use Rattle.stapl_code.specs.declared.instr.Instr.{Instr}
 use Rattle.stapl_code.specs.declared.instr.Instr.TheVariants.{Turn}
-use Rattle.stapl_code.specs.Machine.{nowhere, entry_of, stretch, begins, code_turn, code_run, begun}
+use Rattle.stapl_code.specs.Machine.{Constants, nowhere, entry_of, stretch, begins, code_turn, code_run, begun}
 use Rattle.stapl_code.proofs.Preceded.{preceded_nothing}
-use Rattle.stapl_codegen.specs.Emit.{body_code, first_text, texts_of, pieces_code, program_code, start_of, program_entries}
+use Rattle.stapl_codegen.specs.Emit.{body_code, firsts_at, constants_in, pieces_code, program_code, start_of, program_entries}
 use Rattle.stapl_codegen.specs.Correct.{GoesOn, IsClosed, placed_run, Stands}
 use Rattle.stapl_codegen.proofs.Heads.{head_of, get_head, drop_tail}
-use Rattle.stapl_codegen.proofs.Texts.{texts_at}
+use Rattle.stapl_codegen.proofs.Texts.{constants_at}
 use Rattle.stapl_codegen.proofs.Bodies.{placed, piece_placed, Behind, body_follows, end_law}
 use Rattle.stapl_codegen.proofs.Pieces.{start_is, start_none, start_head, code_from, entry_is}
 
@@ -27,8 +27,13 @@ closed_drop (suc n) (st ∷ rest) c = closed_drop n rest c.1
 outer_stays : (scope : Scope) (s : State) (b : BodyTree) → is_outer b ≡ true → done scope s b ≡ NoTurn []
 outer_stays scope s end_procedure e = absurd cc
 outer_stays scope s (boolean name start) e = absurd cc
+outer_stays scope s (boolean_array name size bits) e = absurd cc
 outer_stays scope s (integer name start) e = absurd cc
+outer_stays scope s (integer_array name size zs) e = absurd cc
 outer_stays scope s (assign name x) e = absurd cc
+outer_stays scope s (assign_element name index x) e = absurd cc
+outer_stays scope s (assign_array name a) e = absurd cc
+outer_stays scope s (assign_range name high low a) e = absurd cc
 outer_stays scope s (goto name) e = absurd cc
 outer_stays scope s (if_then x b) e = absurd cc
 outer_stays scope s (print list) e = absurd cc
@@ -46,10 +51,10 @@ pieces_begin program place i [] some = absurd (some refl)
 pieces_begin program place i (st ∷ rest) some = by_outer (is_outer st.body) (pieces_begin program place (i + 1) rest) some
   where
     by_outer : (b : Bool) → (pieces_code program place (i + 1) rest ≢ [] → BeginsWithTurn (pieces_code program place (i + 1) rest)) →
-        cond b (pieces_code program place (i + 1) rest) (Turn (i + 1) ∷ body_code (scope_at program i) place (first_text program i) st.body (pieces_code program place (i + 1) rest)) ≢ [] →
-        BeginsWithTurn (cond b (pieces_code program place (i + 1) rest) (Turn (i + 1) ∷ body_code (scope_at program i) place (first_text program i) st.body (pieces_code program place (i + 1) rest)))
+        cond b (pieces_code program place (i + 1) rest) (Turn (i + 1) ∷ body_code (scope_at program i) place (firsts_at program i) st.body (pieces_code program place (i + 1) rest)) ≢ [] →
+        BeginsWithTurn (cond b (pieces_code program place (i + 1) rest) (Turn (i + 1) ∷ body_code (scope_at program i) place (firsts_at program i) st.body (pieces_code program place (i + 1) rest)))
     by_outer true behind some = behind some
-    by_outer false behind some = record { piece = i + 1; rest = body_code (scope_at program i) place (first_text program i) st.body (pieces_code program place (i + 1) rest); is = refl }
+    by_outer false behind some = record { piece = i + 1; rest = body_code (scope_at program i) place (firsts_at program i) st.body (pieces_code program place (i + 1) rest); is = refl }
 
 module _ (program : List StmtTree) where
   abbrev Code : List Instr
@@ -58,8 +63,8 @@ module _ (program : List StmtTree) where
   abbrev Entries : List ℕ
   Entries = program_entries program
 
-  abbrev Texts : List (List ℕ)
-  Texts = texts_of program
+  abbrev These : Constants
+  These = constants_in program
 
   abbrev All : ℕ
   All = length Code
@@ -70,42 +75,42 @@ module _ (program : List StmtTree) where
   abbrev From : ℕ → List StmtTree → List Instr
   From i sts = pieces_code program place i sts
 
-  behind_turn : (scope : Scope) (q : ℕ) (code : List Instr) → All - length (Turn q ∷ code) ≡ place scope.follow → Behind place Entries Texts All scope (Turn q ∷ code)
+  behind_turn : (scope : Scope) (q : ℕ) (code : List Instr) → All - length (Turn q ∷ code) ≡ place scope.follow → Behind place Entries These All scope (Turn q ∷ code)
   behind_turn scope q code e = record { falls_on = λ t. ap (λ n. Leads [] n t) e }
 
   -- what follows a piece that is not the last of its procedure
-  behind_piece : (i : ℕ) (sts : List StmtTree) → drop (i + 1) program ≡ sts → GoesOn sts → Behind place Entries Texts All (scope_at program i) (From (i + 1) sts)
+  behind_piece : (i : ℕ) (sts : List StmtTree) → drop (i + 1) program ≡ sts → GoesOn sts → Behind place Entries These All (scope_at program i) (From (i + 1) sts)
   behind_piece i [] e go = absurd go
   behind_piece i (st ∷ rest) e go =
-      let code = body_code (scope_at program (i + 1)) place (first_text program (i + 1)) st.body (From (i + 1 + 1) rest) in
+      let code = body_code (scope_at program (i + 1)) place (firsts_at program (i + 1)) st.body (From (i + 1 + 1) rest) in
       let is : From (i + 1) (st ∷ rest) ≡ Turn (i + 1 + 1) ∷ code = ap (λ b. cond b (From (i + 1 + 1) rest) (Turn (i + 1 + 1) ∷ code)) go in
       let at = start_is program (i + 1) st (get_head (i + 1) program ∙ ap head_of e) go in
       let at' : All - length (Turn (i + 1 + 1) ∷ code) ≡ place (i + 1) = sym (at ∙ ap (λ l. All - length (From (i + 1) l)) e ∙ ap (λ c. All - length c) is) in
-      subst (Behind place Entries Texts All (scope_at program i)) (sym is) (behind_turn (scope_at program i) (i + 1 + 1) code at')
+      subst (Behind place Entries These All (scope_at program i)) (sym is) (behind_turn (scope_at program i) (i + 1 + 1) code at')
 
   module _ (closed : IsClosed program) (short : All ≤ nowhere) where
-    none_there : (s : State) → code_turn Entries Texts Code nowhere s ≡ NoTurn []
-    none_there s = ap (λ c. begins Entries Texts All c s) (drop_all nowhere Code short)
+    none_there : (s : State) → code_turn Entries These Code nowhere s ≡ NoTurn []
+    none_there s = ap (λ c. begins Entries These All c s) (drop_all nowhere Code short)
 
-    inner_follows : (i : ℕ) (s : State) (st : StmtTree) (rest : List StmtTree) → drop i program ≡ st ∷ rest → is_outer st.body ≡ false → code_turn Entries Texts Code (place i) s ≡ placed place (turn program i s)
+    inner_follows : (i : ℕ) (s : State) (st : StmtTree) (rest : List StmtTree) → drop i program ≡ st ∷ rest → is_outer st.body ≡ false → code_turn Entries These Code (place i) s ≡ placed place (turn program i s)
     inner_follows i s st rest e inner =
         let at : slice_get program i ≡ Some st = get_head i program ∙ ap head_of e in
         let next : drop (i + 1) program ≡ rest = rw add-one (drop_tail i program ∙ ap (drop 1) e) in
         let c : IsClosed (st ∷ rest) = subst IsClosed e (closed_drop i program closed) in
         let scope = scope_at program i in
-        let first = first_text program i in
+        let first = firsts_at program i in
         let body = body_code scope place first st.body (From (i + 1) rest) in
-        ap (λ d. begins Entries Texts All d s) (code_from program i st at inner ∙ ap (From i) e)
-        ∙ ap (λ b. begins Entries Texts All (cond b (From (i + 1) rest) (Turn (i + 1) ∷ body)) s) inner
+        ap (λ d. begins Entries These All d s) (code_from program i st at inner ∙ ap (From i) e)
+        ∙ ap (λ b. begins Entries These All (cond b (From (i + 1) rest) (Turn (i + 1) ∷ body)) s) inner
         ∙ ap (turn_of_piece (i + 1))
-        (body_follows place Entries Texts All scope s first st.body (From (i + 1) rest) (entry_is program) (λ f. behind_piece i rest next (c.0 inner f)) (texts_at i program st rest e))
+        (body_follows place Entries These All scope s first st.body (From (i + 1) rest) (entry_is program) (λ f. behind_piece i rest next (c.0 inner f)) (constants_at i program st rest e))
         ∙ piece_placed place (i + 1) (done scope s st.body)
         ∙ ap (λ o. placed place (turn_of (scope_at program i) (i + 1) s o)) (sym at)
 
-    by_piece : (i : ℕ) (s : State) (sts : List StmtTree) → drop i program ≡ sts → code_turn Entries Texts Code (place i) s ≡ placed place (turn program i s)
+    by_piece : (i : ℕ) (s : State) (sts : List StmtTree) → drop i program ≡ sts → code_turn Entries These Code (place i) s ≡ placed place (turn program i s)
     by_piece i s [] e =
         let at : slice_get program i ≡ None = get_head i program ∙ ap head_of e in
-        ap (λ n. code_turn Entries Texts Code n s) (start_none program i at)
+        ap (λ n. code_turn Entries These Code n s) (start_none program i at)
         ∙ none_there s
         ∙ ap (λ o. placed place (turn_of (scope_at program i) (i + 1) s o)) (sym at)
     by_piece i s (st ∷ rest) e = by_outer (is_outer st.body) refl
@@ -113,38 +118,38 @@ module _ (program : List StmtTree) where
         at : slice_get program i ≡ Some st
         at = get_head i program ∙ ap head_of e
 
-        by_outer : (b : Bool) → is_outer st.body ≡ b → code_turn Entries Texts Code (place i) s ≡ placed place (turn program i s)
+        by_outer : (b : Bool) → is_outer st.body ≡ b → code_turn Entries These Code (place i) s ≡ placed place (turn program i s)
         by_outer true h =
-            ap (λ n. code_turn Entries Texts Code n s) (start_head program i st at h)
+            ap (λ n. code_turn Entries These Code n s) (start_head program i st at h)
             ∙ none_there s
             ∙ ap (placed place) (sym (ap (turn_of (scope_at program i) (i + 1) s) at ∙ ap (turn_of_piece (i + 1)) (outer_stays (scope_at program i) s st.body h)))
         by_outer false h = inner_follows i s st rest e h
 
-    pub turn_follows : (i : ℕ) (s : State) → code_turn Entries Texts Code (place i) s ≡ placed place (turn program i s)
+    pub turn_follows : (i : ℕ) (s : State) → code_turn Entries These Code (place i) s ≡ placed place (turn program i s)
     turn_follows i s = by_piece i s (drop i program) refl
 
-    goes_follows : (n : ℕ) → ((i : ℕ) (s : State) → code_run Entries Texts Code n (place i) s ≡ placed_run place (run program n i s)) → (t : Turned) (s : State) → goes_on (placed place t) s (code_run Entries Texts Code n) ≡ placed_run place (goes_on t s (run program n))
+    goes_follows : (n : ℕ) → ((i : ℕ) (s : State) → code_run Entries These Code n (place i) s ≡ placed_run place (run program n i s)) → (t : Turned) (s : State) → goes_on (placed place t) s (code_run Entries These Code n) ≡ placed_run place (goes_on t s (run program n))
     goes_follows n rest (Leads events i t) s = ap (after events) (rest i t)
     goes_follows n rest (Over events e t) s = refl
     goes_follows n rest (Broken events k t) s = refl
     goes_follows n rest (NoTurn events) s = refl
 
-    run_follows : (n : ℕ) (i : ℕ) (s : State) → code_run Entries Texts Code n (place i) s ≡ placed_run place (run program n i s)
+    run_follows : (n : ℕ) (i : ℕ) (s : State) → code_run Entries These Code n (place i) s ≡ placed_run place (run program n i s)
     run_follows zero i s = refl
     run_follows (suc n) i s =
-        ap (λ t. goes_on t s (code_run Entries Texts Code n)) (turn_follows i s)
+        ap (λ t. goes_on t s (code_run Entries These Code n)) (turn_follows i s)
         ∙ goes_follows n (run_follows n) (turn program i s) s
 
     module _ (some : Code ≢ []) where
       -- the code has no prologue: its first instruction is a turn
-      begun_is : (s : State) → begun Entries Texts (stretch Entries Texts All Code [] s) ≡ next_chosen (entry_of Entries) s s.chosen
+      begun_is : (s : State) → begun Entries These (stretch Entries These All Code [] s) ≡ next_chosen (entry_of Entries) s s.chosen
       begun_is s = by_turn (pieces_begin program place 0 program some)
         where
-          by_turn : BeginsWithTurn Code → begun Entries Texts (stretch Entries Texts All Code [] s) ≡ next_chosen (entry_of Entries) s s.chosen
-          by_turn b = ap (λ c. begun Entries Texts (stretch Entries Texts All c [] s)) b.is ∙ sym (preceded_nothing (next_chosen (entry_of Entries) s s.chosen))
+          by_turn : BeginsWithTurn Code → begun Entries These (stretch Entries These All Code [] s) ≡ next_chosen (entry_of Entries) s s.chosen
+          by_turn b = ap (λ c. begun Entries These (stretch Entries These All c [] s)) b.is ∙ sym (preceded_nothing (next_chosen (entry_of Entries) s s.chosen))
 
-      pub stands : Stands program place Entries Texts Code (zeros_of program)
+      pub stands : Stands program place Entries These Code (zeros_of program)
       stands chosen n =
           let s : State = start chosen (zeros_of program) in
-          ap (λ t. goes_on t s (code_run Entries Texts Code n)) (begun_is s ∙ end_law place Entries Texts All (scope_at program 0) s chosen (entry_is program))
+          ap (λ t. goes_on t s (code_run Entries These Code n)) (begun_is s ∙ end_law place Entries These All (scope_at program 0) s chosen (entry_is program))
           ∙ goes_follows n (run_follows n) (next_chosen (entry_from program) s chosen) s

@@ -10,7 +10,7 @@ use Rattle.stapl_syntax.specs.declared.names.VarKind.{VarKind}
 use Rattle.stapl_syntax.specs.declared.names.VarKind.TheVariants as variables
 use Rattle.stapl_syntax.specs.declared.names.Kind.{Kind}
 use Rattle.stapl_syntax.specs.declared.names.Kind.TheVariants.{Int, Bool as Bit, Either}
-use Rattle.stapl_syntax.specs.Kinds.{is_int, is_bit, if_ints, if_bits, if_alike, binary_kind, unary_kind, scalar_kind}
+use Rattle.stapl_syntax.specs.Kinds.{is_int, is_bit, if_ints, if_bits, if_alike, binary_kind, unary_kind, scalar_kind, element_kind, indexed_kind}
 use Rattle.stapl_meaning.specs.declared.values.ValueKind.{ValueKind}
 use Rattle.stapl_meaning.specs.declared.values.ValueKind.TheVariants as kinds
 use Rattle.stapl_meaning.specs.Values.{alike, side, unary_side}
@@ -42,6 +42,34 @@ scalar_fits kinds.Bit (Some variables.Integer) h = absurd cc
 scalar_fits kinds.Bit (Some variables.IntegerArray) h = absurd cc
 scalar_fits kinds.Bit (Some variables.BooleanArray) h = absurd cc
 
+-- the kind of what an element of an array holds
+abbrev pub item_kind : Option VarKind → Option ValueKind
+item_kind (Some variables.IntegerArray) = Some kinds.Int
+item_kind (Some variables.BooleanArray) = Some kinds.Bit
+item_kind _ = None
+
+pub element_fits : (kind : ValueKind) (v : Option VarKind) → fits kind (element_kind v) ≡ true → item_kind v ≡ Some kind
+element_fits kinds.Int (Some variables.IntegerArray) h = refl
+element_fits kinds.Bit (Some variables.BooleanArray) h = refl
+element_fits kinds.Int None h = absurd cc
+element_fits kinds.Int (Some variables.Integer) h = absurd cc
+element_fits kinds.Int (Some variables.Boolean) h = absurd cc
+element_fits kinds.Int (Some variables.BooleanArray) h = absurd cc
+element_fits kinds.Bit None h = absurd cc
+element_fits kinds.Bit (Some variables.Integer) h = absurd cc
+element_fits kinds.Bit (Some variables.Boolean) h = absurd cc
+element_fits kinds.Bit (Some variables.IntegerArray) h = absurd cc
+
+-- an element: its index is an integer
+pub indexed_fits : (kind : ValueKind) (index : Option Kind) (array : Option VarKind) → fits kind (indexed_kind array index) ≡ true →
+    (is_int index ≡ true) × (fits kind (element_kind array) ≡ true)
+indexed_fits kind index array h = by kind (is_int index) h
+  where
+    by : (kind : ValueKind) (b : Bool) → fits kind (if b then element_kind array else None) ≡ true → (b ≡ true) × (fits kind (element_kind array) ≡ true)
+    by kind true h = (refl, h)
+    by kinds.Int false h = absurd cc
+    by kinds.Bit false h = absurd cc
+
 -- what is an integer, and what is a Boolean
 int_only : (kind : ValueKind) → fits kind (Some Int) ≡ true → kinds.Int ≡ kind
 int_only kinds.Int h = refl
@@ -63,8 +91,9 @@ unary_fits signs.Negate kind a h = let t = tested kind Int (is_int a) h in (t.0,
 unary_fits signs.Complement kind a h = let t = tested kind Int (is_int a) h in (t.0, int_only kind t.1)
 unary_fits signs.Not kind a h = let t = tested kind Bit (is_bit a) h in (t.0, bit_only kind t.1)
 
-pub absolute_fits : (kind : ValueKind) (a : Option Kind) → fits kind (if is_int a then Some Int else None) ≡ true → (is_int a ≡ true) × (kinds.Int ≡ kind)
-absolute_fits kind a h = let t = tested kind Int (is_int a) h in (t.0, int_only kind t.1)
+-- an integer of what passes a test
+pub integer_fits : (kind : ValueKind) (b : Bool) → fits kind (if b then Some Int else None) ≡ true → (b ≡ true) × (kinds.Int ≡ kind)
+integer_fits kind b h = let t = tested kind Int b h in (t.0, int_only kind t.1)
 
 -- two expressions of a kind
 abbrev Both : ValueKind → Option Kind → Option Kind → Type 0

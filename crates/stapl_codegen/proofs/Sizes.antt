@@ -1,40 +1,66 @@
 -- How many instructions a program has: no more than the symbols of its statements and one for each piece.
-use Rattle.std.proofs.Common.{◌≡◌, ℕ, ◌+◌, ◌≤◌, Bool, true, false, cond, List, [], ◌∷◌, None, length, arith, refl}
+use Rattle.std.proofs.Common.{◌≡◌, ℕ, ◌+◌, ◌≤◌, Bool, true, false, cond, List, [], ◌∷◌, ◌++◌, None, Some, length, arith, refl}
 use Rattle.std.specs.Prelude.{All}
 use Rattle.std.specs.List.{sum_by}
-use Rattle.std.proofs.lemmas.Bool.{and_parts}
 use Rattle.std.proofs.lemmas.List.Elements.{All-head, All-tail}
 use Rattle.std.proofs.lemmas.List.Sums.{sum_by-cons}
 use Rattle.stapl_lexer.specs.Pieces.{text_limit}
 use Rattle.stapl_syntax.specs.Kinds.{expr_kind}
 use Rattle.stapl_syntax.specs.Programs.{piece_limit}
 use Rattle.stapl_syntax.specs.Statements.{is_outer}
-use Rattle.stapl_syntax.specs.Trees.{ExprTree, number, scalar, element, unary, binary, abs, int, PartTree, string, value, character, BodyTree, end_procedure, boolean, integer, assign, goto, if_then, print, exit, StmtTree}
-use Rattle.stapl_built.specs.Built.{is_built_expr, is_built_simple, is_built_inner, IsBuilt}
-use Rattle.stapl_built.specs.Sizes.{expr_size, part_size, body_size, statements_size}
+use Rattle.stapl_syntax.specs.Trees.{ExprTree, number, scalar, element, unary, binary, abs, int, ArrayTree, literal, whole, range, of_int, PartTree, string, value, character, BodyTree, end_procedure, boolean, boolean_array, integer, integer_array, assign, assign_element, assign_array, assign_range, goto, if_then, print, exit, StmtTree}
+use Rattle.stapl_built.specs.Built.{is_built_simple, is_built_inner, IsBuilt}
+use Rattle.stapl_built.specs.Sizes.{expr_size, array_size, part_size, body_size, statements_size}
 use Rattle.stapl_meaning.specs.declared.values.ValueKind.{ValueKind}
 use Rattle.stapl_meaning.specs.declared.values.ValueKind.TheVariants as kinds
 use Rattle.stapl_meaning.specs.Values.{Lookup, unary_side, sides}
-use Rattle.stapl_meaning.specs.Operands.{given_kind, printed_kind, part_operands}
+use Rattle.stapl_meaning.specs.Operands.{Operand, a_range, array_operands, bit_number, given_kind, printed_kind, part_operands}
 use Rattle.stapl_meaning.specs.Scopes.{Scope, scope_at}
 use Rattle.stapl_meaning.proofs.Resolved.{built_is_inner}
 use Rattle.stapl_code.specs.declared.instr.Instr.{Instr}
-use Rattle.stapl_code.specs.declared.instr.Instr.TheVariants.{Turn, Unary, Binary, Store, JumpIfZero, Print, CheckChar, Exit}
-use Rattle.stapl_codegen.specs.Emit.{operator_number, sign_number, absolute_number, expr_code, operands_code, print_parts, body_code, first_text, piece_code, pieces_code, start_of, program_code}
+use Rattle.stapl_code.specs.declared.instr.Instr.TheVariants.{Turn, LoadAt, CheckIndex, CheckRange, Unary, Binary, ToInt, Store, StoreAt, JumpIfZero, Print, CheckChar, Exit}
+use Rattle.stapl_code.specs.declared.instr.Source.TheVariants as sources
+use Rattle.stapl_codegen.specs.Emit.{operator_number, sign_number, absolute_number, expr_code, int_code, operands_code, print_parts, Firsts, last, body_code, firsts_at, piece_code, pieces_code, start_of, program_code}
 
 module _ (look : Lookup) where
-  expr_length : (kind : ValueKind) (e : ExprTree) (rest : List Instr) → length (expr_code look kind e rest) ≤ expr_size e + length rest
-  expr_length kind (number z) rest = omega arith
-  expr_length kind (scalar name) rest = omega arith
-  expr_length kind (unary op e) rest = let one = expr_length (unary_side op) e (Unary (sign_number op) ∷ rest) in omega (arith, one)
-  expr_length kind (binary op a b) rest =
-      let s : ValueKind = sides look op a b in
-      let two = expr_length s a (expr_code look s b (Binary (operator_number op s) ∷ rest)) in
-      let one = expr_length s b (Binary (operator_number op s) ∷ rest) in
+  mutual
+    expr_length : (kind : ValueKind) (e : ExprTree) (rest : List Instr) → length (expr_code look kind e rest) ≤ expr_size e + length rest
+    expr_length kind (number z) rest = omega arith
+    expr_length kind (scalar name) rest = omega arith
+    expr_length kind (element name index) rest = let one = expr_length kinds.Int index (LoadAt (look.variable name) ∷ rest) in omega (arith, one)
+    expr_length kind (unary op e) rest = let one = expr_length (unary_side op) e (Unary (sign_number op) ∷ rest) in omega (arith, one)
+    expr_length kind (binary op a b) rest =
+        let s : ValueKind = sides look op a b in
+        let two = expr_length s a (expr_code look s b (Binary (operator_number op s) ∷ rest)) in
+        let one = expr_length s b (Binary (operator_number op s) ∷ rest) in
+        omega (arith, one, two)
+    expr_length kind (abs e) rest = let one = expr_length kinds.Int e (Unary absolute_number ∷ rest) in omega (arith, one)
+    expr_length kind (int a) rest = let one = int_length a rest in omega (arith, one)
+
+    int_length : (a : ArrayTree) (rest : List Instr) → length (int_code look a rest) ≤ array_size a + 1 + length rest
+    int_length (literal bits) rest = omega arith
+    int_length (whole name) rest = omega arith
+    int_length (range name a b) rest =
+        let read : List Instr = ToInt (sources.Range (look.variable name)) ∷ rest in
+        let two = expr_length kinds.Int a (expr_code look kinds.Int b read) in
+        let one = expr_length kinds.Int b read in
+        omega (arith, one, two)
+    int_length (of_int e) rest = let one = expr_length kinds.Int e (ToInt sources.FromInt ∷ rest) in omega (arith, one)
+
+  -- the indexes of a range, and the operands of an array
+  range_length : (n : ℕ) (high low : ExprTree) (os : List Operand) (rest : List Instr) →
+      length (operands_code look (a_range n high low ++ os) rest) ≤ expr_size high + expr_size low + 1 + length (operands_code look os rest)
+  range_length n high low os rest =
+      let more : List Instr = CheckRange n ∷ operands_code look os rest in
+      let two = expr_length kinds.Int high (expr_code look kinds.Int low more) in
+      let one = expr_length kinds.Int low more in
       omega (arith, one, two)
-  expr_length kind (abs e) rest = let one = expr_length kinds.Int e (Unary absolute_number ∷ rest) in omega (arith, one)
-  expr_length kind (element name i) rest = omega arith
-  expr_length kind (int a) rest = omega arith
+
+  array_length : (a : ArrayTree) (rest : List Instr) → length (operands_code look (array_operands look a) rest) + 1 ≤ array_size a + length rest + 1
+  array_length (literal bits) rest = omega arith
+  array_length (whole name) rest = omega arith
+  array_length (range name high low) rest = let all = range_length (look.variable name) high low [] rest in omega (arith, all)
+  array_length (of_int e) rest = let one = expr_length kinds.Int e rest in omega (arith, one)
 
   parts_length : (list : List PartTree) (rest : List Instr) → length (operands_code look (part_operands look list) rest) ≤ sum_by part_size list + length rest
   parts_length [] rest = omega arith
@@ -49,22 +75,45 @@ module _ (look : Lookup) where
       omega (arith, sum_by-cons part_size (character e) list, one, more)
 
 module _ (scope : Scope) (place : ℕ → ℕ) where
-  simple_length : (first : ℕ) (b : BodyTree) (rest : List Instr) → is_built_simple b ≡ true → length (body_code scope place first b rest) ≤ body_size b + length rest
+  simple_length : (first : Firsts) (b : BodyTree) (rest : List Instr) → is_built_simple b ≡ true → length (body_code scope place first b rest) ≤ body_size b + length rest
   simple_length first (assign name e) rest built =
       let one = expr_length scope.look (given_kind (scope.look.kind name)) e (Store (scope.look.variable name) ∷ rest) in omega (arith, one)
+  simple_length first (assign_element name index e) rest built =
+      let more : List Instr = StoreAt (scope.look.variable name) ∷ rest in
+      let kind : ValueKind = given_kind (scope.look.kind name) in
+      let two = expr_length scope.look kinds.Int index (CheckIndex (scope.look.variable name) ∷ expr_code scope.look kind e more) in
+      let one = expr_length scope.look kind e more in
+      omega (arith, one, two)
+  simple_length first (assign_array name a) rest built =
+      let one = array_length scope.look a (last scope place first (assign_array name a) ∷ rest) in omega (arith, one)
+  simple_length first (assign_range name high low a) rest built =
+      let more : List Instr = last scope place first (assign_range name high low a) ∷ rest in
+      let two = range_length scope.look (scope.look.variable name) high low (array_operands scope.look a) more in
+      let one = array_length scope.look a more in
+      omega (arith, one, two)
   simple_length first (goto name) rest built = omega arith
   simple_length first (if_then e b) rest built =
       let one = expr_length scope.look kinds.Bit e (JumpIfZero (place scope.follow) ∷ body_code scope place first b rest) in
-      let more = simple_length first b rest (and_parts (is_built_expr e) (is_built_simple b) built).1 in
+      let more = simple_length first b rest built in
       omega (arith, one, more)
-  simple_length first (print list) rest built = let one = parts_length scope.look list (Print (print_parts scope.look first list) ∷ rest) in omega (arith, one)
+  simple_length first (print list) rest built = let one = parts_length scope.look list (Print (print_parts scope.look first.text list) ∷ rest) in omega (arith, one)
   simple_length first (exit e) rest built = let one = expr_length scope.look kinds.Int e (Exit ∷ rest) in omega (arith, one)
   simple_length first _ rest built = absurd cc
 
-  inner_length : (first : ℕ) (b : BodyTree) (rest : List Instr) → is_built_inner b ≡ true → length (body_code scope place first b rest) ≤ body_size b + length rest
+  inner_length : (first : Firsts) (b : BodyTree) (rest : List Instr) → is_built_inner b ≡ true → length (body_code scope place first b rest) ≤ body_size b + length rest
   inner_length first end_procedure rest built = omega arith
   inner_length first (boolean name None) rest built = omega arith
+  inner_length first (boolean name (Some b)) rest built =
+      let one = expr_length scope.look kinds.Bit (number (bit_number b)) (Store (scope.look.variable name) ∷ rest) in omega (arith, one)
+  inner_length first (boolean_array name size None) rest built = omega arith
+  inner_length first (boolean_array name size (Some bits)) rest built = omega arith
   inner_length first (integer name None) rest built = omega arith
+  inner_length first (integer name (Some z)) rest built = omega arith
+  inner_length first (integer_array name size None) rest built = omega arith
+  inner_length first (integer_array name size (Some zs)) rest built = omega arith
+  inner_length first (assign_element name index e) rest built = simple_length first (assign_element name index e) rest built
+  inner_length first (assign_array name a) rest built = simple_length first (assign_array name a) rest built
+  inner_length first (assign_range name high low a) rest built = simple_length first (assign_range name high low a) rest built
   inner_length first (assign name e) rest built = simple_length first (assign name e) rest built
   inner_length first (goto name) rest built = simple_length first (goto name) rest built
   inner_length first (if_then e b) rest built = simple_length first (if_then e b) rest built
@@ -76,11 +125,11 @@ module _ (program : List StmtTree) (place : ℕ → ℕ) where
   piece_length : (i : ℕ) (st : StmtTree) (rest : List Instr) → IsBuilt st → length (piece_code program place i st rest) ≤ body_size st.body + 1 + length rest
   piece_length i st rest built = by_case (is_outer st.body) refl
     where
-      inner : is_outer st.body ≡ false → length (body_code (scope_at program i) place (first_text program i) st.body rest) ≤ body_size st.body + length rest
-      inner inside = inner_length (scope_at program i) place (first_text program i) st.body rest (built_is_inner st built inside)
+      inner : is_outer st.body ≡ false → length (body_code (scope_at program i) place (firsts_at program i) st.body rest) ≤ body_size st.body + length rest
+      inner inside = inner_length (scope_at program i) place (firsts_at program i) st.body rest (built_is_inner st built inside)
 
       by_case : (outer : Bool) → is_outer st.body ≡ outer →
-          length (cond outer rest (Turn (i + 1) ∷ body_code (scope_at program i) place (first_text program i) st.body rest)) ≤ body_size st.body + 1 + length rest
+          length (cond outer rest (Turn (i + 1) ∷ body_code (scope_at program i) place (firsts_at program i) st.body rest)) ≤ body_size st.body + 1 + length rest
       by_case true e = omega arith
       by_case false e = let few = inner e in omega (arith, few)
 

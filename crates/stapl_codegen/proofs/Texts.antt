@@ -1,30 +1,49 @@
--- Where the texts of a piece stand among those of the program.
+-- Where the texts and the literals of a piece stand among those of the program.
 use Rattle.std.proofs.Common.{◌≡◌, ℕ, zero, suc, ◌+◌, ◌≤◌, List, [], ◌∷◌, ◌++◌, length, take, drop, refl, sym, ap, ◌∙◌, append_assoc, length-append, arith}
 use Rattle.std.proofs.lemmas.List.{drop_at}
-use Rattle.stapl_syntax.specs.Trees.{StmtTree}
-use Rattle.stapl_codegen.specs.Emit.{body_texts, texts_of, first_text}
-use Rattle.stapl_codegen.proofs.Prints.{HasTexts}
+use Rattle.stapl_syntax.specs.Trees.{BodyTree, StmtTree}
+use Rattle.stapl_meaning.specs.Turns.{rows}
+use Rattle.stapl_codegen.specs.Emit.{rows_items, program_items, row_texts, row_literals, body_texts, body_literals, texts_of, literals_of, constants_in, firsts_at}
+use Rattle.stapl_codegen.proofs.Constants.{HasItems, HasConstants}
 
-texts_parts : (i : ℕ) (program : List StmtTree) → texts_of program ≡ texts_of (take i program) ++ texts_of (drop i program)
-texts_parts zero program = refl
-texts_parts (suc i) [] = refl
-texts_parts (suc i) (st ∷ rest) =
-    ap (λ l. body_texts st.body ++ l) (texts_parts i rest)
-    ∙ sym (append_assoc (body_texts st.body) (texts_of (take i rest)) (texts_of (drop i rest)))
+module _ {A : Type 0} (of : BodyTree → List A) where
+  items_parts : (i : ℕ) (program : List StmtTree) → program_items of program ≡ program_items of (take i program) ++ program_items of (drop i program)
+  items_parts zero program = refl
+  items_parts (suc i) [] = refl
+  items_parts (suc i) (st ∷ rest) =
+      ap (λ l. rows_items of (rows st.body) ++ l) (items_parts i rest)
+      ∙ sym (append_assoc (rows_items of (rows st.body)) (program_items of (take i rest)) (program_items of (drop i rest)))
 
-pub texts_at : (i : ℕ) (program : List StmtTree) (st : StmtTree) (rest : List StmtTree) → drop i program ≡ st ∷ rest →
-    HasTexts (texts_of program) (first_text program i) (body_texts st.body)
-texts_at i program st rest e =
-    record {
-      more = texts_of rest;
-      from = ap (drop (first_text program i)) (texts_parts i program)
-          ∙ drop_at (texts_of (take i program)) (texts_of (drop i program)) (first_text program i) refl
-          ∙ ap texts_of e;
-    }
+  module _ (i : ℕ) (program : List StmtTree) (st : StmtTree) (rest : List StmtTree) (e : drop i program ≡ st ∷ rest) where
+    items_at : HasItems (program_items of program) (length (program_items of (take i program))) (rows_items of (rows st.body))
+    items_at =
+        record {
+          more = program_items of rest;
+          from = ap (drop (length (program_items of (take i program)))) (items_parts i program)
+              ∙ drop_at (program_items of (take i program)) (program_items of (drop i program)) (length (program_items of (take i program))) refl
+              ∙ ap (program_items of) e;
+        }
 
--- the texts of a piece are among those of the program
-pub texts_below : (i : ℕ) (program : List StmtTree) (st : StmtTree) (rest : List StmtTree) → drop i program ≡ st ∷ rest →
-    first_text program i + length (body_texts st.body) ≤ length (texts_of program)
-texts_below i program st rest e =
-    let parts = ap length (texts_parts i program ∙ ap (λ l. texts_of (take i program) ++ texts_of l) e) in
-    omega (arith, parts, length-append (texts_of (take i program)) (texts_of (st ∷ rest)), length-append (body_texts st.body) (texts_of rest))
+    items_below : length (program_items of (take i program)) + length (rows_items of (rows st.body)) ≤ length (program_items of program)
+    items_below =
+        let parts = ap length (items_parts i program ∙ ap (λ l. program_items of (take i program) ++ program_items of l) e) in
+        omega (
+          arith,
+          parts,
+          length-append (program_items of (take i program)) (program_items of (st ∷ rest)),
+          length-append (rows_items of (rows st.body)) (program_items of rest),
+        )
+
+module _ (i : ℕ) (program : List StmtTree) (st : StmtTree) (rest : List StmtTree) (e : drop i program ≡ st ∷ rest) where
+  pub constants_at : HasConstants (constants_in program) (firsts_at program i) (body_texts st.body) (body_literals st.body)
+  constants_at = record {
+    texts = items_at row_texts i program st rest e;
+    literals = items_at row_literals i program st rest e;
+  }
+
+  -- they are among those of the program
+  pub texts_below : (firsts_at program i).text + length (body_texts st.body) ≤ length (texts_of program)
+  texts_below = items_below row_texts i program st rest e
+
+  pub literals_below : (firsts_at program i).literal + length (body_literals st.body) ≤ length (literals_of program)
+  literals_below = items_below row_literals i program st rest e

@@ -13,7 +13,7 @@ use Rattle.stapl_meaning.specs.Turns.{turn, IsFound}
 use Rattle.stapl_meaning.specs.Plays.{Outcome, Going, Stopped, Run, after, goes_on, run, play, continued}
 use Rattle.stapl_code.specs.declared.raw.CodeLists.{CodeLists}
 use Rattle.stapl_code.specs.Machine.{code_play}
-use Rattle.stapl_code.specs.Safe.{entries_of, Fits, AllFit, AllBelow, NeverStuck}
+use Rattle.stapl_code.specs.Safe.{entries_of, constants_of, Fits, AllFit, AllBelow, NeverStuck}
 use Rattle.stapl_codegen.specs.Emit.{start_of}
 use Rattle.stapl_codegen.specs.Correct.{placed_outcome}
 use Rattle.stapl_codegen.specs.Accepted.{IsAccepted}
@@ -60,7 +60,7 @@ never_stops : NeverStuck → (program : List StmtTree) → IsAccepted program �
 never_stops never program accepted chosen below n =
     let lists : CodeLists = lists_of program in
     let many : length lists.procedures ≡ procedures_in program = count_same (start_of program) 0 program in
-    let same : (code_play (entries_of lists.procedures) lists.texts lists.instrs chosen (zeros_of program) n).outcome ≡ placed_outcome (start_of program) (play program chosen n).outcome =
+    let same : (code_play (entries_of lists.procedures) (constants_of lists) lists.instrs chosen (zeros_of program) n).outcome ≡ placed_outcome (start_of program) (play program chosen n).outcome =
     ap (λ (r : Run). r.outcome) ((code program accepted).stands chosen n) in
     λ stopped.
     never lists (in_range program accepted) (is_valid program accepted.built accepted.typed) chosen (subst (λ (k : ℕ). AllBelow k chosen) (sym many) below)

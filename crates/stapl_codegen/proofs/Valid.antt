@@ -1,15 +1,16 @@
 -- The code of a procedure of an accepted program breaks no rule.
 use Rattle.std.proofs.Common.{◌≡◌, ℕ, zero, suc, ◌+◌, ◌-◌, ◌<◌, ◌≤◌, Bool, true, false, cond, ◌&&◌, List, [], ◌∷◌, ◌++◌, length, length-append, map, drop, Option, Some, None, arith, refl, sym, ap, subst, ◌∙◌, add-one, nat_lt, true≢false}
-use Rattle.std.specs.Prelude.{slice_get, All, nat_le}
+use Rattle.std.specs.Prelude.{slice_get, All, IfSome, nat_le}
 use Rattle.std.proofs.lemmas.List.{drop_at}
 use Rattle.std.proofs.lemmas.Bool.{le-leb, ltb-true, ltb-false}
 use Rattle.std.proofs.lemmas.Option.{same_Some}
 use Rattle.stapl_syntax.specs.Trees.{BodyTree, procedure, data_block, end_data, end_procedure, StmtTree}
 use Rattle.stapl_syntax.specs.Statements.{is_outer, ends_procedure}
 use Rattle.stapl_built.specs.Built.{is_built_inner, IsBuilt}
-use Rattle.stapl_syntax.specs.Names.{inside_behind}
+use Rattle.stapl_syntax.specs.declared.names.Declaration.{Declaration}
+use Rattle.stapl_syntax.specs.Names.{declaration, inside_behind}
 use Rattle.stapl_meaning.specs.Scopes.{scope_at, block_at, program_names}
-use Rattle.stapl_meaning.specs.Typed.{IsInBlock, IsTyped}
+use Rattle.stapl_meaning.specs.Typed.{IsInBlock, IsDeclaredAt, IsTyped}
 use Rattle.stapl_meaning.proofs.Resolved.{built_is_inner}
 use Rattle.stapl_meaning.proofs.Entries.{all_at}
 use Rattle.std.specs.List.{AllByRecursion}
@@ -20,7 +21,7 @@ use Rattle.stapl_code.specs.declared.instr.Instr.{Instr}
 use Rattle.stapl_code.specs.declared.instr.Instr.TheVariants.{Turn, EndProc}
 use Rattle.stapl_code.specs.declared.raw.VarDef.{VarDef}
 use Rattle.stapl_code.specs.Valid.{is_turn, is_last, is_target, procedure_break}
-use Rattle.stapl_codegen.specs.Emit.{body_code, first_text, pieces_code, program_code, start_of}
+use Rattle.stapl_codegen.specs.Emit.{body_code, firsts_at, pieces_code, program_code, start_of}
 use Rattle.stapl_codegen.proofs.Heads.{head_of, get_head, drop_tail, drop_front}
 use Rattle.stapl_codegen.proofs.Lists.{pieces_split, pieces_append}
 use Rattle.stapl_codegen.proofs.Drafts.{inside_more}
@@ -107,9 +108,9 @@ module _ (program : List StmtTree) (built : All IsBuilt program) (typed : IsType
 
   -- a piece of a procedure begins with its turn
   begins_with_turn : (i : ℕ) (st : StmtTree) (rest : List StmtTree) → is_outer st.body ≡ false →
-      From i (st ∷ rest) ≡ Turn (i + 1) ∷ body_code (scope_at program i) (start_of program) (first_text program i) st.body (From (i + 1) rest)
+      From i (st ∷ rest) ≡ Turn (i + 1) ∷ body_code (scope_at program i) (start_of program) (firsts_at program i) st.body (From (i + 1) rest)
   begins_with_turn i st rest inner =
-      ap (λ b. cond b (From (i + 1) rest) (Turn (i + 1) ∷ body_code (scope_at program i) (start_of program) (first_text program i) st.body (From (i + 1) rest))) inner
+      ap (λ b. cond b (From (i + 1) rest) (Turn (i + 1) ∷ body_code (scope_at program i) (start_of program) (firsts_at program i) st.body (From (i + 1) rest))) inner
 
   -- where the code from a place on begins, if the statement there has code
   pub start_from : (i : ℕ) (st : StmtTree) (rest : List StmtTree) → drop i program ≡ st ∷ rest → is_outer st.body ≡ false →
@@ -278,6 +279,11 @@ module _ (program : List StmtTree) (built : All IsBuilt program) (typed : IsType
       is_inner : is_built_inner st.body ≡ true
       suits : operands_suit (scope_at program j).look.kind st.body ≡ true
       leads : AllByRecursion (Leads j) (labels_named st.body)
+      declares : IfSome (declaration st.body) (λ (d : Declaration). (scope_at program j).look.kind d.name ≡ Some d.kind)
+
+    kind_declared : (j : ℕ) (block : List ℕ) (o : Option Declaration) → IfSome o (IsDeclaredAt program j block) → IfSome o (λ (d : Declaration). (scope_at program j).look.kind d.name ≡ Some d.kind)
+    kind_declared j block None is = tt
+    kind_declared j block (Some d) is = is.kind
 
     typed_in : (k j : ℕ) (st : StmtTree) (rest : List StmtTree) → j ≡ h + 1 + k → drop k own ≡ st ∷ rest → IsTypedIn j st
     typed_in k j st rest is e =
@@ -289,6 +295,7 @@ module _ (program : List StmtTree) (built : All IsBuilt program) (typed : IsType
           is_inner = built_is_inner st (all_at IsBuilt program j st built at) inner;
           suits = t.suits;
           leads = subst (λ (b : List ℕ). AllByRecursion (λ label. IsInBlock program b ((scope_at program j).label label)) (labels_named st.body)) same t.leads;
+          declares = kind_declared j t.block (declaration st.body) t.declares;
         }
 
     agrees : (j : ℕ) → Agrees defs (scope_at program j).look
@@ -305,7 +312,7 @@ module _ (program : List StmtTree) (built : All IsBuilt program) (typed : IsType
         ((must : Bool) → FineFrom must (From (j + 1) (next ∷ rest))) → (must : Bool) → FineFrom must (From j (st ∷ next ∷ rest))
     piece_fine k j st next rest is e more must =
         let scope = scope_at program j in
-        let first = first_text program j in
+        let first = firsts_at program j in
         let after = From (j + 1) (next ∷ rest) in
         let body = body_code scope (start_of program) first st.body after in
         let e' : drop (suc k) own ≡ next ∷ rest = drop_tail k own ∙ ap (drop 1) e in
@@ -318,14 +325,14 @@ module _ (program : List StmtTree) (built : All IsBuilt program) (typed : IsType
         (turn_stands defs entry procedure_code must (j + 1) (is_last body)
         (body_last defs entry procedure_code (Leads j) scope (start_of program) (agrees j) (leads_to j) next_is first st.body after some))
         (body_fine defs entry procedure_code (Leads j) scope (start_of program) (agrees j) (leads_to j) next_is first st.body after
-        t.is_inner t.suits t.leads (own_goes_on own k st next rest are e) follows))
+        t.is_inner t.suits t.leads t.declares (own_goes_on own k st next rest are e) follows))
 
     -- the last piece is ENDPROC
     last_fine : (k j : ℕ) (st : StmtTree) → drop k own ≡ st ∷ [] → (must : Bool) → FineFrom must (From j (st ∷ []))
     last_fine k j st e must =
         let code_is : From j (st ∷ []) ≡ Turn (j + 1) ∷ EndProc ∷ [] =
         begins_with_turn j st [] (own_inner own k st [] are e)
-        ∙ ap (λ b. Turn (j + 1) ∷ body_code (scope_at program j) (start_of program) (first_text program j) b []) (own_ends own k st are e) in
+        ∙ ap (λ b. Turn (j + 1) ∷ body_code (scope_at program j) (start_of program) (firsts_at program j) b []) (own_ends own k st are e) in
         subst (FineFrom must) (sym code_is)
         (fine_step defs entry procedure_code must (Turn (j + 1)) [] [] (EndProc ∷ []) refl
         (turn_stands defs entry procedure_code must (j + 1) false refl)

@@ -1,28 +1,34 @@
 -- The code of operands that have their kinds finds its operands and stands well.
 use Rattle.std.proofs.Common.{◌≡◌, ℕ, zero, suc, ◌+◌, Bool, true, false, List, [], ◌∷◌, Some, None, refl, arith, sym, ap, subst, ◌∙◌}
-use Rattle.std.specs.Prelude.{ℤ, pos, negsuc, int_le, ◌&&◌, Option, is_some, if◌then◌else◌, slice_get}
+use Rattle.std.specs.Prelude.{ℤ, pos, negsuc, int_le, ◌&&◌, ◌==◌, ◌++◌, Option, None, is_some, take, if◌then◌else◌, slice_get}
+use Rattle.std.specs.Option.{option_map}
+use Rattle.bit_list.specs.Integers.{int_of}
 use Rattle.std.specs.List.{list_all}
-use Rattle.std.proofs.lemmas.Bool.{and_parts, leb-true}
-use Rattle.stapl_syntax.specs.Kinds.{expr_kind, part_suits, is_int, is_bit, number_kind}
+use Rattle.std.proofs.lemmas.Bool.{and_parts, eq-eqb, leb-true}
+use Rattle.stapl_syntax.specs.Kinds.{expr_kind, is_array, is_bit_array, part_suits, is_int, is_bit, number_kind}
+use Rattle.stapl_syntax.specs.declared.names.VarKind.{VarKind}
+use Rattle.stapl_syntax.specs.declared.names.VarKind.TheVariants as declared
 use Rattle.stapl_syntax.specs.declared.names.Kind.{Kind}
 use Rattle.stapl_syntax.specs.declared.names.Kind.TheVariants.{Int, Bool as Bit, Either}
-use Rattle.stapl_syntax.specs.Trees.{ExprTree, number, scalar, unary, binary, abs, PartTree, string, value, character, BodyTree}
-use Rattle.stapl_built.specs.Built.{is_built_expr, is_built_part}
+use Rattle.stapl_syntax.specs.Trees.{ExprTree, number, scalar, element, unary, binary, abs, int, ArrayTree, literal, whole, range, of_int, PartTree, string, value, character, BodyTree}
 use Rattle.stapl_meaning.specs.declared.values.ValueKind.{ValueKind}
 use Rattle.stapl_meaning.specs.declared.values.ValueKind.TheVariants as kinds
 use Rattle.stapl_meaning.specs.Values.{Lookup, unary_side, sides}
-use Rattle.stapl_meaning.specs.Operands.{Test, Plain, Character, Operand, printed_kind, part_operands}
+use Rattle.stapl_meaning.specs.Operands.{Test, Plain, Character, Index, Range, Operand, plain, a_range, array_operands, printed_kind, part_operands}
 use Rattle.stapl_meaning.specs.Scopes.{Scope}
 use Rattle.stapl_meaning.specs.Turns.{operands}
 use Rattle.stapl_code.specs.declared.instr.Instr.{Instr}
-use Rattle.stapl_code.specs.declared.instr.Instr.TheVariants.{Push, PushBit, Load, Unary, Binary, CheckChar}
+use Rattle.stapl_code.specs.declared.instr.Instr.TheVariants.{Push, PushBit, Load, LoadAt, CheckIndex, CheckRange, Unary, Binary, ToInt, CheckChar}
+use Rattle.stapl_code.specs.declared.instr.Source.TheVariants as sources
 use Rattle.stapl_code.specs.declared.instr.PrintPart.{PrintPart}
 use Rattle.stapl_code.specs.declared.raw.VarDef.{VarDef}
-use Rattle.stapl_code.specs.Machine.{part_slots}
-use Rattle.stapl_code.specs.Kinds.{then_kinds, put_on, taken_off, variable_kind, all_off, kinds_behind}
+use Rattle.stapl_code.specs.Machine.{AnArray, OfBits, OfInts, part_slots}
+use Rattle.stapl_code.specs.Kinds.{then_kinds, put_on, taken_off, variable_kind, is_met, all_off, kinds_behind}
+use Rattle.stapl_code.specs.Kinds as code
 use Rattle.stapl_code.specs.Valid.{is_last, stands_well, departs, judged, rest_break}
-use Rattle.stapl_codegen.specs.Emit.{literal_code, expr_code, test_code, operands_code, shown_part, print_parts, operator_number, sign_number, absolute_number, last, row_texts, past, row_code, rows_code}
-use Rattle.stapl_codegen.proofs.Sides.{fits, held_kind, scalar_fits, unary_fits, absolute_fits, unary_behind, operates}
+use Rattle.stapl_codegen.specs.Emit.{literal_code, expr_code, int_code, test_code, operands_code, shown_part, print_parts, operator_number, sign_number, absolute_number, Firsts, last, behind_row, row_code, rows_code}
+use Rattle.stapl_codegen.specs.Generated.{kind_number}
+use Rattle.stapl_codegen.proofs.Sides.{fits, held_kind, scalar_fits, item_kind, element_fits, indexed_fits, unary_fits, integer_fits, unary_behind, operates}
 
 -- ---- nothing of it is the last instruction
 
@@ -34,44 +40,61 @@ module _ (look : Lookup) where
   literal_last kinds.Bit (pos (suc (suc n))) rest = refl
   literal_last kinds.Bit (negsuc n) rest = refl
 
-  expr_last : (kind : ValueKind) (e : ExprTree) (rest : List Instr) → is_last (expr_code look kind e rest) ≡ false
-  expr_last kind (number z) rest = refl
-  expr_last kind (scalar name) rest = refl
-  expr_last kind (unary op e) rest = expr_last (unary_side op) e (Unary (sign_number op) ∷ rest)
-  expr_last kind (binary op a b) rest =
-      expr_last (sides look op a b) a (expr_code look (sides look op a b) b (Binary (operator_number op (sides look op a b)) ∷ rest))
-  expr_last kind (abs e) rest = expr_last kinds.Int e (Unary absolute_number ∷ rest)
-  expr_last kind _ rest = refl
+  mutual
+    expr_last : (kind : ValueKind) (e : ExprTree) (rest : List Instr) → is_last (expr_code look kind e rest) ≡ false
+    expr_last kind (number z) rest = refl
+    expr_last kind (scalar name) rest = refl
+    expr_last kind (element name index) rest = expr_last kinds.Int index (LoadAt (look.variable name) ∷ rest)
+    expr_last kind (unary op e) rest = expr_last (unary_side op) e (Unary (sign_number op) ∷ rest)
+    expr_last kind (binary op a b) rest =
+        expr_last (sides look op a b) a (expr_code look (sides look op a b) b (Binary (operator_number op (sides look op a b)) ∷ rest))
+    expr_last kind (abs e) rest = expr_last kinds.Int e (Unary absolute_number ∷ rest)
+    expr_last kind (int a) rest = int_last a rest
+
+    int_last : (a : ArrayTree) (rest : List Instr) → is_last (int_code look a rest) ≡ false
+    int_last (literal bits) rest = refl
+    int_last (whole name) rest = refl
+    int_last (range name a b) rest =
+        expr_last kinds.Int a (expr_code look kinds.Int b (ToInt (sources.Range (look.variable name)) ∷ rest))
+    int_last (of_int e) rest = expr_last kinds.Int e (ToInt sources.FromInt ∷ rest)
 
   test_last : (t : Test) (rest : List Instr) → is_last rest ≡ false → is_last (test_code t rest) ≡ false
   test_last Plain rest some = some
   test_last Character rest some = refl
+  test_last (Index n) rest some = refl
+  test_last (Range n) rest some = refl
 
   operands_last : (os : List Operand) (rest : List Instr) → is_last rest ≡ false → is_last (operands_code look os rest) ≡ false
   operands_last [] rest some = some
   operands_last (o ∷ os) rest some = expr_last o.kind o.expr (test_code o.test (operands_code look os rest))
 
-pub rows_last : (scope : Scope) (place : ℕ → ℕ) (first : ℕ) (bs : List BodyTree) (rest : List Instr) → is_last rest ≡ false → is_last (rows_code scope place first bs rest) ≡ false
+pub rows_last : (scope : Scope) (place : ℕ → ℕ) (first : Firsts) (bs : List BodyTree) (rest : List Instr) → is_last rest ≡ false → is_last (rows_code scope place first bs rest) ≡ false
 rows_last scope place first [] rest some = some
 rows_last scope place first (b ∷ bs) rest some =
-    operands_last scope.look (operands scope b) (last scope place first b ∷ rows_code scope place (past first (row_texts b)) bs rest) refl
+    operands_last scope.look (operands scope b) (last scope place first b ∷ rows_code scope place (behind_row first b) bs rest) refl
 
 -- ---- typed operands
 
-abbrev pub TestFits : ValueKind → Test → Type 0
-TestFits kind Plain = Unit {0}
-TestFits kind Character = kind ≡ kinds.Int
+-- The test of an operand of a kind finds what it looks at, where the operands before it have these kinds.
+abbrev pub TestFits : List VarDef → List ValueKind → ValueKind → Test → Type 0
+TestFits variables ks kind Plain = Unit {0}
+TestFits variables ks kind Character = kind ≡ kinds.Int
+TestFits variables ks kind (Index n) = (kind ≡ kinds.Int) × (is_met variables (AnArray n) ≡ true)
+TestFits variables [] kind (Range n) = ⊥
+TestFits variables (k ∷ ks) kind (Range n) = (kind ≡ kinds.Int) × (k ≡ kinds.Int) × (is_met variables (OfBits n) ≡ true)
 
-module _ (look : Lookup) where
-  -- an operand is built, and has the kind that is wanted of it
-  pub record IsTypedOperand (o : Operand) : Type 0 where
-    pub built : is_built_expr o.expr ≡ true
+module _ (variables : List VarDef) (look : Lookup) where
+  -- an operand has the kind that is wanted of it, and passes its test
+  pub record IsTypedOperand (ks : List ValueKind) (o : Operand) : Type 0 where
     pub fits : fits o.kind (expr_kind look.kind o.expr) ≡ true
-    pub test : TestFits o.kind o.test
+    pub test : TestFits variables ks o.kind o.test
 
-  abbrev pub AllTyped : List Operand → Type 0
-  AllTyped [] = Unit {0}
-  AllTyped (o ∷ os) = IsTypedOperand o × AllTyped os
+  abbrev pub AllTyped : List ValueKind → List Operand → Type 0
+  AllTyped ks [] = Unit {0}
+  AllTyped ks (o ∷ os) = IsTypedOperand ks o × AllTyped (o.kind ∷ ks) os
+
+  pub one_typed : (ks : List ValueKind) (kind : ValueKind) (e : ExprTree) → fits kind (expr_kind look.kind e) ≡ true → AllTyped ks (plain kind e ∷ [])
+  one_typed ks kind e h = (record { fits = h; test = tt }, tt)
 
   -- what has a kind fits that by which it is printed
   printed_fits : (k : Option Kind) → is_some k ≡ true → fits (printed_kind k) k ≡ true
@@ -80,17 +103,15 @@ module _ (look : Lookup) where
   printed_fits (Some Either) h = refl
   printed_fits None h = absurd cc
 
-  pub parts_typed : (list : List PartTree) → list_all is_built_part list ≡ true → list_all (part_suits look.kind) list ≡ true → AllTyped (part_operands look list)
-  parts_typed [] built suit = tt
-  parts_typed (string bytes ∷ list) built suit = parts_typed list built suit
-  parts_typed (value e ∷ list) built suit =
-      let b = and_parts (is_built_expr e) (list_all is_built_part list) built in
+  pub parts_typed : (ks : List ValueKind) (list : List PartTree) → list_all (part_suits look.kind) list ≡ true → AllTyped ks (part_operands look list)
+  parts_typed ks [] suit = tt
+  parts_typed ks (string bytes ∷ list) suit = parts_typed ks list suit
+  parts_typed ks (value e ∷ list) suit =
       let s = and_parts (is_some (expr_kind look.kind e)) (list_all (part_suits look.kind) list) suit in
-      (record { built = b.0; fits = printed_fits (expr_kind look.kind e) s.0; test = tt }, parts_typed list b.1 s.1)
-  parts_typed (character e ∷ list) built suit =
-      let b = and_parts (is_built_expr e) (list_all is_built_part list) built in
+      (record { fits = printed_fits (expr_kind look.kind e) s.0; test = tt }, parts_typed (printed_kind (expr_kind look.kind e) ∷ ks) list s.1)
+  parts_typed ks (character e ∷ list) suit =
       let s = and_parts (is_int (expr_kind look.kind e)) (list_all (part_suits look.kind) list) suit in
-      (record { built = b.0; fits = s.0; test = refl }, parts_typed list b.1 s.1)
+      (record { fits = s.0; test = refl }, parts_typed (kinds.Int ∷ ks) list s.1)
 
 -- kinds put on these, the last one on top
 abbrev pub kinds_onto : List Operand → List ValueKind → List ValueKind
@@ -113,9 +134,89 @@ module _ (variables : List VarDef) (look : Lookup) where
       shown_off kind (print_parts look n list) ks (kinds_onto (part_operands look list) (kind ∷ ks)) (parts_off list n (kind ∷ ks))
   parts_off (character e ∷ list) n ks = ap (λ o. then_kinds o (taken_off (Some kinds.Int))) (parts_off list n (kinds.Int ∷ ks))
 
--- each scalar that a name stands for has its kind among the variables of the code
+-- each variable that a name stands for has its kind among the variables of the code
 abbrev pub Agrees : List VarDef → Lookup → Type 0
-Agrees variables look = (name : List ℕ) (kind : ValueKind) → held_kind (look.kind name) ≡ Some kind → variable_kind (slice_get variables (look.variable name)) ≡ Some kind
+Agrees variables look =
+    (name : List ℕ) (kind : VarKind) → look.kind name ≡ Some kind →
+    option_map (λ v. v.kind) (slice_get variables (look.variable name)) ≡ Some (kind_number kind)
+
+-- what is told by the number of a variable's kind
+module _ (o : Option VarDef) (n : ℕ) (is : option_map (λ v. v.kind) o ≡ Some n) where
+  scalar_of_kind : variable_kind o ≡ code.scalar_kind n
+  scalar_of_kind = by o is
+    where
+      by : (o : Option VarDef) → option_map (λ v. v.kind) o ≡ Some n → variable_kind o ≡ code.scalar_kind n
+      by None e = absurd cc
+      by (Some v) e = let same : v.kind ≡ n = cc in ap code.scalar_kind same
+
+  item_of_kind : code.element_kind o ≡ code.item_kind n
+  item_of_kind = by o is
+    where
+      by : (o : Option VarDef) → option_map (λ v. v.kind) o ≡ Some n → code.element_kind o ≡ code.item_kind n
+      by None e = absurd cc
+      by (Some v) e = let same : v.kind ≡ n = cc in ap code.item_kind same
+
+  kind_is : code.is_of_kind n o ≡ true
+  kind_is = by o is
+    where
+      by : (o : Option VarDef) → option_map (λ v. v.kind) o ≡ Some n → code.is_of_kind n o ≡ true
+      by None e = absurd cc
+      by (Some v) e = let same : v.kind ≡ n = cc in ap (λ k. k == n) same ∙ eq-eqb n n refl
+
+module _ (variables : List VarDef) (look : Lookup) (agrees : Agrees variables look) where
+  abbrev Def : List ℕ → Option VarDef
+  Def name = slice_get variables (look.variable name)
+
+  -- a scalar, by the kind of what it holds
+  pub scalar_agrees : (name : List ℕ) (kind : ValueKind) → held_kind (look.kind name) ≡ Some kind → variable_kind (Def name) ≡ Some kind
+  scalar_agrees name kind h = by (look.kind name) refl h
+    where
+      by : (v : Option VarKind) → look.kind name ≡ v → held_kind v ≡ Some kind → variable_kind (Def name) ≡ Some kind
+      by (Some declared.Integer) e h = scalar_of_kind (Def name) 0 (agrees name declared.Integer e) ∙ h
+      by (Some declared.Boolean) e h = scalar_of_kind (Def name) 1 (agrees name declared.Boolean e) ∙ h
+      by (Some declared.IntegerArray) e h = absurd cc
+      by (Some declared.BooleanArray) e h = absurd cc
+      by None e h = absurd cc
+
+  -- an array, by the kind of its elements
+  pub element_agrees : (name : List ℕ) (kind : ValueKind) → item_kind (look.kind name) ≡ Some kind → code.element_kind (Def name) ≡ Some kind
+  element_agrees name kind h = by (look.kind name) refl h
+    where
+      by : (v : Option VarKind) → look.kind name ≡ v → item_kind v ≡ Some kind → code.element_kind (Def name) ≡ Some kind
+      by (Some declared.IntegerArray) e h = item_of_kind (Def name) 2 (agrees name declared.IntegerArray e) ∙ h
+      by (Some declared.BooleanArray) e h = item_of_kind (Def name) 3 (agrees name declared.BooleanArray e) ∙ h
+      by (Some declared.Integer) e h = absurd cc
+      by (Some declared.Boolean) e h = absurd cc
+      by None e h = absurd cc
+
+  pub bits_agree : (name : List ℕ) → is_bit_array (look.kind name) ≡ true → is_met variables (OfBits (look.variable name)) ≡ true
+  bits_agree name h = by (look.kind name) refl h
+    where
+      by : (v : Option VarKind) → look.kind name ≡ v → is_bit_array v ≡ true → code.is_of_kind 3 (Def name) ≡ true
+      by (Some declared.BooleanArray) e h = kind_is (Def name) 3 (agrees name declared.BooleanArray e)
+      by (Some declared.IntegerArray) e h = absurd cc
+      by (Some declared.Integer) e h = absurd cc
+      by (Some declared.Boolean) e h = absurd cc
+      by None e h = absurd cc
+
+  pub integers_agree : (name : List ℕ) → look.kind name ≡ Some declared.IntegerArray → is_met variables (OfInts (look.variable name)) ≡ true
+  integers_agree name e = kind_is (Def name) 2 (agrees name declared.IntegerArray e)
+
+  -- the indexes of a range, and the operands of an array
+  pub range_typed : (ks : List ValueKind) (name : List ℕ) (high low : ExprTree) (os : List Operand) → is_bit_array (look.kind name) ≡ true →
+      is_int (expr_kind look.kind high) ≡ true → is_int (expr_kind look.kind low) ≡ true →
+      AllTyped variables look (kinds.Int ∷ kinds.Int ∷ ks) os → AllTyped variables look ks (a_range (look.variable name) high low ++ os)
+  range_typed ks name high low os array h l more =
+      (record { fits = h; test = tt }, (record { fits = l; test = (refl, refl, bits_agree name array) }, more))
+
+  pub array_typed : (ks : List ValueKind) (a : ArrayTree) → is_array look.kind a ≡ true → AllTyped variables look ks (array_operands look a)
+  array_typed ks (literal bits) h = tt
+  array_typed ks (whole name) h = tt
+  array_typed ks (range name high low) h =
+      let t = and_parts (is_bit_array (look.kind name) && is_int (expr_kind look.kind high)) (is_int (expr_kind look.kind low)) h in
+      let u = and_parts (is_bit_array (look.kind name)) (is_int (expr_kind look.kind high)) t.0 in
+      range_typed ks name high low [] u.0 u.1 t.1 tt
+  array_typed ks (of_int e) h = one_typed variables look ks kinds.Int e h
 
 -- a number above 1 is no bit
 pub no_bit : (n : ℕ) → is_bit (Some (number_kind (pos (suc (suc n))))) ≡ true → ⊥
@@ -154,47 +255,88 @@ module _ (variables : List VarDef) (entry : ℕ) (code : List Instr) where
   literal_fine kinds.Bit (negsuc n) ks rest h some more = absurd cc
 
   module _ (look : Lookup) (agrees : Agrees variables look) where
-    pub expr_fine : (kind : ValueKind) (e : ExprTree) (ks : List ValueKind) (rest : List Instr) → is_built_expr e ≡ true → fits kind (expr_kind look.kind e) ≡ true →
-        is_last rest ≡ false → Fine false (kind ∷ ks) rest → Fine false ks (expr_code look kind e rest)
-    expr_fine kind (number z) ks rest built h some more = literal_fine kind z ks rest h some more
-    expr_fine kind (scalar name) ks rest built h some more =
-        let found = agrees name kind (scalar_fits kind (look.kind name) h) in
-        fine_put (Load (look.variable name)) ks (kind ∷ ks) rest (ap (λ k. then_kinds (put_on k ks) Some) found) refl refl some more
-    expr_fine kind (unary op e) ks rest built h some more =
-        let t = unary_fits op kind (expr_kind look.kind e) h in
-        let behind : List Instr = Unary (sign_number op) ∷ rest in
-        expr_fine (unary_side op) e ks behind built t.0 refl
-        (fine_put (Unary (sign_number op)) (unary_side op ∷ ks) (unary_side op ∷ ks) rest (unary_behind variables op ks) refl refl some
-        (subst (λ k. Fine false (k ∷ ks) rest) (sym t.1) more))
-    expr_fine kind (binary op a b) ks rest built h some more =
-        let s : ValueKind = sides look op a b in
-        let t = operates variables op kind (expr_kind look.kind a) (expr_kind look.kind b) h in
-        let are = and_parts (is_built_expr a) (is_built_expr b) built in
-        let behind : List Instr = Binary (operator_number op s) ∷ rest in
-        expr_fine s a ks (expr_code look s b behind) are.0 t.both.0 (expr_last look s b behind)
-        (expr_fine s b (s ∷ ks) behind are.1 t.both.1 refl
-        (fine_put (Binary (operator_number op s)) (s ∷ s ∷ ks) (kind ∷ ks) rest (t.behind ks) refl refl some more))
-    expr_fine kind (abs e) ks rest built h some more =
-        let t = absolute_fits kind (expr_kind look.kind e) h in
-        let behind : List Instr = Unary absolute_number ∷ rest in
-        expr_fine kinds.Int e ks behind built t.0 refl
-        (fine_put (Unary absolute_number) (kinds.Int ∷ ks) (kinds.Int ∷ ks) rest refl refl refl some
-        (subst (λ k. Fine false (k ∷ ks) rest) (sym t.1) more))
-    expr_fine kind _ ks rest built h some more = absurd cc
+    mutual
+      pub expr_fine : (kind : ValueKind) (e : ExprTree) (ks : List ValueKind) (rest : List Instr) → fits kind (expr_kind look.kind e) ≡ true →
+          is_last rest ≡ false → Fine false (kind ∷ ks) rest → Fine false ks (expr_code look kind e rest)
+      expr_fine kind (number z) ks rest h some more = literal_fine kind z ks rest h some more
+      expr_fine kind (scalar name) ks rest h some more =
+          let found = scalar_agrees variables look agrees name kind (scalar_fits kind (look.kind name) h) in
+          fine_put (Load (look.variable name)) ks (kind ∷ ks) rest (ap (λ k. then_kinds (put_on k ks) Some) found) refl refl some more
+      expr_fine kind (unary op e) ks rest h some more =
+          let t = unary_fits op kind (expr_kind look.kind e) h in
+          let behind : List Instr = Unary (sign_number op) ∷ rest in
+          expr_fine (unary_side op) e ks behind t.0 refl
+          (fine_put (Unary (sign_number op)) (unary_side op ∷ ks) (unary_side op ∷ ks) rest (unary_behind variables op ks) refl refl some
+          (subst (λ k. Fine false (k ∷ ks) rest) (sym t.1) more))
+      expr_fine kind (binary op a b) ks rest h some more =
+          let s : ValueKind = sides look op a b in
+          let t = operates variables op kind (expr_kind look.kind a) (expr_kind look.kind b) h in
+          let behind : List Instr = Binary (operator_number op s) ∷ rest in
+          expr_fine s a ks (expr_code look s b behind) t.both.0 (expr_last look s b behind)
+          (expr_fine s b (s ∷ ks) behind t.both.1 refl
+          (fine_put (Binary (operator_number op s)) (s ∷ s ∷ ks) (kind ∷ ks) rest (t.behind ks) refl refl some more))
+      expr_fine kind (abs e) ks rest h some more =
+          let t = integer_fits kind (is_int (expr_kind look.kind e)) h in
+          let behind : List Instr = Unary absolute_number ∷ rest in
+          expr_fine kinds.Int e ks behind t.0 refl
+          (fine_put (Unary absolute_number) (kinds.Int ∷ ks) (kinds.Int ∷ ks) rest refl refl refl some
+          (subst (λ k. Fine false (k ∷ ks) rest) (sym t.1) more))
+      expr_fine kind (element name index) ks rest h some more =
+          let t = indexed_fits kind (expr_kind look.kind index) (look.kind name) h in
+          let found = element_agrees variables look agrees name kind (element_fits kind (look.kind name) t.1) in
+          let read : Instr = LoadAt (look.variable name) in
+          expr_fine kinds.Int index ks (read ∷ rest) t.0 refl
+          (fine_put read (kinds.Int ∷ ks) (kind ∷ ks) rest (ap (λ k. then_kinds (put_on k ks) Some) found) refl refl some more)
+      expr_fine kind (int a) ks rest h some more =
+          let t = integer_fits kind (is_array look.kind a) h in
+          int_fine a ks rest t.0 some (subst (λ k. Fine false (k ∷ ks) rest) (sym t.1) more)
 
-    test_fine : (kind : ValueKind) (t : Test) (ks : List ValueKind) (rest : List Instr) → TestFits kind t → is_last rest ≡ false →
+      int_fine : (a : ArrayTree) (ks : List ValueKind) (rest : List Instr) → is_array look.kind a ≡ true → is_last rest ≡ false →
+          Fine false (kinds.Int ∷ ks) rest → Fine false ks (int_code look a rest)
+      int_fine (literal bits) ks rest h some more = fine_put (Push (int_of (take 32 bits))) ks (kinds.Int ∷ ks) rest refl refl refl some more
+      int_fine (whole name) ks rest h some more =
+          let n : ℕ = look.variable name in
+          let met = bits_agree variables look agrees name h in
+          fine_put (ToInt (sources.Whole n)) ks (kinds.Int ∷ ks) rest (ap (λ b. if b && true then Some (kinds.Int ∷ ks) else None) met) refl refl some more
+      int_fine (range name a b) ks rest h some more =
+          let n : ℕ = look.variable name in
+          let t = and_parts (is_bit_array (look.kind name) && is_int (expr_kind look.kind a)) (is_int (expr_kind look.kind b)) h in
+          let u = and_parts (is_bit_array (look.kind name)) (is_int (expr_kind look.kind a)) t.0 in
+          let met = bits_agree variables look agrees name u.0 in
+          let read : List Instr = ToInt (sources.Range n) ∷ rest in
+          expr_fine kinds.Int a ks (expr_code look kinds.Int b read) u.1 (expr_last look kinds.Int b read)
+          (expr_fine kinds.Int b (kinds.Int ∷ ks) read t.1 refl
+          (fine_put (ToInt (sources.Range n)) (kinds.Int ∷ kinds.Int ∷ ks) (kinds.Int ∷ ks) rest (ap (λ b. if b && true then Some (kinds.Int ∷ ks) else None) met) refl refl some more))
+      int_fine (of_int e) ks rest h some more =
+          expr_fine kinds.Int e ks (ToInt sources.FromInt ∷ rest) h refl
+          (fine_put (ToInt sources.FromInt) (kinds.Int ∷ ks) (kinds.Int ∷ ks) rest refl refl refl some more)
+
+    test_fine : (kind : ValueKind) (t : Test) (ks : List ValueKind) (rest : List Instr) → TestFits variables ks kind t → is_last rest ≡ false →
         Fine false (kind ∷ ks) rest → Fine false (kind ∷ ks) (test_code t rest)
     test_fine kind Plain ks rest fits some more = more
     test_fine kind Character ks rest fits some more =
         fine_step false CheckChar (kind ∷ ks) (kind ∷ ks) rest
         (ap (λ k. kinds_behind variables CheckChar (k ∷ ks)) fits ∙ ap (λ k. Some (k ∷ ks)) (sym fits)) (ap (stands_well entry code false CheckChar) some) more
+    test_fine kind (Index n) ks rest fits some more =
+        fine_step false (CheckIndex n) (kind ∷ ks) (kind ∷ ks) rest
+        (ap (λ k. kinds_behind variables (CheckIndex n) (k ∷ ks)) fits.0 ∙ ap (λ b. if b && true then Some (kinds.Int ∷ ks) else None) fits.1 ∙ ap (λ k. Some (k ∷ ks)) (sym fits.0))
+        (ap (stands_well entry code false (CheckIndex n)) some) more
+    test_fine kind (Range n) [] rest fits some more = absurd fits
+    test_fine kind (Range n) (k ∷ ks) rest fits some more =
+        fine_step false (CheckRange n) (kind ∷ k ∷ ks) (kind ∷ k ∷ ks) rest
+        (ap (λ x. kinds_behind variables (CheckRange n) (x ∷ k ∷ ks)) fits.0
+        ∙ ap (λ x. kinds_behind variables (CheckRange n) (kinds.Int ∷ x ∷ ks)) fits.1
+        ∙ ap (λ b. if b && true then Some (kinds.Int ∷ kinds.Int ∷ ks) else None) fits.2
+        ∙ ap (λ x. Some (kinds.Int ∷ x ∷ ks)) (sym fits.1)
+        ∙ ap (λ x. Some (x ∷ k ∷ ks)) (sym fits.0))
+        (ap (stands_well entry code false (CheckRange n)) some) more
 
-    pub operands_fine : (os : List Operand) (ks : List ValueKind) (rest : List Instr) → AllTyped look os → is_last rest ≡ false →
+    pub operands_fine : (os : List Operand) (ks : List ValueKind) (rest : List Instr) → AllTyped variables look ks os → is_last rest ≡ false →
         Fine false (kinds_onto os ks) rest → Fine false ks (operands_code look os rest)
     operands_fine [] ks rest typed some more = more
     operands_fine (o ∷ os) ks rest typed some more =
         let behind : List Instr = operands_code look os rest in
-        expr_fine o.kind o.expr ks (test_code o.test behind) typed.0.built typed.0.fits (test_last look o.test behind (operands_last look os rest some))
+        expr_fine o.kind o.expr ks (test_code o.test behind) typed.0.fits (test_last look o.test behind (operands_last look os rest some))
         (test_fine o.kind o.test ks behind typed.0.test (operands_last look os rest some) (operands_fine os (o.kind ∷ ks) rest typed.1 some more))
 
   -- what stands behind a statement that is not the last: more instructions, which a statement may also jump over
@@ -203,12 +345,12 @@ module _ (variables : List VarDef) (entry : ℕ) (code : List Instr) where
     pub fine : (must : Bool) → Fine must [] rest
 
   -- What a row has to have: its operands are typed, and its last instruction finds them and stands well.
-  pub record IsGood (scope : Scope) (place : ℕ → ℕ) (first : ℕ) (b : BodyTree) : Type 0 where
-    pub typed : AllTyped scope.look (operands scope b)
+  pub record IsGood (scope : Scope) (place : ℕ → ℕ) (first : Firsts) (b : BodyTree) : Type 0 where
+    pub typed : AllTyped variables scope.look [] (operands scope b)
     pub finds : kinds_behind variables (last scope place first b) (kinds_onto (operands scope b) []) ≡ Some []
     pub stands : stands_well entry code false (last scope place first b) false ≡ true
 
-  pub row_fine : (scope : Scope) (place : ℕ → ℕ) (first : ℕ) (b : BodyTree) (rest : List Instr) → Agrees variables scope.look → IsGood scope place first b →
+  pub row_fine : (scope : Scope) (place : ℕ → ℕ) (first : Firsts) (b : BodyTree) (rest : List Instr) → Agrees variables scope.look → IsGood scope place first b →
       is_last rest ≡ false → Fine (departs (last scope place first b)) [] rest → Fine false [] (row_code scope place first b rest)
   row_fine scope place first b rest agrees good some more =
       operands_fine scope.look agrees (operands scope b) [] (last scope place first b ∷ rest) good.typed refl

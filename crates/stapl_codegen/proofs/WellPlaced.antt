@@ -1,29 +1,33 @@
 -- The code of the statements of a procedure breaks no rule.
 use Rattle.std.proofs.Common.{◌≡◌, ℕ, Bool, true, false, List, [], ◌∷◌, Option, Some, None, refl, ap, ◌∙◌}
-use Rattle.std.specs.Prelude.{nat_lt, length}
+use Rattle.std.specs.Prelude.{ℤ, pos, int_le, is_some, ◌&&◌, length, IfSome, if◌then◌else◌, slice_get}
 use Rattle.std.specs.List.{list_all, AllByRecursion}
 use Rattle.std.proofs.lemmas.Bool.{and_parts}
+use Rattle.stapl_syntax.specs.declared.names.Declaration.{Declaration}
 use Rattle.stapl_syntax.specs.declared.names.Kind.{Kind}
+use Rattle.stapl_syntax.specs.declared.names.Kind.TheVariants.{Int, Either}
 use Rattle.stapl_syntax.specs.declared.names.VarKind.{VarKind}
 use Rattle.stapl_syntax.specs.declared.names.VarKind.TheVariants as variables
-use Rattle.stapl_syntax.specs.Kinds.{expr_kind, is_bit, scalar_kind, suits, operands_suit}
+use Rattle.stapl_syntax.specs.Kinds.{expr_kind, is_array, is_int, is_bit, is_bit_array, number_kind, scalar_kind, element_kind, suits, operands_suit}
 use Rattle.stapl_syntax.specs.Mentions.{labels_named}
+use Rattle.stapl_syntax.specs.Names.{declaration}
 use Rattle.stapl_syntax.specs.Statements.{ends_procedure}
-use Rattle.stapl_syntax.specs.Trees.{BodyTree, end_procedure, boolean, integer, assign, goto, if_then, print, exit}
-use Rattle.stapl_built.specs.Built.{is_built_expr, is_built_part, is_built_simple, is_built_inner}
+use Rattle.stapl_syntax.specs.Trees.{ExprTree, number, ArrayTree, literal, whole, range, of_int, BodyTree, end_procedure, boolean, boolean_array, integer, integer_array, assign, assign_element, assign_array, assign_range, goto, if_then, print, exit}
+use Rattle.stapl_built.specs.Built.{is_built_simple, is_built_inner}
 use Rattle.stapl_meaning.specs.declared.values.ValueKind.{ValueKind}
 use Rattle.stapl_meaning.specs.declared.values.ValueKind.TheVariants as kinds
-use Rattle.stapl_meaning.specs.Operands.{given_kind}
+use Rattle.stapl_meaning.specs.Operands.{array_operands, given_kind, bit_number}
 use Rattle.stapl_meaning.specs.Scopes.{Scope}
 use Rattle.stapl_meaning.specs.Turns.{rows}
 use Rattle.stapl_code.specs.declared.instr.Instr.{Instr}
-use Rattle.stapl_code.specs.declared.instr.Instr.TheVariants.{Turn, Jump, JumpIfZero}
+use Rattle.stapl_code.specs.declared.instr.Instr.TheVariants.{Turn, Store, StoreAt, SetBits, SetInts, Jump, JumpIfZero}
 use Rattle.stapl_code.specs.declared.raw.VarDef.{VarDef}
-use Rattle.stapl_code.specs.Kinds.{off, then_kinds, taken_off}
+use Rattle.stapl_code.specs.Machine.{source_slots, source_wants, wants}
+use Rattle.stapl_code.specs.Kinds.{off, then_kinds, taken_off, variable_kind, element_kind as element_kind_of, is_met, all_off, kinds_moved, kinds_behind}
 use Rattle.stapl_code.specs.Valid.{is_last, is_target, stands_well}
-use Rattle.stapl_codegen.specs.Emit.{body_code}
-use Rattle.stapl_codegen.proofs.Sides.{fits, held_kind}
-use Rattle.stapl_codegen.proofs.WellKinded.{Agrees, Fine, Follows, IsGood, row_fine, rows_last, parts_typed, parts_off}
+use Rattle.stapl_codegen.specs.Emit.{source_code, Firsts, last, body_code}
+use Rattle.stapl_codegen.proofs.Sides.{fits, held_kind, item_kind}
+use Rattle.stapl_codegen.proofs.WellKinded.{kinds_onto, Agrees, scalar_agrees, element_agrees, bits_agree, integers_agree, one_typed, parts_typed, range_typed, array_typed, parts_off, Fine, Follows, IsGood, row_fine, rows_last}
 
 -- what is given to a scalar fits the kind that the scalar holds
 pub given_fits : (v : Option VarKind) (k : Option Kind) → suits (scalar_kind v) k ≡ true → (fits (given_kind v) k ≡ true) × (held_kind v ≡ Some (given_kind v))
@@ -32,6 +36,26 @@ given_fits (Some variables.Boolean) k h = (h, refl)
 given_fits (Some variables.IntegerArray) k h = absurd cc
 given_fits (Some variables.BooleanArray) k h = absurd cc
 given_fits None k h = absurd cc
+
+-- and what is given to an element the kind of the elements
+pub item_given : (v : Option VarKind) (k : Option Kind) → suits (element_kind v) k ≡ true → (fits (given_kind v) k ≡ true) × (item_kind v ≡ Some (given_kind v))
+item_given (Some variables.IntegerArray) k h = (h, refl)
+item_given (Some variables.BooleanArray) k h = (h, refl)
+item_given (Some variables.Integer) k h = absurd cc
+item_given (Some variables.Boolean) k h = absurd cc
+item_given None k h = absurd cc
+
+-- a number that is a bit fits a Boolean
+pub bit_fits : (b : Bool) → fits kinds.Bit (expr_kind (λ name. None) (number (bit_number b))) ≡ true
+bit_fits false = refl
+bit_fits true = refl
+
+pub number_fits : (z : ℤ) → fits kinds.Int (Some (number_kind z)) ≡ true
+number_fits z = by (int_le (pos 0) z && int_le z (pos 1))
+  where
+    by : (b : Bool) → is_int (Some (if b then Either else Int)) ≡ true
+    by true = refl
+    by false = refl
 
 off_same : (kind : ValueKind) (ks : List ValueKind) → off kind (kind ∷ ks) ≡ Some ks
 off_same kinds.Int ks = refl
@@ -49,54 +73,157 @@ module _ (variables : List VarDef) (entry : ℕ) (code : List Instr) where
   turn_stands false piece last some = rw some refl
 
   module _ (Leads : List ℕ → Type 0) (scope : Scope) (place : ℕ → ℕ) (agrees : Agrees variables scope.look) (target : (name : List ℕ) → Leads name → is_target entry code (place (scope.label name)) ≡ true) (next : is_target entry code (place scope.follow) ≡ true) where
-    pub body_last : (first : ℕ) (b : BodyTree) (rest : List Instr) → is_last rest ≡ false → is_last (body_code scope place first b rest) ≡ false
+    pub body_last : (first : Firsts) (b : BodyTree) (rest : List Instr) → is_last rest ≡ false → is_last (body_code scope place first b rest) ≡ false
     body_last first b rest some = rows_last scope place first (rows b) rest some
 
-    abbrev Good : ℕ → BodyTree → Type 0
+    abbrev Good : Firsts → BodyTree → Type 0
     Good first b = IsGood variables entry code scope place first b
 
+    -- a value goes into a scalar or an element of its kind
+    store_finds : (n : ℕ) (kind : ValueKind) → variable_kind (slice_get variables n) ≡ Some kind → kinds_behind variables (Store n) (kind ∷ []) ≡ Some []
+    store_finds n kind found = ap (λ k. then_kinds (taken_off k (kind ∷ [])) Some) found ∙ ap (λ o. then_kinds o Some) (off_same kind [])
+
+    store_at_finds : (n : ℕ) (kind : ValueKind) → element_kind_of (slice_get variables n) ≡ Some kind → kinds_behind variables (StoreAt n) (kind ∷ kinds.Int ∷ []) ≡ Some []
+    store_at_finds n kind found =
+        ap (λ k. then_kinds (then_kinds (taken_off k (kind ∷ kinds.Int ∷ [])) (taken_off (Some kinds.Int))) Some) found
+        ∙ ap (λ o. then_kinds (then_kinds o (taken_off (Some kinds.Int))) Some) (off_same kind (kinds.Int ∷ []))
+
+    -- an array finds its operands, and its variable is what it has to be
+    source_off : (first : ℕ) (a : ArrayTree) (ks : List ValueKind) → all_off variables (source_slots (source_code scope.look first a)) (kinds_onto (array_operands scope.look a) ks) ≡ Some ks
+    source_off first (literal bits) ks = refl
+    source_off first (whole name) ks = refl
+    source_off first (range name high low) ks = refl
+    source_off first (of_int e) ks = refl
+
+    source_met : (first : ℕ) (a : ArrayTree) → is_array scope.look.kind a ≡ true → list_all (is_met variables) (source_wants (source_code scope.look first a)) ≡ true
+    source_met first (literal bits) h = refl
+    source_met first (whole name) h = ap (λ b. b && true) (bits_agree variables scope.look agrees name h)
+    source_met first (range name high low) h =
+        let t = and_parts (is_bit_array (scope.look.kind name) && is_int (expr_kind scope.look.kind high)) (is_int (expr_kind scope.look.kind low)) h in
+        let u = and_parts (is_bit_array (scope.look.kind name)) (is_int (expr_kind scope.look.kind high)) t.0 in
+        ap (λ b. b && true) (bits_agree variables scope.look agrees name u.0)
+    source_met first (of_int e) h = refl
+
+    -- what stands behind a row whose wants are met
+    wanted : (x : Instr) (ks after : List ValueKind) → list_all (is_met variables) (wants x) ≡ true → kinds_moved variables x ks ≡ Some after → kinds_behind variables x ks ≡ Some after
+    wanted x ks after met moved = ap (λ b. if b then kinds_moved variables x ks else None) met ∙ moved
+
+    abbrev IsDeclared : BodyTree → Type 0
+    IsDeclared b = IfSome (declaration b) (λ (d : Declaration). scope.look.kind d.name ≡ Some d.kind)
+
+    array_good : (first : Firsts) (name : List ℕ) (a : ArrayTree) → operands_suit scope.look.kind (assign_array name a) ≡ true → Good first (assign_array name a)
+    array_good first name a suit =
+        let t = and_parts (is_bit_array (scope.look.kind name)) (is_array scope.look.kind a) suit in
+        let copy : Instr = last scope place first (assign_array name a) in
+        let met : list_all (is_met variables) (wants copy) ≡ true =
+        ap (λ b. b && list_all (is_met variables) (source_wants (source_code scope.look first.literal a))) (bits_agree variables scope.look agrees name t.0) ∙ source_met first.literal a t.1 in
+        record {
+          typed = array_typed variables scope.look agrees [] a t.1;
+          finds = wanted copy (kinds_onto (array_operands scope.look a) []) [] met (ap (λ o. then_kinds o Some) (source_off first.literal a []));
+          stands = refl;
+        }
+
+    range_good : (first : Firsts) (name : List ℕ) (high low : ExprTree) (a : ArrayTree) → operands_suit scope.look.kind (assign_range name high low a) ≡ true → Good first (assign_range name high low a)
+    range_good first name high low a suit =
+        let t = and_parts (is_bit_array (scope.look.kind name) && is_int (expr_kind scope.look.kind high) && is_int (expr_kind scope.look.kind low)) (is_array scope.look.kind a) suit in
+        let u = and_parts (is_bit_array (scope.look.kind name) && is_int (expr_kind scope.look.kind high)) (is_int (expr_kind scope.look.kind low)) t.0 in
+        let v = and_parts (is_bit_array (scope.look.kind name)) (is_int (expr_kind scope.look.kind high)) u.0 in
+        let copy : Instr = last scope place first (assign_range name high low a) in
+        let met : list_all (is_met variables) (wants copy) ≡ true =
+        ap (λ b. b && list_all (is_met variables) (source_wants (source_code scope.look first.literal a))) (bits_agree variables scope.look agrees name v.0) ∙ source_met first.literal a t.1 in
+        let both : List ValueKind = kinds.Int ∷ kinds.Int ∷ [] in
+        record {
+          typed = range_typed variables scope.look agrees [] name high low (array_operands scope.look a) v.0 v.1 u.1 (array_typed variables scope.look agrees both a t.1);
+          finds = wanted copy (kinds_onto (array_operands scope.look a) both) [] met
+              (ap (λ o. then_kinds (then_kinds (then_kinds o (taken_off (Some kinds.Int))) (taken_off (Some kinds.Int))) Some) (source_off first.literal a both));
+          stands = refl;
+        }
+
     -- a statement that may stand after THEN
-    simple_fine : (first : ℕ) (b : BodyTree) (rest : List Instr) → is_built_simple b ≡ true → operands_suit scope.look.kind b ≡ true → AllByRecursion Leads (labels_named b) →
+    simple_fine : (first : Firsts) (b : BodyTree) (rest : List Instr) → is_built_simple b ≡ true → operands_suit scope.look.kind b ≡ true → AllByRecursion Leads (labels_named b) →
         Follows variables entry code rest → Fine variables entry code false [] (body_code scope place first b rest)
     simple_fine first (assign name e) rest built suit leads follows =
         let t = given_fits (scope.look.kind name) (expr_kind scope.look.kind e) suit in
         let kind : ValueKind = given_kind (scope.look.kind name) in
         let good : Good first (assign name e) = record {
-          typed = (record { built = built; fits = t.0; test = tt }, tt);
-          finds = ap (λ k. then_kinds (taken_off k (kind ∷ [])) Some) (agrees name kind t.1) ∙ ap (λ o. then_kinds o Some) (off_same kind []);
+          typed = one_typed variables scope.look [] kind e t.0;
+          finds = store_finds (scope.look.variable name) kind (scalar_agrees variables scope.look agrees name kind t.1);
           stands = refl;
         } in
         row_fine variables entry code scope place first (assign name e) rest agrees good follows.some (follows.fine false)
+    simple_fine first (assign_element name index e) rest built suit leads follows =
+        let are = and_parts (is_int (expr_kind scope.look.kind index)) (suits (element_kind (scope.look.kind name)) (expr_kind scope.look.kind e)) suit in
+        let t = item_given (scope.look.kind name) (expr_kind scope.look.kind e) are.1 in
+        let kind : ValueKind = given_kind (scope.look.kind name) in
+        let found = element_agrees variables scope.look agrees name kind t.1 in
+        let good : Good first (assign_element name index e) = record {
+          typed = (record { fits = are.0; test = (refl, ap is_some found) }, one_typed variables scope.look (kinds.Int ∷ []) kind e t.0);
+          finds = store_at_finds (scope.look.variable name) kind found;
+          stands = refl;
+        } in
+        row_fine variables entry code scope place first (assign_element name index e) rest agrees good follows.some (follows.fine false)
+    simple_fine first (assign_array name a) rest built suit leads follows =
+        row_fine variables entry code scope place first (assign_array name a) rest agrees (array_good first name a suit) follows.some (follows.fine false)
+    simple_fine first (assign_range name high low a) rest built suit leads follows =
+        row_fine variables entry code scope place first (assign_range name high low a) rest agrees (range_good first name high low a suit) follows.some (follows.fine false)
     simple_fine first (goto name) rest built suit leads follows =
         let good : Good first (goto name) = record { typed = tt; finds = refl; stands = jump_stands (place (scope.label name)) (target name leads.0) } in
         row_fine variables entry code scope place first (goto name) rest agrees good follows.some (follows.fine true)
     simple_fine first (if_then e b) rest built suit leads follows =
-        let are = and_parts (is_built_expr e) (is_built_simple b) built in
         let suits = and_parts (is_bit (expr_kind scope.look.kind e)) (operands_suit scope.look.kind b) suit in
-        let good : Good first (if_then e b) = record { typed = (record { built = are.0; fits = suits.0; test = tt }, tt); finds = refl; stands = branch_stands (place scope.follow) next } in
+        let good : Good first (if_then e b) = record { typed = one_typed variables scope.look [] kinds.Bit e suits.0; finds = refl; stands = branch_stands (place scope.follow) next } in
         row_fine variables entry code scope place first (if_then e b) (body_code scope place first b rest) agrees good
-        (body_last first b rest follows.some) (simple_fine first b rest are.1 suits.1 leads follows)
+        (body_last first b rest follows.some) (simple_fine first b rest built suits.1 leads follows)
     simple_fine first (print list) rest built suit leads follows =
         let good : Good first (print list) = record {
-          typed = parts_typed scope.look list (and_parts (nat_lt 0 (length list)) (list_all is_built_part list) built).1 suit;
-          finds = ap (λ o. then_kinds o (λ below. then_kinds (Some below) Some)) (parts_off variables scope.look list first []);
+          typed = parts_typed variables scope.look [] list suit;
+          finds = ap (λ o. then_kinds o (λ below. then_kinds (Some below) Some)) (parts_off variables scope.look list first.text []);
           stands = refl;
         } in
         row_fine variables entry code scope place first (print list) rest agrees good follows.some (follows.fine false)
     simple_fine first (exit e) rest built suit leads follows =
-        let good : Good first (exit e) = record { typed = (record { built = built; fits = suit; test = tt }, tt); finds = refl; stands = refl } in
+        let good : Good first (exit e) = record { typed = one_typed variables scope.look [] kinds.Int e suit; finds = refl; stands = refl } in
         row_fine variables entry code scope place first (exit e) rest agrees good follows.some (follows.fine true)
     simple_fine first _ rest built suit leads follows = absurd cc
 
     -- a statement other than ENDPROC
-    pub body_fine : (first : ℕ) (b : BodyTree) (rest : List Instr) → is_built_inner b ≡ true → operands_suit scope.look.kind b ≡ true → AllByRecursion Leads (labels_named b) → ends_procedure b ≡ false →
+    pub body_fine : (first : Firsts) (b : BodyTree) (rest : List Instr) → is_built_inner b ≡ true → operands_suit scope.look.kind b ≡ true → AllByRecursion Leads (labels_named b) → IsDeclared b → ends_procedure b ≡ false →
         Follows variables entry code rest → Fine variables entry code false [] (body_code scope place first b rest)
-    body_fine first end_procedure rest built suit leads between follows = absurd cc
-    body_fine first (boolean name None) rest built suit leads between follows = follows.fine false
-    body_fine first (integer name None) rest built suit leads between follows = follows.fine false
-    body_fine first (assign name e) rest built suit leads between follows = simple_fine first (assign name e) rest built suit leads follows
-    body_fine first (goto name) rest built suit leads between follows = simple_fine first (goto name) rest built suit leads follows
-    body_fine first (if_then e b) rest built suit leads between follows = simple_fine first (if_then e b) rest built suit leads follows
-    body_fine first (print list) rest built suit leads between follows = simple_fine first (print list) rest built suit leads follows
-    body_fine first (exit e) rest built suit leads between follows = simple_fine first (exit e) rest built suit leads follows
-    body_fine first _ rest built suit leads between follows = absurd cc
+    body_fine first end_procedure rest built suit leads is between follows = absurd cc
+    body_fine first (boolean name None) rest built suit leads is between follows = follows.fine false
+    body_fine first (boolean name (Some b)) rest built suit leads is between follows =
+        let good : Good first (boolean name (Some b)) = record {
+          typed = one_typed variables scope.look [] kinds.Bit (number (bit_number b)) (bit_fits b);
+          finds = store_finds (scope.look.variable name) kinds.Bit (scalar_agrees variables scope.look agrees name kinds.Bit (ap held_kind is));
+          stands = refl;
+        } in
+        row_fine variables entry code scope place first (boolean name (Some b)) rest agrees good follows.some (follows.fine false)
+    body_fine first (boolean_array name size None) rest built suit leads is between follows = follows.fine false
+    body_fine first (boolean_array name size (Some bits)) rest built suit leads is between follows =
+        let set : Instr = SetBits (scope.look.variable name) first.literal in
+        let met = ap (λ b. b && true) (bits_agree variables scope.look agrees name (ap is_bit_array is)) in
+        let good : Good first (boolean_array name size (Some bits)) = record { typed = tt; finds = wanted set [] [] met refl; stands = refl } in
+        row_fine variables entry code scope place first (boolean_array name size (Some bits)) rest agrees good follows.some (follows.fine false)
+    body_fine first (integer name None) rest built suit leads is between follows = follows.fine false
+    body_fine first (integer name (Some z)) rest built suit leads is between follows =
+        let good : Good first (integer name (Some z)) = record {
+          typed = one_typed variables scope.look [] kinds.Int (number z) (number_fits z);
+          finds = store_finds (scope.look.variable name) kinds.Int (scalar_agrees variables scope.look agrees name kinds.Int (ap held_kind is));
+          stands = refl;
+        } in
+        row_fine variables entry code scope place first (integer name (Some z)) rest agrees good follows.some (follows.fine false)
+    body_fine first (integer_array name size None) rest built suit leads is between follows = follows.fine false
+    body_fine first (integer_array name size (Some zs)) rest built suit leads is between follows =
+        let set : Instr = SetInts (scope.look.variable name) zs in
+        let met = ap (λ b. b && true) (integers_agree variables scope.look agrees name is) in
+        let good : Good first (integer_array name size (Some zs)) = record { typed = tt; finds = wanted set [] [] met refl; stands = refl } in
+        row_fine variables entry code scope place first (integer_array name size (Some zs)) rest agrees good follows.some (follows.fine false)
+    body_fine first (assign name e) rest built suit leads is between follows = simple_fine first (assign name e) rest built suit leads follows
+    body_fine first (assign_element name index e) rest built suit leads is between follows = simple_fine first (assign_element name index e) rest built suit leads follows
+    body_fine first (assign_array name a) rest built suit leads is between follows = simple_fine first (assign_array name a) rest built suit leads follows
+    body_fine first (assign_range name high low a) rest built suit leads is between follows = simple_fine first (assign_range name high low a) rest built suit leads follows
+    body_fine first (goto name) rest built suit leads is between follows = simple_fine first (goto name) rest built suit leads follows
+    body_fine first (if_then e b) rest built suit leads is between follows = simple_fine first (if_then e b) rest built suit leads follows
+    body_fine first (print list) rest built suit leads is between follows = simple_fine first (print list) rest built suit leads follows
+    body_fine first (exit e) rest built suit leads is between follows = simple_fine first (exit e) rest built suit leads follows
+    body_fine first _ rest built suit leads is between follows = absurd cc

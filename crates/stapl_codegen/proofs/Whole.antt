@@ -14,7 +14,7 @@ use Rattle.stapl_code.specs.declared.instr.Instr.TheVariants.{Turn}
 use Rattle.stapl_code.specs.declared.raw.VarDef.{VarDef}
 use Rattle.stapl_code.specs.declared.raw.ProcDef.{ProcDef}
 use Rattle.stapl_code.specs.Valid.{next_entry, procedure_break, procedures_break, prologue_break, entry_break, first_of, IsValid}
-use Rattle.stapl_codegen.specs.Emit.{body_code, first_text, procedure_def, procedures_from, procedures_of, pieces_code, program_code, start_of}
+use Rattle.stapl_codegen.specs.Emit.{body_code, firsts_at, procedure_def, procedures_from, procedures_of, pieces_code, program_code, start_of}
 use Rattle.stapl_codegen.specs.Generated.{lists_of}
 use Rattle.stapl_codegen.proofs.Heads.{drop_tail, drop_front}
 use Rattle.stapl_codegen.proofs.Lists.{pieces_append}
@@ -81,7 +81,7 @@ module _ (program : List StmtTree) (built : All IsBuilt program) (typed : IsType
 
   outer_code : (h : ℕ) (head : StmtTree) (rest : List StmtTree) → is_outer head.body ≡ true → From h (head ∷ rest) ≡ From (h + 1) rest
   outer_code h head rest outer =
-      ap (λ b. cond b (From (h + 1) rest) (Turn (h + 1) ∷ body_code (scope_at program h) (start_of program) (first_text program h) head.body (From (h + 1) rest))) outer
+      ap (λ b. cond b (From (h + 1) rest) (Turn (h + 1) ∷ body_code (scope_at program h) (start_of program) (firsts_at program h) head.body (From (h + 1) rest))) outer
 
   -- a statement outside procedures that is no PROCEDURE
   alone : (h : ℕ) (head : StmtTree) (back : List StmtTree) → is_outer head.body ≡ true → begins_procedure head.body ≡ false → AreFineFrom (h + 1) back →

@@ -1,15 +1,16 @@
 -- What is written so far of the code of a program, and where its pieces begin.
-use Rattle.std.specs.Prelude.{◌≡◌, ℕ, ◌+◌, ◌<◌, List, [], ◌∷◌, length, slice_index, Option, if◌then◌else◌}
-use Rattle.stapl_syntax.specs.Trees.{ExprTree, PartTree, BodyTree, StmtTree}
+use Rattle.std.specs.Prelude.{◌≡◌, ℕ, ◌+◌, ◌<◌, Bool, List, [], ◌∷◌, length, slice_index, Option, if◌then◌else◌}
+use Rattle.stapl_syntax.specs.Trees.{ExprTree, ArrayTree, PartTree, BodyTree, StmtTree}
 use Rattle.stapl_syntax.specs.Statements.{is_outer}
 use Rattle.stapl_syntax.specs.Names.{Names, inside_behind}
 use Rattle.stapl_meaning.specs.declared.values.ValueKind.{ValueKind}
-use Rattle.stapl_meaning.specs.Operands.{Operand, part_operands}
+use Rattle.stapl_meaning.specs.Operands.{Operand, array_operands, part_operands}
 use Rattle.stapl_meaning.specs.Scopes.{Scope, program_names, block_at, lookup_from, label_from}
 use Rattle.stapl_code.specs.declared.instr.PrintPart.{PrintPart}
+use Rattle.stapl_code.specs.declared.instr.Source.{Source}
 use Rattle.stapl_code.specs.declared.instr.Instr.{Instr}
 use Rattle.stapl_code.specs.declared.instr.Instr.TheVariants.{Turn}
-use Rattle.stapl_codegen.specs.Emit.{expr_code, operands_code, print_parts, body_code, texts_of, pieces_code, start_of}
+use Rattle.stapl_codegen.specs.Emit.{expr_code, int_code, operands_code, source_code, print_parts, Firsts, body_code, texts_of, literals_of, pieces_code, start_of}
 
 -- Where a piece stands: the names of its program, how many pieces that has, the block that is open before the piece,
 -- and the number of the piece, which is also the place behind it.
@@ -19,10 +20,11 @@ pub record Site : Type 0 where
   pub inside : Option (List ℕ)
   pub piece : ℕ
 
--- the instructions, whose targets are places of the program, the texts, and where the next piece stands
+-- the instructions, whose targets are places of the program, the texts, the literals, and where the next piece stands
 pub record Draft : Type 0 where
   pub code : List Instr
   pub texts : List (List ℕ)
+  pub literals : List (List Bool)
   pub site : Site
 
 -- what a statement finds there; its code does not ask where procedures begin
@@ -44,9 +46,16 @@ abbrev pub site_behind : Site → BodyTree → Site
 site_behind site b =
     record { names = site.names; count = site.count; inside = inside_behind site.inside b; piece = site.piece + 1 }
 
--- the code of an expression, of operands, of a statement and of a piece that follow on a draft
+-- the numbers of the next text and of the next literal
+abbrev pub firsts_in : Draft → Firsts
+firsts_in d = record { text = length d.texts; literal = length d.literals }
+
+-- the code of an expression, of INT of an array, of operands, of a statement and of a piece that follow on a draft
 abbrev pub expr_code_in : Draft → ValueKind → ExprTree → List Instr
 expr_code_in d kind e = expr_code (scope_of_site d.site).look kind e []
+
+abbrev pub int_code_in : Draft → ArrayTree → List Instr
+int_code_in d a = int_code (scope_of_site d.site).look a []
 
 abbrev pub operands_code_in : Draft → List Operand → List Instr
 operands_code_in d os = operands_code (scope_of_site d.site).look os []
@@ -58,8 +67,15 @@ part_operands_in d parts = part_operands (scope_of_site d.site).look parts
 abbrev pub print_parts_in : Draft → List PartTree → List PrintPart
 print_parts_in d parts = print_parts (scope_of_site d.site).look (length d.texts) parts
 
+-- the operands of an array, and where its bits come from
+abbrev pub array_operands_in : Draft → ArrayTree → List Operand
+array_operands_in d a = array_operands (scope_of_site d.site).look a
+
+abbrev pub source_in : Draft → ArrayTree → Source
+source_in d a = source_code (scope_of_site d.site).look (length d.literals) a
+
 abbrev pub body_code_in : Draft → BodyTree → List Instr
-body_code_in d b = body_code (scope_of_site d.site) (λ j. j) (length d.texts) b []
+body_code_in d b = body_code (scope_of_site d.site) (λ j. j) (firsts_in d) b []
 
 abbrev pub piece_code_in : Draft → StmtTree → List Instr
 piece_code_in d st = if is_outer st.body then [] else Turn d.site.piece ∷ body_code_in d st.body
@@ -73,8 +89,12 @@ pub record StartsTo (program : List StmtTree) (n : ℕ) (starts : List ℕ) : Ty
 abbrev pub AreStarts : List StmtTree → List ℕ → Type 0
 AreStarts program starts = StartsTo program (length program) starts
 
--- these are the instructions of a program, whose targets are its places, its texts, and where its pieces begin
-pub record IsDraft (program : List StmtTree) (code : List Instr) (texts : List (List ℕ)) (starts : List ℕ) : Type 0 where
+-- These are the instructions of a program, whose targets are its places, its texts, its literals, and where its pieces
+-- begin.
+pub record IsDraft
+    (program : List StmtTree) (code : List Instr) (texts : List (List ℕ)) (literals : List (List Bool)) (starts : List ℕ) :
+    Type 0 where
   pub code_is : code ≡ pieces_code program (λ j. j) 0 program
   pub texts_are : texts ≡ texts_of program
+  pub literals_are : literals ≡ literals_of program
   pub begins : AreStarts program starts

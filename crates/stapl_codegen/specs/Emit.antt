@@ -1,8 +1,9 @@
 -- The code of a program. How statements are written as instructions is this profile's.
-use Rattle.std.specs.Prelude.{ℕ, zero, suc, ℤ, pos, ◌+◌, ◌-◌, List, [], ◌∷◌, ◌++◌, length, take, drop, map, Option, Some, None, if◌then◌else◌, slice_get}
+use Rattle.std.specs.Prelude.{ℕ, zero, suc, ℤ, pos, ◌+◌, ◌-◌, Bool, List, [], ◌∷◌, ◌++◌, length, take, drop, map, Option, Some, None, if◌then◌else◌, slice_get}
+use Rattle.bit_list.specs.Integers.{int_of}
 use Rattle.stapl_lexer.specs.declared.terminal.BinOp.{BinOp}
 use Rattle.stapl_lexer.specs.declared.terminal.BinOp.TheVariants as operators
-use Rattle.stapl_syntax.specs.Trees.{ExprTree, number, scalar, unary, binary, abs, PartTree, string, value, character, ItemTree, BodyTree, action, procedure, end_procedure, assign, goto, if_then, print, exit, StmtTree}
+use Rattle.stapl_syntax.specs.Trees.{ExprTree, number, scalar, element, unary, binary, abs, int, ArrayTree, literal, whole, range, of_int, PartTree, string, value, character, ItemTree, BodyTree, action, procedure, end_procedure, boolean, boolean_array, integer, integer_array, assign, assign_element, assign_array, assign_range, goto, if_then, print, exit, StmtTree}
 use Rattle.stapl_syntax.specs.declared.signs.UnOp.{UnOp}
 use Rattle.stapl_syntax.specs.declared.signs.UnOp.TheVariants as signs
 use Rattle.stapl_syntax.specs.Kinds.{expr_kind}
@@ -10,17 +11,20 @@ use Rattle.stapl_syntax.specs.Statements.{is_outer}
 use Rattle.stapl_meaning.specs.declared.values.ValueKind.{ValueKind}
 use Rattle.stapl_meaning.specs.declared.values.ValueKind.TheVariants as kinds
 use Rattle.stapl_meaning.specs.Values.{Lookup, unary_side, sides}
-use Rattle.stapl_meaning.specs.Operands.{Test, Plain, Character, Operand, printed_kind}
+use Rattle.stapl_meaning.specs.Operands.{Test, Plain, Character, Index, Range, Operand, printed_kind}
 use Rattle.stapl_meaning.specs.Scopes.{Scope, scope_at, procedure_number}
 use Rattle.stapl_meaning.specs.Turns.{operands, rows}
 use Rattle.stapl_code.specs.declared.instr.PrintPart.{PrintPart}
 use Rattle.stapl_code.specs.declared.instr.PrintPart.TheVariants as parts
+use Rattle.stapl_code.specs.declared.instr.Source.{Source}
+use Rattle.stapl_code.specs.declared.instr.Source.TheVariants as sources
+use Rattle.stapl_code.specs.declared.instr.Dest.TheVariants as dests
 use Rattle.stapl_code.specs.declared.instr.Instr.{Instr}
-use Rattle.stapl_code.specs.declared.instr.Instr.TheVariants.{Turn, Push, PushBit, Load, Store, Unary, Binary, Jump, JumpIfZero, EndProc, Print, CheckChar, Exit}
+use Rattle.stapl_code.specs.declared.instr.Instr.TheVariants.{Turn, Push, PushBit, Load, LoadAt, CheckIndex, CheckRange, Store, StoreAt, Unary, Binary, ToInt, CopyBits, SetBits, SetInts, Jump, JumpIfZero, EndProc, Print, CheckChar, Exit}
 use Rattle.stapl_code.specs.declared.raw.ProcDef.{ProcDef}
 use Rattle.stapl_code.specs.declared.raw.ItemDef.{ItemDef}
 use Rattle.stapl_code.specs.declared.raw.ActionDef.{ActionDef}
-use Rattle.stapl_code.specs.Machine.{nowhere}
+use Rattle.stapl_code.specs.Machine.{Constants, nowhere}
 use Rattle.stapl_code.specs.Safe.{entries_of}
 
 -- The number of no operator. No machine carries out a Binary with it, so it stands for what is not built.
@@ -71,6 +75,8 @@ literal_code kinds.Bit _ = Binary no_operator
 abbrev pub test_code : Test → List Instr → List Instr
 test_code Plain rest = rest
 test_code Character rest = CheckChar ∷ rest
+test_code (Index n) rest = CheckIndex n ∷ rest
+test_code (Range n) rest = CheckRange n ∷ rest
 
 -- how a value of a kind is printed
 abbrev pub shown_part : ValueKind → PrintPart
@@ -78,20 +84,37 @@ shown_part kinds.Int = parts.Int
 shown_part kinds.Bit = parts.Bit
 
 module _ (look : Lookup) where
-  -- the code of an expression where a value of a kind is wanted, before the rest
-  abbrev pub expr_code : ValueKind → ExprTree → List Instr → List Instr
-  expr_code kind (number z) rest = literal_code kind z ∷ rest
-  expr_code kind (scalar name) rest = Load (look.variable name) ∷ rest
-  expr_code kind (unary op e) rest = expr_code (unary_side op) e (Unary (sign_number op) ∷ rest)
-  expr_code kind (binary op a b) rest =
-      expr_code (sides look op a b) a (expr_code (sides look op a b) b (Binary (operator_number op (sides look op a b)) ∷ rest))
-  expr_code kind (abs e) rest = expr_code kinds.Int e (Unary absolute_number ∷ rest)
-  expr_code kind _ rest = Binary no_operator ∷ rest
+  abbrev mutual
+    -- the code of an expression where a value of a kind is wanted, before the rest
+    pub expr_code : ValueKind → ExprTree → List Instr → List Instr
+    expr_code kind (number z) rest = literal_code kind z ∷ rest
+    expr_code kind (scalar name) rest = Load (look.variable name) ∷ rest
+    expr_code kind (element name index) rest = expr_code kinds.Int index (LoadAt (look.variable name) ∷ rest)
+    expr_code kind (unary op e) rest = expr_code (unary_side op) e (Unary (sign_number op) ∷ rest)
+    expr_code kind (binary op a b) rest =
+        expr_code (sides look op a b) a (expr_code (sides look op a b) b (Binary (operator_number op (sides look op a b)) ∷ rest))
+    expr_code kind (abs e) rest = expr_code kinds.Int e (Unary absolute_number ∷ rest)
+    expr_code kind (int a) rest = int_code a rest
+
+    -- the code of INT of an array; that of a literal is its number
+    pub int_code : ArrayTree → List Instr → List Instr
+    int_code (literal bits) rest = Push (int_of (take 32 bits)) ∷ rest
+    int_code (whole name) rest = ToInt (sources.Whole (look.variable name)) ∷ rest
+    int_code (range name high low) rest =
+        expr_code kinds.Int high (expr_code kinds.Int low (ToInt (sources.Range (look.variable name)) ∷ rest))
+    int_code (of_int e) rest = expr_code kinds.Int e (ToInt sources.FromInt ∷ rest)
 
   -- the code of operands, before the rest
   abbrev pub operands_code : List Operand → List Instr → List Instr
   operands_code [] rest = rest
   operands_code (o ∷ os) rest = expr_code o.kind o.expr (test_code o.test (operands_code os rest))
+
+  -- where an instruction takes the bits of an array from, whose literal has this number
+  abbrev pub source_code : ℕ → ArrayTree → Source
+  source_code first (literal bits) = sources.Literal first
+  source_code first (whole name) = sources.Whole (look.variable name)
+  source_code first (range name high low) = sources.Range (look.variable name)
+  source_code first (of_int e) = sources.FromInt
 
   -- the parts of a PRINT whose first text has a number
   abbrev pub print_parts : ℕ → List PartTree → List PrintPart
@@ -107,15 +130,34 @@ part_texts (string bytes ∷ list) = bytes ∷ part_texts list
 part_texts (value e ∷ list) = part_texts list
 part_texts (character e ∷ list) = part_texts list
 
--- The table of statements, for the compiler: the last instruction of a row, behind its operands, and its texts. The first
--- text has a number; place says where the code of a piece begins. A statement that is not built is never carried out.
+-- the literal that an array is, if it is one
+abbrev pub array_literals : ArrayTree → List (List Bool)
+array_literals (literal bits) = bits ∷ []
+array_literals _ = []
 
-abbrev pub last : Scope → (ℕ → ℕ) → ℕ → BodyTree → Instr
+-- The table of statements, for the compiler: the last instruction of a row, behind its operands, its texts, and its
+-- literals. Its first text and its first literal have numbers; place says where the code of a piece begins. A statement
+-- that is not built is never carried out.
+
+pub record Firsts : Type 0 where
+  pub text : ℕ
+  pub literal : ℕ
+
+abbrev pub last : Scope → (ℕ → ℕ) → Firsts → BodyTree → Instr
 last scope place first end_procedure = EndProc
+last scope place first (boolean name (Some b)) = Store (scope.look.variable name)
+last scope place first (boolean_array name size (Some bits)) = SetBits (scope.look.variable name) first.literal
+last scope place first (integer name (Some z)) = Store (scope.look.variable name)
+last scope place first (integer_array name size (Some zs)) = SetInts (scope.look.variable name) zs
 last scope place first (assign name e) = Store (scope.look.variable name)
+last scope place first (assign_element name index e) = StoreAt (scope.look.variable name)
+last scope place first (assign_array name a) =
+    CopyBits (dests.Whole (scope.look.variable name)) (source_code scope.look first.literal a)
+last scope place first (assign_range name high low a) =
+    CopyBits (dests.Range (scope.look.variable name)) (source_code scope.look first.literal a)
 last scope place first (goto name) = Jump (place (scope.label name))
 last scope place first (if_then e body) = JumpIfZero (place scope.follow)
-last scope place first (print list) = Print (print_parts scope.look first list)
+last scope place first (print list) = Print (print_parts scope.look first.text list)
 last scope place first (exit e) = Exit
 last scope place first _ = Binary no_operator
 
@@ -123,46 +165,70 @@ abbrev pub row_texts : BodyTree → List (List ℕ)
 row_texts (print list) = part_texts list
 row_texts _ = []
 
--- the number behind these texts
-abbrev pub past : ℕ → List (List ℕ) → ℕ
+abbrev pub row_literals : BodyTree → List (List Bool)
+row_literals (boolean_array name size (Some bits)) = bits ∷ []
+row_literals (assign_array name a) = array_literals a
+row_literals (assign_range name high low a) = array_literals a
+row_literals _ = []
+
+-- the number behind these items
+abbrev pub past : {A : Type 0} → ℕ → List A → ℕ
 past n [] = n
-past n (text ∷ texts) = past (suc n) texts
+past n (x ∷ xs) = past (suc n) xs
 
--- the texts of rows, and of a statement
-abbrev pub rows_texts : List BodyTree → List (List ℕ)
-rows_texts [] = []
-rows_texts (b ∷ bs) = row_texts b ++ rows_texts bs
-
-abbrev pub body_texts : BodyTree → List (List ℕ)
-body_texts b = rows_texts (rows b)
+-- the numbers behind the texts and the literals of a row
+abbrev pub behind_row : Firsts → BodyTree → Firsts
+behind_row first b = record { text = past first.text (row_texts b); literal = past first.literal (row_literals b) }
 
 -- the code of a row, of rows one after the other, and of a statement, before the rest
-abbrev pub row_code : Scope → (ℕ → ℕ) → ℕ → BodyTree → List Instr → List Instr
+abbrev pub row_code : Scope → (ℕ → ℕ) → Firsts → BodyTree → List Instr → List Instr
 row_code scope place first b rest = operands_code scope.look (operands scope b) (last scope place first b ∷ rest)
 
-abbrev pub rows_code : Scope → (ℕ → ℕ) → ℕ → List BodyTree → List Instr → List Instr
+abbrev pub rows_code : Scope → (ℕ → ℕ) → Firsts → List BodyTree → List Instr → List Instr
 rows_code scope place first [] rest = rest
-rows_code scope place first (b ∷ bs) rest =
-    row_code scope place first b (rows_code scope place (past first (row_texts b)) bs rest)
+rows_code scope place first (b ∷ bs) rest = row_code scope place first b (rows_code scope place (behind_row first b) bs rest)
 
-abbrev pub body_code : Scope → (ℕ → ℕ) → ℕ → BodyTree → List Instr → List Instr
+abbrev pub body_code : Scope → (ℕ → ℕ) → Firsts → BodyTree → List Instr → List Instr
 body_code scope place first b rest = rows_code scope place first (rows b) rest
 
--- the texts of a program, in their order
-abbrev pub texts_of : List StmtTree → List (List ℕ)
-texts_of [] = []
-texts_of (st ∷ rest) = body_texts st.body ++ texts_of rest
+-- what each row has, from rows one after the other, and from the statements of a program
+module _ {A : Type 0} (of : BodyTree → List A) where
+  abbrev pub rows_items : List BodyTree → List A
+  rows_items [] = []
+  rows_items (b ∷ bs) = of b ++ rows_items bs
 
--- the number of the first text behind the place of a piece
-abbrev pub first_text : List StmtTree → ℕ → ℕ
-first_text program i = length (texts_of (take i program))
+  abbrev pub program_items : List StmtTree → List A
+  program_items [] = []
+  program_items (st ∷ rest) = rows_items (rows st.body) ++ program_items rest
+
+-- the texts and the literals of a statement
+abbrev pub body_texts : BodyTree → List (List ℕ)
+body_texts b = rows_items row_texts (rows b)
+
+abbrev pub body_literals : BodyTree → List (List Bool)
+body_literals b = rows_items row_literals (rows b)
+
+-- the texts and the literals of a program, in their order
+abbrev pub texts_of : List StmtTree → List (List ℕ)
+texts_of program = program_items row_texts program
+
+abbrev pub literals_of : List StmtTree → List (List Bool)
+literals_of program = program_items row_literals program
+
+abbrev pub constants_in : List StmtTree → Constants
+constants_in program = record { texts = texts_of program; literals = literals_of program }
+
+-- the numbers of the first text and the first literal behind the place of a piece
+abbrev pub firsts_at : List StmtTree → ℕ → Firsts
+firsts_at program i =
+    record { text = length (texts_of (take i program)); literal = length (literals_of (take i program)) }
 
 module _ (program : List StmtTree) (place : ℕ → ℕ) where
   -- the code of the piece at a place: its turn, and its statement; a statement outside procedures has no code
   abbrev pub piece_code : ℕ → StmtTree → List Instr → List Instr
   piece_code i st rest =
       if is_outer st.body then rest
-      else Turn (i + 1) ∷ body_code (scope_at program i) place (first_text program i) st.body rest
+      else Turn (i + 1) ∷ body_code (scope_at program i) place (firsts_at program i) st.body rest
 
   -- the code of the pieces from a place on
   abbrev pub pieces_code : ℕ → List StmtTree → List Instr

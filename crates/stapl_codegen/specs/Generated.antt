@@ -8,8 +8,8 @@ use Rattle.stapl_syntax.specs.Trees.{StmtTree}
 use Rattle.stapl_meaning.specs.Scopes.{program_names, zeros_of}
 use Rattle.stapl_code.specs.declared.raw.VarDef.{VarDef}
 use Rattle.stapl_code.specs.declared.raw.CodeLists.{CodeLists}
-use Rattle.stapl_code.specs.Safe.{entries_of}
-use Rattle.stapl_codegen.specs.Emit.{texts_of, start_of, procedures_of, actions_of, program_code}
+use Rattle.stapl_code.specs.Safe.{entries_of, constants_of}
+use Rattle.stapl_codegen.specs.Emit.{literals_of, texts_of, start_of, procedures_of, actions_of, program_code}
 use Rattle.stapl_codegen.specs.Correct.{Stands}
 
 -- the number of a kind of variables
@@ -26,6 +26,7 @@ variable_def v = record { kind = kind_number v.1.kind; size = nat_abs v.1.size }
 abbrev pub lists_of : List StmtTree → CodeLists
 lists_of program = record {
   variables = map variable_def (program_names program).variables;
+  literals = literals_of program;
   texts = texts_of program;
   procedures = procedures_of program;
   actions = actions_of program;
@@ -35,4 +36,4 @@ lists_of program = record {
 -- The code of a program: it has its lists, and stands for it.
 pub record IsCodeOf (program : List StmtTree) (code : CodeLists) : Type 0 where
   pub lists : code ≡ lists_of program
-  pub stands : Stands program (start_of program) (entries_of code.procedures) code.texts code.instrs (zeros_of program)
+  pub stands : Stands program (start_of program) (entries_of code.procedures) (constants_of code) code.instrs (zeros_of program)

@@ -55,6 +55,7 @@ fn program_lists(alloc: Global, program: &[Stmt]) -> Result<CodeLists, AllocErro
     let actions = actions(alloc, program, &names)?;
     Ok(CodeLists {
         variables: ItemList::of(variables),
+        literals: ItemList::of(written.literals),
         texts: ItemList::of(written.texts),
         procedures: ItemList::of(procedures),
         actions: ItemList::of(actions),

@@ -8,21 +8,23 @@ ghost use Rattle.stapl_built.specs.Sizes.{statements_size};
 ghost use Rattle.stapl_syntax.specs.Programs.{piece_limit};
 ghost use Rattle.stapl_meaning.specs.Scopes.{program_names};
 ghost use Rattle.stapl_code.specs.Machine.{nowhere};
-ghost use Rattle.stapl_codegen.specs.Emit.{texts_of, program_code, start_of, retarget};
+ghost use Rattle.stapl_codegen.specs.Emit.{texts_of, literals_of, program_code, start_of, retarget};
 ghost use Rattle.stapl_codegen.specs.Drafts.{AreStarts, IsDraft};
 
 use crate::emit::Emitter;
+use bit_list::Bits;
 use stapl_code::Instr;
 use stapl_meaning::Text;
 use stapl_names::Names;
 use stapl_syntax::Stmt;
 use std::alloc::{AllocError, Global};
 
-/// The instructions of a program, its texts, and where the code of each place begins.
+/// The instructions of a program, its texts, its literals, and where the code of each place begins.
 #[derive(Drop)]
 pub(crate) struct Written {
     pub(crate) code: Vec<Instr>,
     pub(crate) texts: Vec<Text>,
+    pub(crate) literals: Vec<Bits>,
     pub(crate) starts: Vec<u32>,
 }
 
@@ -44,7 +46,7 @@ fn draft_program(alloc: Global, program: &[Stmt], names: &Names) -> Result<Writt
     requires built { All IsBuilt (trees program.now) }
     requires few { length program.now ≤ piece_limit }
     requires small { statements_size (trees program.now) ≤ text_limit }
-    ensures { IfOk result (λ w. IsDraft (trees program.now) w.code.items w.texts.items w.starts.items) }
+    ensures { IfOk result (λ w. IsDraft (trees program.now) w.code.items w.texts.items w.literals.items w.starts.items) }
 {
     let mut emitter = Emitter::new(alloc, names, program.len() as u32);
     let mut starts = Vec::new(alloc);
@@ -52,10 +54,11 @@ fn draft_program(alloc: Global, program: &[Stmt], names: &Names) -> Result<Writt
         starts.push(start_at(emitter.len(), st))?;
         emitter.statement(st)?;
     }
-    let (code, texts) = emitter.into_parts();
+    let (code, texts, literals) = emitter.into_parts();
     Ok(Written {
         code,
         texts,
+        literals,
         starts,
     })
 }
@@ -112,18 +115,21 @@ pub(crate) fn write_program(
     requires small { statements_size (trees program.now) ≤ text_limit }
     ensures code { IfOk result (λ w. w.code.items ≡ program_code (trees program.now)) }
     ensures texts { IfOk result (λ w. w.texts.items ≡ texts_of (trees program.now)) }
+    ensures literals { IfOk result (λ w. w.literals.items ≡ literals_of (trees program.now)) }
     ensures starts { IfOk result (λ w. AreStarts (trees program.now) w.starts.items) }
 {
     let draft = draft_program(alloc, program, names)?;
     let Written {
         code,
         texts,
+        literals,
         starts,
     } = draft;
     let code = retarget_all(alloc, program, &starts, code)?;
     Ok(Written {
         code,
         texts,
+        literals,
         starts,
     })
 }

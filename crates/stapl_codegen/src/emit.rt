@@ -1,19 +1,21 @@
 //! The instructions of statements. Their targets are places of the program.
-ghost use Rattle.std.specs.Prelude.{◌≡◌, [], ◌∷◌, ◌++◌, ◌<◌, ◌^◌, ◌-◌, length, map, option_map, slice_get, OnOk, IfOk};
-ghost use Rattle.stapl_syntax.specs.Trees.{print, expr_tree, part_tree, body_tree, stmt_tree};
+ghost use Rattle.std.specs.Prelude.{◌≡◌, [], ◌∷◌, ◌++◌, ◌<◌, ◌^◌, ◌-◌, length, map, option_map, slice_get, take, OnOk, IfOk};
+ghost use Rattle.bit_list.specs.Integers.{int_of};
+ghost use Rattle.stapl_syntax.specs.Trees.{assign_element, assign_array, assign_range, print, expr_tree, array_tree, part_tree, body_tree, stmt_tree};
 ghost use Rattle.stapl_meaning.specs.Values.{alike, side, sides, unary_side};
-ghost use Rattle.stapl_meaning.specs.Operands.{a_character, given_kind, printed_kind};
-ghost use Rattle.stapl_code.specs.declared.instr.Instr.TheVariants.{JumpIfZero};
-ghost use Rattle.stapl_codegen.specs.Emit.{by_kind, operator_number, sign_number, literal_code, shown_part, part_texts, body_texts};
+ghost use Rattle.stapl_meaning.specs.Operands.{a_character, a_range, bit_number, given_kind, printed_kind};
+ghost use Rattle.stapl_code.specs.declared.instr.Instr.TheVariants.{Store, SetBits, SetInts, JumpIfZero};
+ghost use Rattle.stapl_codegen.specs.Emit.{by_kind, operator_number, sign_number, literal_code, shown_part, part_texts, array_literals, body_texts, body_literals};
 ghost use Rattle.stapl_codegen.specs.Drafts.{scope_of_site, site_behind};
-ghost use Rattle.stapl_codegen.specs.Drafts.{expr_code_in, operands_code_in, part_operands_in, print_parts_in, body_code_in, piece_code_in};
+ghost use Rattle.stapl_codegen.specs.Drafts.{expr_code_in, int_code_in, operands_code_in, array_operands_in, source_in, part_operands_in, print_parts_in, body_code_in, piece_code_in};
 
 use base::ItemList;
-use stapl_code::Instr;
+use bit_list::Bits;
+use stapl_code::{Dest, Instr, Source};
 use stapl_lexer::{BinOp, Name};
 use stapl_meaning::{Text, ValueKind};
 use stapl_names::{Names, VariableKinds, expr_kind, inside_behind, is_bit_alone};
-use stapl_syntax::{Body, Expr, Found, Kind, PrintPart, Stmt, UnOp, VarKind};
+use stapl_syntax::{ArrayExpr, Body, Expr, Found, Kind, PrintPart, Stmt, UnOp, VarKind};
 use std::alloc::{AllocError, Global};
 use std::marker::Model;
 
@@ -114,12 +116,12 @@ fn printed_kind(kind: Option<Kind>) -> ValueKind
     }
 }
 
-// The kind of what a variable without brackets is given.
+// The kind of what a variable without brackets is given, or an element.
 fn given_kind(kind: Option<VarKind>) -> ValueKind
     ensures { result ≡ given_kind kind }
 {
     match kind {
-        Some(VarKind::Boolean) => ValueKind::Bit,
+        Some(VarKind::Boolean | VarKind::BooleanArray) => ValueKind::Bit,
         _ => ValueKind::Int,
     }
 }
@@ -135,6 +137,25 @@ fn literal(kind: ValueKind, n: i32) -> Instr
             1 => Instr::PushBit(1),
             _ => Instr::Binary(NO_OPERATOR),
         },
+    }
+}
+
+// The number of a bit.
+fn bit_number(bit: bool) -> i32
+    ensures { result ≡ bit_number bit }
+{
+    if bit { 1 } else { 0 }
+}
+
+// The integer whose lowest bits are those of a literal.
+#[tactic(auto, using(crate::proofs::Emits::short_literal))]
+fn literal_integer(bits: &Bits) -> i32
+    ensures { result ≡ int_of (take 32 bits.now) }
+{
+    if bits.len() < 32 {
+        bits.to_int(0, bits.len())
+    } else {
+        bits.to_int(0, 32)
     }
 }
 
@@ -165,6 +186,7 @@ pub(crate) struct Emitter<'a> {
     alloc: Global,
     code: Vec<Instr>,
     texts: Vec<Text>,
+    literals: Vec<Bits>,
     names: &'a Names,
     /// How many pieces the program has: the place of a label that there is not.
     count: u32,
@@ -182,6 +204,7 @@ impl<'a> Model for Emitter<'a> {
     ghost view = { λ e. record {
       code = e.code.items;
       texts = e.texts.items;
+      literals = e.literals.items;
       site = record { names = e.names.now; count = e.count; inside = e.inside; piece = e.piece };
     } };
 }
@@ -203,12 +226,14 @@ impl<'a> Emitter<'a> {
     pub(crate) fn new(alloc: Global, names: &'a Names, count: u32) -> Emitter<'a>
         ensures code { result.code ≡ [] }
         ensures texts { result.texts ≡ [] }
+        ensures literals { result.literals ≡ [] }
         ensures site { result.site ≡ record { names = names.now; count = count; inside = None; piece = 1 } }
     {
         Emitter {
             alloc,
             code: Vec::new(alloc),
             texts: Vec::new(alloc),
+            literals: Vec::new(alloc),
             names,
             count,
             inside: None,
@@ -254,6 +279,7 @@ impl<'a> Emitter<'a> {
     fn put(&mut self, instr: Instr) -> Result<(), AllocError>
         ensures code { OnOk result (self.new.code ≡ self.old.code ++ instr ∷ []) }
         ensures texts { self.new.texts ≡ self.old.texts }
+        ensures literals { self.new.literals ≡ self.old.literals }
         ensures site { self.new.site ≡ self.old.site }
     {
         self.code.push(instr)?;
@@ -261,10 +287,12 @@ impl<'a> Emitter<'a> {
     }
 
     // An expression more, where a value of a kind is wanted.
+    #[cycle(expressions)]
     #[tactic(auto, using(crate::proofs::Lists::expr_before, std::proofs::Common::append_assoc))]
     fn expr(&mut self, kind: ValueKind, e: &Expr) -> Result<(), AllocError>
         ensures code { OnOk result (self.new.code ≡ self.old.code ++ expr_code_in self.old kind (expr_tree e.now)) }
         ensures texts { self.new.texts ≡ self.old.texts }
+        ensures literals { self.new.literals ≡ self.old.literals }
         ensures site { self.new.site ≡ self.old.site }
     {
         match e {
@@ -290,7 +318,43 @@ impl<'a> Emitter<'a> {
                 self.put(Instr::Unary(ABSOLUTE))?;
                 Ok(())
             }
-            _ => self.put(Instr::Binary(NO_OPERATOR)),
+            Expr::Element(name, index) => {
+                let number = self.variable(name);
+                self.expr(ValueKind::Int, index)?;
+                self.put(Instr::LoadAt(number))?;
+                Ok(())
+            }
+            Expr::Int(a) => self.integer(a),
+        }
+    }
+
+    // INT of an array more; that of a literal is its number.
+    #[cycle(expressions)]
+    #[tactic(auto, using(crate::proofs::Lists::expr_before, std::proofs::Common::append_assoc))]
+    fn integer(&mut self, a: &ArrayExpr) -> Result<(), AllocError>
+        ensures code { OnOk result (self.new.code ≡ self.old.code ++ int_code_in self.old (array_tree a.now)) }
+        ensures texts { self.new.texts ≡ self.old.texts }
+        ensures literals { self.new.literals ≡ self.old.literals }
+        ensures site { self.new.site ≡ self.old.site }
+    {
+        match a {
+            ArrayExpr::Literal(bits) => self.put(Instr::Push(literal_integer(bits))),
+            ArrayExpr::Whole(name) => {
+                let number = self.variable(name);
+                self.put(Instr::ToInt(Source::Whole(number)))
+            }
+            ArrayExpr::Range(name, high, low) => {
+                let number = self.variable(name);
+                self.expr(ValueKind::Int, high)?;
+                self.expr(ValueKind::Int, low)?;
+                self.put(Instr::ToInt(Source::Range(number)))?;
+                Ok(())
+            }
+            ArrayExpr::OfInt(e) => {
+                self.expr(ValueKind::Int, e)?;
+                self.put(Instr::ToInt(Source::FromInt))?;
+                Ok(())
+            }
         }
     }
 
@@ -300,6 +364,7 @@ impl<'a> Emitter<'a> {
         ensures code { OnOk result
             (self.new.code ≡ self.old.code ++ operands_code_in self.old (a_character (expr_tree e.now) ∷ [])) }
         ensures texts { self.new.texts ≡ self.old.texts }
+        ensures literals { self.new.literals ≡ self.old.literals }
         ensures site { self.new.site ≡ self.old.site }
     {
         self.expr(ValueKind::Int, e)?;
@@ -312,6 +377,7 @@ impl<'a> Emitter<'a> {
         ensures number { IfOk result (λ number. number ≡ length self.old.texts) }
         ensures code { self.new.code ≡ self.old.code }
         ensures texts { OnOk result (self.new.texts ≡ self.old.texts ++ bytes.now ∷ []) }
+        ensures literals { self.new.literals ≡ self.old.literals }
         ensures site { self.new.site ≡ self.old.site }
     {
         let number = u32::try_from(self.texts.len()).map_err(|_| AllocError)?;
@@ -325,6 +391,7 @@ impl<'a> Emitter<'a> {
         ensures code { OnOk result
             (self.new.code ≡ self.old.code ++ operands_code_in self.old (part_operands_in self.old (part_tree part.now ∷ []))) }
         ensures texts { OnOk result (self.new.texts ≡ self.old.texts ++ part_texts (part_tree part.now ∷ [])) }
+        ensures literals { self.new.literals ≡ self.old.literals }
         ensures printed { IfOk result
             (λ printed. printed ∷ [] ≡ print_parts_in self.old (part_tree part.now ∷ [])) }
         ensures site { self.new.site ≡ self.old.site }
@@ -351,6 +418,7 @@ impl<'a> Emitter<'a> {
         ensures code { OnOk result
             (self.new.code ≡ self.old.code ++ operands_code_in self.old (part_operands_in self.old (map part_tree parts.now))) }
         ensures texts { OnOk result (self.new.texts ≡ self.old.texts ++ part_texts (map part_tree parts.now)) }
+        ensures literals { self.new.literals ≡ self.old.literals }
         ensures printed { IfOk result
             (λ list. list.items ≡ print_parts_in self.old (map part_tree parts.now)) }
         ensures site { self.new.site ≡ self.old.site }
@@ -368,6 +436,7 @@ impl<'a> Emitter<'a> {
         ensures code { OnOk result
             (self.new.code ≡ self.old.code ++ body_code_in self.old (print (map part_tree parts.now))) }
         ensures texts { OnOk result (self.new.texts ≡ self.old.texts ++ part_texts (map part_tree parts.now)) }
+        ensures literals { self.new.literals ≡ self.old.literals }
         ensures site { self.new.site ≡ self.old.site }
     {
         let list = self.parts(parts)?;
@@ -381,6 +450,7 @@ impl<'a> Emitter<'a> {
         ensures code { OnOk result (self.new.code ≡ self.old.code
             ++ (expr_code_in self.old ValueKind.Bit (expr_tree e.now) ++ JumpIfZero self.old.site.piece ∷ [])) }
         ensures texts { self.new.texts ≡ self.old.texts }
+        ensures literals { self.new.literals ≡ self.old.literals }
         ensures site { self.new.site ≡ self.old.site }
     {
         let follow = self.piece;
@@ -389,21 +459,201 @@ impl<'a> Emitter<'a> {
         Ok(())
     }
 
+    // A literal more, and its number.
+    fn literal(&mut self, bits: &Bits) -> Result<u32, AllocError>
+        ensures number { IfOk result (λ number. number ≡ length self.old.literals) }
+        ensures code { self.new.code ≡ self.old.code }
+        ensures texts { self.new.texts ≡ self.old.texts }
+        ensures literals { OnOk result (self.new.literals ≡ self.old.literals ++ bits.now ∷ []) }
+        ensures site { self.new.site ≡ self.old.site }
+    {
+        let number = u32::try_from(self.literals.len()).map_err(|_| AllocError)?;
+        let copy = bits.copied(self.alloc)?;
+        self.literals.push(copy)?;
+        Ok(number)
+    }
+
+    // The indexes of a range of an array more, with their test.
+    #[tactic(auto, using(crate::proofs::Lists::expr_before, std::proofs::Common::append_assoc))]
+    fn range(&mut self, number: u32, high: &Expr, low: &Expr) -> Result<(), AllocError>
+        ensures code { OnOk result (self.new.code ≡ self.old.code
+            ++ operands_code_in self.old (a_range number (expr_tree high.now) (expr_tree low.now))) }
+        ensures texts { self.new.texts ≡ self.old.texts }
+        ensures literals { self.new.literals ≡ self.old.literals }
+        ensures site { self.new.site ≡ self.old.site }
+    {
+        self.expr(ValueKind::Int, high)?;
+        self.expr(ValueKind::Int, low)?;
+        self.put(Instr::CheckRange(number))?;
+        Ok(())
+    }
+
+    // The operands of an array more, and where its bits come from.
+    fn source(&mut self, a: &ArrayExpr) -> Result<Source, AllocError>
+        ensures code { OnOk result
+            (self.new.code ≡ self.old.code ++ operands_code_in self.old (array_operands_in self.old (array_tree a.now))) }
+        ensures texts { self.new.texts ≡ self.old.texts }
+        ensures literals { OnOk result (self.new.literals ≡ self.old.literals ++ array_literals (array_tree a.now)) }
+        ensures site { self.new.site ≡ self.old.site }
+        ensures source { IfOk result (λ source. source ≡ source_in self.old (array_tree a.now)) }
+    {
+        match a {
+            ArrayExpr::Literal(bits) => {
+                let number = self.literal(bits)?;
+                Ok(Source::Literal(number))
+            }
+            ArrayExpr::Whole(name) => Ok(Source::Whole(self.variable(name))),
+            ArrayExpr::Range(name, high, low) => {
+                let number = self.variable(name);
+                self.range(number, high, low)?;
+                Ok(Source::Range(number))
+            }
+            ArrayExpr::OfInt(e) => {
+                self.expr(ValueKind::Int, e)?;
+                Ok(Source::FromInt)
+            }
+        }
+    }
+
+    // An initial value of a scalar more.
+    fn start_scalar(&mut self, name: &Name, value: Instr) -> Result<(), AllocError>
+        ensures code { OnOk result (self.new.code
+            ≡ self.old.code ++ value ∷ Store ((scope_of_site self.old.site).look.variable name.now) ∷ []) }
+        ensures texts { self.new.texts ≡ self.old.texts }
+        ensures literals { self.new.literals ≡ self.old.literals }
+        ensures site { self.new.site ≡ self.old.site }
+    {
+        let number = self.variable(name);
+        self.put(value)?;
+        self.put(Instr::Store(number))?;
+        Ok(())
+    }
+
+    // The initial bits of an array more.
+    fn start_bits(&mut self, name: &Name, bits: &Bits) -> Result<(), AllocError>
+        ensures code { OnOk result (self.new.code ≡ self.old.code
+            ++ SetBits ((scope_of_site self.old.site).look.variable name.now) (length self.old.literals) ∷ []) }
+        ensures texts { self.new.texts ≡ self.old.texts }
+        ensures literals { OnOk result (self.new.literals ≡ self.old.literals ++ bits.now ∷ []) }
+        ensures site { self.new.site ≡ self.old.site }
+    {
+        let number = self.variable(name);
+        let literal = self.literal(bits)?;
+        self.put(Instr::SetBits(number, literal))?;
+        Ok(())
+    }
+
+    // The initial integers of an array more.
+    fn start_integers(&mut self, name: &Name, values: &[i32]) -> Result<(), AllocError>
+        ensures code { OnOk result (self.new.code
+            ≡ self.old.code ++ SetInts ((scope_of_site self.old.site).look.variable name.now) values.now ∷ []) }
+        ensures texts { self.new.texts ≡ self.old.texts }
+        ensures literals { self.new.literals ≡ self.old.literals }
+        ensures site { self.new.site ≡ self.old.site }
+    {
+        let number = self.variable(name);
+        let copy = Vec::from_slice(self.alloc, values)?;
+        self.put(Instr::SetInts(number, ItemList::of(copy)))?;
+        Ok(())
+    }
+
+    // An assignment to an element more.
+    #[tactic(auto, using(crate::proofs::Lists::expr_before, std::proofs::Common::append_assoc))]
+    fn assign_element(&mut self, name: &Name, index: &Expr, value: &Expr) -> Result<(), AllocError>
+        ensures code { OnOk result (self.new.code ≡ self.old.code
+            ++ body_code_in self.old (assign_element name.now (expr_tree index.now) (expr_tree value.now))) }
+        ensures texts { self.new.texts ≡ self.old.texts }
+        ensures literals { self.new.literals ≡ self.old.literals }
+        ensures site { self.new.site ≡ self.old.site }
+    {
+        let kind = given_kind(self.kind(name));
+        let number = self.variable(name);
+        self.expr(ValueKind::Int, index)?;
+        self.put(Instr::CheckIndex(number))?;
+        self.expr(kind, value)?;
+        self.put(Instr::StoreAt(number))?;
+        Ok(())
+    }
+
+    // An assignment to a whole array more.
+    #[tactic(auto, using(crate::proofs::Lists::operands_before, std::proofs::Common::append_assoc))]
+    fn assign_array(&mut self, name: &Name, a: &ArrayExpr) -> Result<(), AllocError>
+        ensures code { OnOk result (self.new.code
+            ≡ self.old.code ++ body_code_in self.old (assign_array name.now (array_tree a.now))) }
+        ensures texts { self.new.texts ≡ self.old.texts }
+        ensures literals { OnOk result (self.new.literals ≡ self.old.literals ++ array_literals (array_tree a.now)) }
+        ensures site { self.new.site ≡ self.old.site }
+    {
+        let number = self.variable(name);
+        let source = self.source(a)?;
+        self.put(Instr::CopyBits(Dest::Whole(number), source))?;
+        Ok(())
+    }
+
+    // An assignment to a range more.
+    fn assign_range(
+        &mut self,
+        name: &Name,
+        high: &Expr,
+        low: &Expr,
+        a: &ArrayExpr,
+    ) -> Result<(), AllocError>
+        ensures code { OnOk result (self.new.code ≡ self.old.code ++ body_code_in self.old
+            (assign_range name.now (expr_tree high.now) (expr_tree low.now) (array_tree a.now))) }
+        ensures texts { self.new.texts ≡ self.old.texts }
+        ensures literals { OnOk result (self.new.literals ≡ self.old.literals ++ array_literals (array_tree a.now)) }
+        ensures site { self.new.site ≡ self.old.site }
+    {
+        let number = self.variable(name);
+        self.range(number, high, low)?;
+        let source = self.source(a)?;
+        self.put(Instr::CopyBits(Dest::Range(number), source))?;
+        Ok(())
+    }
+
     // A statement more.
     #[tactic(auto, using(crate::proofs::Lists::expr_before, crate::proofs::Emits::if_written, std::proofs::Common::append_assoc))]
     fn body(&mut self, b: &Body) -> Result<(), AllocError>
         ensures code { OnOk result (self.new.code ≡ self.old.code ++ body_code_in self.old (body_tree b.now)) }
         ensures texts { OnOk result (self.new.texts ≡ self.old.texts ++ body_texts (body_tree b.now)) }
+        ensures literals { OnOk result (self.new.literals ≡ self.old.literals ++ body_literals (body_tree b.now)) }
         ensures site { self.new.site ≡ self.old.site }
     {
         match b {
-            Body::Boolean(_, None) | Body::Integer(_, None) => Ok(()),
+            Body::Boolean(_, None)
+            | Body::BooleanArray(_, _, None)
+            | Body::Integer(_, None)
+            | Body::IntegerArray(_, _, None) => Ok(()),
+            Body::Boolean(name, Some(bit)) => {
+                self.start_scalar(name, literal(ValueKind::Bit, bit_number(*bit)))
+            }
+            Body::BooleanArray(name, _, Some(bits)) => {
+                self.start_bits(name, bits)?;
+                Ok(())
+            }
+            Body::Integer(name, Some(value)) => self.start_scalar(name, Instr::Push(*value)),
+            Body::IntegerArray(name, _, Some(values)) => {
+                self.start_integers(name, values.as_slice())?;
+                Ok(())
+            }
             Body::EndProcedure => self.put(Instr::EndProc),
             Body::Assign(name, e) => {
                 let kind = given_kind(self.kind(name));
                 let number = self.variable(name);
                 self.expr(kind, e)?;
                 self.put(Instr::Store(number))?;
+                Ok(())
+            }
+            Body::AssignElement(name, index, e) => {
+                self.assign_element(name, index, e)?;
+                Ok(())
+            }
+            Body::AssignArray(name, a) => {
+                self.assign_array(name, a)?;
+                Ok(())
+            }
+            Body::AssignRange(name, high, low, a) => {
+                self.assign_range(name, high, low, a)?;
                 Ok(())
             }
             Body::Goto(name) => {
@@ -432,6 +682,7 @@ impl<'a> Emitter<'a> {
     fn turn(&mut self, st: &Stmt) -> Result<(), AllocError>
         ensures code { OnOk result (self.new.code ≡ self.old.code ++ piece_code_in self.old (stmt_tree st.now)) }
         ensures texts { OnOk result (self.new.texts ≡ self.old.texts ++ body_texts (body_tree st.now.body)) }
+        ensures literals { OnOk result (self.new.literals ≡ self.old.literals ++ body_literals (body_tree st.now.body)) }
         ensures site { self.new.site ≡ self.old.site }
     {
         if st.body.is_outer() {
@@ -448,6 +699,7 @@ impl<'a> Emitter<'a> {
         requires { self.old.site.piece < 2 ^ 32 - 1 }
         ensures code { OnOk result (self.new.code ≡ self.old.code ++ piece_code_in self.old (stmt_tree st.now)) }
         ensures texts { OnOk result (self.new.texts ≡ self.old.texts ++ body_texts (body_tree st.now.body)) }
+        ensures literals { OnOk result (self.new.literals ≡ self.old.literals ++ body_literals (body_tree st.now.body)) }
         ensures site { OnOk result (self.new.site ≡ site_behind self.old.site (body_tree st.now.body)) }
     {
         self.turn(st)?;
@@ -463,12 +715,18 @@ impl<'a> Emitter<'a> {
         self.code.len()
     }
 
-    /// The instructions and the texts.
-    pub(crate) fn into_parts(self) -> (Vec<Instr>, Vec<Text>)
+    /// The instructions, the texts and the literals.
+    pub(crate) fn into_parts(self) -> (Vec<Instr>, Vec<Text>, Vec<Bits>)
         ensures code { result.0.items ≡ self.entry.code }
         ensures texts { result.1.items ≡ self.entry.texts }
+        ensures literals { result.2.items ≡ self.entry.literals }
     {
-        let Emitter { code, texts, .. } = self;
-        (code, texts)
+        let Emitter {
+            code,
+            texts,
+            literals,
+            ..
+        } = self;
+        (code, texts, literals)
     }
 }

@@ -12,7 +12,7 @@ ghost use Rattle.stapl_codegen.specs.Unstuck.{ProgramsAreNotStuck};
 use stapl_built::laws::{programs_are_built, statements_are_no_longer_than_their_text};
 use stapl_code::laws::never_stuck;
 use stapl_meaning::laws::programs_are_typed;
-use stapl_syntax::laws::{blocks_are_well_named, texts_of_prints_are_short};
+use stapl_syntax::laws::{blocks_are_well_named, literals_have_bits, texts_of_prints_are_short};
 
 /// The code of a program does what the program does.
 pub fn code_stands()
@@ -28,6 +28,7 @@ pub fn programs_are_accepted()
     statements_are_no_longer_than_their_text();
     blocks_are_well_named();
     texts_of_prints_are_short();
+    literals_have_bits();
 }
 
 /// The lists of the code of an accepted program are in their ranges and valid, and they stand for the program.

@@ -23,4 +23,4 @@ loop-st-preserved c =
     let at = c.start_at.ensures ∙ ap (λ n. if is_outer (body_tree st.body) then nowhere else n) c.len.ensures in
     let ensures = c.in_ok-statement.ensures in
     piece_more (trees program) i c.loop-st.emitter c.loop-st.starts.items c.loop-st.invariant (stmt_tree st) is c.statement.new.self c.start_at.result c.push.new.self.items
-    ensures.code ensures.texts ensures.site at c.in_ok-push.ensures.items
+    ensures.code ensures.texts ensures.literals ensures.site at c.in_ok-push.ensures.items

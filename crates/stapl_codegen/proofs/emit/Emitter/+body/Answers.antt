@@ -6,5 +6,5 @@ pub returns-in_ok-body-in-If-clause-code : goal.returns-in_ok-body-in-If-clause-
 returns-in_ok-body-in-If-clause-code t c =
     rw c.in-If.is
     (if_written (expr_tree c.in-If.e) (body_tree c.in-If.inner.value) c.args.self.now c.condition.new.self c.body.new.self
-    c.in_ok-condition-in-If.ensures.code c.condition.ensures.texts c.condition.ensures.site
+    c.in_ok-condition-in-If.ensures.code c.condition.ensures.texts c.condition.ensures.literals c.condition.ensures.site
     (rw c.deref-in-If.ensures at c.in_ok-body-in-If.ensures.code))
