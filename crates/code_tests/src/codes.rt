@@ -105,6 +105,7 @@ pub fn lists(
     }
     Ok(CodeLists {
         variables: ItemList::of(defs),
+        literals: ItemList::of(Vec::new(alloc)),
         texts: ItemList::of(vec![in alloc; ItemList::of(b"A".to_vec(alloc)?)]?),
         procedures: ItemList::of(procedures),
         actions: ItemList::of(vec![in alloc; action(alloc)?]?),

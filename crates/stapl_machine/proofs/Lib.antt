@@ -6,3 +6,4 @@ pub mod MoveLemmas
 pub mod TurnLemmas
 pub mod RunLemmas
 pub mod Machines
+pub mod ArrayLemmas

@@ -4,7 +4,7 @@ use Rattle.std.proofs.lemmas.Option.{slice_get_read}
 use Rattle.std.proofs.lemmas.List.{append-nil}
 use Rattle.std.specs.Prelude.{Some, None, slice_get, Result, Ok, Err, OnOk, IfErr}
 use Rattle.stapl_meaning.specs.declared.values.Value.{Value}
-use Rattle.stapl_code.specs.Machine.{parts_text, does}
+use Rattle.stapl_code.specs.Machine.{Constants, parts_text, does}
 use Rattle.stapl_meaning.specs.States.{State}
 use Rattle.stapl_meaning.specs.Effects.{printed}
 use Rattle.stapl_machine.specs.Acts.{IsMade}
@@ -46,15 +46,15 @@ print_stops Wrong text s g h = ap (λ g. does (printed g s)) h
 print_stops Memory text s g h = tt
 
 -- values behind the last part
-pub left_over : (entries : List ℕ) (texts : List (List ℕ)) (front : List ℕ) (vs : List Value) → 0 < length vs →
-    with_front front (parts_text entries texts [] vs) ≡ Stuck
-left_over entries texts front [] some = absurd (omega (arith, some))
-left_over entries texts front (v ∷ vs) some = refl
+pub left_over : (entries : List ℕ) (constants : Constants) (front : List ℕ) (vs : List Value) → 0 < length vs →
+    with_front front (parts_text entries constants [] vs) ≡ Stuck
+left_over entries constants front [] some = absurd (omega (arith, some))
+left_over entries constants front (v ∷ vs) some = refl
 
-pub none_left : (entries : List ℕ) (texts : List (List ℕ)) (front : List ℕ) (vs : List Value) → length vs ≡ 0 →
-    with_front front (parts_text entries texts [] vs) ≡ Known front
-none_left entries texts front [] e = ap (λ (l : List ℕ). let g : Got (List ℕ) = Known l in g) (append-nil front)
-none_left entries texts front (v ∷ vs) e = absurd (omega arith)
+pub none_left : (entries : List ℕ) (constants : Constants) (front : List ℕ) (vs : List Value) → length vs ≡ 0 →
+    with_front front (parts_text entries constants [] vs) ≡ Known front
+none_left entries constants front [] e = ap (λ (l : List ℕ). let g : Got (List ℕ) = Known l in g) (append-nil front)
+none_left entries constants front (v ∷ vs) e = absurd (omega arith)
 
 -- items by their numbers
 pub item_at : {A : Type 0} (xs : List A) (n : ℕ) (x : A) → n < length xs → x ≡ get_or xs n x → slice_get xs n ≡ Some x

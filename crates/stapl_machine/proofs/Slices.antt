@@ -10,7 +10,7 @@ use Rattle.stapl_code.specs.declared.instr.Instr.{Instr}
 use Rattle.stapl_code.specs.declared.raw.CodeLists.{CodeLists}
 use Rattle.stapl_code.specs.Machine.{Step, Falls, Emits, Stops, Faulted, Wrong, taken, taken_onto, on_taken, on_made, takes, lands, made, entry_of}
 use Rattle.stapl_code.specs.Machine as machine
-use Rattle.stapl_code.specs.Safe.{entries_of}
+use Rattle.stapl_code.specs.Safe.{entries_of, constants_of}
 use Rattle.stapl_machine.specs.declared.operate.Stop.{Stop}
 use Rattle.stapl_machine.specs.declared.operate.Stop.TheVariants as stops
 use Rattle.stapl_machine.specs.declared.effects.Made.{Made}
@@ -59,7 +59,7 @@ module _ (code : CodeLists) (i : Instr) (old : Workspace) (chosen : List ℕ) (h
   abbrev pub acted : List Value → List Value → Step
   acted vs below =
       on_made (entries_of code.procedures) (lands here i) below (state_of chosen old)
-      (made (entries_of code.procedures) code.texts i vs (state_of chosen old))
+      (made (entries_of code.procedures) (constants_of code) i vs (state_of chosen old))
 
   pub none_there : len < n → step_of code here i chosen old ≡ Wrong
   none_there h =
@@ -86,6 +86,8 @@ module _ (code : CodeLists) (to : Option ℕ) (chosen : List ℕ) (old : State) 
   above : below ≡ operands_of new → (m : Made) → Above m
   above e (mades.Put v) h =
       ap from_made h.0 ∙ ap (λ b. Falls (v ∷ b) old) e ∙ ap (λ s. Falls (v ∷ operands_of new) s) (sym h.1)
+  above e (mades.PutTwo v w) h =
+      ap from_made h.0 ∙ ap (λ b. Falls (w ∷ v ∷ b) old) e ∙ ap (λ s. Falls (w ∷ v ∷ operands_of new) s) (sym h.1)
   above e mades.On h = ap from_made h ∙ ap (λ b. Falls b (state_of chosen new)) e
   above e mades.Printed h = ap from_made h ∙ ap (λ b. Emits (Print new.text.items ∷ []) b (state_of chosen new)) e
   above e mades.Jump h = ap from_made h ∙ ap (λ b. Stops b (jumps_to to (state_of chosen new))) e

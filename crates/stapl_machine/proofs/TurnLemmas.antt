@@ -12,12 +12,12 @@ use Rattle.stapl_meaning.specs.Texts.{event_line}
 use Rattle.stapl_code.specs.declared.instr.Instr.{Instr}
 use Rattle.stapl_code.specs.declared.raw.CodeLists.{CodeLists}
 use Rattle.stapl_code.proofs.Preceded.{preceded_nothing, preceded_twice}
-use Rattle.stapl_code.specs.Machine.{step, stretch, begins, continues}
+use Rattle.stapl_code.specs.Machine.{Constants, step, stretch, begins, continues}
 use Rattle.stapl_code.specs.declared.instr.Instr.TheVariants.{Turn}
 use Rattle.std.specs.Prelude.{slice_get, reverse, Some, None}
 use Rattle.std.proofs.Common.{add-one, zero}
 use Rattle.stapl_code.specs.Ticks.{ticks, begin_ticks, tick_of, ticks_behind}
-use Rattle.stapl_code.specs.Safe.{entries_of}
+use Rattle.stapl_code.specs.Safe.{entries_of, constants_of}
 use Rattle.stapl_machine.specs.declared.act.Workspace.{Workspace}
 use Rattle.stapl_machine.specs.declared.moves.Moved.{Moved}
 use Rattle.stapl_machine.specs.Moves.{moved_to, moved_ticks}
@@ -71,26 +71,26 @@ tick_on a s k t u v e f g = omega arith
 -- the first instruction of the rest of a turn
 module _ (code : CodeLists) (i : ℕ) where
   abbrev pub behind : List Value → State → Turned
-  behind ops s = stretch (entries_of code.procedures) code.texts (length code.instrs) (drop (i + 1) code.instrs) ops s
+  behind ops s = stretch (entries_of code.procedures) (constants_of code) (length code.instrs) (drop (i + 1) code.instrs) ops s
 
   abbrev pub ticks_after : List Value → State → ℕ
-  ticks_after ops s = ticks (entries_of code.procedures) code.texts (length code.instrs) (drop (i + 1) code.instrs) ops s
+  ticks_after ops s = ticks (entries_of code.procedures) (constants_of code) (length code.instrs) (drop (i + 1) code.instrs) ops s
 
   module _ (chosen : List ℕ) (work : Workspace) (x : Instr) (inside : i < length code.instrs) (is : x ≡ get_or code.instrs i x) where
     one_more : rest_of code i chosen work ≡ turn_of_piece work.piece (continues (step_of code i x chosen work) behind)
     one_more =
         let here : length code.instrs - suc (length (drop (i + 1) code.instrs)) ≡ i = omega (arith, length-drop (i + 1) code.instrs) in
         let s = state_of chosen work in let ops = operands_of work in let entries = entries_of code.procedures in
-        ap (λ l. turn_of_piece work.piece (stretch entries code.texts (length code.instrs) l ops s)) (drop_more code.instrs i x inside)
-        ∙ ap (λ h. turn_of_piece work.piece (continues (step entries code.texts h (get_or code.instrs i x) ops s) behind)) here
+        ap (λ l. turn_of_piece work.piece (stretch entries (constants_of code) (length code.instrs) l ops s)) (drop_more code.instrs i x inside)
+        ∙ ap (λ h. turn_of_piece work.piece (continues (step entries (constants_of code) h (get_or code.instrs i x) ops s) behind)) here
         ∙ ap (λ y. turn_of_piece work.piece (continues (step_of code i y chosen work) behind)) (sym is)
 
     one_tick : ticks_from code i chosen work ≡ tick_of x + ticks_behind (step_of code i x chosen work) ticks_after
     one_tick =
         let here : length code.instrs - suc (length (drop (i + 1) code.instrs)) ≡ i = omega (arith, length-drop (i + 1) code.instrs) in
         let s = state_of chosen work in let ops = operands_of work in let entries = entries_of code.procedures in
-        ap (λ l. ticks entries code.texts (length code.instrs) l ops s) (drop_more code.instrs i x inside)
-        ∙ ap (λ h. tick_of (get_or code.instrs i x) + ticks_behind (step entries code.texts h (get_or code.instrs i x) ops s) ticks_after) here
+        ap (λ l. ticks entries (constants_of code) (length code.instrs) l ops s) (drop_more code.instrs i x inside)
+        ∙ ap (λ h. tick_of (get_or code.instrs i x) + ticks_behind (step entries (constants_of code) h (get_or code.instrs i x) ops s) ticks_after) here
         ∙ ap (λ y. tick_of y + ticks_behind (step_of code i y chosen work) ticks_after) (sym is)
 
     -- where the instruction leads
@@ -107,29 +107,29 @@ module _ (code : CodeLists) (i : ℕ) where
 pub ticks_then_equal : (a s new t u v : ℕ) → new + v ≡ s + u → s + u ≡ a + t → new + v ≡ a + t
 ticks_then_equal a s new t u v e f = omega arith
 
-module _ (entries : List ℕ) (texts : List (List ℕ)) (total : ℕ) (s : State) where
+module _ (entries : List ℕ) (constants : Constants) (total : ℕ) (s : State) where
   begins_at : (instrs : List Instr) (place piece : ℕ) → piece_of (slice_get instrs place) ≡ Some piece →
-      begins entries texts total (drop place instrs) s ≡ turn_of_piece piece (stretch entries texts total (drop (suc place) instrs) [] s)
+      begins entries constants total (drop place instrs) s ≡ turn_of_piece piece (stretch entries constants total (drop (suc place) instrs) [] s)
   begins_at [] place piece h = absurd cc
-  begins_at (Turn p ∷ rest) zero piece h = let same : p ≡ piece = cc in ap (λ q. turn_of_piece q (stretch entries texts total rest [] s)) same
+  begins_at (Turn p ∷ rest) zero piece h = let same : p ≡ piece = cc in ap (λ q. turn_of_piece q (stretch entries constants total rest [] s)) same
   begins_at (x ∷ rest) (suc n) piece h = begins_at rest n piece h
   begins_at (_ ∷ rest) zero piece h = absurd cc
 
   begins_ticks_at : (instrs : List Instr) (place piece : ℕ) → piece_of (slice_get instrs place) ≡ Some piece →
-      begin_ticks entries texts total (drop place instrs) s ≡ 1 + ticks entries texts total (drop (suc place) instrs) [] s
+      begin_ticks entries constants total (drop place instrs) s ≡ 1 + ticks entries constants total (drop (suc place) instrs) [] s
   begins_ticks_at [] place piece h = absurd cc
   begins_ticks_at (Turn p ∷ rest) zero piece h = refl
   begins_ticks_at (x ∷ rest) (suc n) piece h = begins_ticks_at rest n piece h
   begins_ticks_at (_ ∷ rest) zero piece h = absurd cc
 
-  lacks_at : (instrs : List Instr) (place : ℕ) → piece_of (slice_get instrs place) ≡ None → begins entries texts total (drop place instrs) s ≡ NoTurn []
+  lacks_at : (instrs : List Instr) (place : ℕ) → piece_of (slice_get instrs place) ≡ None → begins entries constants total (drop place instrs) s ≡ NoTurn []
   lacks_at [] zero h = refl
   lacks_at [] (suc n) h = refl
   lacks_at (Turn p ∷ rest) zero h = absurd cc
   lacks_at (x ∷ rest) (suc n) h = lacks_at rest n h
   lacks_at (_ ∷ rest) zero h = refl
 
-  lacks_ticks_at : (instrs : List Instr) (place : ℕ) → piece_of (slice_get instrs place) ≡ None → begin_ticks entries texts total (drop place instrs) s ≡ 0
+  lacks_ticks_at : (instrs : List Instr) (place : ℕ) → piece_of (slice_get instrs place) ≡ None → begin_ticks entries constants total (drop place instrs) s ≡ 0
   lacks_ticks_at [] zero h = refl
   lacks_ticks_at [] (suc n) h = refl
   lacks_ticks_at (Turn p ∷ rest) zero h = absurd cc
@@ -140,22 +140,22 @@ module _ (entries : List ℕ) (texts : List (List ℕ)) (total : ℕ) (s : State
 module _ (code : CodeLists) (place piece : ℕ) (chosen : List ℕ) (work : Workspace) (none : work.operands.items ≡ []) (h : piece_of (slice_get code.instrs place) ≡ Some piece) where
   pub turn_begins : turn_at code place (state_of chosen work) ≡ rest_of code (place + 1) chosen (record work { piece = piece })
   turn_begins =
-      begins_at (entries_of code.procedures) code.texts (length code.instrs) (state_of chosen work) code.instrs place piece h
-      ∙ ap (λ (k : ℕ). turn_of_piece piece (stretch (entries_of code.procedures) code.texts (length code.instrs) (drop k code.instrs) [] (state_of chosen work))) (sym (add-one place))
-      ∙ ap (λ (ops : List Value). turn_of_piece piece (stretch (entries_of code.procedures) code.texts (length code.instrs) (drop (place + 1) code.instrs) (reverse ops) (state_of chosen work))) (sym none)
+      begins_at (entries_of code.procedures) (constants_of code) (length code.instrs) (state_of chosen work) code.instrs place piece h
+      ∙ ap (λ (k : ℕ). turn_of_piece piece (stretch (entries_of code.procedures) (constants_of code) (length code.instrs) (drop k code.instrs) [] (state_of chosen work))) (sym (add-one place))
+      ∙ ap (λ (ops : List Value). turn_of_piece piece (stretch (entries_of code.procedures) (constants_of code) (length code.instrs) (drop (place + 1) code.instrs) (reverse ops) (state_of chosen work))) (sym none)
 
   pub turn_ticks_begin : ticks_at code place (state_of chosen work) ≡ 1 + ticks_from code (place + 1) chosen (record work { piece = piece })
   turn_ticks_begin =
-      begins_ticks_at (entries_of code.procedures) code.texts (length code.instrs) (state_of chosen work) code.instrs place piece h
-      ∙ ap (λ (k : ℕ). 1 + ticks (entries_of code.procedures) code.texts (length code.instrs) (drop k code.instrs) [] (state_of chosen work)) (sym (add-one place))
-      ∙ ap (λ (ops : List Value). 1 + ticks (entries_of code.procedures) code.texts (length code.instrs) (drop (place + 1) code.instrs) (reverse ops) (state_of chosen work)) (sym none)
+      begins_ticks_at (entries_of code.procedures) (constants_of code) (length code.instrs) (state_of chosen work) code.instrs place piece h
+      ∙ ap (λ (k : ℕ). 1 + ticks (entries_of code.procedures) (constants_of code) (length code.instrs) (drop k code.instrs) [] (state_of chosen work)) (sym (add-one place))
+      ∙ ap (λ (ops : List Value). 1 + ticks (entries_of code.procedures) (constants_of code) (length code.instrs) (drop (place + 1) code.instrs) (reverse ops) (state_of chosen work)) (sym none)
 
 -- and where none begins
 pub turn_lacks : (code : CodeLists) (place : ℕ) (s : State) → piece_of (slice_get code.instrs place) ≡ None → turn_at code place s ≡ NoTurn []
-turn_lacks code place s h = lacks_at (entries_of code.procedures) code.texts (length code.instrs) s code.instrs place h
+turn_lacks code place s h = lacks_at (entries_of code.procedures) (constants_of code) (length code.instrs) s code.instrs place h
 
 pub turn_ticks_lack : (code : CodeLists) (place : ℕ) (s : State) → piece_of (slice_get code.instrs place) ≡ None → ticks_at code place s ≡ 0
-turn_ticks_lack code place s h = lacks_ticks_at (entries_of code.procedures) code.texts (length code.instrs) s code.instrs place h
+turn_ticks_lack code place s h = lacks_ticks_at (entries_of code.procedures) (constants_of code) (length code.instrs) s code.instrs place h
 
 -- the whole by another name
 module _ {K : Type 0} {written : K → Option (List ℕ)} where

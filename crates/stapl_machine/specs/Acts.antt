@@ -8,18 +8,19 @@ use Rattle.stapl_meaning.specs.States as did
 use Rattle.stapl_meaning.specs.Plays.{start}
 use Rattle.stapl_code.specs.declared.instr.Instr.{Instr}
 use Rattle.stapl_code.specs.declared.raw.CodeLists.{CodeLists}
-use Rattle.stapl_code.specs.Machine.{Puts, Does, Step, Falls, Emits, Stops, Faulted, Wrong, entry_of, step}
+use Rattle.stapl_code.specs.Machine.{Puts, PutsTwo, Does, Step, Falls, Emits, Stops, Faulted, Wrong, entry_of, step}
 use Rattle.stapl_code.specs.Machine as machine
-use Rattle.stapl_code.specs.Safe.{entries_of}
+use Rattle.stapl_code.specs.Safe.{entries_of, constants_of}
 use Rattle.stapl_machine.specs.declared.operate.Stop.{Stop}
 use Rattle.stapl_machine.specs.declared.operate.Stop.TheVariants as stop
 use Rattle.stapl_machine.specs.declared.effects.Made.{Made}
 use Rattle.stapl_machine.specs.declared.effects.Made.TheVariants as made
 use Rattle.stapl_machine.specs.declared.act.Workspace.{Workspace}
 
--- What was made, with this text printed, from one state to another. A value and a fault leave the state as it is.
+-- What was made, with this text printed, from one state to another. Values and a fault leave the state as it is.
 abbrev pub IsMade : Result Made Stop → List ℕ → State → State → Got machine.Made → Type 0
 IsMade (Ok (made.Put v)) text old new g = (g ≡ Known (Puts v)) × (new ≡ old)
+IsMade (Ok (made.PutTwo v w)) text old new g = (g ≡ Known (PutsTwo v w)) × (new ≡ old)
 IsMade (Ok made.On) text old new g = g ≡ Known (Does (did.Falls [] new))
 IsMade (Ok made.Printed) text old new g = g ≡ Known (Does (did.Falls (Print text ∷ []) new))
 IsMade (Ok made.Jump) text old new g = g ≡ Known (Does (did.Jumps new))
@@ -40,11 +41,12 @@ operands_of work = reverse work.operands.items
 -- an instruction of a code, at a place
 abbrev pub step_of : CodeLists → ℕ → Instr → List ℕ → Workspace → Step
 step_of code here instr chosen work =
-    step (entries_of code.procedures) code.texts here instr (operands_of work) (state_of chosen work)
+    step (entries_of code.procedures) (constants_of code) here instr (operands_of work) (state_of chosen work)
 
 -- the step of an instruction with this target that made this
 abbrev pub stepped : CodeLists → Option ℕ → List ℕ → Made → Workspace → Step
 stepped code to chosen (made.Put v) work = Falls (v ∷ operands_of work) (state_of chosen work)
+stepped code to chosen (made.PutTwo v w) work = Falls (w ∷ v ∷ operands_of work) (state_of chosen work)
 stepped code to chosen made.On work = Falls (operands_of work) (state_of chosen work)
 stepped code to chosen made.Printed work = Emits (Print work.text.items ∷ []) (operands_of work) (state_of chosen work)
 stepped code to chosen made.Jump work = Stops (operands_of work) (jumps_to to (state_of chosen work))

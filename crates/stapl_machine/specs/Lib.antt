@@ -1,6 +1,7 @@
 pub mod Found
 pub mod Prints
 pub mod Acts
+pub mod Arrays
 pub mod Moves
 pub mod Turns
 pub mod Zeros

@@ -12,15 +12,15 @@ use Rattle.stapl_meaning.specs.Texts.{event_line}
 use Rattle.stapl_code.specs.declared.raw.CodeLists.{CodeLists}
 use Rattle.stapl_code.specs.Machine.{entry_of, code_run, begun, code_play}
 use Rattle.stapl_code.specs.Ticks.{ticks_then, run_ticks, play_ticks}
-use Rattle.stapl_code.specs.Safe.{entries_of}
+use Rattle.stapl_code.specs.Safe.{entries_of, constants_of}
 use Rattle.stapl_machine.specs.declared.turns.Trouble.{Trouble}
 
 -- at most n turns from a place on, and how many instructions they take
 abbrev pub run_of : CodeLists → ℕ → ℕ → State → Run
-run_of code n place s = code_run (entries_of code.procedures) code.texts code.instrs n place s
+run_of code n place s = code_run (entries_of code.procedures) (constants_of code) code.instrs n place s
 
 abbrev pub run_ticks_of : CodeLists → ℕ → ℕ → State → ℕ
-run_ticks_of code n place s = run_ticks (entries_of code.procedures) code.texts code.instrs n place s
+run_ticks_of code n place s = run_ticks (entries_of code.procedures) (constants_of code) code.instrs n place s
 
 -- at most n turns of the procedures that a state still has to run, and how many instructions they take
 abbrev pub chosen_run : CodeLists → ℕ → State → State → Run
@@ -31,18 +31,18 @@ chosen_ticks code n s = ticks_then (next_chosen (entry_of (entries_of code.proce
 
 -- at most n turns behind a prologue that came to this, and how many instructions they take
 abbrev pub begun_run : CodeLists → ℕ → Turned → State → Run
-begun_run code n t before = goes_on (begun (entries_of code.procedures) code.texts t) before (run_of code n)
+begun_run code n t before = goes_on (begun (entries_of code.procedures) (constants_of code) t) before (run_of code n)
 
 abbrev pub begun_ticks : CodeLists → ℕ → Turned → ℕ
-begun_ticks code n t = ticks_then (begun (entries_of code.procedures) code.texts t) (run_ticks_of code n)
+begun_ticks code n t = ticks_then (begun (entries_of code.procedures) (constants_of code) t) (run_ticks_of code n)
 
 -- the prologue and at most n turns of the chosen procedures, where the variables hold this, and how many instructions
 -- they take
 abbrev pub play_from : CodeLists → List ℕ → List Held → ℕ → Run
-play_from code chosen variables n = code_play (entries_of code.procedures) code.texts code.instrs chosen variables n
+play_from code chosen variables n = code_play (entries_of code.procedures) (constants_of code) code.instrs chosen variables n
 
 abbrev pub play_ticks_from : CodeLists → List ℕ → List Held → ℕ → ℕ
-play_ticks_from code chosen variables n = play_ticks (entries_of code.procedures) code.texts code.instrs chosen variables n
+play_ticks_from code chosen variables n = play_ticks (entries_of code.procedures) (constants_of code) code.instrs chosen variables n
 
 -- The text of some events was put, and with them in front the whole is what is left.
 pub record Runs {K : Type 0} (written : K → Option (List ℕ)) (whole : Run) (old : Lines K) (rest : Run) (new : Lines K) : Type 0 where

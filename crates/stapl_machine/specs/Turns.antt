@@ -12,7 +12,7 @@ use Rattle.stapl_code.specs.declared.instr.Instr.TheVariants.{Turn}
 use Rattle.stapl_code.specs.declared.raw.CodeLists.{CodeLists}
 use Rattle.stapl_code.specs.Machine.{stretch, code_turn}
 use Rattle.stapl_code.specs.Ticks.{ticks, turn_ticks}
-use Rattle.stapl_code.specs.Safe.{entries_of}
+use Rattle.stapl_code.specs.Safe.{entries_of, constants_of}
 use Rattle.stapl_machine.specs.declared.act.Workspace.{Workspace}
 use Rattle.stapl_machine.specs.declared.moves.Went.{Went}
 use Rattle.stapl_machine.specs.declared.turns.Trouble.{Trouble}
@@ -24,11 +24,11 @@ use Rattle.stapl_machine.specs.Moves.{led_to, IsClean}
 abbrev pub rest_of : CodeLists → ℕ → List ℕ → Workspace → Turned
 rest_of code i chosen work =
     turn_of_piece work.piece
-    (stretch (entries_of code.procedures) code.texts (length code.instrs) (drop i code.instrs) (operands_of work) (state_of chosen work))
+    (stretch (entries_of code.procedures) (constants_of code) (length code.instrs) (drop i code.instrs) (operands_of work) (state_of chosen work))
 
 abbrev pub ticks_from : CodeLists → ℕ → List ℕ → Workspace → ℕ
 ticks_from code i chosen work =
-    ticks (entries_of code.procedures) code.texts (length code.instrs) (drop i code.instrs) (operands_of work) (state_of chosen work)
+    ticks (entries_of code.procedures) (constants_of code) (length code.instrs) (drop i code.instrs) (operands_of work) (state_of chosen work)
 
 -- what follows an instruction, which may have ended the turn
 abbrev pub behind_it : CodeLists → ℕ → List ℕ → Option Went → Workspace → Turned
@@ -50,10 +50,10 @@ piece_of _ = None
 
 -- the turn at a place, and how many instructions it takes
 abbrev pub turn_at : CodeLists → ℕ → State → Turned
-turn_at code place s = code_turn (entries_of code.procedures) code.texts code.instrs place s
+turn_at code place s = code_turn (entries_of code.procedures) (constants_of code) code.instrs place s
 
 abbrev pub ticks_at : CodeLists → ℕ → State → ℕ
-ticks_at code place s = turn_ticks (entries_of code.procedures) code.texts code.instrs place s
+ticks_at code place s = turn_ticks (entries_of code.procedures) (constants_of code) code.instrs place s
 
 -- The text of some events was put, and with them in front the whole is what is left.
 pub record Does {K : Type 0} (written : K → Option (List ℕ)) (whole : Turned) (old : Lines K) (rest : Turned) (new : Lines K) : Type 0 where

@@ -1,17 +1,21 @@
 //! What the machine does at an instruction.
-ghost use Rattle.std.specs.Prelude.{◌≡◌, ◌≤◌, List, ℕ, length, drop};
+ghost use Rattle.std.specs.Prelude.{◌≡◌, ◌≤◌, ◌+◌, List, ℕ, length, drop};
 ghost use Rattle.stapl_meaning.specs.Plays.{start};
-ghost use Rattle.stapl_code.specs.Machine.{made, takes, lands};
+ghost use Rattle.stapl_code.specs.Machine.{made, takes, lands, Slot, source_slots, dest_slots};
+ghost use Rattle.stapl_code.specs.Safe.{constants_of};
 ghost use Rattle.stapl_machine.specs.Acts.{IsMade, IsActed, step_of};
 
+use crate::arrays::{assign_at, check_index, load_at, set_integers};
+use crate::copying::{copy, integer};
 use crate::effects::{
     Made, assign, bit, check_character, end_procedure, exit, jump, load, operate_one, operate_two,
     part_ways,
 };
 use crate::operate::Stop;
+use crate::parts::check_range;
 use crate::printing::{count_operands, print};
-use stapl_code::{CodeLists, Instr, operator_of, unary_kind};
-use stapl_meaning::{Held, Text, Value};
+use stapl_code::{CodeLists, Dest, Instr, Source, operator_of, unary_kind};
+use stapl_meaning::{Held, Value};
 
 /// What a run keeps: the variables, the operands in the order in which they were put on, the text of the last Print,
 /// how many of the chosen procedures have begun, and the piece of the turn.
@@ -26,7 +30,7 @@ pub struct Workspace {
 
 // What an instruction makes of its operands.
 fn make(
-    texts: &[Text],
+    code: &CodeLists,
     instr: &Instr,
     values: &[Value],
     variables: &mut Vec<Held>,
@@ -34,27 +38,61 @@ fn make(
 ) -> Result<Made, Stop>
     ensures { (entries chosen : List ℕ) →
         IsMade result text.new.items (start chosen variables.old.items) (start chosen variables.new.items)
-        (made entries texts.now instr.now values.now (start chosen variables.old.items)) }
+        (made entries (constants_of code.now) instr.now values.now (start chosen variables.old.items)) }
 {
     match instr {
         Instr::Turn(_) | Instr::Jump(_) => jump(values),
         Instr::Push(value) => Ok(Made::Put(Value::Int(*value))),
-        Instr::PushBit(value) => {
-            let value = bit(*value)?;
-            Ok(Made::Put(value))
-        }
-        Instr::Load(n) => {
-            let value = load(variables, *n)?;
-            Ok(Made::Put(value))
-        }
+        Instr::PushBit(value) => Ok(Made::Put(bit(*value)?)),
+        Instr::Load(n) => Ok(Made::Put(load(variables, *n)?)),
+        Instr::LoadAt(n) => load_at(variables, *n, values),
+        Instr::CheckIndex(n) => check_index(variables, *n, values),
+        Instr::CheckRange(n) => check_range(variables, *n, values),
         Instr::Store(n) => assign(variables, *n, values),
+        Instr::StoreAt(n) => assign_at(variables, *n, values),
         Instr::Unary(number) => operate_one(*number, values),
         Instr::Binary(number) => operate_two(*number, values),
+        Instr::ToInt(source) => integer(code.literals.as_slice(), *source, values, variables),
+        Instr::CopyBits(dest, source) => copy(
+            code.literals.as_slice(),
+            *dest,
+            *source,
+            values,
+            variables,
+        ),
+        Instr::SetBits(n, literal) => {
+            let (dest, source) = (Dest::Whole(*n), Source::Literal(*literal));
+            copy(code.literals.as_slice(), dest, source, values, variables)
+        }
+        Instr::SetInts(n, list) => set_integers(variables, *n, list.as_slice(), values),
         Instr::JumpIfZero(_) => part_ways(values),
         Instr::EndProc => end_procedure(values),
-        Instr::Print(list) => print(texts, list.as_slice(), values, text),
+        Instr::Print(list) => print(code, list.as_slice(), values, text),
         Instr::CheckChar => check_character(values),
         Instr::Exit => exit(values),
+    }
+}
+
+// How many operands a source takes.
+fn source_takes(source: Source) -> usize
+    ensures count { result ≡ length (source_slots source) }
+    ensures small { result ≤ 2 }
+{
+    match source {
+        Source::Literal(_) | Source::Whole(_) => 0,
+        Source::Range(_) => 2,
+        Source::FromInt => 1,
+    }
+}
+
+// How many operands a destination takes in front of those.
+fn dest_takes(dest: Dest) -> usize
+    ensures count { (slots : List Slot) → length (dest_slots dest slots) ≡ result + length slots }
+    ensures small { result ≤ 2 }
+{
+    match dest {
+        Dest::Whole(_) => 0,
+        Dest::Range(_) => 2,
     }
 }
 
@@ -67,9 +105,19 @@ fn takes(instr: &Instr) -> usize
         | Instr::Push(_)
         | Instr::PushBit(_)
         | Instr::Load(_)
+        | Instr::SetBits(_, _)
+        | Instr::SetInts(_, _)
         | Instr::Jump(_)
         | Instr::EndProc => 0,
-        Instr::Store(_) | Instr::JumpIfZero(_) | Instr::CheckChar | Instr::Exit => 1,
+        Instr::LoadAt(_)
+        | Instr::CheckIndex(_)
+        | Instr::Store(_)
+        | Instr::JumpIfZero(_)
+        | Instr::CheckChar
+        | Instr::Exit => 1,
+        Instr::CheckRange(_) | Instr::StoreAt(_) => 2,
+        Instr::ToInt(source) => source_takes(*source),
+        Instr::CopyBits(dest, source) => dest_takes(*dest) + source_takes(*source),
         Instr::Unary(number) => match unary_kind(*number) {
             Some(_) => 1,
             None => 0,
@@ -104,13 +152,7 @@ pub fn act(code: &CodeLists, instr: &Instr, work: &mut Workspace) -> Result<Made
     }
     let below = len - count;
     let values = behind(&work.operands, below);
-    match make(
-        code.texts.as_slice(),
-        instr,
-        values,
-        &mut work.variables,
-        &mut work.text,
-    ) {
+    match make(code, instr, values, &mut work.variables, &mut work.text) {
         Ok(made) => {
             work.operands.truncate(below);
             Ok(made)

@@ -20,6 +20,8 @@ use stapl_syntax::UnOp;
 pub enum Made {
     /// A value, which goes on top of the operands.
     Put(Value),
+    /// Two values, which go on top of the operands, the second topmost.
+    PutTwo(Value, Value),
     /// It goes on to the next instruction.
     On,
     /// It goes on, with a text to be written.

@@ -2,9 +2,12 @@
 #![tactic(auto)]
 
 mod act;
+mod arrays;
+mod copying;
 mod effects;
 mod moves;
 mod operate;
+mod parts;
 mod printing;
 mod running;
 mod runs;

@@ -46,6 +46,14 @@ fn push(operands: &mut Vec<Value>, value: Value) -> Result<(), AllocError>
     }
 }
 
+fn push_two(operands: &mut Vec<Value>, first: Value, second: Value) -> Result<(), AllocError>
+    ensures { OnOk result (reverse operands.new.items ≡ second ∷ first ∷ reverse operands.old.items) }
+{
+    push(operands, first)?;
+    push(operands, second)?;
+    Ok(())
+}
+
 // Where a jump of an instruction leads, which stands here.
 fn target(here: u32, instr: &Instr) -> Option<u32>
     ensures { result ≡ lands here instr.now }
@@ -118,6 +126,10 @@ fn lead(
 {
     match made {
         Made::Put(value) => match push(&mut work.operands, value) {
+            Ok(()) => Ok(Moved::On),
+            Err(error) => Err(error),
+        },
+        Made::PutTwo(first, second) => match push_two(&mut work.operands, first, second) {
             Ok(()) => Ok(Moved::On),
             Err(error) => Err(error),
         },

@@ -6,6 +6,7 @@ ghost use Rattle.stapl_meaning.specs.Operands.{character_of};
 ghost use Rattle.stapl_meaning.specs.Effects.{digit_of, shown, after_value, after_character, printed};
 ghost use Rattle.stapl_meaning.specs.States.{State};
 ghost use Rattle.stapl_code.specs.Machine.{part_slots, known_text, parts_text, does};
+ghost use Rattle.stapl_code.specs.Safe.{constants_of};
 ghost use Rattle.stapl_machine.specs.Found.{IsGot, IsSure};
 ghost use Rattle.stapl_machine.specs.Prints.{IsPut, Follows};
 ghost use Rattle.stapl_machine.specs.Acts.{IsMade};
@@ -13,7 +14,7 @@ ghost use Rattle.stapl_machine.specs.Acts.{IsMade};
 use crate::effects::{Made, character};
 use crate::operate::Stop;
 use itoa::Buffer;
-use stapl_code::PrintPart;
+use stapl_code::{CodeLists, PrintPart};
 use stapl_meaning::{Text, Value};
 
 // How many operands a part takes.
@@ -127,18 +128,18 @@ fn next_value(values: &[Value], at: &mut usize) -> Result<Value, Stop>
 
 // Puts the text of a part, whose value is the next one if it has any.
 fn join_part(
-    texts: &[Text],
+    code: &CodeLists,
     part: PrintPart,
     values: &[Value],
     at: &mut usize,
     text: &mut Vec<u8>,
 ) -> Result<(), Stop>
     ensures { (entries : List ℕ) (rest : List PrintPart) → IsPut result text.old.items
-        (parts_text entries texts.now (part ∷ rest) (drop at.old values.now)) text.new.items
-        (parts_text entries texts.now rest (drop at.new values.now)) }
+        (parts_text entries (constants_of code.now) (part ∷ rest) (drop at.old values.now)) text.new.items
+        (parts_text entries (constants_of code.now) rest (drop at.new values.now)) }
 {
     match part {
-        PrintPart::Text(n) => put_text(texts, n, text),
+        PrintPart::Text(n) => put_text(code.texts.as_slice(), n, text),
         PrintPart::Int => {
             let value = next_value(values, at)?;
             put_value(value, text)
@@ -156,18 +157,18 @@ fn join_part(
 
 // Joins the texts of the parts, which take all these values.
 fn join(
-    texts: &[Text],
+    code: &CodeLists,
     parts: &[PrintPart],
     values: &[Value],
     text: &mut Vec<u8>,
 ) -> Result<(), Stop>
     ensures { (entries : List ℕ) → IsGot (λ done g. g ≡ Known text.new.items) result
-        (parts_text entries texts.now parts.now values.now) }
+        (parts_text entries (constants_of code.now) parts.now values.now) }
 {
     text.clear();
     let mut at = 0;
     for part in parts {
-        match join_part(texts, *part, values, &mut at, text) {
+        match join_part(code, *part, values, &mut at, text) {
             Ok(()) => {}
             Err(stop) => return Err(stop),
         }
@@ -180,15 +181,15 @@ fn join(
 
 /// Joins the text of a Print.
 pub fn print(
-    texts: &[Text],
+    code: &CodeLists,
     parts: &[PrintPart],
     values: &[Value],
     text: &mut Vec<u8>,
 ) -> Result<Made, Stop>
     ensures { (entries : List ℕ) (s : State) → IsMade result text.new.items s s
-        (does (printed (parts_text entries texts.now parts.now values.now) s)) }
+        (does (printed (parts_text entries (constants_of code.now) parts.now values.now) s)) }
 {
-    match join(texts, parts, values, text) {
+    match join(code, parts, values, text) {
         Ok(()) => Ok(Made::Printed),
         Err(stop) => Err(stop),
     }

@@ -1,7 +1,7 @@
 use Rattle.std.proofs.Common.{rules, ◌≡◌, ◌-◌, length, reverse, drop, take, ap, sym, subst, ◌∙◌}
 use Rattle.std.specs.Prelude.{Ok, Err}
 use Rattle.stapl_code.specs.Machine.{made, lands}
-use Rattle.stapl_code.specs.Safe.{entries_of}
+use Rattle.stapl_code.specs.Safe.{entries_of, constants_of}
 use Rattle.stapl_machine.specs.declared.act.Workspace.{Workspace}
 use Rattle.stapl_machine.specs.Acts.{IsMade, state_of, step_of}
 use Rattle.stapl_machine.proofs.Slices.{none_there, all_there, acts, acts_not}
@@ -20,10 +20,10 @@ returns-in-Ok-clause-acts c = λ here chosen.
     let new : Workspace = record { variables = c.make.new.variables; operands = c.truncate.new.self; text = c.make.new.text; next = old.next; piece = old.piece } in
     let len : c.len-len.result ≡ length xs = search rules in
     let is : c.behind-values.result.now ≡ drop at xs = c.behind-values.ensures ∙ ap (drop at) c.deref.ensures.value in
-    let told = subst (λ texts. IsMade (Ok c.in-Ok.made) c.make.new.text.items s (state_of chosen new) (made entries texts i c.behind-values.result.now s)) c.as_slice.ensures (c.in-Ok.ensures entries (drop old.next chosen)) in
-    acts code (lands here i) chosen s new (reverse (take at xs)) (step_of code here i chosen old) (made entries code.texts i (drop at xs) s) c.in-Ok.made (ap reverse (sym c.truncate.ensures.items))
+    let told = c.in-Ok.ensures entries (drop old.next chosen) in
+    acts code (lands here i) chosen s new (reverse (take at xs)) (step_of code here i chosen old) (made entries (constants_of code) i (drop at xs) s) c.in-Ok.made (ap reverse (sym c.truncate.ensures.items))
     (all_there code i old chosen here c.takes-count.result c.len-len.result c.takes-count.ensures len c.if-len-count.false)
-    (subst (λ vs. IsMade (Ok c.in-Ok.made) c.make.new.text.items s (state_of chosen new) (made entries code.texts i vs s)) is told)
+    (subst (λ vs. IsMade (Ok c.in-Ok.made) c.make.new.text.items s (state_of chosen new) (made entries (constants_of code) i vs s)) is told)
 
 pub returns-in-Err-clause-acts : goal.returns-in-Err-clause-acts
 returns-in-Err-clause-acts c = λ here chosen.
@@ -33,7 +33,7 @@ returns-in-Err-clause-acts c = λ here chosen.
     let new : Workspace = record { variables = c.make.new.variables; operands = old.operands; text = c.make.new.text; next = old.next; piece = old.piece } in
     let len : c.len-len.result ≡ length xs = search rules in
     let is : c.behind-values.result.now ≡ drop at xs = c.behind-values.ensures ∙ ap (drop at) c.deref.ensures.value in
-    let told = subst (λ texts. IsMade (Err c.in-Err.stop) c.make.new.text.items s (state_of chosen new) (made entries texts i c.behind-values.result.now s)) c.as_slice.ensures (c.in-Err.ensures entries (drop old.next chosen)) in
-    acts_not code (lands here i) chosen s new (reverse (take at xs)) (step_of code here i chosen old) (made entries code.texts i (drop at xs) s) c.in-Err.stop
+    let told = c.in-Err.ensures entries (drop old.next chosen) in
+    acts_not code (lands here i) chosen s new (reverse (take at xs)) (step_of code here i chosen old) (made entries (constants_of code) i (drop at xs) s) c.in-Err.stop
     (all_there code i old chosen here c.takes-count.result c.len-len.result c.takes-count.ensures len c.if-len-count.false)
-    (subst (λ vs. IsMade (Err c.in-Err.stop) c.make.new.text.items s (state_of chosen new) (made entries code.texts i vs s)) is told)
+    (subst (λ vs. IsMade (Err c.in-Err.stop) c.make.new.text.items s (state_of chosen new) (made entries (constants_of code) i vs s)) is told)
