@@ -113,15 +113,18 @@ fn end_turn(operands: &[Value], went: Went) -> Went
 fn lead(
     code: &CodeLists,
     chosen: &[u32],
-    to: Option<u32>,
+    here: u32,
+    instr: &Instr,
     made: Made,
     work: &mut Workspace,
 ) -> Result<Moved, AllocError>
     ensures leads { IfOk result (λ moved. (go : List Value → State → Turned) →
-        turn_of_piece work.old.piece (continues (stepped code.now to chosen.now made work.old) go)
+        turn_of_piece work.old.piece
+        (continues (stepped code.now (lands here instr.now) chosen.now made work.old) go)
         ≡ moved_to moved chosen.now work.new go) }
     ensures ticks { IfOk result (λ moved. (go : List Value → State → ℕ) →
-        ticks_behind (stepped code.now to chosen.now made work.old) go ≡ moved_ticks moved chosen.now work.new go) }
+        ticks_behind (stepped code.now (lands here instr.now) chosen.now made work.old) go
+        ≡ moved_ticks moved chosen.now work.new go) }
     ensures clean { IfOk result (λ moved. IsCleanMove moved work.new) }
 {
     match made {
@@ -135,7 +138,10 @@ fn lead(
         },
         Made::On => Ok(Moved::On),
         Made::Printed => Ok(Moved::Printed),
-        Made::Jump => Ok(Moved::Ends(end_turn(&work.operands, jump_to(to)))),
+        Made::Jump => {
+            let went = jump_to(target(here, instr));
+            Ok(Moved::Ends(end_turn(&work.operands, went)))
+        }
         Made::Returned => {
             let went = begin_next(code, chosen, &mut work.next);
             Ok(Moved::Ends(end_turn(&work.operands, went)))
@@ -166,7 +172,7 @@ pub fn advance(
     ensures clean { IfOk result (λ moved. IsCleanMove moved work.new) }
 {
     match act(code, instr, work) {
-        Ok(made) => lead(code, chosen, target(here, instr), made, work),
+        Ok(made) => lead(code, chosen, here, instr, made, work),
         Err(Stop::Fault(fault)) => {
             let ending = Ending::Fault(fault, work.piece);
             Ok(Moved::Ends(Went::Over(Some(ending))))
