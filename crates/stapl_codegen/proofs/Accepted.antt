@@ -1,5 +1,5 @@
 -- A built program gives the compiler what it asks for.
-use Rattle.std.proofs.Common.{ℕ, ◌*◌, ◌≤◌, Bool, List, [], ◌∷◌, ◌++◌, None, Some, length, arith}
+use Rattle.std.proofs.Common.{ℕ, ◌≤◌, Bool, List, [], ◌∷◌, None, Some, length, arith}
 use Rattle.std.specs.Prelude.{All}
 use Rattle.std.proofs.lemmas.List.Elements.{All-nil, All-cons, All-head, All-tail, All-append}
 use Rattle.stapl_lexer.specs.Pieces.{text_limit}

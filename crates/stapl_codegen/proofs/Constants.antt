@@ -1,5 +1,5 @@
 -- What a code has of the constants that a statement names.
-use Rattle.std.proofs.Common.{◌≡◌, ℕ, zero, suc, Bool, List, [], ◌∷◌, ◌++◌, length, drop, append_assoc, Some, refl, ap, ◌∙◌}
+use Rattle.std.proofs.Common.{◌≡◌, ℕ, suc, Bool, List, [], ◌∷◌, ◌++◌, length, drop, append_assoc, Some, refl, ap, ◌∙◌}
 use Rattle.std.specs.Prelude.{slice_get}
 use Rattle.stapl_syntax.specs.Trees.{ArrayTree, literal, whole, range, of_int}
 use Rattle.stapl_meaning.specs.Values.{Known, Lookup, source_of}

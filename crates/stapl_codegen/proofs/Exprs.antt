@@ -14,7 +14,7 @@ use Rattle.stapl_meaning.specs.declared.values.Held.{Held}
 use Rattle.stapl_meaning.specs.Values.{Got, Known, Faults, Stuck, then_get, combined, signed, absolute, scalar_of, element_of, index_held, bits_held, range_held, Span, span_of, Whole, Range, OfInt, source_integer, literal, unary_side, Lookup, sides, source_of, value_of, source_values}
 use Rattle.stapl_meaning.specs.Operands.{Test, Plain, Character, Operand, character_of, tested, operand_value, values_behind, values_of}
 use Rattle.stapl_meaning.specs.Operands as tests
-use Rattle.stapl_meaning.specs.States.{State, Turned, NoTurn, with_got}
+use Rattle.stapl_meaning.specs.States.{State, Turned, with_got}
 use Rattle.stapl_code.specs.declared.instr.Instr.{Instr}
 use Rattle.stapl_code.specs.declared.instr.Instr.TheVariants.{LoadAt, Unary, Binary, ToInt}
 use Rattle.stapl_code.specs.declared.instr.Source.TheVariants as sources

@@ -1,4 +1,5 @@
 pub mod Heads
+pub mod Views
 pub mod Exprs
 pub mod Constants
 pub mod Prints

@@ -1,5 +1,5 @@
 -- The fields of the code of an accepted program are in their ranges.
-use Rattle.std.proofs.Common.{◌≡◌, ℕ, zero, suc, ◌+◌, ◌<◌, ◌≤◌, Bool, true, false, List, [], ◌∷◌, ◌++◌, length, map, Option, Some, None, is_some, option_map, arith, refl, ap, ◌∙◌}
+use Rattle.std.proofs.Common.{◌≡◌, ℕ, zero, suc, ◌+◌, ◌<◌, ◌≤◌, true, false, List, [], ◌∷◌, length, map, Option, Some, None, is_some, option_map, arith, refl, ap, ◌∙◌}
 use Rattle.std.specs.Prelude.{ℤ, pos, negsuc, nat_abs, ◌&&◌, if◌then◌else◌, slice_get, IfSome, All, sum_by}
 use Rattle.std.proofs.lemmas.Bool.{and_parts, ltb-true, ltb-false}
 use Rattle.std.proofs.lemmas.List.{append-nil}
@@ -20,7 +20,7 @@ use Rattle.stapl_syntax.specs.declared.names.VarKind.TheVariants as variables
 use Rattle.stapl_syntax.specs.Kinds.{expr_kind, element_kind, is_array, is_int, is_bit, is_bit_array, suits, operands_suit}
 use Rattle.stapl_syntax.specs.Names.{Names, declaration, found_from, kind_of_found}
 use Rattle.stapl_syntax.specs.Rules.{is_boolean, has_too_many_values}
-use Rattle.stapl_syntax.specs.Trees.{ExprTree, number, scalar, element, unary, binary, abs, int, ArrayTree, literal, whole, range, of_int, PartTree, string, value, character, BodyTree, end_procedure, boolean, boolean_array, integer, integer_array, assign, assign_element, assign_array, assign_range, goto, if_then, print, exit}
+use Rattle.stapl_syntax.specs.Trees.{ExprTree, number, scalar, element, unary, binary, abs, int, ArrayTree, literal, whole, range, of_int, PartTree, string, value, character, BodyTree, boolean, boolean_array, integer, integer_array, assign, assign_element, assign_array, assign_range, goto, if_then, print, exit}
 use Rattle.stapl_built.specs.Built.{is_built_simple, is_built_inner}
 use Rattle.stapl_meaning.specs.declared.values.ValueKind.{ValueKind}
 use Rattle.stapl_meaning.specs.declared.values.ValueKind.TheVariants as kinds
@@ -38,6 +38,7 @@ use Rattle.stapl_code.specs.Kinds.{variable_kind, element_kind as element_kind_o
 use Rattle.stapl_code.specs.Ranges.{IsVariable, elements_of, AreVariables, IsPart, IsSource, size_of, IsInstr}
 use Rattle.stapl_codegen.specs.Generated.{kind_number, variable_def}
 use Rattle.stapl_codegen.specs.Emit.{literal_code, expr_code, int_code, test_code, operands_code, source_code, shown_part, print_parts, part_texts, array_literals, Firsts, last, row_code, body_texts, body_literals, operator_number, sign_number, absolute_number, body_code}
+use Rattle.stapl_codegen.proofs.Views.{IsInner, an_end, a_bit, some_bits, an_integer, no_integers, some_integers, a_simple, inner_view}
 use Rattle.stapl_codegen.proofs.Sides.{fits, scalar_fits, element_fits, indexed_fits, unary_fits, integer_fits, operates}
 use Rattle.stapl_codegen.proofs.WellKinded.{Agrees, scalar_agrees, element_agrees, bits_agree, TestFits, AllTyped, one_typed, parts_typed, range_typed, array_typed, no_bit}
 use Rattle.stapl_codegen.proofs.WellPlaced.{given_fits, item_given, bit_fits, number_fits}
@@ -304,29 +305,25 @@ module _ (defs : List VarDef) (literals texts : ℕ) where
     defined_there : (n : ℕ) (v : VarDef) → slice_get defs n ≡ Some v → n < length defs
     defined_there n v at = there_if is_some false refl defs n (λ none. absurd (let some = ap is_some at in cc))
 
-    pub body_range : (first : Firsts) (b : BodyTree) (rest : List Instr) → is_built_inner b ≡ true → operands_suit scope.look.kind b ≡ true → IsDefined b → has_too_many_values b ≡ false →
+    inner_range : (first : Firsts) (b : BodyTree) → IsInner b → (rest : List Instr) → operands_suit scope.look.kind b ≡ true → IsDefined b → has_too_many_values b ≡ false →
         AreThere first b → InRange rest → InRange (body_code scope place first b rest)
-    body_range first end_procedure rest built suit at few there more = (tt, more)
-    body_range first (boolean name None) rest built suit at few there more = more
-    body_range first (boolean name (Some b)) rest built suit at few there more =
+    inner_range first _ an_end rest suit at few there more = (tt, more)
+    inner_range first _ (a_bit name None) rest suit at few there more = more
+    inner_range first _ (a_bit name (Some b)) rest suit at few there more =
         one_range first (boolean name (Some b)) rest (one_typed defs scope.look [] kinds.Bit (number (bit_number b)) (bit_fits b)) (defined_there (scope.look.variable name) _ at) more
-    body_range first (boolean_array name size None) rest built suit at few there more = more
-    body_range first (boolean_array name size (Some bits)) rest built suit at few there more =
+    inner_range first _ (some_bits name size None) rest suit at few there more = more
+    inner_range first _ (some_bits name size (Some bits)) rest suit at few there more =
         one_range first (boolean_array name size (Some bits)) rest tt (defined_there (scope.look.variable name) _ at, omega (arith, there.few_literals)) more
-    body_range first (integer name None) rest built suit at few there more = more
-    body_range first (integer name (Some z)) rest built suit at few there more =
+    inner_range first _ (an_integer name None) rest suit at few there more = more
+    inner_range first _ (an_integer name (Some z)) rest suit at few there more =
         one_range first (integer name (Some z)) rest (one_typed defs scope.look [] kinds.Int (number z) (number_fits z)) (defined_there (scope.look.variable name) _ at) more
-    body_range first (integer_array name size None) rest built suit at few there more = more
-    body_range first (integer_array name size (Some zs)) rest built suit at few there more =
+    inner_range first _ (no_integers name size) rest suit at few there more = more
+    inner_range first _ (some_integers name size zs some) rest suit at few there more =
         let enough : length zs ≤ size_of (slice_get defs (scope.look.variable name)) =
         omega (arith, ltb-false (nat_abs size) (length zs) few, ap size_of at) in
-        one_range first (integer_array name size (Some zs)) rest tt (defined_there (scope.look.variable name) _ at, ltb-true 0 (length zs) built, enough) more
-    body_range first (assign name e) rest built suit at few there more = simple_range first (assign name e) rest built suit there more
-    body_range first (assign_element name index e) rest built suit at few there more = simple_range first (assign_element name index e) rest built suit there more
-    body_range first (assign_array name a) rest built suit at few there more = simple_range first (assign_array name a) rest built suit there more
-    body_range first (assign_range name high low a) rest built suit at few there more = simple_range first (assign_range name high low a) rest built suit there more
-    body_range first (goto name) rest built suit at few there more = simple_range first (goto name) rest built suit there more
-    body_range first (if_then e b) rest built suit at few there more = simple_range first (if_then e b) rest built suit there more
-    body_range first (print list) rest built suit at few there more = simple_range first (print list) rest built suit there more
-    body_range first (exit e) rest built suit at few there more = simple_range first (exit e) rest built suit there more
-    body_range first _ rest built suit at few there more = absurd cc
+        one_range first (integer_array name size (Some zs)) rest tt (defined_there (scope.look.variable name) _ at, ltb-true 0 (length zs) some, enough) more
+    inner_range first _ (a_simple b built) rest suit at few there more = simple_range first b rest built suit there more
+
+    pub body_range : (first : Firsts) (b : BodyTree) (rest : List Instr) → is_built_inner b ≡ true → operands_suit scope.look.kind b ≡ true → IsDefined b → has_too_many_values b ≡ false →
+        AreThere first b → InRange rest → InRange (body_code scope place first b rest)
+    body_range first b rest built = inner_range first b (inner_view b built) rest

@@ -8,8 +8,8 @@ use Rattle.stapl_lexer.specs.Pieces.{text_limit}
 use Rattle.stapl_syntax.specs.Kinds.{expr_kind}
 use Rattle.stapl_syntax.specs.Programs.{piece_limit}
 use Rattle.stapl_syntax.specs.Statements.{is_outer}
-use Rattle.stapl_syntax.specs.Trees.{ExprTree, number, scalar, element, unary, binary, abs, int, ArrayTree, literal, whole, range, of_int, PartTree, string, value, character, BodyTree, end_procedure, boolean, boolean_array, integer, integer_array, assign, assign_element, assign_array, assign_range, goto, if_then, print, exit, StmtTree}
-use Rattle.stapl_built.specs.Built.{is_built_simple, is_built_inner, IsBuilt}
+use Rattle.stapl_syntax.specs.Trees.{ExprTree, number, scalar, element, unary, binary, abs, int, ArrayTree, literal, whole, range, of_int, PartTree, string, value, character, BodyTree, assign, assign_element, assign_array, assign_range, goto, if_then, print, exit, StmtTree}
+use Rattle.stapl_built.specs.Built.{is_built_simple, IsBuilt}
 use Rattle.stapl_built.specs.Sizes.{expr_size, array_size, part_size, body_size, statements_size}
 use Rattle.stapl_meaning.specs.declared.values.ValueKind.{ValueKind}
 use Rattle.stapl_meaning.specs.declared.values.ValueKind.TheVariants as kinds
@@ -20,6 +20,7 @@ use Rattle.stapl_meaning.proofs.Resolved.{built_is_inner}
 use Rattle.stapl_code.specs.declared.instr.Instr.{Instr}
 use Rattle.stapl_code.specs.declared.instr.Instr.TheVariants.{Turn, LoadAt, CheckIndex, CheckRange, Unary, Binary, ToInt, Store, StoreAt, JumpIfZero, Print, CheckChar, Exit}
 use Rattle.stapl_code.specs.declared.instr.Source.TheVariants as sources
+use Rattle.stapl_codegen.proofs.Views.{IsInner, an_end, a_bit, some_bits, an_integer, no_integers, some_integers, a_simple, inner_view}
 use Rattle.stapl_codegen.specs.Emit.{operator_number, sign_number, absolute_number, expr_code, int_code, operands_code, print_parts, Firsts, last, body_code, firsts_at, piece_code, pieces_code, start_of, program_code}
 
 module _ (look : Lookup) where
@@ -100,33 +101,25 @@ module _ (scope : Scope) (place : ℕ → ℕ) where
   simple_length first (exit e) rest built = let one = expr_length scope.look kinds.Int e (Exit ∷ rest) in omega (arith, one)
   simple_length first _ rest built = absurd cc
 
-  inner_length : (first : Firsts) (b : BodyTree) (rest : List Instr) → is_built_inner b ≡ true → length (body_code scope place first b rest) ≤ body_size b + length rest
-  inner_length first end_procedure rest built = omega arith
-  inner_length first (boolean name None) rest built = omega arith
-  inner_length first (boolean name (Some b)) rest built =
+  inner_length : (first : Firsts) (b : BodyTree) → IsInner b → (rest : List Instr) → length (body_code scope place first b rest) ≤ body_size b + length rest
+  inner_length first _ an_end rest = omega arith
+  inner_length first _ (a_bit name None) rest = omega arith
+  inner_length first _ (a_bit name (Some b)) rest =
       let one = expr_length scope.look kinds.Bit (number (bit_number b)) (Store (scope.look.variable name) ∷ rest) in omega (arith, one)
-  inner_length first (boolean_array name size None) rest built = omega arith
-  inner_length first (boolean_array name size (Some bits)) rest built = omega arith
-  inner_length first (integer name None) rest built = omega arith
-  inner_length first (integer name (Some z)) rest built = omega arith
-  inner_length first (integer_array name size None) rest built = omega arith
-  inner_length first (integer_array name size (Some zs)) rest built = omega arith
-  inner_length first (assign_element name index e) rest built = simple_length first (assign_element name index e) rest built
-  inner_length first (assign_array name a) rest built = simple_length first (assign_array name a) rest built
-  inner_length first (assign_range name high low a) rest built = simple_length first (assign_range name high low a) rest built
-  inner_length first (assign name e) rest built = simple_length first (assign name e) rest built
-  inner_length first (goto name) rest built = simple_length first (goto name) rest built
-  inner_length first (if_then e b) rest built = simple_length first (if_then e b) rest built
-  inner_length first (print list) rest built = simple_length first (print list) rest built
-  inner_length first (exit e) rest built = simple_length first (exit e) rest built
-  inner_length first _ rest built = absurd cc
+  inner_length first _ (some_bits name size None) rest = omega arith
+  inner_length first _ (some_bits name size (Some bits)) rest = omega arith
+  inner_length first _ (an_integer name None) rest = omega arith
+  inner_length first _ (an_integer name (Some z)) rest = omega arith
+  inner_length first _ (no_integers name size) rest = omega arith
+  inner_length first _ (some_integers name size zs some) rest = omega arith
+  inner_length first _ (a_simple b built) rest = simple_length first b rest built
 
 module _ (program : List StmtTree) (place : ℕ → ℕ) where
   piece_length : (i : ℕ) (st : StmtTree) (rest : List Instr) → IsBuilt st → length (piece_code program place i st rest) ≤ body_size st.body + 1 + length rest
   piece_length i st rest built = by_case (is_outer st.body) refl
     where
       inner : is_outer st.body ≡ false → length (body_code (scope_at program i) place (firsts_at program i) st.body rest) ≤ body_size st.body + length rest
-      inner inside = inner_length (scope_at program i) place (firsts_at program i) st.body rest (built_is_inner st built inside)
+      inner inside = inner_length (scope_at program i) place (firsts_at program i) st.body (inner_view st.body (built_is_inner st built inside)) rest
 
       by_case : (outer : Bool) → is_outer st.body ≡ outer →
           length (cond outer rest (Turn (i + 1) ∷ body_code (scope_at program i) place (firsts_at program i) st.body rest)) ≤ body_size st.body + 1 + length rest

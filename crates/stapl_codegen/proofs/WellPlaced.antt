@@ -1,6 +1,6 @@
 -- The code of the statements of a procedure breaks no rule.
 use Rattle.std.proofs.Common.{◌≡◌, ℕ, Bool, true, false, List, [], ◌∷◌, Option, Some, None, refl, ap, ◌∙◌}
-use Rattle.std.specs.Prelude.{ℤ, pos, int_le, is_some, ◌&&◌, length, IfSome, if◌then◌else◌, slice_get}
+use Rattle.std.specs.Prelude.{ℤ, pos, int_le, is_some, ◌&&◌, IfSome, if◌then◌else◌, slice_get}
 use Rattle.std.specs.List.{list_all, AllByRecursion}
 use Rattle.std.proofs.lemmas.Bool.{and_parts}
 use Rattle.stapl_syntax.specs.declared.names.Declaration.{Declaration}
@@ -12,7 +12,7 @@ use Rattle.stapl_syntax.specs.Kinds.{expr_kind, is_array, is_int, is_bit, is_bit
 use Rattle.stapl_syntax.specs.Mentions.{labels_named}
 use Rattle.stapl_syntax.specs.Names.{declaration}
 use Rattle.stapl_syntax.specs.Statements.{ends_procedure}
-use Rattle.stapl_syntax.specs.Trees.{ExprTree, number, ArrayTree, literal, whole, range, of_int, BodyTree, end_procedure, boolean, boolean_array, integer, integer_array, assign, assign_element, assign_array, assign_range, goto, if_then, print, exit}
+use Rattle.stapl_syntax.specs.Trees.{ExprTree, number, ArrayTree, literal, whole, range, of_int, BodyTree, boolean, boolean_array, integer, integer_array, assign, assign_element, assign_array, assign_range, goto, if_then, print, exit}
 use Rattle.stapl_built.specs.Built.{is_built_simple, is_built_inner}
 use Rattle.stapl_meaning.specs.declared.values.ValueKind.{ValueKind}
 use Rattle.stapl_meaning.specs.declared.values.ValueKind.TheVariants as kinds
@@ -26,6 +26,7 @@ use Rattle.stapl_code.specs.Machine.{source_slots, source_wants, wants}
 use Rattle.stapl_code.specs.Kinds.{off, then_kinds, taken_off, variable_kind, element_kind as element_kind_of, is_met, all_off, kinds_moved, kinds_behind}
 use Rattle.stapl_code.specs.Valid.{is_last, is_target, stands_well}
 use Rattle.stapl_codegen.specs.Emit.{source_code, Firsts, last, body_code}
+use Rattle.stapl_codegen.proofs.Views.{IsInner, an_end, a_bit, some_bits, an_integer, no_integers, some_integers, a_simple, inner_view}
 use Rattle.stapl_codegen.proofs.Sides.{fits, held_kind, item_kind}
 use Rattle.stapl_codegen.proofs.WellKinded.{kinds_onto, Agrees, scalar_agrees, element_agrees, bits_agree, integers_agree, one_typed, parts_typed, range_typed, array_typed, parts_off, Fine, Follows, IsGood, row_fine, rows_last}
 
@@ -187,43 +188,39 @@ module _ (variables : List VarDef) (entry : ℕ) (code : List Instr) where
     simple_fine first _ rest built suit leads follows = absurd cc
 
     -- a statement other than ENDPROC
-    pub body_fine : (first : Firsts) (b : BodyTree) (rest : List Instr) → is_built_inner b ≡ true → operands_suit scope.look.kind b ≡ true → AllByRecursion Leads (labels_named b) → IsDeclared b → ends_procedure b ≡ false →
+    inner_fine : (first : Firsts) (b : BodyTree) → IsInner b → (rest : List Instr) → operands_suit scope.look.kind b ≡ true → AllByRecursion Leads (labels_named b) → IsDeclared b → ends_procedure b ≡ false →
         Follows variables entry code rest → Fine variables entry code false [] (body_code scope place first b rest)
-    body_fine first end_procedure rest built suit leads is between follows = absurd cc
-    body_fine first (boolean name None) rest built suit leads is between follows = follows.fine false
-    body_fine first (boolean name (Some b)) rest built suit leads is between follows =
+    inner_fine first _ an_end rest suit leads is between follows = absurd cc
+    inner_fine first _ (a_bit name None) rest suit leads is between follows = follows.fine false
+    inner_fine first _ (a_bit name (Some b)) rest suit leads is between follows =
         let good : Good first (boolean name (Some b)) = record {
           typed = one_typed variables scope.look [] kinds.Bit (number (bit_number b)) (bit_fits b);
           finds = store_finds (scope.look.variable name) kinds.Bit (scalar_agrees variables scope.look agrees name kinds.Bit (ap held_kind is));
           stands = refl;
         } in
         row_fine variables entry code scope place first (boolean name (Some b)) rest agrees good follows.some (follows.fine false)
-    body_fine first (boolean_array name size None) rest built suit leads is between follows = follows.fine false
-    body_fine first (boolean_array name size (Some bits)) rest built suit leads is between follows =
+    inner_fine first _ (some_bits name size None) rest suit leads is between follows = follows.fine false
+    inner_fine first _ (some_bits name size (Some bits)) rest suit leads is between follows =
         let set : Instr = SetBits (scope.look.variable name) first.literal in
         let met = ap (λ b. b && true) (bits_agree variables scope.look agrees name (ap is_bit_array is)) in
         let good : Good first (boolean_array name size (Some bits)) = record { typed = tt; finds = wanted set [] [] met refl; stands = refl } in
         row_fine variables entry code scope place first (boolean_array name size (Some bits)) rest agrees good follows.some (follows.fine false)
-    body_fine first (integer name None) rest built suit leads is between follows = follows.fine false
-    body_fine first (integer name (Some z)) rest built suit leads is between follows =
+    inner_fine first _ (an_integer name None) rest suit leads is between follows = follows.fine false
+    inner_fine first _ (an_integer name (Some z)) rest suit leads is between follows =
         let good : Good first (integer name (Some z)) = record {
           typed = one_typed variables scope.look [] kinds.Int (number z) (number_fits z);
           finds = store_finds (scope.look.variable name) kinds.Int (scalar_agrees variables scope.look agrees name kinds.Int (ap held_kind is));
           stands = refl;
         } in
         row_fine variables entry code scope place first (integer name (Some z)) rest agrees good follows.some (follows.fine false)
-    body_fine first (integer_array name size None) rest built suit leads is between follows = follows.fine false
-    body_fine first (integer_array name size (Some zs)) rest built suit leads is between follows =
+    inner_fine first _ (no_integers name size) rest suit leads is between follows = follows.fine false
+    inner_fine first _ (some_integers name size zs some) rest suit leads is between follows =
         let set : Instr = SetInts (scope.look.variable name) zs in
         let met = ap (λ b. b && true) (integers_agree variables scope.look agrees name is) in
         let good : Good first (integer_array name size (Some zs)) = record { typed = tt; finds = wanted set [] [] met refl; stands = refl } in
         row_fine variables entry code scope place first (integer_array name size (Some zs)) rest agrees good follows.some (follows.fine false)
-    body_fine first (assign name e) rest built suit leads is between follows = simple_fine first (assign name e) rest built suit leads follows
-    body_fine first (assign_element name index e) rest built suit leads is between follows = simple_fine first (assign_element name index e) rest built suit leads follows
-    body_fine first (assign_array name a) rest built suit leads is between follows = simple_fine first (assign_array name a) rest built suit leads follows
-    body_fine first (assign_range name high low a) rest built suit leads is between follows = simple_fine first (assign_range name high low a) rest built suit leads follows
-    body_fine first (goto name) rest built suit leads is between follows = simple_fine first (goto name) rest built suit leads follows
-    body_fine first (if_then e b) rest built suit leads is between follows = simple_fine first (if_then e b) rest built suit leads follows
-    body_fine first (print list) rest built suit leads is between follows = simple_fine first (print list) rest built suit leads follows
-    body_fine first (exit e) rest built suit leads is between follows = simple_fine first (exit e) rest built suit leads follows
-    body_fine first _ rest built suit leads is between follows = absurd cc
+    inner_fine first _ (a_simple b built) rest suit leads is between follows = simple_fine first b rest built suit leads follows
+
+    pub body_fine : (first : Firsts) (b : BodyTree) (rest : List Instr) → is_built_inner b ≡ true → operands_suit scope.look.kind b ≡ true → AllByRecursion Leads (labels_named b) → IsDeclared b → ends_procedure b ≡ false →
+        Follows variables entry code rest → Fine variables entry code false [] (body_code scope place first b rest)
+    body_fine first b rest built = inner_fine first b (inner_view b built) rest

@@ -1,8 +1,7 @@
-use Rattle.std.proofs.Common.{List, ◌∷◌, [], ◌++◌, ap, ◌∙◌}
+use Rattle.std.proofs.Common.{◌∷◌, [], ◌++◌, ap, ◌∙◌}
 use Rattle.stapl_syntax.specs.Trees.{expr_tree, array_tree}
 use Rattle.stapl_meaning.specs.Operands.{a_range}
 use Rattle.stapl_code.specs.declared.instr.Dest.TheVariants.{Range}
-use Rattle.stapl_code.specs.declared.instr.Instr.{Instr}
 use Rattle.stapl_code.specs.declared.instr.Instr.TheVariants.{CopyBits}
 use Rattle.stapl_codegen.specs.Emit.{operands_code}
 use Rattle.stapl_codegen.specs.Drafts.{Draft, scope_of_site, array_operands_in, source_in}
