@@ -5,12 +5,6 @@ The scanner is bench/scan.c, and is compiled here by the C compiler in the varia
 read the same file, and the shortest processor time of some runs of each counts, less that of an empty text. The peak
 memory of a check is told beside the size of the text.
 """
-import os
-import pathlib
-import shutil
-import subprocess
-import sys
-
 import measure
 import names
 import pieces
@@ -18,7 +12,6 @@ import read_and_cut
 
 SIZE = 4 << 20
 PROGRAM = measure.TOP / "crates" / "zanutero" / "out" / "zanutero"
-SCANNER = measure.TOP / "bench" / "scan.c"
 
 
 def filled(text):
@@ -52,16 +45,6 @@ KINDS = (
 )
 
 
-def compiled(folder):
-    """The scanner, compiled into this folder."""
-    compiler = os.environ.get("CC", "cc")
-    if not shutil.which(compiler):
-        sys.exit(f"There is no C compiler {compiler}.")
-    scanner = pathlib.Path(folder) / "scan"
-    subprocess.run([compiler, "-O2", "-o", scanner, SCANNER], check=True)
-    return scanner
-
-
 def shortest(words, code, runs):
     """The shortest processor time of so many runs, and the greatest peak."""
     times, peaks = zip(*(measure.alone(words, code) for _ in range(runs)))
@@ -70,7 +53,7 @@ def shortest(words, code, runs):
 
 def main():
     with measure.Bench(__doc__.splitlines()[0], mode="check") as bench:
-        scanner = compiled(bench.folder.name)
+        scanner = measure.compiled("scan", bench.folder.name)
         words = [PROGRAM, "check", f"program={bench.path}"], [scanner, bench.path]
         bench.path.write_bytes(b"")
         starts = shortest(words[0], 4, bench.runs)[0], shortest(words[1], 0, bench.runs)[0]

@@ -3,6 +3,7 @@ import argparse
 import os
 import pathlib
 import resource
+import shutil
 import subprocess
 import sys
 import tempfile
@@ -34,6 +35,22 @@ def alone(words, code):
     if int(ended) != code:
         sys.exit(f"exit code {int(ended)} in place of {code}")
     return float(seconds), 1024 * int(peak)
+
+
+def compiled(name, folder):
+    """A yardstick in C of this folder, compiled into that one by the compiler in the variable CC, or else by cc."""
+    compiler = os.environ.get("CC", "cc")
+    if not shutil.which(compiler):
+        sys.exit(f"There is no C compiler {compiler}.")
+    made = pathlib.Path(folder) / name
+    subprocess.run([compiler, "-O2", "-o", made, TOP / "bench" / f"{name}.c"], check=True)
+    return made
+
+
+def switch_seconds(switch, number, turns, runs):
+    """The shortest time of the plain interpreter, bench/switch.c, for so many turns of its program of a number."""
+    told = (subprocess.run([switch, str(number), str(turns)], stdout=subprocess.PIPE, check=True) for _ in range(runs))
+    return min(float(it.stdout) for it in told)
 
 
 class Bench:
@@ -84,14 +101,15 @@ class Bench:
         return self.shortest(code, self.runs, *more) - self.start
 
 
-def head(first, sizes):
-    """The head of a table: what is played, the sizes, and the ratios between them."""
+def head(first, sizes, *more):
+    """The head of a table: what is played, the sizes, the ratios between them, and further columns."""
     ratios = [f"{b} to {a}" for a, b in zip(sizes, sizes[1:])]
-    print("| " + " | ".join([first] + sizes + ratios) + " |")
-    print("|" + "---|" * (1 + len(sizes) + len(ratios)))
+    columns = [first, *sizes, *ratios, *more]
+    print("| " + " | ".join(columns) + " |")
+    print("|" + "---|" * len(columns))
 
 
-def row(kind, times):
+def row(kind, times, *more):
     """A row of it."""
     cells = [f"{t:.4f} s" for t in times] + [f"{b / a:.2f}" for a, b in zip(times, times[1:])]
-    print("| " + " | ".join([kind] + cells) + " |", flush=True)
+    print("| " + " | ".join([kind, *cells, *more]) + " |", flush=True)
