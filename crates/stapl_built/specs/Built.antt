@@ -1,7 +1,7 @@
 -- Which statements are built: those that the compiler takes. Which these are is this profile's, and grows.
 use Rattle.std.specs.Prelude.{◌≡◌, nat_lt, length, Bool, true, false, ◌||◌, None, Some}
 use Rattle.std.specs.List.{list_all}
-use Rattle.stapl_syntax.specs.Trees.{ItemTree, BodyTree, note, action, procedure, crc, end_procedure, boolean, boolean_array, integer, integer_array, assign, assign_element, assign_array, assign_range, goto, if_then, print, exit, StmtTree}
+use Rattle.stapl_syntax.specs.Trees.{ItemTree, BodyTree, note, action, procedure, data_block, end_data, crc, end_procedure, boolean, boolean_array, integer, integer_array, assign, assign_element, assign_array, assign_range, goto, if_then, print, exit, StmtTree}
 
 -- a statement that may stand after THEN; each PRINT of a program has a part
 abbrev pub is_built_simple : BodyTree → Bool
@@ -15,7 +15,7 @@ is_built_simple (print parts) = nat_lt 0 (length parts)
 is_built_simple (exit e) = true
 is_built_simple _ = false
 
--- a statement of a procedure; each INTEGER array of a program that has initial values has one
+-- a statement of a procedure or a declaration of a DATA block; each INTEGER array of a program that has initial values has one
 abbrev pub is_built_inner : BodyTree → Bool
 is_built_inner end_procedure = true
 is_built_inner (boolean name start) = true
@@ -30,11 +30,13 @@ abbrev pub is_built_item : ItemTree → Bool
 is_built_item (run, None) = true
 is_built_item (run, Some choice) = false
 
--- a statement outside procedures: a DATA block is not built, and neither is a procedure that runs by choice
+-- a statement outside procedures: a procedure that runs by choice is not built
 abbrev pub is_built_outer : BodyTree → Bool
 is_built_outer (note key text) = true
 is_built_outer (action name text items) = list_all is_built_item items
 is_built_outer (procedure name uses) = true
+is_built_outer (data_block name) = true
+is_built_outer end_data = true
 is_built_outer (crc n) = true
 is_built_outer _ = false
 

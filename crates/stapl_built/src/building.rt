@@ -31,7 +31,7 @@ fn is_simple(body: &Body) -> bool
     }
 }
 
-// A statement of a procedure.
+// A statement of a procedure or a declaration of a DATA block.
 fn is_inner(body: &Body) -> bool
     ensures { result ≡ is_built_inner (body_tree body.now) }
 {
@@ -65,7 +65,8 @@ fn is_built_outer(body: &Body) -> bool
     ensures { result ≡ is_built_outer (body_tree body.now) }
 {
     match body {
-        Body::Note(_, _) | Body::Procedure(_, _) | Body::Crc(_) => true,
+        Body::Note(_, _) | Body::Procedure(_, _) | Body::Data(_) | Body::EndData | Body::Crc(_) =>
+            true,
         Body::Action(_, _, items) => all_items_are_built(items.as_slice()),
         _ => false,
     }
