@@ -1,5 +1,5 @@
--- The name that a statement declares stands for its own variable: the block's own variables are found first, and no
--- earlier statement declares the same.
+-- The name that a statement declares stands for its own variable or its own block: the block's own variables are found
+-- first, and no earlier statement declares the same.
 use Rattle.std.proofs.Common.{◌≡◌, ℕ, zero, suc, ◌+◌, ◌<◌, Bool, true, false, not, ◌&&◌, ◌||◌, cond, if◌then◌else◌, List, [], ◌∷◌, ◌++◌, append_assoc, length, nat_lt, take, map, position, slice_get, Option, Some, None, IfSome, is_some, refl, sym, ap, subst, ◌∙◌, arith}
 use Rattle.std.specs.List.{cons_option, position_or_len}
 use Rattle.std.specs.Map.{lookup, keys_of}
@@ -14,11 +14,12 @@ use Rattle.stapl_syntax.specs.declared.names.Declaration.{Declaration}
 use Rattle.stapl_syntax.specs.declared.names.Found.TheVariants as found
 use Rattle.stapl_syntax.specs.declared.names.Key.{Key}
 use Rattle.stapl_syntax.specs.declared.names.Variable.{Variable}
-use Rattle.stapl_syntax.specs.Trees.{StmtTree}
-use Rattle.stapl_syntax.specs.Names.{numbered_from, numbered, inside_behind, inside_from, declaration, key_in, variable_entry, variable_in, variable_of, block_of, action_of, label_of, declared_from, declared, put_first, firsts_behind, firsts, key_eq, Names, names_of, block_named, found_in, found_from, kind_of_found}
+use Rattle.stapl_syntax.specs.declared.names.Block.{Block}
+use Rattle.stapl_syntax.specs.Trees.{BodyTree, procedure, data_block, StmtTree}
+use Rattle.stapl_syntax.specs.Names.{numbered_from, numbered, inside_behind, inside_from, declaration, key_in, variable_entry, variable_in, variable_of, block_of_body, block_of, action_of, label_of, declared_from, declared, put_first, firsts_behind, firsts, key_eq, Names, names_of, block_named, found_in, found_from, kind_of_found}
 use Rattle.stapl_syntax.specs.Rules.{is_again, Declared, declared_in, declares_again}
-use Rattle.stapl_meaning.specs.Scopes.{program_names, block_at, number_found}
-use Rattle.stapl_meaning.specs.Typed.{IsDeclaredAt}
+use Rattle.stapl_meaning.specs.Scopes.{program_names, as_played, block_at, number_found, lookup_from}
+use Rattle.stapl_meaning.specs.Typed.{IsDeclared}
 use Rattle.stapl_meaning.proofs.Sound.{IsSound}
 
 cons_front : {A : Type 0} (o : Option A) (xs ys : List A) → cons_option o (xs ++ ys) ≡ cons_option o xs ++ ys
@@ -96,6 +97,17 @@ module _ {K V : Type 0} (eq : K → K → Bool) where
       ap (λ n. cond (nat_lt n (length keys)) (Some n) None) (place_behind e.0 front rest e new own)
       ∙ ap (λ b. cond b (Some (length front)) None) (lt-ltb (length front) (length keys) (many_keys front rest e))
 
+  -- what stands under the key of an entry is the entry's if none before it has that key
+  lookup_behind : (front rest : List (K × V)) (e : K × V) → is_some (lookup (eq e.0) front) ≡ false → eq e.0 e.0 ≡ true →
+      lookup (eq e.0) (front ++ (e ∷ rest)) ≡ Some e.1
+  lookup_behind [] rest e new own = ap (λ b. cond b (Some e.1) (lookup (eq e.0) rest)) own
+  lookup_behind (x ∷ front) rest e new own = by (eq e.0 x.0) new (λ new. lookup_behind front rest e new own)
+    where
+      by : (b : Bool) → is_some (cond b (Some x.1) (lookup (eq e.0) front)) ≡ false → (is_some (lookup (eq e.0) front) ≡ false → lookup (eq e.0) (front ++ (e ∷ rest)) ≡ Some e.1) →
+          cond b (Some x.1) (lookup (eq e.0) (front ++ (e ∷ rest))) ≡ Some e.1
+      by true new more = absurd (true≢false new)
+      by false new more = more new
+
 key_itself : (k : Key) → key_eq k k ≡ true
 key_itself k =
     ap (λ (b : Bool). b && bytes_eq k.name k.name) ((bytes_eq-Decides k.block k.block).1 refl)
@@ -108,10 +120,33 @@ new_variable earlier now st e =
     let variable = is_again earlier.variable (variable_of now 0 st) in
     (or_parts (block || action) variable (or_parts (block || action || variable) (is_again earlier.label (label_of now 0 st)) e).0).1
 
+pub new_block : (known : List ℕ → Bool) (n : ℕ) (b : BodyTree) (e : List ℕ × Block) → block_of_body n b ≡ Some e → is_again known (block_of_body 0 b) ≡ false → known e.0 ≡ false
+new_block known n b e is new = sym (ap (is_again known) is) ∙ by b ∙ new
+  where
+    by : (b : BodyTree) → is_again known (block_of_body n b) ≡ is_again known (block_of_body 0 b)
+    by (procedure name uses) = refl
+    by (data_block name) = refl
+    by _ = refl
+
 module _ (program : List StmtTree) (sound : IsSound program) where
   -- the names of the statements before a place
   abbrev names_before : ℕ → Names
   names_before i = names_of (numbered (take i (map Some program)))
+
+  -- the block that a statement begins is the one of its name
+  pub block_here : (i : ℕ) (st : StmtTree) → slice_get program i ≡ Some st → (e : List ℕ × Block) → block_of_body (1 + i) st.body ≡ Some e →
+      lookup (bytes_eq e.0) (program_names program).blocks ≡ Some e.1
+  block_here i st at e is =
+      let again = is_again (declared_in (names_before i)).block (block_of (block_at program i) 0 st) in
+      let action = is_again (declared_in (names_before i)).action (action_of (block_at program i) 0 st) in
+      let variable = is_again (declared_in (names_before i)).variable (variable_of (block_at program i) 0 st) in
+      let label = is_again (declared_in (names_before i)).label (label_of (block_at program i) 0 st) in
+      let own = (or_parts again action (or_parts (again || action) variable (or_parts (again || action || variable) label (sound.keeps i st reasons.Duplicate at)).0).0).0 in
+      let new = new_block (declared_in (names_before i)).block (1 + i) st.body e is own in
+      let parts = declared_parts block_of program None 1 i st e at is in
+      let all = firsts_parts bytes_eq (declared block_of (numbered (take i (map Some program)))) parts.0 e new in
+      ap (lookup (bytes_eq e.0)) (ap (firsts bytes_eq) parts.1 ∙ all.1)
+      ∙ lookup_behind bytes_eq (names_before i).blocks all.0 e new ((bytes_eq-Decides e.0 e.0).1 refl)
 
   module _ (i : ℕ) (st : StmtTree) (at : slice_get program i ≡ Some st) (block : List ℕ) (inside : block_at program i ≡ Some block) (d : Declaration) (is : declaration st.body ≡ Some d) where
     new_here : is_some (lookup (key_eq (key_in block d.name)) (names_before i).variables) ≡ false
@@ -143,15 +178,15 @@ module _ (program : List StmtTree) (sound : IsSound program) where
         ap (λ variables. slice_get variables (length (names_before i).variables)) variables_parts.1
         ∙ item_behind key_eq (names_before i).variables variables_parts.0 (variable_entry block (1 + i) d)
 
-    declared_here : IsDeclaredAt program i block d
+    declared_here : IsDeclared (as_played program) (lookup_from (program_names program) (block_at program i)) (1 + i) block d
     declared_here = record {
       kind = ap (kind_of_found (program_names program)) found_here ∙ ap (option_map (λ e. e.1.kind)) entry_here;
       entry = ap (λ f. slice_get (program_names program).variables (number_found (program_names program) f)) found_here ∙ entry_here;
     }
 
-  pub declared_at : (i : ℕ) (st : StmtTree) → slice_get program i ≡ Some st → (block : List ℕ) → block_at program i ≡ Some block → IfSome (declaration st.body) (IsDeclaredAt program i block)
+  pub declared_at : (i : ℕ) (st : StmtTree) → slice_get program i ≡ Some st → (block : List ℕ) → block_at program i ≡ Some block → IfSome (declaration st.body) (IsDeclared (as_played program) (lookup_from (program_names program) (block_at program i)) (1 + i) block)
   declared_at i st at block inside = by (declaration st.body) refl
     where
-      by : (o : Option Declaration) → declaration st.body ≡ o → IfSome o (IsDeclaredAt program i block)
+      by : (o : Option Declaration) → declaration st.body ≡ o → IfSome o (IsDeclared (as_played program) (lookup_from (program_names program) (block_at program i)) (1 + i) block)
       by None e = tt
       by (Some d) e = declared_here i st at block inside d e

@@ -2,8 +2,9 @@ pub mod TurnLemmas
 pub mod RunLaws
 pub mod Entries
 pub mod Sound
-pub mod Ordered
 pub mod Declared
+pub mod Blocks
+pub mod Ordered
 pub mod Sized
 pub mod Resolved
 pub mod Apart

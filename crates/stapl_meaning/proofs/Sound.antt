@@ -1,11 +1,12 @@
 -- No reason holds against a piece of a program, nor against its end: so no piece breaks a rule.
-use Rattle.std.proofs.Common.{◌≡◌, ℕ, zero, suc, ◌<◌, ◌≤◌, Bool, true, false, List, [], ◌∷◌, length, take, map, slice_get, Some, None, is_some, refl, sym, subst, arith}
+use Rattle.std.proofs.Common.{◌≡◌, ℕ, zero, suc, ◌<◌, ◌≤◌, Bool, true, false, List, [], ◌∷◌, length, take, map, slice_get, Option, Some, None, is_some, refl, sym, subst, arith}
 use Rattle.std.proofs.lemmas.Option.{same_Some, none-some, slice_get_past, slice_get_within}
 use Rattle.stapl_lexer.specs.declared.piece.Piece.{Piece}
 use Rattle.stapl_lexer.specs.declared.reason.Reason.{Reason}
 use Rattle.stapl_lexer.specs.declared.reason.Reason.TheVariants as reasons
 use Rattle.stapl_syntax.specs.Trees.{StmtTree}
-use Rattle.stapl_syntax.specs.Statements.{IsPieceStatement}
+use Rattle.stapl_syntax.specs.Statements.{is_outer, IsLabelled, IsPieceStatement}
+use Rattle.stapl_syntax.specs.Symbols.{symbols_of}
 use Rattle.stapl_syntax.specs.Names.{numbered, inside_after}
 use Rattle.stapl_syntax.specs.Rules.{is_action, any_body, breaks}
 use Rattle.stapl_syntax.specs.Programs.{piece_limit, AreReadAs, facts_at, HasReasonAt, breaks_rule, not_closed, nothing_to_do, IsProgram}
@@ -15,6 +16,7 @@ use Rattle.stapl_built.proofs.Counts.{same_length, few_pieces}
 pub record IsSound (program : List StmtTree) : Type 0 where
   pub few : length program ≤ piece_limit
   pub keeps : (i : ℕ) (st : StmtTree) (reason : Reason) → slice_get program i ≡ Some st → breaks (facts_at (map Some program) i) st reason ≡ false
+  pub labelled : (i : ℕ) (st : StmtTree) (name : List ℕ) → slice_get program i ≡ Some st → st.label ≡ Some name → is_outer st.body ≡ false
   pub closed : is_some (inside_after (numbered (take (length program) (map Some program)))) ≡ false
   pub acts : any_body is_action (numbered (take (length program) (map Some program))) ≡ true
 
@@ -38,6 +40,12 @@ module _ (text : List ℕ) (program : List StmtTree) (is : IsProgram text progra
           absurd (is.sound i (omega (arith, lt)) reason
           (subst (λ o. HasReasonAt text (map Some program) i o reason) (sym own.1) (breaks_rule own.0 st reason own.2 e)))
 
+  -- what has a label stands in a procedure
+  labelled : (i : ℕ) (st : StmtTree) (name : List ℕ) → slice_get program i ≡ Some st → st.label ≡ Some name → is_outer st.body ≡ false
+  labelled i st name at has =
+      let own = piece_of text is.pieces program i st is.read at in
+      (subst (λ (o : Option (List ℕ)). IsLabelled (symbols_of text own.2.tokens) o st.body) has own.2.means).2
+
   none_at_end : (reason : Reason) → HasReasonAt text (map Some program) (length program) None reason → ⊥
   none_at_end reason has =
       let same = same_length text is.pieces program is.read in
@@ -59,4 +67,4 @@ module _ (text : List ℕ) (program : List StmtTree) (is : IsProgram text progra
       by false e = absurd (none_at_end reasons.NothingToDo (nothing_to_do e))
 
   pub sound : IsSound program
-  sound = record { few = few_pieces text program is; keeps = keeps; closed = closed; acts = acts }
+  sound = record { few = few_pieces text program is; keeps = keeps; labelled = labelled; closed = closed; acts = acts }

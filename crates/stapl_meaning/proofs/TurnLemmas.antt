@@ -6,7 +6,7 @@ use Rattle.stapl_meaning.specs.declared.values.Value.{Value}
 use Rattle.stapl_meaning.specs.Values.{Got, Known, Faults, Stuck}
 use Rattle.stapl_meaning.specs.Operands.{values_of}
 use Rattle.stapl_meaning.specs.States.{State, Did, Falls, Jumps, Returns, Ends, Turned, Leads, Over, Broken, NoTurn, with_got, preceded, turn_of_piece, next_chosen, jumps_to, led}
-use Rattle.stapl_meaning.specs.Scopes.{Scope, scope_at}
+use Rattle.stapl_meaning.specs.Scopes.{Scope, Played, scope_at}
 use Rattle.stapl_meaning.specs.Turns.{operands, effect, target, rows, HasEffect, Does, follows, operand_faults, effect_faults, falls, jumps, returns, ends, IsTurn, carried, rows_done, done, turn_of, turn, IsFound}
 
 found_preceded : (events : List Event) (t : Turned) → IsFound t → IsFound (preceded events t)
@@ -100,7 +100,7 @@ module _ (scope : Scope) where
   is_found _ _ _ (ends b rest s t ending has) = tt
 
 -- a turn of a program is what the function gives, where it finds something to do
-pub turn_is : (program : List StmtTree) (i : ℕ) (s : State) (turned : Turned) → IsTurn program i s turned → (turn program i s ≡ turned) × IsFound turned
+pub turn_is : (program : Played) (i : ℕ) (s : State) (turned : Turned) → IsTurn program i s turned → (turn program i s ≡ turned) × IsFound turned
 turn_is program i s turned at =
     let scope = scope_at program i in
     let bs = rows at.statement.body in (
@@ -108,15 +108,15 @@ turn_is program i s turned at =
       subst IsFound (sym at.is) (found_of_piece (i + 1) at.done (is_found scope bs s at.done at.does)),
     )
 
-pub is_turn : (program : List StmtTree) (i : ℕ) (s : State) → IsFound (turn program i s) → IsTurn program i s (turn program i s)
-is_turn program i s found = at_statement (slice_get program i) refl found
+pub is_turn : (program : Played) (i : ℕ) (s : State) → IsFound (turn program i s) → IsTurn program i s (turn program i s)
+is_turn program i s found = at_statement (slice_get program.pieces i) refl found
   where
-    at_statement : (o : Option StmtTree) → slice_get program i ≡ o → IsFound (turn_of (scope_at program i) (i + 1) s o) → IsTurn program i s (turn_of (scope_at program i) (i + 1) s o)
+    at_statement : (o : Option StmtTree) → slice_get program.pieces i ≡ o → IsFound (turn_of (scope_at program i) (i + 1) s o) → IsTurn program i s (turn_of (scope_at program i) (i + 1) s o)
     at_statement None e found = absurd found
     at_statement (Some st) e found =
         let scope = scope_at program i in
         let does = done_does scope (rows st.body) s (found_in_piece (i + 1) (done scope s st.body) found) in
         record { statement = st; stands = e; done = done scope s st.body; does = does; is = refl }
 
-pub one_turn : (program : List StmtTree) (i : ℕ) (s : State) (a b : Turned) → IsTurn program i s a → IsTurn program i s b → a ≡ b
+pub one_turn : (program : Played) (i : ℕ) (s : State) (a b : Turned) → IsTurn program i s a → IsTurn program i s b → a ≡ b
 one_turn program i s a b p q = sym (turn_is program i s a p).0 ∙ (turn_is program i s b q).0

@@ -1,13 +1,12 @@
 -- Runs and plays. Source: JESD71, actions and procedures. The bound on turns is this profile's.
-use Rattle.std.specs.Prelude.{ℕ, zero, suc, List, [], ◌++◌, Option, Some, None}
-use Rattle.stapl_syntax.specs.Trees.{StmtTree}
+use Rattle.std.specs.Prelude.{ℕ, zero, suc, List, [], ◌∷◌, ◌++◌, Option, Some, None}
 use Rattle.stapl_meaning.specs.declared.events.Event.{Event}
 use Rattle.stapl_meaning.specs.declared.events.Ending.{Ending}
 use Rattle.stapl_meaning.specs.declared.events.Ending.TheVariants.{Spent}
 use Rattle.stapl_meaning.specs.declared.values.Held.{Held}
-use Rattle.stapl_meaning.specs.States.{State, Turned, Leads, Over, Broken, NoTurn, next_chosen}
-use Rattle.stapl_meaning.specs.Scopes.{entry_from, zeros_of}
-use Rattle.stapl_meaning.specs.Turns.{turn}
+use Rattle.stapl_meaning.specs.States.{State, Turned, Leads, Over, Broken, NoTurn, begun}
+use Rattle.stapl_meaning.specs.Scopes.{Preset, Played, entry_from, preset_scope, zeros_of}
+use Rattle.stapl_meaning.specs.Turns.{carried, turn}
 
 -- How a run stands: it has ended, it still goes on from a place, or it found nothing to do, which no accepted program
 -- meets.
@@ -34,7 +33,7 @@ goes_on (Broken events k t) s go = record { events = events; outcome = Stopped; 
 goes_on (NoTurn events) s go = record { events = events; outcome = Stopped; state = s }
 
 -- at most n turns from a place and a state on
-abbrev pub run : List StmtTree → ℕ → ℕ → State → Run
+abbrev pub run : Played → ℕ → ℕ → State → Run
 run program zero i s = record { events = []; outcome = Going i; state = s }
 run program (suc n) i s = goes_on (turn program i s) s (run program n)
 
@@ -51,10 +50,19 @@ then_runs r go = continued r.outcome r go
 abbrev pub start : List ℕ → List Held → State
 start chosen variables = record { chosen = chosen; store = record { variables = variables } }
 
+-- The initial values of DATA blocks are set, one after the other. This takes no turn, and leads to no place of its own.
+abbrev pub set_up : Played → List Preset → State → Turned
+set_up program [] s = Leads [] 0 s
+set_up program (preset ∷ presets) s = carried (preset_scope program preset) preset.body s (set_up program presets)
+
+-- the beginning of a play: DATA blocks are set, and then the first chosen procedure begins
+abbrev pub beginning : Played → State → Turned
+beginning program s = begun (entry_from program.pieces) (set_up program program.presets s)
+
 -- the play of the chosen procedures, for at most n turns; beginning it takes no turn
-abbrev pub play : List StmtTree → List ℕ → ℕ → Run
+abbrev pub play : Played → List ℕ → ℕ → Run
 play program chosen n =
-    goes_on (next_chosen (entry_from program) (start chosen (zeros_of program)) chosen) (start chosen (zeros_of program)) (run program n)
+    let s = start chosen (zeros_of program) in goes_on (beginning program s) s (run program n)
 
 -- the ending of a run that stands so: one that still goes on has spent its turns
 abbrev pub ending_of : Outcome → Option Ending

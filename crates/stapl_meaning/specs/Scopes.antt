@@ -1,6 +1,7 @@
--- What the names of a program stand for. Source: JESD71, procedures and variables. Places are those of pieces, counted
--- from 0.
-use Rattle.std.specs.Prelude.{ℕ, zero, suc, pos, ◌+◌, ◌-◌, List, [], ◌∷◌, take, length, Option, Some, None, if◌then◌else◌, map, replicate, nat_abs, false}
+-- What of a program plays, and what its names stand for. Source: JESD71, procedures, DATA blocks and variables. Places
+-- are those of pieces, counted from 0.
+use Rattle.std.specs.Prelude.{ℕ, zero, suc, pos, ◌+◌, ◌-◌, List, [], ◌∷◌, take, length, Bool, true, false, Option, Some, None, if◌then◌else◌, map, replicate, nat_abs}
+use Rattle.std.specs.List.{cons_option}
 use Rattle.std.specs.Option.{option_map_or}
 use Rattle.std.specs.Map.{lookup}
 use Rattle.std.specs.Str.{bytes_eq}
@@ -10,7 +11,7 @@ use Rattle.stapl_syntax.specs.declared.names.Key.{Key}
 use Rattle.stapl_syntax.specs.declared.names.VarKind.{VarKind}
 use Rattle.stapl_syntax.specs.declared.names.VarKind.TheVariants as kinds
 use Rattle.stapl_syntax.specs.declared.names.Variable.{Variable}
-use Rattle.stapl_syntax.specs.Trees.{ItemTree, BodyTree, procedure, action, StmtTree}
+use Rattle.stapl_syntax.specs.Trees.{ItemTree, BodyTree, procedure, data_block, end_data, action, boolean, boolean_array, integer, integer_array, StmtTree}
 use Rattle.stapl_syntax.specs.Statements.{begins_procedure}
 use Rattle.stapl_syntax.specs.Names.{Names, numbered, names_of, inside_after, key_in, key_eq, found_from, kind_of_found}
 use Rattle.stapl_meaning.specs.declared.values.Held.{Held}
@@ -25,9 +26,63 @@ pub record Scope : Type 0 where
   pub entry : ℕ → ℕ
   pub follow : ℕ
 
+-- A program as it plays.
+
+-- the DATA block that is open behind a statement, if this one was open before it
+abbrev pub data_behind : Option (List ℕ) → BodyTree → Option (List ℕ)
+data_behind now (data_block name) = Some name
+data_behind now end_data = None
+data_behind now _ = now
+
+-- the statement is no part of a DATA block, which begins with DATA
+abbrev pub plays : Option (List ℕ) → BodyTree → Bool
+plays None (data_block name) = false
+plays None _ = true
+plays (Some block) _ = false
+
+-- the statement that stands for each one of a DATA block: it does nothing
+abbrev pub idle : StmtTree
+idle = record { label = None; body = end_data }
+
+-- the pieces of a program, of which those of DATA blocks do nothing
+abbrev pub pieces_from : Option (List ℕ) → List StmtTree → List StmtTree
+pieces_from now [] = []
+pieces_from now (st ∷ rest) = (if plays now st.body then st else idle) ∷ pieces_from (data_behind now st.body) rest
+
+-- the declaration has an initial value
+abbrev pub has_initial_value : BodyTree → Bool
+has_initial_value (boolean name (Some b)) = true
+has_initial_value (boolean_array name size (Some bits)) = true
+has_initial_value (integer name (Some z)) = true
+has_initial_value (integer_array name size (Some zs)) = true
+has_initial_value _ = false
+
+-- a declaration of a DATA block that has an initial value, and the name of the block
+pub record Preset : Type 0 where
+  pub block : List ℕ
+  pub body : BodyTree
+
+abbrev pub preset_of : Option (List ℕ) → BodyTree → Option Preset
+preset_of None body = None
+preset_of (Some block) body = if has_initial_value body then Some (record { block = block; body = body }) else None
+
+abbrev pub presets_from : Option (List ℕ) → List StmtTree → List Preset
+presets_from now [] = []
+presets_from now (st ∷ rest) = cons_option (preset_of now st.body) (presets_from (data_behind now st.body) rest)
+
+-- What of a program plays: the names of all of it, the initial values of its DATA blocks in their order, and its pieces.
+pub record Played : Type 0 where
+  pub names : Names
+  pub presets : List Preset
+  pub pieces : List StmtTree
+
 -- the names of a program
 abbrev pub program_names : List StmtTree → Names
 program_names program = names_of (numbered (map Some program))
+
+abbrev pub as_played : List StmtTree → Played
+as_played program =
+    record { names = program_names program; presets = presets_from None program; pieces = pieces_from None program }
 
 -- the block that is open before the piece at a place
 abbrev pub block_at : List StmtTree → ℕ → Option (List ℕ)
@@ -84,8 +139,14 @@ scope_of names entry count inside i = record {
 }
 
 -- what the statement at a place finds
-abbrev pub scope_at : List StmtTree → ℕ → Scope
-scope_at program i = scope_of (program_names program) (entry_from program) (length program) (block_at program i) i
+abbrev pub scope_at : Played → ℕ → Scope
+scope_at program i =
+    scope_of program.names (entry_from program.pieces) (length program.pieces) (block_at program.pieces i) i
+
+-- what a declaration of a DATA block finds
+abbrev pub preset_scope : Played → Preset → Scope
+preset_scope program preset =
+    scope_of program.names (entry_from program.pieces) (length program.pieces) (Some preset.block) 0
 
 -- what the variables hold when a play starts
 abbrev pub zero_by : VarKind → ℕ → Held
@@ -97,22 +158,22 @@ zero_by kinds.BooleanArray n = held.Bits (replicate n false)
 abbrev pub zero_of : Key × Variable → Held
 zero_of v = zero_by v.1.kind (nat_abs v.1.size)
 
-abbrev pub zeros_of : List StmtTree → List Held
-zeros_of program = map zero_of (program_names program).variables
+abbrev pub zeros_of : Played → List Held
+zeros_of program = map zero_of program.names.variables
 
 -- the procedure that an item of an action names, by number
-abbrev pub item_procedure : List StmtTree → ItemTree → ℕ
-item_procedure program item = procedure_number program item.0
+abbrev pub item_procedure : Played → ItemTree → ℕ
+item_procedure program item = procedure_number program.pieces item.0
 
 -- the procedures of the action of this name, by number: of this statement, or of others
-abbrev pub chosen_before : List StmtTree → BodyTree → List ℕ → Option (List ℕ) → Option (List ℕ)
+abbrev pub chosen_before : Played → BodyTree → List ℕ → Option (List ℕ) → Option (List ℕ)
 chosen_before program (action a text items) name others =
     if bytes_eq name a then Some (map (item_procedure program) items) else others
 chosen_before program _ name others = others
 
-abbrev pub chosen_from : List StmtTree → List StmtTree → List ℕ → Option (List ℕ)
+abbrev pub chosen_from : Played → List StmtTree → List ℕ → Option (List ℕ)
 chosen_from program [] name = None
 chosen_from program (st ∷ rest) name = chosen_before program st.body name (chosen_from program rest name)
 
-abbrev pub chosen_of : List StmtTree → List ℕ → Option (List ℕ)
-chosen_of program name = chosen_from program program name
+abbrev pub chosen_of : Played → List ℕ → Option (List ℕ)
+chosen_of program name = chosen_from program program.pieces name

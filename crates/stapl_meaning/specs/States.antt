@@ -57,6 +57,13 @@ abbrev pub next_chosen : (ℕ → ℕ) → State → List ℕ → Turned
 next_chosen entry s [] = Over [] (Exit (pos 0)) (record s { chosen = [] })
 next_chosen entry s (p ∷ ps) = Leads [] (entry p) (record s { chosen = ps })
 
+-- The first chosen procedure begins where what sets a play up has come to its end.
+abbrev pub begun : (ℕ → ℕ) → Turned → Turned
+begun entry (Leads events place s) = preceded events (next_chosen entry s s.chosen)
+begun entry (Over events ending s) = NoTurn events
+begun entry (Broken events k s) = NoTurn events
+begun entry (NoTurn events) = NoTurn events
+
 -- a jump to a target, if there is one
 abbrev pub jumps_to : Option ℕ → State → Turned
 jumps_to None s = NoTurn []

@@ -10,7 +10,7 @@ use Rattle.stapl_meaning.specs.Values.{Got, Known, Faults, Stuck, These, source_
 use Rattle.stapl_meaning.specs.Operands.{Operand, plain, an_integer, a_boolean, an_index, a_range, bit_number, given_kind, array_operands, part_operands, values_of}
 use Rattle.stapl_meaning.specs.States.{State, Did, Falls, Jumps, Returns, Ends, Turned, Leads, Over, Broken, NoTurn, with_got, preceded, turn_of_piece, next_chosen, led}
 use Rattle.stapl_meaning.specs.Effects.{assigned, element_assigned, IntoWhole, IntoRange, copied, integers_set, jumped, parted, returned, exited, joined, printed}
-use Rattle.stapl_meaning.specs.Scopes.{Scope, scope_at}
+use Rattle.stapl_meaning.specs.Scopes.{Scope, Played, scope_at}
 
 -- The table. A statement that is not built has no operands, and finds nothing to do.
 
@@ -90,9 +90,9 @@ pub data Does (scope : Scope) : List BodyTree → State → Turned → Type 0 wh
       Does scope (b ∷ rest) s (Over [] ending t)
 
 -- a turn of a program at a place
-pub record IsTurn (program : List StmtTree) (i : ℕ) (s : State) (turned : Turned) : Type 0 where
+pub record IsTurn (program : Played) (i : ℕ) (s : State) (turned : Turned) : Type 0 where
   pub statement : StmtTree
-  pub stands : slice_get program i ≡ Some statement
+  pub stands : slice_get program.pieces i ≡ Some statement
   pub done : Turned
   pub does : Does (scope_at program i) (rows statement.body) s done
   pub is : turned ≡ turn_of_piece (i + 1) done
@@ -118,8 +118,8 @@ turn_of scope piece s None = NoTurn []
 turn_of scope piece s (Some st) = turn_of_piece piece (done scope s st.body)
 
 -- the turn at a place
-abbrev pub turn : List StmtTree → ℕ → State → Turned
-turn program i s = turn_of (scope_at program i) (i + 1) s (slice_get program i)
+abbrev pub turn : Played → ℕ → State → Turned
+turn program i s = turn_of (scope_at program i) (i + 1) s (slice_get program.pieces i)
 
 -- the turn finds something to do
 abbrev pub IsFound : Turned → Type 0

@@ -1,7 +1,9 @@
 -- Programs whose names are resolved, whose statements are typed, and whose variables keep the limits. Source: JESD71,
 -- program structure, variables, labels and expressions. The limits are this profile's.
-use Rattle.std.specs.Prelude.{◌≡◌, ◌≢◌, ℕ, ◌+◌, ◌<◌, ◌≤◌, Bool, true, false, not, if◌then◌else◌, List, [], ◌∷◌, All, AllPairs, Some, IfSome, length, slice_get, sum_by, nat_abs}
+use Rattle.std.specs.Prelude.{◌≡◌, ◌≢◌, ℕ, ◌+◌, ◌<◌, ◌≤◌, Bool, true, false, not, if◌then◌else◌, List, [], ◌∷◌, All, AllPairs, None, Some, IfSome, length, slice_get, sum_by, nat_abs}
 use Rattle.std.specs.List.{AllByRecursion}
+use Rattle.std.specs.Map.{keys_of}
+use Rattle.stapl_syntax.specs.declared.names.Block.{Block}
 use Rattle.stapl_syntax.specs.declared.names.Declaration.{Declaration}
 use Rattle.stapl_syntax.specs.declared.names.Key.{Key}
 use Rattle.stapl_syntax.specs.declared.names.VarKind.{VarKind}
@@ -10,11 +12,12 @@ use Rattle.stapl_syntax.specs.declared.names.Variable.{Variable}
 use Rattle.stapl_syntax.specs.Trees.{ItemTree, BodyTree, action, procedure, StmtTree}
 use Rattle.stapl_syntax.specs.Statements.{is_outer, begins_procedure, ends_procedure}
 use Rattle.stapl_syntax.specs.Names.{declaration, variable_entry}
+use Rattle.stapl_meaning.specs.Values.{Lookup}
 use Rattle.stapl_syntax.specs.Rules.{is_boolean, boolean_limit, booleans_limit, integers_limit, has_too_many_values}
 use Rattle.stapl_syntax.specs.Programs.{piece_limit}
 use Rattle.stapl_syntax.specs.Kinds.{operands_suit}
 use Rattle.stapl_syntax.specs.Mentions.{labels_named}
-use Rattle.stapl_meaning.specs.Scopes.{program_names, block_at, procedures_in, procedure_number, scope_at}
+use Rattle.stapl_meaning.specs.Scopes.{plays, has_initial_value, Preset, Played, block_at, procedures_in, procedure_number, scope_at, preset_scope}
 
 -- Statements stand in order: those outside procedures, and procedures, each from its PROCEDURE to the first ENDPROC. It
 -- is told whether a procedure is open in front of them.
@@ -31,6 +34,11 @@ procedure_name _ names = names
 abbrev pub procedure_names : List StmtTree → List (List ℕ)
 procedure_names [] = []
 procedure_names (st ∷ rest) = procedure_name st.body (procedure_names rest)
+
+-- the names of the blocks that are no DATA blocks, in order
+abbrev pub plain_blocks : List (List ℕ × Block) → List (List ℕ)
+plain_blocks [] = []
+plain_blocks (e ∷ es) = if e.1.is_data then plain_blocks es else e.0 ∷ plain_blocks es
 
 abbrev pub action_name : BodyTree → List (List ℕ) → List (List ℕ)
 action_name (action name text items) names = name ∷ names
@@ -65,43 +73,54 @@ pub record AreSized (variables : List (Key × Variable)) : Type 0 where
   pub integers : sum_by integers_of variables ≤ integers_limit
   pub booleans : sum_by booleans_of variables ≤ booleans_limit
 
-module _ (program : List StmtTree) where
+module _ (program : Played) where
   -- the place is that of a statement before which this block is open
   pub record IsInBlock (block : List ℕ) (place : ℕ) : Type 0 where
-    pub within : place < length program
-    pub inside : block_at program place ≡ Some block
+    pub within : place < length program.pieces
+    pub inside : block_at program.pieces place ≡ Some block
 
-  -- The name that a declaration at a place of a block declares stands there for this very variable.
-  pub record IsDeclaredAt (i : ℕ) (block : List ℕ) (d : Declaration) : Type 0 where
-    pub kind : (scope_at program i).look.kind d.name ≡ Some d.kind
-    pub entry : slice_get (program_names program).variables ((scope_at program i).look.variable d.name) ≡ Some (variable_entry block (1 + i) d)
+  -- The name that the declaration of a piece in a block declares stands there for this very variable.
+  pub record IsDeclared (look : Lookup) (piece : ℕ) (block : List ℕ) (d : Declaration) : Type 0 where
+    pub kind : look.kind d.name ≡ Some d.kind
+    pub entry : slice_get program.names.variables (look.variable d.name) ≡ Some (variable_entry block piece d)
 
   -- The statement at a place of a procedure is typed: its operands have the kinds that it wants, a label that it names
   -- stands in the same procedure, the name that it declares stands for its variable, and an INTEGER array has no more
   -- initial values than elements.
   pub record IsTypedAt (i : ℕ) (body : BodyTree) : Type 0 where
     pub block : List ℕ
-    pub inside : block_at program i ≡ Some block
+    pub inside : block_at program.pieces i ≡ Some block
     pub suits : operands_suit (scope_at program i).look.kind body ≡ true
     pub leads : AllByRecursion (λ name. IsInBlock block ((scope_at program i).label name)) (labels_named body)
-    pub declares : IfSome (declaration body) (IsDeclaredAt i block)
+    pub declares : IfSome (declaration body) (IsDeclared (scope_at program i).look (1 + i) block)
     pub few_values : has_too_many_values body ≡ false
+
+  -- The same of a declaration of a DATA block, which has an initial value.
+  pub record IsTypedPreset (preset : Preset) : Type 0 where
+    pub piece : ℕ
+    pub starts : has_initial_value preset.body ≡ true
+    pub declares : IfSome (declaration preset.body) (IsDeclared (preset_scope program preset).look piece preset.block)
+    pub few_values : has_too_many_values preset.body ≡ false
 
   -- an item of an action names a procedure
   abbrev pub NamesProcedure : ItemTree → Type 0
-  NamesProcedure item = procedure_number program item.0 < procedures_in program
+  NamesProcedure item = procedure_number program.pieces item.0 < procedures_in program.pieces
 
   abbrev pub NamesProcedures : BodyTree → Type 0
   NamesProcedures (action name text items) = All NamesProcedure items
   NamesProcedures _ = Unit {0}
 
--- A program is typed.
-pub record IsTyped (program : List StmtTree) : Type 0 where
-  pub few : length program ≤ piece_limit
-  pub ordered : IsOrdered false program
-  pub statements : (i : ℕ) (st : StmtTree) → slice_get program i ≡ Some st → is_outer st.body ≡ false → IsTypedAt program i st.body
-  pub items : All (λ (st : StmtTree). NamesProcedures program st.body) program
-  pub procedures_apart : AllPairs (λ a b. a ≢ b) (procedure_names program)
-  pub actions_apart : AllPairs (λ a b. a ≢ b) (action_names program)
-  pub some_action : 1 ≤ length (action_names program)
-  pub sized : AreSized (program_names program).variables
+-- A program is typed. Of no DATA block any piece is left.
+pub record IsTyped (program : Played) : Type 0 where
+  pub few : length program.pieces ≤ piece_limit
+  pub play : All (λ (st : StmtTree). plays None st.body ≡ true) program.pieces
+  pub ordered : IsOrdered false program.pieces
+  pub statements : (i : ℕ) (st : StmtTree) → slice_get program.pieces i ≡ Some st → is_outer st.body ≡ false → IsTypedAt program i st.body
+  pub presets : All (IsTypedPreset program) program.presets
+  pub items : All (λ (st : StmtTree). NamesProcedures program st.body) program.pieces
+  pub blocks_apart : AllPairs (λ a b. a ≢ b) (keys_of program.names.blocks)
+  pub procedures_are : plain_blocks program.names.blocks ≡ procedure_names program.pieces
+  pub procedures_apart : AllPairs (λ a b. a ≢ b) (procedure_names program.pieces)
+  pub actions_apart : AllPairs (λ a b. a ≢ b) (action_names program.pieces)
+  pub some_action : 1 ≤ length (action_names program.pieces)
+  pub sized : AreSized program.names.variables

@@ -3,31 +3,28 @@ ghost use Rattle.std.specs.Prelude.{◌≡◌, ℕ, ◌+◌, List};
 ghost use Rattle.stapl_syntax.specs.Trees.{StmtTree};
 ghost use Rattle.stapl_built.specs.Unbuilt.{IsBuiltProgram};
 ghost use Rattle.stapl_meaning.specs.States.{State, Turned};
+ghost use Rattle.stapl_meaning.specs.Scopes.{Played, as_played};
 ghost use Rattle.stapl_meaning.specs.Turns.{IsTurn, turn, IsFound};
 ghost use Rattle.stapl_meaning.specs.Plays.{run, then_runs};
 ghost use Rattle.stapl_meaning.specs.Typed.{IsTyped};
 
-use stapl_built::laws::programs_are_built;
-
 /// A statement does what the function gives, and where the function finds something to do, the statement does that.
 pub fn turns_are_computed()
-    ensures once { (program : List StmtTree) (i : ℕ) (s : State) (turned : Turned) → IsTurn program i s turned → (turn program i s ≡ turned) × IsFound turned }
-    ensures found { (program : List StmtTree) (i : ℕ) (s : State) → IsFound (turn program i s) → IsTurn program i s (turn program i s) }
+    ensures once { (program : Played) (i : ℕ) (s : State) (turned : Turned) → IsTurn program i s turned → (turn program i s ≡ turned) × IsFound turned }
+    ensures found { (program : Played) (i : ℕ) (s : State) → IsFound (turn program i s) → IsTurn program i s (turn program i s) }
 {}
 
 /// A state has at most one turn.
 pub fn one_turn()
-    ensures { (program : List StmtTree) (i : ℕ) (s : State) (a b : Turned) → IsTurn program i s a → IsTurn program i s b → a ≡ b }
+    ensures { (program : Played) (i : ℕ) (s : State) (a b : Turned) → IsTurn program i s a → IsTurn program i s b → a ≡ b }
 {}
 
 /// A run of n + m turns is a run of n turns, and then one of m.
 pub fn runs_follow_each_other()
-    ensures { (program : List StmtTree) (n m i : ℕ) (s : State) → run program (n + m) i s ≡ then_runs (run program n i s) (run program m) }
+    ensures { (program : Played) (n m i : ℕ) (s : State) → run program (n + m) i s ≡ then_runs (run program n i s) (run program m) }
 {}
 
 /// Each built program is typed.
 pub fn programs_are_typed()
-    ensures { (text : List ℕ) (program : List StmtTree) → IsBuiltProgram text program → IsTyped program }
-{
-    programs_are_built();
-}
+    ensures { (text : List ℕ) (program : List StmtTree) → IsBuiltProgram text program → IsTyped (as_played program) }
+{}
