@@ -2,11 +2,11 @@
 use Rattle.std.proofs.Common.{ℕ, zero, suc, ◌+◌, ◌-◌, ◌*◌, ◌≤◌, List, [], ◌∷◌, length, drop, arith, length-drop}
 use Rattle.stapl_meaning.specs.declared.values.Value.{Value}
 use Rattle.stapl_meaning.specs.declared.values.Held.{Held}
-use Rattle.stapl_meaning.specs.States.{State, Turned, Leads, Over, Broken, NoTurn}
+use Rattle.stapl_meaning.specs.States.{State, Turned, Leads, Over, Broken, NoTurn, begun}
 use Rattle.stapl_meaning.specs.Plays.{start}
 use Rattle.stapl_code.specs.declared.instr.Instr.{Instr}
 use Rattle.stapl_code.specs.declared.instr.Instr.TheVariants.{Turn}
-use Rattle.stapl_code.specs.Machine.{Constants, Step, Falls, Emits, Stops, Faulted, Wrong, step, stretch, code_turn, begun}
+use Rattle.stapl_code.specs.Machine.{Constants, Step, Falls, Emits, Stops, Faulted, Wrong, step, stretch, code_turn, entry_of}
 use Rattle.stapl_code.specs.Ticks.{ticks_behind, tick_of, ticks_then, ticks, begin_ticks, turn_ticks, run_ticks, play_ticks}
 
 one_at_most : (x : Instr) → tick_of x ≤ 1
@@ -62,7 +62,7 @@ module _ (entries : List ℕ) (constants : Constants) where
       let s : State = start chosen variables in
       let front = ticks_at_most (length code) code [] s in
       let more =
-      then_at_most (n * length code) (begun entries constants (stretch entries constants (length code) code [] s)) (run_ticks entries constants code n)
+      then_at_most (n * length code) (begun (entry_of entries) (stretch entries constants (length code) code [] s)) (run_ticks entries constants code n)
       (λ p t. run_at_most code n p t)
       in
       omega (arith, front, more)

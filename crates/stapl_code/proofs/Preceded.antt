@@ -1,8 +1,7 @@
 -- Events in front of a turn.
 use Rattle.std.proofs.Common.{◌≡◌, ℕ, List, [], ◌++◌, refl, sym, ap, append_assoc}
 use Rattle.stapl_meaning.specs.declared.events.Event.{Event}
-use Rattle.stapl_meaning.specs.States.{Turned, Leads, Over, Broken, NoTurn, preceded, next_chosen}
-use Rattle.stapl_code.specs.Machine.{Constants, entry_of, begun}
+use Rattle.stapl_meaning.specs.States.{Turned, Leads, Over, Broken, NoTurn, preceded, next_chosen, begun}
 
 -- no event in front changes nothing
 pub preceded_nothing : (t : Turned) → t ≡ preceded [] t
@@ -19,8 +18,8 @@ preceded_twice first second (Broken events k s) = ap (λ l. let t : Turned = Bro
 preceded_twice first second (NoTurn events) = ap (λ l. let t : Turned = NoTurn l in t) (sym (append_assoc first second events))
 
 -- events of the prologue stand in front of the play
-pub begun_preceded : (entries : List ℕ) (constants : Constants) (seen : List Event) (t : Turned) → begun entries constants (preceded seen t) ≡ preceded seen (begun entries constants t)
-begun_preceded entries constants seen (Leads events place s) = sym (preceded_twice seen events (next_chosen (entry_of entries) s s.chosen))
-begun_preceded entries constants seen (Over events ending s) = refl
-begun_preceded entries constants seen (Broken events k s) = refl
-begun_preceded entries constants seen (NoTurn events) = refl
+pub begun_preceded : (entry : ℕ → ℕ) (seen : List Event) (t : Turned) → begun entry (preceded seen t) ≡ preceded seen (begun entry t)
+begun_preceded entry seen (Leads events place s) = sym (preceded_twice seen events (next_chosen entry s s.chosen))
+begun_preceded entry seen (Over events ending s) = refl
+begun_preceded entry seen (Broken events k s) = refl
+begun_preceded entry seen (NoTurn events) = refl

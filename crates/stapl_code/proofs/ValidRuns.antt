@@ -9,7 +9,7 @@ use Rattle.stapl_meaning.specs.declared.values.Held.{Held}
 use Rattle.stapl_meaning.specs.declared.values.Held.TheVariants as held
 use Rattle.stapl_meaning.specs.declared.values.Value.{Value}
 use Rattle.stapl_meaning.specs.declared.values.Value.TheVariants as values
-use Rattle.stapl_meaning.specs.States.{State, Turned, Leads, Over, Broken, NoTurn, preceded, next_chosen, turn_of_piece}
+use Rattle.stapl_meaning.specs.States.{State, Turned, Leads, Over, Broken, NoTurn, preceded, next_chosen, turn_of_piece, begun}
 use Rattle.stapl_meaning.specs.Effects.{scalar_written, written, replaced, span_written, with_integers}
 use Rattle.stapl_meaning.specs.Values.{then_get, bits_held}
 use Rattle.stapl_meaning.specs.Plays.{goes_on, Stopped, start}
@@ -19,7 +19,7 @@ use Rattle.stapl_code.specs.declared.raw.ProcDef.{ProcDef}
 use Rattle.stapl_code.specs.declared.raw.CodeLists.{CodeLists}
 use Rattle.stapl_code.specs.declared.instr.Instr.{Instr}
 use Rattle.stapl_code.specs.declared.instr.Instr.TheVariants.{Turn, Push, PushBit, Store, SetBits, SetInts, EndProc}
-use Rattle.stapl_code.specs.Machine.{does, puts, bit_of, known_literal, Step, Falls, Emits, Stops, Faulted, Wrong, on_made, entry_of, step, at_end, continues, stretch, begins, code_turn, code_run, begun, code_play}
+use Rattle.stapl_code.specs.Machine.{does, puts, bit_of, known_literal, Step, Falls, Emits, Stops, Faulted, Wrong, on_made, entry_of, step, at_end, continues, stretch, begins, code_turn, code_run, code_play}
 use Rattle.stapl_code.specs.Ranges.{IsInstr, IsInRange}
 use Rattle.stapl_code.specs.Kinds.{kinds_behind}
 use Rattle.stapl_code.specs.Valid.{is_turn, is_end, sets_up, departs, is_last, agree, kinds_kept, judged, first_of, is_target, leads_well, stands_well, prologue_break, rest_break, procedure_break, next_entry, procedures_break, entry_break, IsValid}
@@ -506,7 +506,7 @@ module _ (code : CodeLists) where
     chosen_begins events s g (p ∷ ps) below =
         chosen_good code.variables (length code.procedures) (entries_of code.procedures) (constants_of code) IsPlace begin s g (p ∷ ps) below
 
-    begun_good : (t : Turned) → Begins t → EndsPiece (begun (entries_of code.procedures) (constants_of code) t)
+    begun_good : (t : Turned) → Begins t → EndsPiece (begun (entry_of (entries_of code.procedures)) t)
     begun_good (Leads events place s) g =
         chosen_begins events s g s.chosen g.chosen_below
     begun_good (Over events ending s) g = absurd g
@@ -553,7 +553,7 @@ module _ (code : CodeLists) where
           (prologue_good prologue (drop first code.instrs) 0 [] s first_turn good (sym whole) (λ _. refl) prologue_ok deep)
 
       pub never_stuck : (n : ℕ) → (code_play (entries_of code.procedures) (constants_of code) code.instrs chosen variables n).outcome ≢ Stopped
-      never_stuck n = never_stopped n (begun (entries_of code.procedures) (constants_of code) (stretch (entries_of code.procedures) (constants_of code) total code.instrs [] (start chosen variables))) (start chosen variables) (begun_good _ prologue_runs.0)
+      never_stuck n = never_stopped n (begun (entry_of (entries_of code.procedures)) (stretch (entries_of code.procedures) (constants_of code) total code.instrs [] (start chosen variables))) (start chosen variables) (begun_good _ prologue_runs.0)
 
       pub within_depth : (n : ℕ) → play_held (entries_of code.procedures) (constants_of code) code.instrs chosen variables n ≤ depth_of code
-      within_depth n = omega (arith, prologue_runs.1, run_within n (begun (entries_of code.procedures) (constants_of code) (stretch (entries_of code.procedures) (constants_of code) total code.instrs [] (start chosen variables))) (begun_good _ prologue_runs.0))
+      within_depth n = omega (arith, prologue_runs.1, run_within n (begun (entry_of (entries_of code.procedures)) (stretch (entries_of code.procedures) (constants_of code) total code.instrs [] (start chosen variables))) (begun_good _ prologue_runs.0))

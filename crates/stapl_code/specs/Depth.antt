@@ -2,7 +2,7 @@
 use Rattle.std.specs.Prelude.{ℕ, zero, suc, ◌-◌, max, List, [], ◌∷◌, length, drop, Option, Some, None, slice_range}
 use Rattle.stapl_meaning.specs.declared.values.Value.{Value}
 use Rattle.stapl_meaning.specs.declared.values.Held.{Held}
-use Rattle.stapl_meaning.specs.States.{State}
+use Rattle.stapl_meaning.specs.States.{State, begun}
 use Rattle.stapl_meaning.specs.Plays.{start}
 use Rattle.stapl_meaning.specs.declared.values.ValueKind.{ValueKind}
 use Rattle.stapl_code.specs.declared.raw.VarDef.{VarDef}
@@ -10,7 +10,7 @@ use Rattle.stapl_code.specs.declared.raw.ProcDef.{ProcDef}
 use Rattle.stapl_code.specs.declared.raw.CodeLists.{CodeLists}
 use Rattle.stapl_code.specs.declared.instr.Instr.{Instr}
 use Rattle.stapl_code.specs.declared.instr.Instr.TheVariants.{Turn}
-use Rattle.stapl_code.specs.Machine.{Constants, Step, Falls, Emits, Stops, Faulted, Wrong, step, stretch, code_turn, begun}
+use Rattle.stapl_code.specs.Machine.{Constants, Step, Falls, Emits, Stops, Faulted, Wrong, step, stretch, code_turn, entry_of}
 use Rattle.stapl_code.specs.Ticks.{ticks_then}
 use Rattle.stapl_code.specs.Kinds.{kinds_behind}
 use Rattle.stapl_code.specs.Valid.{next_entry}
@@ -68,4 +68,4 @@ module _ (entries : List ℕ) (constants : Constants) where
   abbrev pub play_held : List Instr → List ℕ → List Held → ℕ → ℕ
   play_held code chosen variables n =
       max (held (length code) code [] (start chosen variables))
-      (ticks_then (begun entries constants (stretch entries constants (length code) code [] (start chosen variables))) (run_held code n))
+      (ticks_then (begun (entry_of entries) (stretch entries constants (length code) code [] (start chosen variables))) (run_held code n))

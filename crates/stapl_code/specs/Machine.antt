@@ -10,7 +10,7 @@ use Rattle.stapl_meaning.specs.declared.values.Held.{Held}
 use Rattle.stapl_meaning.specs.Values.{Got, Known, Faults, Stuck, then_get, combined, scalar_of, element_of, index_held, range_held, source_integer}
 use Rattle.stapl_meaning.specs.Values as values
 use Rattle.stapl_meaning.specs.Operands.{character_of}
-use Rattle.stapl_meaning.specs.States.{State, Did, Turned, Leads, Over, Broken, NoTurn, preceded, turn_of_piece, next_chosen, jumps_to}
+use Rattle.stapl_meaning.specs.States.{State, Did, Turned, Leads, Over, Broken, NoTurn, preceded, turn_of_piece, next_chosen, begun, jumps_to}
 use Rattle.stapl_meaning.specs.States as did
 use Rattle.stapl_meaning.specs.Effects.{assigned, element_assigned, Target, IntoWhole, IntoRange, copied, integers_set, jumped, parted, returned, exited, printed, after_value, after_character}
 use Rattle.stapl_meaning.specs.Plays.{Run, Going, goes_on, start}
@@ -330,14 +330,8 @@ module _ (entries : List ℕ) (constants : Constants) where
   code_run code zero place s = record { events = []; outcome = Going place; state = s }
   code_run code (suc n) place s = goes_on (code_turn code place s) s (code_run code n)
 
-  -- behind the prologue, which falls into the first Turn, the first chosen procedure begins
-  abbrev pub begun : Turned → Turned
-  begun (Leads events place s) = preceded events (next_chosen (entry_of entries) s s.chosen)
-  begun (Over events ending s) = NoTurn events
-  begun (Broken events k s) = NoTurn events
-  begun (NoTurn events) = NoTurn events
-
-  -- the prologue and then the chosen procedures, for at most n turns
+  -- The prologue and then the chosen procedures, for at most n turns. The prologue falls into the first Turn, and the first
+  -- chosen procedure begins.
   abbrev pub code_play : List Instr → List ℕ → List Held → ℕ → Run
   code_play code chosen variables n =
-      goes_on (begun (stretch (length code) code [] (start chosen variables))) (start chosen variables) (code_run code n)
+      goes_on (begun (entry_of entries) (stretch (length code) code [] (start chosen variables))) (start chosen variables) (code_run code n)

@@ -2,11 +2,11 @@
 use Rattle.std.specs.Prelude.{ℕ, zero, suc, ◌+◌, ◌-◌, List, [], ◌∷◌, length, drop}
 use Rattle.stapl_meaning.specs.declared.values.Value.{Value}
 use Rattle.stapl_meaning.specs.declared.values.Held.{Held}
-use Rattle.stapl_meaning.specs.States.{State, Turned, Leads, Over, Broken, NoTurn}
+use Rattle.stapl_meaning.specs.States.{State, Turned, Leads, Over, Broken, NoTurn, begun}
 use Rattle.stapl_meaning.specs.Plays.{start}
 use Rattle.stapl_code.specs.declared.instr.Instr.{Instr}
 use Rattle.stapl_code.specs.declared.instr.Instr.TheVariants.{Turn}
-use Rattle.stapl_code.specs.Machine.{Constants, Step, Falls, Emits, Stops, Faulted, Wrong, step, stretch, code_turn, begun}
+use Rattle.stapl_code.specs.Machine.{Constants, Step, Falls, Emits, Stops, Faulted, Wrong, step, stretch, code_turn, entry_of}
 
 abbrev pub ticks_behind : Step → (List Value → State → ℕ) → ℕ
 ticks_behind (Falls ops s) go = go ops s
@@ -50,4 +50,4 @@ module _ (entries : List ℕ) (constants : Constants) where
   abbrev pub play_ticks : List Instr → List ℕ → List Held → ℕ → ℕ
   play_ticks code chosen variables n =
       ticks (length code) code [] (start chosen variables)
-      + ticks_then (begun entries constants (stretch entries constants (length code) code [] (start chosen variables))) (run_ticks code n)
+      + ticks_then (begun (entry_of entries) (stretch entries constants (length code) code [] (start chosen variables))) (run_ticks code n)
