@@ -1,26 +1,32 @@
 -- A built program gives the compiler what it asks for.
-use Rattle.std.proofs.Common.{ℕ, ◌≤◌, Bool, List, [], ◌∷◌, None, Some, length, arith}
-use Rattle.std.specs.Prelude.{All}
-use Rattle.std.proofs.lemmas.List.Elements.{All-nil, All-cons, All-head, All-tail, All-append}
+use Rattle.std.proofs.Common.{◌≡◌, ℕ, ◌≤◌, Bool, true, false, ◌||◌, if◌then◌else◌, List, [], ◌∷◌, Option, None, Some, length, get_or, arith, refl, sym, ap, subst, ◌∙◌, true≢false}
+use Rattle.std.specs.Prelude.{All, sum_by}
+use Rattle.std.specs.List.{cons_option}
+use Rattle.std.proofs.lemmas.List.{append-nil}
+use Rattle.std.proofs.lemmas.List.Elements.{All-nil, All-cons, All-head, All-tail, All-append, All-weaker}
+use Rattle.std.proofs.lemmas.List.Sums.{sum_by-cons}
 use Rattle.stapl_lexer.specs.Pieces.{text_limit}
-use Rattle.stapl_syntax.specs.Trees.{ArrayTree, literal, PartTree, string, value, character, BodyTree, boolean, boolean_array, integer, integer_array, assign_array, assign_range, if_then, print, StmtTree}
-use Rattle.stapl_built.specs.Built.{IsBuilt}
+use Rattle.stapl_syntax.specs.Trees.{ArrayTree, literal, PartTree, string, value, character, BodyTree, end_data, boolean, boolean_array, integer, integer_array, assign, assign_element, assign_array, assign_range, if_then, for_loop, push, print, exit, StmtTree}
+use Rattle.stapl_built.specs.Built.{is_built_outer, is_built_inner, IsBuilt}
 use Rattle.stapl_built.specs.Unbuilt.{IsBuiltProgram}
-use Rattle.stapl_built.specs.Sizes.{statements_size}
+use Rattle.stapl_built.specs.Sizes.{body_size, statements_size}
 use Rattle.stapl_syntax.specs.Contents.{IsWellNamed, IsShortPart, PrintsShortStrings, AreLiteralBits, HoldsLiteral, HoldsLiterals}
 use Rattle.stapl_meaning.specs.Turns.{rows}
-use Rattle.stapl_meaning.specs.Typed.{IsTyped}
+use Rattle.stapl_meaning.specs.Scopes.{data_behind, plays, idle, pieces_from, has_initial_value, Preset, preset_of, presets_from, Played, as_played}
+use Rattle.stapl_meaning.specs.Typed.{IsTypedPreset, IsTyped}
+use Rattle.stapl_meaning.proofs.Blocks.{preset_in}
 use Rattle.stapl_code.specs.Ranges.{IsLiteral}
-use Rattle.stapl_codegen.specs.Emit.{part_texts, array_literals, row_texts, row_literals, rows_items, program_items, texts_of, literals_of}
+use Rattle.stapl_codegen.specs.Emit.{part_texts, array_literals, row_texts, row_literals, rows_items, presets_items, statements_items, program_items, texts_of, literals_of}
 use Rattle.stapl_codegen.specs.Accepted.{IsAccepted}
+use Rattle.stapl_codegen.proofs.Drafts.{one_row}
 
 -- what holds of the items of each row holds of those of the program
 module _ {A : Type 0} (of : BodyTree → List A) (P : A → Type 0) (Q : BodyTree → Type 0) (row : (b : BodyTree) → Q b → All P (rows_items of (rows b))) where
-  all_items : (sts : List StmtTree) → All (λ (st : StmtTree). Q st.body) sts → All P (program_items of sts)
+  all_items : (sts : List StmtTree) → All (λ (st : StmtTree). Q st.body) sts → All P (statements_items of sts)
   all_items [] each = All-nil P
   all_items (st ∷ rest) each =
       let R : StmtTree → Type 0 = λ st. Q st.body in
-      All-append P (rows_items of (rows st.body)) (program_items of rest) (row st.body (All-head R st rest each)) (all_items rest (All-tail R st rest each))
+      All-append P (rows_items of (rows st.body)) (statements_items of rest) (row st.body (All-head R st rest each)) (all_items rest (All-tail R st rest each))
 
 -- the texts of a program are the strings that it prints, and its literals are those of its statements
 module _ (n : ℕ) where
@@ -75,14 +81,129 @@ module _ (n : ℕ) (short : n ≤ text_limit) where
   few_bits : (literals : List (List Bool)) → All (AreLiteralBits n) literals → All IsLiteral literals
   few_bits literals all = λ k d below. record { some = (all k d below).some; few = omega (arith, (all k d below).few, short) }
 
-pub accepted : (text : List ℕ) (program : List StmtTree) → IsBuiltProgram text program → IsTyped program → All IsBuilt program →
+-- what holds of each statement and of an idle one holds of the pieces, and of the initial values of DATA blocks
+module _ (P : BodyTree → Type 0) where
+  abbrev Holds : StmtTree → Type 0
+  Holds st = P st.body
+
+  pieces_all : P end_data → (now : Option (List ℕ)) (rest : List StmtTree) → All Holds rest → All Holds (pieces_from now rest)
+  pieces_all none now [] each = All-nil Holds
+  pieces_all none now (st ∷ rest) each =
+      All-cons Holds (if plays now st.body then st else idle) (pieces_from (data_behind now st.body) rest) (by (plays now st.body))
+      (pieces_all none (data_behind now st.body) rest (All-tail Holds st rest each))
+    where
+      by : (b : Bool) → Holds (if b then st else idle)
+      by true = All-head Holds st rest each
+      by false = none
+
+  abbrev HoldsOf : Preset → Type 0
+  HoldsOf preset = P preset.body
+
+  presets_all : (now : Option (List ℕ)) (rest : List StmtTree) → All Holds rest → All HoldsOf (presets_from now rest)
+  presets_all now [] each = All-nil HoldsOf
+  presets_all now (st ∷ rest) each =
+      by (preset_of now st.body) refl (presets_all (data_behind now st.body) rest (All-tail Holds st rest each))
+    where
+      by : (o : Option Preset) → preset_of now st.body ≡ o → All HoldsOf (presets_from (data_behind now st.body) rest) → All HoldsOf (cons_option o (presets_from (data_behind now st.body) rest))
+      by None e more = more
+      by (Some preset) e more =
+          All-cons HoldsOf preset (presets_from (data_behind now st.body) rest)
+          (subst P (sym (preset_in now st.body preset e).is) (All-head Holds st rest each)) more
+
+-- the same of the items of rows
+module _ {A : Type 0} (of : BodyTree → List A) (P : A → Type 0) (Q : BodyTree → Type 0) (row : (b : BodyTree) → Q b → All P (rows_items of (rows b))) where
+  items_of_presets : (presets : List Preset) → All (λ (preset : Preset). has_initial_value preset.body ≡ true) presets → All (λ (preset : Preset). Q preset.body) presets → All P (presets_items of presets)
+  items_of_presets [] starts each = All-nil P
+  items_of_presets (preset ∷ presets) starts each =
+      let one : rows preset.body ≡ preset.body ∷ [] = one_row preset.body (All-head (λ (preset : Preset). has_initial_value preset.body ≡ true) preset presets starts) in
+      let own = row preset.body (All-head (λ (preset : Preset). Q preset.body) preset presets each) in
+      All-append P (of preset.body) (presets_items of presets) (subst (All P) (ap (rows_items of) one ∙ append-nil (of preset.body)) own)
+      (items_of_presets presets (All-tail (λ (preset : Preset). has_initial_value preset.body ≡ true) preset presets starts) (All-tail (λ (preset : Preset). Q preset.body) preset presets each))
+
+  items_of_program : Q end_data → (statements : List StmtTree) → IsTyped (as_played statements) → All (λ (st : StmtTree). Q st.body) statements → All P (program_items of (as_played statements))
+  items_of_program none statements typed each =
+      All-append P (presets_items of (presets_from None statements)) (statements_items of (pieces_from None statements))
+      (items_of_presets (presets_from None statements)
+      (All-weaker (IsTypedPreset (as_played statements)) (λ (preset : Preset). has_initial_value preset.body ≡ true) (λ preset typed. typed.starts) (presets_from None statements) typed.presets)
+      (presets_all Q None statements each))
+      (all_items of P Q row (pieces_from None statements) (pieces_all Q none None statements each))
+
+-- how large the pieces are, and the initial values of DATA blocks: each statement has a symbol
+
+some_size : (b : BodyTree) → 1 ≤ body_size b
+some_size (boolean name (Some b)) = omega arith
+some_size (integer name (Some z)) = omega arith
+some_size (assign name x) = omega arith
+some_size (assign_element name index x) = omega arith
+some_size (assign_array name a) = omega arith
+some_size (assign_range name high low a) = omega arith
+some_size (if_then x body) = omega arith
+some_size (for_loop name from to step) = omega arith
+some_size (push x) = omega arith
+some_size (print parts) = omega arith
+some_size (exit x) = omega arith
+some_size _ = omega arith
+
+pieces_size : (now : Option (List ℕ)) (rest : List StmtTree) → statements_size (pieces_from now rest) ≤ statements_size rest
+pieces_size now [] = omega arith
+pieces_size now (st ∷ rest) =
+    let more = pieces_size (data_behind now st.body) rest in
+    let own = by (plays now st.body) in
+    omega (
+      arith,
+      more,
+      own,
+      sum_by-cons (λ (st : StmtTree). body_size st.body) st rest,
+      sum_by-cons (λ (st : StmtTree). body_size st.body) (if plays now st.body then st else idle) (pieces_from (data_behind now st.body) rest),
+    )
+  where
+    by : (b : Bool) → body_size (if b then st else idle).body ≤ body_size st.body
+    by true = omega arith
+    by false = some_size st.body
+
+abbrev presets_size : List Preset → ℕ
+presets_size presets = sum_by (λ (preset : Preset). body_size preset.body) presets
+
+preset_size : (now : Option (List ℕ)) (rest : List StmtTree) → presets_size (presets_from now rest) ≤ statements_size rest
+preset_size now [] = omega arith
+preset_size now (st ∷ rest) = by (preset_of now st.body) refl (preset_size (data_behind now st.body) rest)
+  where
+    by : (o : Option Preset) → preset_of now st.body ≡ o → presets_size (presets_from (data_behind now st.body) rest) ≤ statements_size rest →
+        presets_size (cons_option o (presets_from (data_behind now st.body) rest)) ≤ statements_size (st ∷ rest)
+    by None e more = omega (arith, more, sum_by-cons (λ (st : StmtTree). body_size st.body) st rest)
+    by (Some preset) e more =
+        omega (
+          arith,
+          more,
+          ap body_size (preset_in now st.body preset e).is,
+          sum_by-cons (λ (st : StmtTree). body_size st.body) st rest,
+          sum_by-cons (λ (preset : Preset). body_size preset.body) preset (presets_from (data_behind now st.body) rest),
+        )
+
+-- an initial value is that of a statement of a procedure or a DATA block
+inner_start : (b : BodyTree) → has_initial_value b ≡ true → (is_built_outer b || is_built_inner b) ≡ true → is_built_inner b ≡ true
+inner_start (boolean name start) starts built = built
+inner_start (boolean_array name size start) starts built = built
+inner_start (integer name start) starts built = built
+inner_start (integer_array name size start) starts built = built
+inner_start _ starts built = absurd (true≢false (sym starts))
+
+presets_inner : (program : Played) (presets : List Preset) → All (IsTypedPreset program) presets → All (λ (preset : Preset). (is_built_outer preset.body || is_built_inner preset.body) ≡ true) presets →
+    All (λ (preset : Preset). is_built_inner preset.body ≡ true) presets
+presets_inner program presets typed built = λ k d below. inner_start (get_or presets k d).body (typed k d below).starts (built k d below)
+
+pub accepted : (text : List ℕ) (program : List StmtTree) → IsBuiltProgram text program → IsTyped (as_played program) → All IsBuilt program →
     All (λ (st : StmtTree). IsWellNamed st.body) program → All (λ (st : StmtTree). PrintsShortStrings (length text) st.body) program →
-    All (λ (st : StmtTree). HoldsLiterals (length text) st.body) program → statements_size program ≤ length text → IsAccepted program
+    All (λ (st : StmtTree). HoldsLiterals (length text) st.body) program → statements_size program ≤ length text → IsAccepted (as_played program)
 accepted text program is typed built named short held small = record {
-  built = built;
+  built = pieces_all (λ b. (is_built_outer b || is_built_inner b) ≡ true) refl None program built;
+  presets_built = presets_inner (as_played program) (presets_from None program) typed.presets (presets_all (λ b. (is_built_outer b || is_built_inner b) ≡ true) None program built);
   typed = typed;
-  named = named;
-  size = let few = is.program.short in omega (arith, small, few);
-  literals = few_bits (length text) is.program.short (literals_of program) (all_items row_literals (AreLiteralBits (length text)) (HoldsLiterals (length text)) (held_body (length text)) program held);
-  texts = weaker (length text) is.program.short (texts_of program) (all_items row_texts (IsShort (length text)) (PrintsShortStrings (length text)) (short_body (length text)) program short);
+  named = pieces_all IsWellNamed tt None program named;
+  size = let few = is.program.short in omega (arith, small, few, pieces_size None program);
+  presets_size = let few = is.program.short in omega (arith, small, few, preset_size None program);
+  literals = few_bits (length text) is.program.short (literals_of (as_played program))
+      (items_of_program row_literals (AreLiteralBits (length text)) (HoldsLiterals (length text)) (held_body (length text)) tt program typed held);
+  texts = weaker (length text) is.program.short (texts_of (as_played program))
+      (items_of_program row_texts (IsShort (length text)) (PrintsShortStrings (length text)) (short_body (length text)) tt program typed short);
 }

@@ -29,12 +29,12 @@ abbrev target_placed : (ℕ → ℕ) → Option ℕ → Option ℕ
 target_placed place None = None
 target_placed place (Some to) = Some (place to)
 
-with_placed : {A : Type 0} (place : ℕ → ℕ) (g : Got A) (s : State) (k : A → Turned) → with_got g s (λ x. placed place (k x)) ≡ placed place (with_got g s k)
+pub with_placed : {A : Type 0} (place : ℕ → ℕ) (g : Got A) (s : State) (k : A → Turned) → with_got g s (λ x. placed place (k x)) ≡ placed place (with_got g s k)
 with_placed place (Known x) s k = refl
 with_placed place (Faults f) s k = refl
 with_placed place Stuck s k = refl
 
-preceded_placed : (place : ℕ → ℕ) (es : List Event) (t : Turned) → preceded es (placed place t) ≡ placed place (preceded es t)
+pub preceded_placed : (place : ℕ → ℕ) (es : List Event) (t : Turned) → preceded es (placed place t) ≡ placed place (preceded es t)
 preceded_placed place es (Leads fs i s) = refl
 preceded_placed place es (Over fs ending s) = refl
 preceded_placed place es (Broken fs k s) = refl
@@ -92,7 +92,7 @@ module _ (place : ℕ → ℕ) (entries : List ℕ) (constants : Constants) (tot
   did_follows to Stuck s rest go entry_is more = refl
 
   -- the law of all rows
-  row_follows : (s : State) (first : Firsts) (b : BodyTree) (rest : List Instr) (go : State → Turned) → Tied first b → EntriesAre →
+  pub row_follows : (s : State) (first : Firsts) (b : BodyTree) (rest : List Instr) (go : State → Turned) → Tied first b → EntriesAre →
       ((t : State) → stretch entries constants total rest [] t ≡ placed place (go t)) →
       stretch entries constants total (row_code scope place first b rest) [] s ≡ placed place (carried scope b s go)
   row_follows s first b rest go tied entry_is more =
@@ -111,7 +111,7 @@ module _ (place : ℕ → ℕ) (entries : List ℕ) (constants : Constants) (tot
       ∙ with_placed place values s behind
 
   -- a line for each statement
-  row_tied : (first : Firsts) (b : BodyTree) → HasConstants constants first (row_texts b) (row_literals b) → Tied first b
+  pub row_tied : (first : Firsts) (b : BodyTree) → HasConstants constants first (row_texts b) (row_literals b) → Tied first b
   row_tied first end_procedure has = record { count = refl; same = λ vs s. refl; leads = λ here. refl }
   row_tied first (boolean name (Some b)) has = record { count = refl; same = λ vs s. refl; leads = λ here. refl }
   row_tied first (boolean_array name size (Some bits)) has = record {

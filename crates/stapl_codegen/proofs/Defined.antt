@@ -6,7 +6,7 @@ use Rattle.std.proofs.lemmas.List.{length-map, get_or-map}
 use Rattle.std.proofs.lemmas.List.Elements.{All-nil, All-cons, All-head, All-tail}
 use Rattle.stapl_syntax.specs.Trees.{ItemTree, BodyTree, action, procedure, StmtTree}
 use Rattle.stapl_syntax.specs.Contents.{IsFreeName, IsWellNamed}
-use Rattle.stapl_meaning.specs.Scopes.{procedures_in}
+use Rattle.stapl_meaning.specs.Scopes.{Played, procedures_in}
 use Rattle.stapl_meaning.specs.Typed.{procedure_name, procedure_names, action_name, action_names, NamesProcedure, NamesProcedures, IsTyped}
 use Rattle.stapl_code.specs.declared.raw.ProcDef.{ProcDef}
 use Rattle.stapl_code.specs.declared.raw.ActionDef.{ActionDef}
@@ -67,7 +67,7 @@ apart_at name xs apart i j d before below same =
 
 -- ---- actions
 
-action_names_same : (program sts : List StmtTree) → map (λ (a : ActionDef). a.name) (actions_from program sts) ≡ action_names sts
+action_names_same : (program : Played) (sts : List StmtTree) → map (λ (a : ActionDef). a.name) (actions_from program sts) ≡ action_names sts
 action_names_same program [] = refl
 action_names_same program (st ∷ rest) = by st.body (action_names_same program rest)
   where
@@ -76,68 +76,68 @@ action_names_same program (st ∷ rest) = by st.body (action_names_same program 
     by (action name text items) more = ap (λ l. name ∷ l) more
     by _ more = more
 
-items_in_range : (program : List StmtTree) (items : List ItemTree) → All (NamesProcedure program) items → All (IsItem (procedures_in program)) (map (item_def program) items)
-items_in_range program [] there = All-nil (IsItem (procedures_in program))
+items_in_range : (program : Played) (items : List ItemTree) → All (NamesProcedure program) items → All (IsItem (procedures_in program.pieces)) (map (item_def program) items)
+items_in_range program [] there = All-nil (IsItem (procedures_in program.pieces))
 items_in_range program (item ∷ items) there =
-    All-cons (IsItem (procedures_in program)) (item_def program item) (map (item_def program) items)
+    All-cons (IsItem (procedures_in program.pieces)) (item_def program item) (map (item_def program) items)
     (record { there = All-head (NamesProcedure program) item items there; flag = omega arith })
     (items_in_range program items (All-tail (NamesProcedure program) item items there))
 
-actions_each : (program sts : List StmtTree) → All (λ (st : StmtTree). IsWellNamed st.body) sts → All (λ (st : StmtTree). NamesProcedures program st.body) sts →
-    All (IsAction (procedures_in program)) (actions_from program sts)
-actions_each program [] named there = All-nil (IsAction (procedures_in program))
+actions_each : (program : Played) (sts : List StmtTree) → All (λ (st : StmtTree). IsWellNamed st.body) sts → All (λ (st : StmtTree). NamesProcedures program st.body) sts →
+    All (IsAction (procedures_in program.pieces)) (actions_from program sts)
+actions_each program [] named there = All-nil (IsAction (procedures_in program.pieces))
 actions_each program (st ∷ rest) named there =
     by st.body (All-head (λ (st : StmtTree). IsWellNamed st.body) st rest named) (All-head (λ (st : StmtTree). NamesProcedures program st.body) st rest there)
     (actions_each program rest (All-tail (λ (st : StmtTree). IsWellNamed st.body) st rest named) (All-tail (λ (st : StmtTree). NamesProcedures program st.body) st rest there))
   where
-    by : (b : BodyTree) → IsWellNamed b → NamesProcedures program b → All (IsAction (procedures_in program)) (actions_from program rest) →
-        All (IsAction (procedures_in program)) (action_def program b (actions_from program rest))
+    by : (b : BodyTree) → IsWellNamed b → NamesProcedures program b → All (IsAction (procedures_in program.pieces)) (actions_from program rest) →
+        All (IsAction (procedures_in program.pieces)) (action_def program b (actions_from program rest))
     by (action name text items) named there more =
         let def : ActionDef = record { name = name; items = map (item_def program) items } in
         let long = length-map items (item_def program) in
-        All-cons (IsAction (procedures_in program)) def (actions_from program rest)
+        All-cons (IsAction (procedures_in program.pieces)) def (actions_from program rest)
         (record { named = named.0; some = omega (arith, named.1, long); each = items_in_range program items there }) more
     by _ named there more = more
 
 -- an action names a procedure, so there is one
-some_item : (program : List StmtTree) (items : List ItemTree) → 1 ≤ length items → All (NamesProcedure program) items → 1 ≤ procedures_in program
+some_item : (program : Played) (items : List ItemTree) → 1 ≤ length items → All (NamesProcedure program) items → 1 ≤ procedures_in program.pieces
 some_item program [] some there = absurd (omega (arith, some))
 some_item program (item ∷ items) some there = let below = All-head (NamesProcedure program) item items there in omega (arith, below)
 
-some_procedure : (program sts : List StmtTree) → All (λ (st : StmtTree). IsWellNamed st.body) sts → All (λ (st : StmtTree). NamesProcedures program st.body) sts →
-    1 ≤ length (action_names sts) → 1 ≤ procedures_in program
+some_procedure : (program : Played) (sts : List StmtTree) → All (λ (st : StmtTree). IsWellNamed st.body) sts → All (λ (st : StmtTree). NamesProcedures program st.body) sts →
+    1 ≤ length (action_names sts) → 1 ≤ procedures_in program.pieces
 some_procedure program [] named there some = absurd (omega (arith, some))
 some_procedure program (st ∷ rest) named there some =
     by st.body (All-head (λ (st : StmtTree). IsWellNamed st.body) st rest named) (All-head (λ (st : StmtTree). NamesProcedures program st.body) st rest there) some
     (some_procedure program rest (All-tail (λ (st : StmtTree). IsWellNamed st.body) st rest named) (All-tail (λ (st : StmtTree). NamesProcedures program st.body) st rest there))
   where
-    by : (b : BodyTree) → IsWellNamed b → NamesProcedures program b → 1 ≤ length (action_name b (action_names rest)) → (1 ≤ length (action_names rest) → 1 ≤ procedures_in program) →
-        1 ≤ procedures_in program
+    by : (b : BodyTree) → IsWellNamed b → NamesProcedures program b → 1 ≤ length (action_name b (action_names rest)) → (1 ≤ length (action_names rest) → 1 ≤ procedures_in program.pieces) →
+        1 ≤ procedures_in program.pieces
     by (action name text items) named there some more = some_item program items named.1 there
     by _ named there some more = more some
 
-module _ (program : List StmtTree) (typed : IsTyped program) (named : All (λ (st : StmtTree). IsWellNamed st.body) program) where
+module _ (program : Played) (typed : IsTyped program) (named : All (λ (st : StmtTree). IsWellNamed st.body) program.pieces) where
   pub procedures_are : Rising (procedures_of program) → AreProcedures (procedures_of program)
   procedures_are rise =
       let ps : List ProcDef = procedures_of program in
-      let some = some_procedure program program named typed.items typed.some_action in
-      let many : length ps ≡ procedures_in program = count_same (start_of program) 0 program in
-      let apart = apart_at (λ (p : ProcDef). p.name) ps (subst (AllPairs (λ a b. a ≢ b)) (sym (names_same (start_of program) 0 program)) typed.procedures_apart) in
+      let some = some_procedure program program.pieces named typed.items typed.some_action in
+      let many : length ps ≡ procedures_in program.pieces = count_same (start_of program) 0 program.pieces in
+      let apart = apart_at (λ (p : ProcDef). p.name) ps (subst (AllPairs (λ a b. a ≢ b)) (sym (names_same (start_of program) 0 program.pieces)) typed.procedures_apart) in
       record {
         some = omega (arith, some, many);
-        named = procedures_named (start_of program) 0 program named;
+        named = procedures_named (start_of program) 0 program.pieces named;
         in_order = λ i j d before below. (apart i j d before below, rising_at ps i j d rise before below);
       }
 
   pub actions_are : AreActions (length (procedures_of program)) (actions_of program)
   actions_are =
-      let many : length (procedures_of program) ≡ procedures_in program = count_same (start_of program) 0 program in
-      let names = ap length (action_names_same program program) in
+      let many : length (procedures_of program) ≡ procedures_in program.pieces = count_same (start_of program) 0 program.pieces in
+      let names = ap length (action_names_same program program.pieces) in
       let long = length-map (actions_of program) (λ (a : ActionDef). a.name) in
       let some = typed.some_action in
       subst (λ (n : ℕ). AreActions n (actions_of program)) (sym many) (record {
         some = omega (arith, some, names, long);
-        each = actions_each program program named typed.items;
+        each = actions_each program program.pieces named typed.items;
         names_apart = apart_at (λ (a : ActionDef). a.name) (actions_of program)
-            (subst (AllPairs (λ a b. a ≢ b)) (sym (action_names_same program program)) typed.actions_apart);
+            (subst (AllPairs (λ a b. a ≢ b)) (sym (action_names_same program program.pieces)) typed.actions_apart);
       })

@@ -2,6 +2,7 @@
 use Rattle.std.proofs.Common.{◌≡◌, ℕ, zero, suc, ◌+◌, List, [], ◌∷◌, ◌++◌, map, drop, slice_get, Some, arith, refl, sym, ap, ◌∙◌, append_assoc}
 use Rattle.std.specs.List.{range_with_len}
 use Rattle.stapl_syntax.specs.Trees.{BodyTree, action, procedure, StmtTree}
+use Rattle.stapl_meaning.specs.Scopes.{Played}
 use Rattle.stapl_code.specs.declared.raw.ProcDef.{ProcDef}
 use Rattle.stapl_code.specs.declared.raw.ActionDef.{ActionDef}
 use Rattle.stapl_codegen.specs.Emit.{procedure_def, procedures_from, action_def, actions_from}
@@ -36,11 +37,11 @@ procedures_more place i st rest all old new done is after so_far =
     (ap (λ l. old ++ l) (sym (procedure_first (place (i + 1)) st.body (procedures_from place (i + 1) rest)))
     ∙ sym (ap (λ l. old ++ procedures_from place i l) is) ∙ so_far)
 
-action_first : (program : List StmtTree) (b : BodyTree) (others : List ActionDef) → action_def program b others ≡ action_def program b [] ++ others
+action_first : (program : Played) (b : BodyTree) (others : List ActionDef) → action_def program b others ≡ action_def program b [] ++ others
 action_first program (action name text items) others = refl
 action_first program _ others = refl
 
-pub actions_more : (program : List StmtTree) (st : StmtTree) (rest all : List StmtTree) (old new done : List ActionDef) → all ≡ st ∷ rest →
+pub actions_more : (program : Played) (st : StmtTree) (rest all : List StmtTree) (old new done : List ActionDef) → all ≡ st ∷ rest →
     new ≡ old ++ action_def program st.body [] → old ++ actions_from program all ≡ done → new ++ actions_from program rest ≡ done
 actions_more program st rest all old new done is after so_far =
     one_more old (action_def program st.body []) (actions_from program rest) done new after

@@ -1,26 +1,24 @@
 -- A piece more of a draft.
 use Rattle.std.proofs.Common.{◌≡◌, ℕ, zero, suc, ◌+◌, ◌-◌, ◌<◌, ◌≤◌, Bool, true, false, List, [], ◌∷◌, ◌++◌, Option, Some, None, map, length, get_or, drop, take, arith, length-append, append_assoc, sym, ap, subst, ◌∙◌, refl, ⊎_elim}
-use Rattle.std.specs.Prelude.{All, if◌then◌else◌, slice_index}
+use Rattle.std.specs.Prelude.{if◌then◌else◌, slice_index}
 use Rattle.std.proofs.lemmas.List.{get_or_append_left, append-nil, take-map, drop_all, take_all}
-use Rattle.std.proofs.lemmas.Bool.{cases_lt}
+use Rattle.std.specs.List.{cons_option}
+use Rattle.std.proofs.lemmas.Bool.{cases_lt, true≢false}
 use Rattle.std.proofs.Math.Seq.{get_or-append_seam}
-use Rattle.stapl_syntax.specs.Trees.{BodyTree, StmtTree}
+use Rattle.stapl_syntax.specs.Trees.{BodyTree, boolean, boolean_array, integer, integer_array, StmtTree}
 use Rattle.stapl_syntax.specs.Statements.{is_outer}
-use Rattle.stapl_syntax.specs.Programs.{piece_limit}
-use Rattle.stapl_lexer.specs.Pieces.{text_limit}
-use Rattle.stapl_built.specs.Built.{IsBuilt}
-use Rattle.stapl_built.specs.Sizes.{statements_size}
 use Rattle.stapl_syntax.specs.Names.{numbered_from, numbered, inside_behind, inside_from, inside_after}
 use Rattle.stapl_meaning.specs.Turns.{rows}
-use Rattle.stapl_meaning.specs.Scopes.{block_at, program_names, entry_from, scope_at}
+use Rattle.stapl_meaning.specs.Scopes.{has_initial_value, Preset, Played, block_at, entry_from, scope_at, preset_scope}
 use Rattle.stapl_code.specs.declared.instr.Instr.{Instr}
 use Rattle.stapl_code.specs.declared.instr.Instr.TheVariants.{Turn}
 use Rattle.stapl_code.specs.Machine.{nowhere}
-use Rattle.stapl_codegen.specs.Emit.{Firsts, body_code, row_texts, row_literals, rows_items, program_items, body_texts, body_literals, texts_of, literals_of, firsts_at, piece_code, pieces_code, start_in, start_of, total_of}
-use Rattle.stapl_codegen.specs.Drafts.{Site, Draft, site_at, site_behind, scope_of_site, piece_code_in, StartsTo, IsDraft}
+use Rattle.stapl_codegen.specs.Emit.{Firsts, past, behind_row, row_code, body_code, row_texts, row_literals, rows_items, presets_items, statements_items, items_before, body_texts, body_literals, at_first, firsts_at, presets_code, piece_code, pieces_code, code_to, start_in, start_of, total_of}
+use Rattle.stapl_codegen.specs.Drafts.{Site, Draft, site_at, site_behind, preset_site, scope_of_site, firsts_in, piece_code_in, preset_code_in, preset_items, ArePresetsLeft, StartsTo, IsDraft}
+use Rattle.stapl_codegen.specs.Accepted.{IsAccepted}
 use Rattle.stapl_codegen.proofs.Heads.{head_of, get_head}
-use Rattle.stapl_codegen.proofs.Lists.{body_same, piece_append}
-use Rattle.stapl_codegen.proofs.Sizes.{pieces_length}
+use Rattle.stapl_codegen.proofs.Lists.{row_append, row_same, body_same, presets_before, piece_append}
+use Rattle.stapl_codegen.proofs.Sizes.{code_length}
 
 pub take_more : {A : Type 0} (i : ℕ) (xs : List A) (x : A) (rest : List A) → drop i xs ≡ x ∷ rest → take (i + 1) xs ≡ take i xs ++ x ∷ []
 take_more {A = A} i xs x rest e = let next : i + 1 ≡ suc i = omega arith in ap (λ k. take k xs) next ∙ by_place i xs e
@@ -36,46 +34,48 @@ inside_append : (now : Option (List ℕ)) (n : ℕ) (xs : List StmtTree) (st : S
 inside_append now n [] st = refl
 inside_append now n (x ∷ xs) st = inside_append (inside_behind now x.body) (n + 1) xs st
 
-items_behind : {A : Type 0} (of : BodyTree → List A) (xs : List StmtTree) (st : StmtTree) → program_items of (xs ++ st ∷ []) ≡ program_items of xs ++ rows_items of (rows st.body)
+items_behind : {A : Type 0} (of : BodyTree → List A) (xs : List StmtTree) (st : StmtTree) → statements_items of (xs ++ st ∷ []) ≡ statements_items of xs ++ rows_items of (rows st.body)
 items_behind of [] st = append-nil (rows_items of (rows st.body))
 items_behind of (x ∷ xs) st =
     ap (λ l. rows_items of (rows x.body) ++ l) (items_behind of xs st)
-    ∙ sym (append_assoc (rows_items of (rows x.body)) (program_items of xs) (rows_items of (rows st.body)))
+    ∙ sym (append_assoc (rows_items of (rows x.body)) (statements_items of xs) (rows_items of (rows st.body)))
 
 -- the first i pieces of a program are written
-pub record AreDrafted (program : List StmtTree) (i : ℕ) (d : Draft) (starts : List ℕ) : Type 0 where
-  pub code : d.code ++ pieces_code program (λ j. j) i (drop i program) ≡ pieces_code program (λ j. j) 0 program
-  pub texts : d.texts ≡ texts_of (take i program)
-  pub literals : d.literals ≡ literals_of (take i program)
+pub record AreDrafted (program : Played) (i : ℕ) (d : Draft) (starts : List ℕ) : Type 0 where
+  pub code : d.code ++ pieces_code program (λ j. j) i (drop i program.pieces) ≡ code_to program (λ j. j)
+  pub texts : d.texts ≡ items_before row_texts program i
+  pub literals : d.literals ≡ items_before row_literals program i
   pub site : d.site ≡ site_at program i
   pub begins : StartsTo program i starts
 
 -- the statement at a place
-module _ (program : List StmtTree) (i : ℕ) (st : StmtTree) (is : drop i program ≡ st ∷ drop (i + 1) program) where
-  pub inside_more : (inside inside' : Option (List ℕ)) → inside ≡ block_at program i → inside' ≡ inside_behind inside st.body → inside' ≡ block_at program (i + 1)
+module _ (program : Played) (i : ℕ) (st : StmtTree) (is : drop i program.pieces ≡ st ∷ drop (i + 1) program.pieces) where
+  pub inside_more : (inside inside' : Option (List ℕ)) → inside ≡ block_at program.pieces i → inside' ≡ inside_behind inside st.body → inside' ≡ block_at program.pieces (i + 1)
   inside_more inside inside' so_far after =
       after
-      ∙ ap (λ o. inside_behind o st.body) (so_far ∙ ap (λ l. inside_after (numbered l)) (take-map Some i program))
-      ∙ sym (inside_append None 1 (take i program) st)
-      ∙ sym (ap (λ l. inside_after (numbered (map Some l))) (take_more i program st (drop (i + 1) program) is))
-      ∙ sym (ap (λ l. inside_after (numbered l)) (take-map Some (i + 1) program))
+      ∙ ap (λ o. inside_behind o st.body) (so_far ∙ ap (λ l. inside_after (numbered l)) (take-map Some i program.pieces))
+      ∙ sym (inside_append None 1 (take i program.pieces) st)
+      ∙ sym (ap (λ l. inside_after (numbered (map Some l))) (take_more i program.pieces st (drop (i + 1) program.pieces) is))
+      ∙ sym (ap (λ l. inside_after (numbered l)) (take-map Some (i + 1) program.pieces))
 
   site_more : (site site' : Site) → site ≡ site_at program i → site' ≡ site_behind site st.body → site' ≡ site_at program (i + 1)
   site_more site site' so_far after =
       after
       ∙ ap (λ (s : Site). site_behind s st.body) so_far
-      ∙ ap (λ (o : Option (List ℕ)). record { names = program_names program; count = length program; inside = o; piece = i + 1 + 1 }) (inside_more _ _ refl refl)
+      ∙ ap (λ (o : Option (List ℕ)). record { names = program.names; count = length program.pieces; inside = o; piece = i + 1 + 1 }) (inside_more _ _ refl refl)
 
-  items_more : {A : Type 0} (of : BodyTree → List A) (items items' : List A) → items ≡ program_items of (take i program) → items' ≡ items ++ rows_items of (rows st.body) →
-      items' ≡ program_items of (take (i + 1) program)
+  items_more : {A : Type 0} (of : BodyTree → List A) (items items' : List A) → items ≡ items_before of program i → items' ≡ items ++ rows_items of (rows st.body) →
+      items' ≡ items_before of program (i + 1)
   items_more of items items' so_far after =
       after
       ∙ ap (λ t. t ++ rows_items of (rows st.body)) so_far
-      ∙ sym (items_behind of (take i program) st)
-      ∙ sym (ap (program_items of) (take_more i program st (drop (i + 1) program) is))
+      ∙ append_assoc (presets_items of program.presets) (statements_items of (take i program.pieces)) (rows_items of (rows st.body))
+      ∙ ap (λ l. presets_items of program.presets ++ l)
+      (sym (items_behind of (take i program.pieces) st)
+      ∙ sym (ap (statements_items of) (take_more i program.pieces st (drop (i + 1) program.pieces) is)))
 
   abbrev From : ℕ → List Instr
-  From k = pieces_code program (λ j. j) k (drop k program)
+  From k = pieces_code program (λ j. j) k (drop k program.pieces)
 
   from_more : From i ≡ piece_code program (λ j. j) i st (From (i + 1))
   from_more = ap (pieces_code program (λ j. j) i) is
@@ -85,14 +85,14 @@ module _ (program : List StmtTree) (i : ℕ) (st : StmtTree) (is : drop i progra
       (if outer then [] else Turn (i + 1) ∷ body_code (scope_of_site (site_at program i)) (λ j. j) first st.body [])
       ≡ (if outer then [] else Turn (i + 1) ∷ body_code (scope_at program i) (λ j. j) first st.body [])
   same_by true first = refl
-  same_by false first = ap (λ l. Turn (i + 1) ∷ l) (body_same (program_names program) (λ p. 0) (entry_from program) (length program) (block_at program i) i (λ j. j) first st.body)
+  same_by false first = ap (λ l. Turn (i + 1) ∷ l) (body_same program.names (λ p. 0) (entry_from program.pieces) (length program.pieces) (block_at program.pieces i) i (λ j. j) first st.body)
 
-  code_is : (d : Draft) → d.texts ≡ texts_of (take i program) → d.literals ≡ literals_of (take i program) → d.site ≡ site_at program i →
+  code_is : (d : Draft) → d.texts ≡ items_before row_texts program i → d.literals ≡ items_before row_literals program i → d.site ≡ site_at program i →
       piece_code_in d st ≡ piece_code program (λ j. j) i st []
   code_is d texts literals site =
       ap (λ (s : Site). piece_code_in (record { code = []; texts = d.texts; literals = d.literals; site = s }) st) site
       ∙ ap (λ (t : List (List ℕ)). piece_code_in (record { code = []; texts = t; literals = d.literals; site = site_at program i }) st) texts
-      ∙ ap (λ (l : List (List Bool)). piece_code_in (record { code = []; texts = texts_of (take i program); literals = l; site = site_at program i }) st) literals
+      ∙ ap (λ (l : List (List Bool)). piece_code_in (record { code = []; texts = items_before row_texts program i; literals = l; site = site_at program i }) st) literals
       ∙ same_by (is_outer st.body) (firsts_at program i)
 
   code_more : (c c' all : List Instr) → c ++ From i ≡ all → c' ≡ c ++ piece_code program (λ j. j) i st [] → c' ++ From (i + 1) ≡ all
@@ -102,14 +102,14 @@ module _ (program : List StmtTree) (i : ℕ) (st : StmtTree) (is : drop i progra
       ∙ ap (λ x. c ++ x) (sym (piece_append program (λ j. j) i st [] (From (i + 1))) ∙ sym from_more)
       ∙ e
 
-  start_by : (b : Bool) (c : List Instr) → c ++ From i ≡ pieces_code program (λ j. j) 0 program → (if b then nowhere else length c) ≡ (if b then nowhere else total_of program - length (From i))
+  start_by : (b : Bool) (c : List Instr) → c ++ From i ≡ code_to program (λ j. j) → (if b then nowhere else length c) ≡ (if b then nowhere else total_of program - length (From i))
   start_by true c e = refl
   start_by false c e = omega (arith, ap length e, length-append c (From i))
 
-  start_more : (c : List Instr) (start : ℕ) → c ++ From i ≡ pieces_code program (λ j. j) 0 program → start ≡ (if is_outer st.body then nowhere else length c) → start ≡ start_of program i
-  start_more c start e at = at ∙ start_by (is_outer st.body) c e ∙ ap (start_in program i) (sym (get_head i program ∙ ap head_of is))
+  start_more : (c : List Instr) (start : ℕ) → c ++ From i ≡ code_to program (λ j. j) → start ≡ (if is_outer st.body then nowhere else length c) → start ≡ start_of program i
+  start_more c start e at = at ∙ start_by (is_outer st.body) c e ∙ ap (start_in program i) (sym (get_head i program.pieces ∙ ap head_of is))
 
-each_more : (program : List StmtTree) (i start : ℕ) (starts : List ℕ) → StartsTo program i starts → start ≡ start_of program i → (k : ℕ) → k < i + 1 → slice_index (starts ++ start ∷ []) k ≡ start_of program k
+each_more : (program : Played) (i start : ℕ) (starts : List ℕ) → StartsTo program i starts → start ≡ start_of program i → (k : ℕ) → k < i + 1 → slice_index (starts ++ start ∷ []) k ≡ start_of program k
 each_more program i start starts s e k h =
     let n : length starts ≡ i = s.all in
     ⊎_elim
@@ -117,14 +117,14 @@ each_more program i start starts s e k h =
     (λ (le : i ≤ k). let at : k ≡ length starts = omega (arith, n, le, h) in let same : i ≡ k = omega (arith, le, h) in ap (λ j. get_or (starts ++ start ∷ []) j 0) at ∙ get_or-append_seam starts start [] 0 ∙ e ∙ ap (start_of program) same)
     (cases_lt k i)
 
-starts_more : (program : List StmtTree) (i start : ℕ) (starts : List ℕ) → StartsTo program i starts → start ≡ start_of program i → StartsTo program (i + 1) (starts ++ start ∷ [])
+starts_more : (program : Played) (i start : ℕ) (starts : List ℕ) → StartsTo program i starts → start ≡ start_of program i → StartsTo program (i + 1) (starts ++ start ∷ [])
 starts_more program i start starts s e = record {
   all = omega (arith, s.all, length-append starts (start ∷ []));
   each = λ k h. each_more program i start starts s e k h;
 }
 
-module _ (program : List StmtTree) (i : ℕ) (d : Draft) (starts : List ℕ) (so_far : AreDrafted program i d starts) where
-  pub piece_more : (st : StmtTree) (is : drop i program ≡ st ∷ drop (i + 1) program) (d' : Draft) (start : ℕ) (starts' : List ℕ) →
+module _ (program : Played) (i : ℕ) (d : Draft) (starts : List ℕ) (so_far : AreDrafted program i d starts) where
+  pub piece_more : (st : StmtTree) (is : drop i program.pieces ≡ st ∷ drop (i + 1) program.pieces) (d' : Draft) (start : ℕ) (starts' : List ℕ) →
       d'.code ≡ d.code ++ piece_code_in d st → d'.texts ≡ d.texts ++ body_texts st.body → d'.literals ≡ d.literals ++ body_literals st.body → d'.site ≡ site_behind d.site st.body →
       start ≡ (if is_outer st.body then nowhere else length d.code) → starts' ≡ starts ++ start ∷ [] → AreDrafted program (i + 1) d' starts'
   piece_more st is d' start starts' code texts literals site at more = record {
@@ -135,16 +135,102 @@ module _ (program : List StmtTree) (i : ℕ) (d : Draft) (starts : List ℕ) (so
     begins = subst (StartsTo program (i + 1)) (sym more) (starts_more program i start starts so_far.begins (start_more program i st is d.code start so_far.code at));
   }
 
-  pub drafted_size : All IsBuilt program → statements_size program ≤ text_limit → length program ≤ piece_limit → length d.code ≤ 4294304
-  drafted_size built size few =
-      let all = pieces_length program (λ j. j) 0 program built in
-      omega (arith, all, size, few, ap length so_far.code, length-append d.code (pieces_code program (λ j. j) i (drop i program)))
+  pub drafted_size : IsAccepted program → length d.code ≤ 8488608
+  drafted_size accepted =
+      let all = code_length program (λ j. j) accepted in
+      omega (arith, all, ap length so_far.code, length-append d.code (pieces_code program (λ j. j) i (drop i program.pieces)))
 
   -- all pieces are written
-  pub is_draft : i ≡ length program → IsDraft program d.code d.texts d.literals starts
+  pub is_draft : i ≡ length program.pieces → IsDraft program d.code d.texts d.literals starts
   is_draft all = record {
-    code_is = sym (append-nil d.code) ∙ ap (λ l. d.code ++ pieces_code program (λ j. j) i l) (sym (drop_all i program (omega (arith, all)))) ∙ so_far.code;
-    texts_are = so_far.texts ∙ ap texts_of (take_all i program (omega (arith, all)));
-    literals_are = so_far.literals ∙ ap literals_of (take_all i program (omega (arith, all)));
+    code_is = sym (append-nil d.code) ∙ ap (λ l. d.code ++ pieces_code program (λ j. j) i l) (sym (drop_all i program.pieces (omega (arith, all)))) ∙ so_far.code;
+    texts_are = so_far.texts ∙ ap (λ l. presets_items row_texts program.presets ++ statements_items row_texts l) (take_all i program.pieces (omega (arith, all)));
+    literals_are = so_far.literals ∙ ap (λ l. presets_items row_literals program.presets ++ statements_items row_literals l) (take_all i program.pieces (omega (arith, all)));
     begins = subst (λ n. StartsTo program n starts) all so_far.begins;
   }
+
+-- ---- initial values of DATA blocks
+
+-- What a declaration with an initial value has is what its one row has.
+pub one_row : (b : BodyTree) → has_initial_value b ≡ true → rows b ≡ b ∷ []
+one_row (boolean name (Some b)) e = refl
+one_row (boolean_array name size (Some bits)) e = refl
+one_row (integer name (Some z)) e = refl
+one_row (integer_array name size (Some zs)) e = refl
+one_row (boolean name None) e = absurd (true≢false (sym e))
+one_row (boolean_array name size None) e = absurd (true≢false (sym e))
+one_row (integer name None) e = absurd (true≢false (sym e))
+one_row (integer_array name size None) e = absurd (true≢false (sym e))
+one_row _ e = absurd (true≢false (sym e))
+
+-- the number behind some items
+pub past_length : {A : Type 0} (n : ℕ) (xs : List A) → past n xs ≡ n + length xs
+past_length n [] = omega arith
+past_length n (x ∷ xs) = let more = past_length (suc n) xs in omega (arith, more)
+
+behind_items : {A : Type 0} (xs ys zs : List A) → zs ≡ xs ++ ys → past (length xs) ys ≡ length zs
+behind_items xs ys zs e = omega (arith, past_length (length xs) ys, ap length e, length-append xs ys)
+
+-- the code of an initial value where it stands
+preset_same : (program : Played) (d : Draft) (preset : Preset) → d.site ≡ site_at program 0 →
+    preset_code_in d (Some preset) ≡ row_code (preset_scope program preset) (λ j. j) (firsts_in d) preset.body []
+preset_same program d preset site =
+    ap (λ (s : Site). row_code (scope_of_site (preset_site s preset)) (λ j. j) (firsts_in d) preset.body []) site
+    ∙ row_same program.names (λ p. 0) (entry_from program.pieces) (length program.pieces) (Some preset.block) 0 (λ j. j) (firsts_in d) preset.body []
+
+module _ (program : Played) (d d' : Draft) (more : List Preset) where
+  -- a statement more, which has an initial value or none
+  pub preset_more : (o : Option Preset) → ArePresetsLeft program d (cons_option o more) → d'.code ≡ d.code ++ preset_code_in d o → d'.texts ≡ d.texts ++ preset_items row_texts o →
+      d'.literals ≡ d.literals ++ preset_items row_literals o → d'.site ≡ d.site → ArePresetsLeft program d' more
+  preset_more None left code texts literals site =
+      let same_texts = texts ∙ append-nil d.texts in
+      let same_literals = literals ∙ append-nil d.literals in
+      record {
+        code = ap (λ c. c ++ presets_code program (λ j. j) (firsts_in d') more []) (code ∙ append-nil d.code)
+            ∙ ap (λ n. d.code ++ presets_code program (λ j. j) (record { text = n; literal = length d'.literals }) more []) (ap length same_texts)
+            ∙ ap (λ n. d.code ++ presets_code program (λ j. j) (record { text = length d.texts; literal = n }) more []) (ap length same_literals)
+            ∙ left.code;
+        texts = ap (λ l. l ++ presets_items row_texts more) same_texts ∙ left.texts;
+        literals = ap (λ l. l ++ presets_items row_literals more) same_literals ∙ left.literals;
+        site = site ∙ left.site;
+      }
+  preset_more (Some preset) left code texts literals site =
+      let one : List Instr = row_code (preset_scope program preset) (λ j. j) (firsts_in d) preset.body [] in
+      let others : Firsts → List Instr = λ first. presets_code program (λ j. j) first more [] in
+      let next : Firsts = behind_row (firsts_in d) preset.body in
+      let split : row_code (preset_scope program preset) (λ j. j) (firsts_in d) preset.body (others next) ≡ one ++ others next =
+      row_append (preset_scope program preset) (λ j. j) (firsts_in d) preset.body [] (others next) in
+      record {
+        code = ap (λ c. c ++ others (firsts_in d')) (code ∙ ap (λ c. d.code ++ c) (preset_same program d preset left.site))
+            ∙ ap (λ n. (d.code ++ one) ++ others (record { text = n; literal = length d'.literals })) (sym (behind_items d.texts (row_texts preset.body) d'.texts texts))
+            ∙ ap (λ n. (d.code ++ one) ++ others (record { text = next.text; literal = n })) (sym (behind_items d.literals (row_literals preset.body) d'.literals literals))
+            ∙ append_assoc d.code one (others next)
+            ∙ ap (λ c. d.code ++ c) (sym split)
+            ∙ left.code;
+        texts = ap (λ l. l ++ presets_items row_texts more) texts ∙ append_assoc d.texts (row_texts preset.body) (presets_items row_texts more) ∙ left.texts;
+        literals = ap (λ l. l ++ presets_items row_literals more) literals ∙ append_assoc d.literals (row_literals preset.body) (presets_items row_literals more) ∙ left.literals;
+        site = site ∙ left.site;
+      }
+
+-- nothing is written yet
+pub none_written : (program : Played) (d : Draft) → d.code ≡ [] → d.texts ≡ [] → d.literals ≡ [] → d.site ≡ site_at program 0 → ArePresetsLeft program d program.presets
+none_written program d code texts literals site = record {
+  code = ap (λ c. c ++ presets_code program (λ j. j) (firsts_in d) program.presets []) code
+      ∙ ap (λ n. presets_code program (λ j. j) (record { text = n; literal = length d.literals }) program.presets []) (ap length texts)
+      ∙ ap (λ n. presets_code program (λ j. j) (record { text = 0; literal = n }) program.presets []) (ap length literals);
+  texts = ap (λ l. l ++ presets_items row_texts program.presets) texts;
+  literals = ap (λ l. l ++ presets_items row_literals program.presets) literals;
+  site = site;
+}
+
+-- all of them are written, and the pieces follow
+pub none_left : (program : Played) (d : Draft) → ArePresetsLeft program d [] → AreDrafted program 0 d []
+none_left program d left =
+    let pieces : List Instr = pieces_code program (λ j. j) 0 program.pieces in
+    record {
+      code = ap (λ c. c ++ pieces) (sym (append-nil d.code) ∙ left.code) ∙ sym (presets_before program (λ j. j) at_first program.presets pieces);
+      texts = sym (append-nil d.texts) ∙ left.texts ∙ sym (append-nil (presets_items row_texts program.presets));
+      literals = sym (append-nil d.literals) ∙ left.literals ∙ sym (append-nil (presets_items row_literals program.presets));
+      site = left.site;
+      begins = record { all = refl; each = λ k below. absurd (omega (arith, below)) };
+    }

@@ -1,16 +1,19 @@
 -- Steps of what is written for a statement.
-use Rattle.std.proofs.Common.{◌≡◌, ℕ, suc, ◌<◌, Bool, List, [], ◌∷◌, ◌++◌, length, take, drop, arith, append_assoc, refl, sym, ap, ◌∙◌}
+use Rattle.std.proofs.Common.{◌≡◌, ℕ, suc, ◌<◌, Bool, true, List, [], ◌∷◌, ◌++◌, length, take, drop, arith, append_assoc, refl, sym, ap, ◌∙◌}
 use Rattle.std.proofs.lemmas.List.{append-nil, take_all}
 use Rattle.stapl_syntax.specs.Trees.{ExprTree, ArrayTree, BodyTree, if_then, PartTree, string, value, character}
 use Rattle.stapl_meaning.specs.declared.values.ValueKind.TheVariants as kinds
 use Rattle.stapl_meaning.specs.Values.{Lookup}
+use Rattle.stapl_meaning.specs.Scopes.{has_initial_value}
+use Rattle.stapl_meaning.specs.Turns.{rows}
 use Rattle.stapl_meaning.specs.Operands.{a_range, array_operands, part_operands}
 use Rattle.stapl_code.specs.declared.instr.Source.{Source}
 use Rattle.stapl_code.specs.declared.instr.Instr.{Instr}
 use Rattle.stapl_code.specs.declared.instr.Instr.TheVariants.{JumpIfZero, CheckChar}
 use Rattle.stapl_code.specs.declared.instr.PrintPart.{PrintPart}
-use Rattle.stapl_codegen.specs.Emit.{operands_code, source_code, print_parts, part_texts}
+use Rattle.stapl_codegen.specs.Emit.{operands_code, source_code, print_parts, part_texts, rows_items}
 use Rattle.stapl_codegen.specs.Drafts.{Draft, Site, scope_of_site, expr_code_in, operands_code_in, array_operands_in, source_in, part_operands_in, print_parts_in, body_code_in}
+use Rattle.stapl_codegen.proofs.Drafts.{one_row}
 use Rattle.stapl_codegen.proofs.Lists.{expr_append, expr_before, operands_before}
 
 -- what a draft was before a PRINT, what it is after some of its parts, and which parts are left
@@ -127,3 +130,7 @@ range_written n high low a i start ranged placed source code range literals site
     ∙ append_assoc start.code own (others ++ copy)
     ∙ ap (λ c. start.code ++ (own ++ c)) (sym (operands_before look (array_operands look a) copy))
     ∙ ap (λ c. start.code ++ c) (sym (operands_before look (a_range n high low) (operands_code look (array_operands look a) copy)))
+
+-- what one row has is what its statement has
+pub one_row_items : {A : Type 0} (of : BodyTree → List A) (b : BodyTree) → has_initial_value b ≡ true → rows_items of (rows b) ≡ of b
+one_row_items of b starts = ap (rows_items of) (one_row b starts) ∙ append-nil (of b)

@@ -1,5 +1,5 @@
 -- The lists of the code of an accepted program are in their ranges and valid, and stand for it.
-use Rattle.std.proofs.Common.{◌≡◌, ◌≢◌, ℕ, ◌+◌, ◌<◌, ◌≤◌, Bool, true, false, cond, List, [], ◌∷◌, length, map, drop, arith, refl, ap, ◌∙◌, add-one}
+use Rattle.std.proofs.Common.{◌≡◌, ◌≢◌, ℕ, ◌+◌, ◌<◌, ◌≤◌, Bool, true, false, cond, List, [], ◌∷◌, ◌++◌, length, length-append, map, drop, arith, refl, ap, ◌∙◌, add-one}
 use Rattle.std.specs.Prelude.{All, IfSome, Some, None, Option, nat_abs, slice_get}
 use Rattle.std.specs.Option.{option_map}
 use Rattle.std.proofs.lemmas.Option.{slice_get-map}
@@ -8,18 +8,20 @@ use Rattle.stapl_syntax.specs.Names.{declaration}
 use Rattle.stapl_syntax.specs.Trees.{StmtTree}
 use Rattle.stapl_syntax.specs.Statements.{is_outer}
 use Rattle.stapl_syntax.specs.Programs.{piece_limit}
-use Rattle.stapl_meaning.specs.Scopes.{program_names, scope_at}
-use Rattle.stapl_meaning.specs.Typed.{IsDeclaredAt, IsTyped}
+use Rattle.stapl_meaning.specs.Scopes.{Played, scope_at}
+use Rattle.stapl_meaning.specs.Typed.{IsDeclared, IsTyped}
 use Rattle.stapl_code.specs.declared.instr.Instr.TheVariants.{Turn}
 use Rattle.stapl_code.specs.declared.raw.ProcDef.{ProcDef}
 use Rattle.stapl_code.specs.declared.raw.VarDef.{VarDef}
 use Rattle.stapl_code.specs.declared.instr.Instr.{Instr}
 use Rattle.stapl_code.specs.Ranges.{AreProcedures, IsInstr, IsInRange}
-use Rattle.stapl_codegen.specs.Emit.{body_code, firsts_at, literals_of, texts_of, pieces_code, program_code, start_of, procedures_of}
+use Rattle.stapl_codegen.specs.Emit.{body_code, at_first, firsts_at, literals_of, texts_of, presets_code, pieces_code, program_code, start_of, procedures_of}
 use Rattle.stapl_codegen.specs.Accepted.{IsAccepted}
 use Rattle.stapl_codegen.specs.Generated.{lists_of, IsCodeOf}
 use Rattle.stapl_codegen.proofs.Heads.{head_of, get_head, drop_tail}
-use Rattle.stapl_codegen.proofs.Texts.{texts_below, literals_below}
+use Rattle.stapl_codegen.proofs.Texts.{texts_below, literals_below, presets_below}
+use Rattle.stapl_codegen.proofs.Lists.{presets_before}
+use Rattle.stapl_codegen.proofs.PrologueFine.{presets_range}
 use Rattle.stapl_codegen.proofs.Ordered.{closed}
 use Rattle.stapl_codegen.proofs.Ranges.{Each, each_all, InRange, body_range, variables_are, agrees_from}
 use Rattle.stapl_built.specs.Built.{IsBuilt}
@@ -33,21 +35,21 @@ use Rattle.stapl_codegen.proofs.Whole.{AreFine, procedures_fine}
 use Rattle.stapl_codegen.proofs.Defined.{procedures_are, actions_are}
 
 -- each instruction of the pieces from a place on is in its range
-module _ (program : List StmtTree) (built : All IsBuilt program) (typed : IsTyped program) where
+module _ (program : Played) (built : All IsBuilt program.pieces) (typed : IsTyped program) where
   abbrev defs : List VarDef
-  defs = map variable_def (program_names program).variables
+  defs = map variable_def program.names.variables
 
-  pieces_range : (sts : List StmtTree) (i : ℕ) → drop i program ≡ sts → i + length sts ≤ piece_limit →
+  pieces_range : (sts : List StmtTree) (i : ℕ) → drop i program.pieces ≡ sts → i + length sts ≤ piece_limit →
       InRange defs (length (literals_of program)) (length (texts_of program)) (pieces_code program (start_of program) i sts)
   pieces_range [] i e few = tt
   pieces_range (st ∷ rest) i e few =
-      by (is_outer st.body) refl (pieces_range rest (i + 1) (rw add-one (drop_tail i program ∙ ap (drop 1) e)) (omega (arith, few)))
+      by (is_outer st.body) refl (pieces_range rest (i + 1) (rw add-one (drop_tail i program.pieces ∙ ap (drop 1) e)) (omega (arith, few)))
     where
-      defined : (block : List ℕ) (o : Option Declaration) → IfSome o (IsDeclaredAt program i block) →
+      defined : (block : List ℕ) (o : Option Declaration) → IfSome o (IsDeclared program (scope_at program i).look (1 + i) block) →
           IfSome o (λ (d : Declaration). slice_get defs ((scope_at program i).look.variable d.name) ≡ Some (record { kind = kind_number d.kind; size = nat_abs d.size }))
       defined block None is = tt
       defined block (Some d) is =
-          slice_get-map variable_def (program_names program).variables ((scope_at program i).look.variable d.name) ∙ ap (option_map variable_def) is.entry
+          slice_get-map variable_def program.names.variables ((scope_at program i).look.variable d.name) ∙ ap (option_map variable_def) is.entry
 
       after : List Instr
       after = pieces_code program (start_of program) (i + 1) rest
@@ -56,54 +58,67 @@ module _ (program : List StmtTree) (built : All IsBuilt program) (typed : IsType
           InRange defs (length (literals_of program)) (length (texts_of program)) (cond b after (Turn (i + 1) ∷ body_code (scope_at program i) (start_of program) (firsts_at program i) st.body after))
       by true outer more = more
       by false inner more =
-          let at = get_head i program ∙ ap head_of e in
+          let at = get_head i program.pieces ∙ ap head_of e in
           let t = typed.statements i st at inner in (
             (omega arith, omega (arith, few)),
-            body_range defs (length (literals_of program)) (length (texts_of program)) (scope_at program i) (agrees_from (program_names program) (block_at program i)) (start_of program) (firsts_at program i) st.body after
-                (built_is_inner st (all_at IsBuilt program i st built at) inner) t.suits (defined t.block (declaration st.body) t.declares) t.few_values
+            body_range defs (length (literals_of program)) (length (texts_of program)) (scope_at program i) (agrees_from program.names (block_at program.pieces i)) (start_of program) (firsts_at program i) st.body after
+                (built_is_inner st (all_at IsBuilt program.pieces i st built at) inner) t.suits (defined t.block (declaration st.body) t.declares) t.few_values
                 (record { few_texts = texts_below i program st rest e; few_literals = literals_below i program st rest e }) more,
           )
 
 -- there is a procedure, which begins at an instruction
-begins_somewhere : (total start : ℕ) (ps : List ProcDef) → 1 ≤ length ps → Each (λ (p : ProcDef). (start ≤ p.entry) × (p.entry < total)) ps → 0 < total
+begins_somewhere : (total start : ℕ) (ps : List ProcDef) → 1 ≤ length ps → Each (λ (p : ProcDef). (start ≤ p.entry) × (p.entry < total)) ps → start < total
 begins_somewhere total start [] some each = absurd (omega (arith, some))
-begins_somewhere total start (p ∷ ps) some each = let below = each.0.1 in omega (arith, below)
+begins_somewhere total start (p ∷ ps) some each = let from = each.0.0 in let below = each.0.1 in omega (arith, from, below)
 
 not_empty : {A : Type 0} (xs : List A) → 0 < length xs → xs ≢ []
 not_empty [] below e = absurd (omega (arith, below))
 not_empty (x ∷ xs) below e = absurd cc
 
-module _ (program : List StmtTree) (accepted : IsAccepted program) where
+module _ (program : Played) (accepted : IsAccepted program) where
   abbrev variables : List VarDef
-  variables = map variable_def (program_names program).variables
+  variables = map variable_def program.names.variables
 
-  size : length (program_code program) ≤ 4294304
-  size = code_length program accepted.built accepted.size accepted.typed.few
+  size : length (program_code program) ≤ 8488608
+  size = code_length program (start_of program) accepted
 
-  fine : AreFine program accepted.built accepted.typed 0 (procedures_of program)
+  fine : AreFine program accepted.built accepted.typed (length (presets_code program (start_of program) at_first program.presets [])) (procedures_of program)
   fine = procedures_fine program accepted.built accepted.typed
 
   procedures : AreProcedures (procedures_of program)
   procedures = procedures_are program accepted.typed accepted.named fine.rise
 
-  code_some : program_code program ≢ []
-  code_some = not_empty (program_code program) (begins_somewhere (length (program_code program)) 0 (procedures_of program) procedures.some fine.begin)
+  -- the first procedure begins behind the prologue, so the pieces have code
+  code_some : pieces_code program (start_of program) 0 program.pieces ≢ []
+  code_some =
+      let prologue : List Instr = presets_code program (start_of program) at_first program.presets [] in
+      let pieces : List Instr = pieces_code program (start_of program) 0 program.pieces in
+      let all : length (program_code program) ≡ length (prologue ++ pieces) = ap length (presets_before program (start_of program) at_first program.presets pieces) in
+      let below = begins_somewhere (length (program_code program)) (length prologue) (procedures_of program) procedures.some fine.begin in
+      not_empty pieces (omega (arith, below, all, length-append prologue pieces))
+
+  instrs_range : InRange variables (length (literals_of program)) (length (texts_of program)) (program_code program)
+  instrs_range =
+      let limit = accepted.typed.few in
+      let few = presets_below program in
+      presets_range program (start_of program) (length (literals_of program)) (length (texts_of program)) at_first program.presets (pieces_code program (start_of program) 0 program.pieces)
+      accepted.typed.presets accepted.presets_built (omega (arith, few.0)) (omega (arith, few.1))
+      (pieces_range program accepted.built accepted.typed program.pieces 0 refl (omega (arith, limit)))
 
   pub in_range : IsInRange (lists_of program)
   in_range =
-      let limit = accepted.typed.few in
       record {
-        variables = variables_are (program_names program).variables accepted.typed.sized;
+        variables = variables_are program.names.variables accepted.typed.sized;
         literals = accepted.literals;
         texts = accepted.texts;
         procedures = procedures;
         actions = actions_are program accepted.typed accepted.named;
-        instrs = each_all (IsInstr variables (length (literals_of program)) (length (texts_of program))) (program_code program) (pieces_range program accepted.built accepted.typed program 0 refl (omega (arith, limit)));
+        instrs = each_all (IsInstr variables (length (literals_of program)) (length (texts_of program))) (program_code program) instrs_range;
         countable = omega (arith, size);
       }
 
   pub code : IsCodeOf program (lists_of program)
   code = record {
     lists = refl;
-    stands = stands program (closed false program accepted.typed.ordered) (omega (arith, size)) code_some;
+    stands = stands program (closed false program.pieces accepted.typed.ordered) (omega (arith, size)) code_some;
   }

@@ -1,4 +1,5 @@
 pub mod Heads
+pub mod Places
 pub mod Views
 pub mod Exprs
 pub mod Constants
@@ -7,6 +8,7 @@ pub mod Lists
 pub mod Bodies
 pub mod Texts
 pub mod Pieces
+pub mod Prologue
 pub mod Runs
 pub mod Drafts
 pub mod Ordered
@@ -19,6 +21,7 @@ pub mod WellKinded
 pub mod WellPlaced
 pub mod Ranges
 pub mod Sizes
+pub mod PrologueFine
 pub mod Valid
 pub mod Whole
 pub mod Defined

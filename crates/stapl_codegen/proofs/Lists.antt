@@ -1,5 +1,5 @@
 -- The code of expressions, operands, rows and pieces: what stands behind it, and its targets.
-use Rattle.std.proofs.Common.{◌≡◌, ℕ, zero, suc, ◌+◌, Bool, true, false, cond, List, [], ◌∷◌, ◌++◌, length, map, drop, arith, refl, ap, ◌∙◌}
+use Rattle.std.proofs.Common.{◌≡◌, ℕ, zero, suc, ◌+◌, Bool, true, false, cond, List, [], ◌∷◌, ◌++◌, length, map, drop, arith, append_assoc, refl, sym, ap, ◌∙◌}
 use Rattle.std.specs.Prelude.{ℤ, pos, negsuc, Option, Some}
 use Rattle.stapl_syntax.specs.Trees.{ExprTree, number, scalar, element, unary, binary, abs, int, ArrayTree, literal, whole, range, of_int, BodyTree, end_procedure, boolean, boolean_array, integer, integer_array, assign, assign_element, assign_array, assign_range, goto, if_then, print, exit, StmtTree}
 use Rattle.stapl_syntax.specs.Statements.{is_outer}
@@ -8,12 +8,12 @@ use Rattle.stapl_meaning.specs.declared.values.ValueKind.{ValueKind}
 use Rattle.stapl_meaning.specs.declared.values.ValueKind.TheVariants as kinds
 use Rattle.stapl_meaning.specs.Values.{Lookup, unary_side, sides}
 use Rattle.stapl_meaning.specs.Operands.{Test, Plain, Character, Index, Range, Operand}
-use Rattle.stapl_meaning.specs.Scopes.{Scope, scope_of, scope_at}
+use Rattle.stapl_meaning.specs.Scopes.{Scope, Preset, Played, scope_of, scope_at, preset_scope}
 use Rattle.stapl_meaning.specs.Turns.{operands, rows}
 use Rattle.stapl_code.specs.declared.instr.Instr.{Instr}
 use Rattle.stapl_code.specs.declared.instr.Instr.TheVariants.{Turn, LoadAt, Unary, Binary, ToInt}
 use Rattle.stapl_code.specs.declared.instr.Source.TheVariants as sources
-use Rattle.stapl_codegen.specs.Emit.{operator_number, sign_number, absolute_number, literal_code, test_code, expr_code, int_code, operands_code, Firsts, last, behind_row, row_code, rows_code, body_code, firsts_at, piece_code, pieces_code, retarget}
+use Rattle.stapl_codegen.specs.Emit.{operator_number, sign_number, absolute_number, literal_code, test_code, expr_code, int_code, operands_code, Firsts, last, behind_row, row_code, rows_code, body_code, firsts_at, at_first, presets_code, piece_code, pieces_code, code_to, retarget}
 
 literal_retarget : (place : ℕ → ℕ) (kind : ValueKind) (z : ℤ) → retarget place (literal_code kind z) ≡ literal_code kind z
 literal_retarget place kinds.Int z = refl
@@ -102,12 +102,14 @@ module _ (look : Lookup) where
         ∙ ap (λ l. expr_code look o.kind o.expr (test_code o.test l)) (operands_retarget os c)
 
 module _ (scope : Scope) (place : ℕ → ℕ) where
+  pub row_append : (first : Firsts) (b : BodyTree) (c d : List Instr) → row_code scope place first b (c ++ d) ≡ row_code scope place first b c ++ d
+  row_append first b c d = operands_append scope.look (operands scope b) (last scope place first b ∷ c) d
+
   rows_append : (first : Firsts) (bs : List BodyTree) (c d : List Instr) → rows_code scope place first bs (c ++ d) ≡ rows_code scope place first bs c ++ d
   rows_append first [] c d = refl
   rows_append first (b ∷ bs) c d =
-      let more : List Instr = rows_code scope place (behind_row first b) bs c in
       ap (row_code scope place first b) (rows_append (behind_row first b) bs c d)
-      ∙ operands_append scope.look (operands scope b) (last scope place first b ∷ more) d
+      ∙ row_append first b (rows_code scope place (behind_row first b) bs c) d
 
   pub body_append : (first : Firsts) (b : BodyTree) (c d : List Instr) → body_code scope place first b (c ++ d) ≡ body_code scope place first b c ++ d
   body_append first b c d = rows_append first (rows b) c d
@@ -132,13 +134,15 @@ module _ (scope : Scope) (place : ℕ → ℕ) where
   last_retarget first (exit e) = refl
   last_retarget first _ = refl
 
+  pub row_retarget : (first : Firsts) (b : BodyTree) (c : List Instr) → map (retarget place) (row_code scope (λ i. i) first b c) ≡ row_code scope place first b (map (retarget place) c)
+  row_retarget first b c =
+      operands_retarget scope.look place (operands scope b) (last scope (λ i. i) first b ∷ c)
+      ∙ ap (λ i. operands_code scope.look (operands scope b) (i ∷ map (retarget place) c)) (last_retarget first b)
+
   rows_retarget : (first : Firsts) (bs : List BodyTree) (c : List Instr) → map (retarget place) (rows_code scope (λ i. i) first bs c) ≡ rows_code scope place first bs (map (retarget place) c)
   rows_retarget first [] c = refl
   rows_retarget first (b ∷ bs) c =
-      let first' : Firsts = behind_row first b in
-      operands_retarget scope.look place (operands scope b) (last scope (λ i. i) first b ∷ rows_code scope (λ i. i) first' bs c)
-      ∙ ap (λ i. operands_code scope.look (operands scope b) (i ∷ map (retarget place) (rows_code scope (λ i. i) first' bs c))) (last_retarget first b)
-      ∙ ap (row_code scope place first b) (rows_retarget first' bs c)
+      row_retarget first b (rows_code scope (λ i. i) (behind_row first b) bs c) ∙ ap (row_code scope place first b) (rows_retarget (behind_row first b) bs c)
 
   pub body_retarget : (first : Firsts) (b : BodyTree) (c : List Instr) → map (retarget place) (body_code scope (λ i. i) first b c) ≡ body_code scope place first b (map (retarget place) c)
   body_retarget first b c = rows_retarget first (rows b) c
@@ -168,16 +172,34 @@ module _ (names : Names) (entry entry' : ℕ → ℕ) (count : ℕ) (inside : Op
   last_same first (exit e) = refl
   last_same first _ = refl
 
+  pub row_same : (first : Firsts) (b : BodyTree) (c : List Instr) → row_code One place first b c ≡ row_code Other place first b c
+  row_same first b c = ap (λ i. operands_code One.look (operands One b) (i ∷ c)) (last_same first b)
+
   rows_same : (first : Firsts) (bs : List BodyTree) → rows_code One place first bs [] ≡ rows_code Other place first bs []
   rows_same first [] = refl
   rows_same first (b ∷ bs) =
-      ap (λ i. operands_code One.look (operands One b) (i ∷ rows_code One place (behind_row first b) bs [])) (last_same first b)
-      ∙ ap (row_code Other place first b) (rows_same (behind_row first b) bs)
+      row_same first b (rows_code One place (behind_row first b) bs []) ∙ ap (row_code Other place first b) (rows_same (behind_row first b) bs)
 
   pub body_same : (first : Firsts) (b : BodyTree) → body_code One place first b [] ≡ body_code Other place first b []
   body_same first b = rows_same first (rows b)
 
-module _ (program : List StmtTree) (place : ℕ → ℕ) where
+module _ (program : Played) (place : ℕ → ℕ) where
+  presets_append : (first : Firsts) (presets : List Preset) (c d : List Instr) → presets_code program place first presets (c ++ d) ≡ presets_code program place first presets c ++ d
+  presets_append first [] c d = refl
+  presets_append first (preset ∷ presets) c d =
+      ap (row_code (preset_scope program preset) place first preset.body) (presets_append (behind_row first preset.body) presets c d)
+      ∙ row_append (preset_scope program preset) place first preset.body (presets_code program place (behind_row first preset.body) presets c) d
+
+  pub presets_before : (first : Firsts) (presets : List Preset) (c : List Instr) → presets_code program place first presets c ≡ presets_code program place first presets [] ++ c
+  presets_before first presets c = presets_append first presets [] c
+
+  presets_retarget : (first : Firsts) (presets : List Preset) (c : List Instr) →
+      map (retarget place) (presets_code program (λ j. j) first presets c) ≡ presets_code program place first presets (map (retarget place) c)
+  presets_retarget first [] c = refl
+  presets_retarget first (preset ∷ presets) c =
+      row_retarget (preset_scope program preset) place first preset.body (presets_code program (λ j. j) (behind_row first preset.body) presets c)
+      ∙ ap (row_code (preset_scope program preset) place first preset.body) (presets_retarget (behind_row first preset.body) presets c)
+
   piece_append_by : (t : Bool) (i : ℕ) (st : StmtTree) (c d : List Instr) → cond t (c ++ d) (Turn (i + 1) ∷ body_code (scope_at program i) place (firsts_at program i) st.body (c ++ d)) ≡ cond t c (Turn (i + 1) ∷ body_code (scope_at program i) place (firsts_at program i) st.body c) ++ d
   piece_append_by true i st c d = refl
   piece_append_by false i st c d = ap (λ l. Turn (i + 1) ∷ l) (body_append (scope_at program i) place (firsts_at program i) st.body c d)
@@ -195,6 +217,11 @@ module _ (program : List StmtTree) (place : ℕ → ℕ) where
       piece_retarget_by (is_outer st.body) i st (pieces_code program (λ j. j) (i + 1) rest)
       ∙ ap (piece_code program place i st) (pieces_retarget (i + 1) rest)
 
+  pub code_retarget : map (retarget place) (code_to program (λ j. j)) ≡ code_to program place
+  code_retarget =
+      presets_retarget at_first program.presets (pieces_code program (λ j. j) 0 program.pieces)
+      ∙ ap (presets_code program place at_first program.presets) (pieces_retarget 0 program.pieces)
+
   -- the code of all pieces ends with that of the last ones
   pub pieces_split : (n i : ℕ) (sts : List StmtTree) → (before : List Instr) × (pieces_code program place i sts ≡ before ++ pieces_code program place (i + n) (drop n sts))
   pieces_split zero i sts = ([], ap (λ j. pieces_code program place j sts) (omega arith))
@@ -203,6 +230,17 @@ module _ (program : List StmtTree) (place : ℕ → ℕ) where
       let r = pieces_split n (i + 1) rest in
       let e : i + 1 + n ≡ i + suc n = omega arith in
       (piece_code program place i st r.0, ap (piece_code program place i st) r.1 ∙ piece_append i st r.0 _ ∙ ap (λ j. piece_code program place i st r.0 ++ pieces_code program place j (drop n rest)) e)
+
+  pub code_split : (i : ℕ) → (before : List Instr) × (code_to program place ≡ before ++ pieces_code program place i (drop i program.pieces))
+  code_split i =
+      let r = pieces_split i 0 program.pieces in
+      let prologue : List Instr = presets_code program place at_first program.presets [] in
+      let e : 0 + i ≡ i = omega arith in (
+        prologue ++ r.0,
+        presets_before at_first program.presets (pieces_code program place 0 program.pieces)
+            ∙ ap (λ c. prologue ++ c) (r.1 ∙ ap (λ j. r.0 ++ pieces_code program place j (drop i program.pieces)) e)
+            ∙ sym (append_assoc prologue r.0 (pieces_code program place i (drop i program.pieces))),
+      )
 
   -- the code of pieces and then of others
   pub pieces_append : (i : ℕ) (a b : List StmtTree) → pieces_code program place i (a ++ b) ≡ pieces_code program place i a ++ pieces_code program place (i + length a) b

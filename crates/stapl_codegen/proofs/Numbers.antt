@@ -1,22 +1,26 @@
 -- The numbers of pieces and of procedures.
-use Rattle.std.proofs.Common.{◌≡◌, ◌≢◌, ℕ, suc, ◌+◌, ◌<◌, Bool, true, false, cond, not, List, [], ◌∷◌, ◌++◌, length, length-append, map, position, get_or, Option, Some, None, is_some, unwrap_or, refl, sym, ap, subst, ◌∙◌, arith, append_assoc, if◌then◌else◌}
-use Rattle.std.specs.Prelude.{All}
+use Rattle.std.proofs.Common.{◌≡◌, ◌≢◌, ℕ, suc, ◌+◌, ◌<◌, ◌≤◌, Bool, true, false, cond, not, List, [], ◌∷◌, ◌++◌, length, drop, map, position, slice_get, get_or, Option, Some, unwrap_or, refl, sym, ap, subst, ◌∙◌, arith, append_assoc, if◌then◌else◌}
 use Rattle.std.specs.List.{AllPairs, range_with_len, position_or_len}
-use Rattle.std.specs.Map.{lookup, keys_of}
+use Rattle.std.specs.Map.{keys_of}
 use Rattle.std.specs.Str.{bytes_eq}
-use Rattle.std.proofs.lemmas.List.{length-map, append-nil, get_or_append_left, map-append}
-use Rattle.std.proofs.Math.Seq.{get_or-append_seam}
+use Rattle.std.proofs.lemmas.List.{length-map, drop_more}
+use Rattle.std.proofs.lemmas.Option.{slice_get_within, get_or_from_slice_get}
 use Rattle.stapl_syntax.specs.declared.statement.Stmt.{Stmt}
 use Rattle.stapl_syntax.specs.declared.names.Block.{Block}
 use Rattle.stapl_syntax.specs.Trees.{BodyTree, procedure, StmtTree, trees}
-use Rattle.stapl_built.specs.Built.{IsBuilt}
-use Rattle.stapl_syntax.specs.Names.{Names, with_numbers, numbered_from, numbered, block_of, declared, put_first, firsts_behind}
-use Rattle.stapl_meaning.specs.Scopes.{program_names, procedure_number}
-use Rattle.stapl_meaning.specs.Typed.{procedure_name, procedure_names}
-use Rattle.stapl_meaning.proofs.Apart.{procedure_keys}
-use Rattle.stapl_meaning.proofs.Ordered.{has_no_data}
+use Rattle.stapl_syntax.specs.Names.{with_numbers, numbered_from, numbered}
+use Rattle.stapl_meaning.specs.Scopes.{Played, procedures_in, procedure_number}
+use Rattle.stapl_meaning.specs.Typed.{procedure_name, procedure_names, plain_blocks}
+use Rattle.stapl_codegen.specs.declared.definitions.Numbers.{Numbers}
+use Rattle.stapl_codegen.specs.Numbers.{numbers_from, AreNumbers}
 use Rattle.stapl_names.proofs.Keys.{name_same}
 use Rattle.stapl_names.proofs.Positions.{place_or_len}
+
+add_one_first : (k : ℕ) → 1 + k ≡ suc k
+add_one_first k = omega arith
+
+add_none : (k : ℕ) → k ≡ k + 0
+add_none k = omega arith
 
 -- the numbers of all pieces of a program
 with_range : (n : ℕ) (sts : List StmtTree) → with_numbers (range_with_len n (length sts)) sts ≡ numbered_from n (map Some sts)
@@ -44,56 +48,112 @@ number_is (st ∷ rest) name = by st.body (number_is rest name)
     by (procedure p uses) more = here p (bytes_eq name p) more
     by _ more = more
 
--- entries whose keys differ are all first
-not_there : (k : List ℕ) (es : List (List ℕ × Block)) → ((i : ℕ) → i < length es → get_or (keys_of es) i k ≢ k) → is_some (lookup (bytes_eq k) es) ≡ false
-not_there k [] differ = refl
-not_there k (e ∷ es) differ = by (bytes_eq k e.0) refl (not_there k es (λ i below. differ (suc i) (omega (arith, below))))
+-- the count of procedures is that of their names
+count_is : (sts : List StmtTree) → procedures_in sts ≡ length (procedure_names sts)
+count_is [] = refl
+count_is (st ∷ rest) = by st.body (count_is rest)
   where
-    by : (b : Bool) → bytes_eq k e.0 ≡ b → is_some (lookup (bytes_eq k) es) ≡ false → is_some (cond b (Some e.1) (lookup (bytes_eq k) es)) ≡ false
-    by true is more = absurd (differ 0 (omega arith) (sym (name_same k e.0 is)))
-    by false is more = more
+    by : (b : BodyTree) → procedures_in rest ≡ length (procedure_names rest) → procedures_in (record { label = st.label; body = b } ∷ rest) ≡ length (procedure_name b (procedure_names rest))
+    by (procedure p uses) more = ap suc more
+    by _ more = more
 
-firsts_apart : (xs es : List (List ℕ × Block)) → AllPairs (λ a b. a ≢ b) (keys_of (es ++ xs)) → firsts_behind bytes_eq es xs ≡ es ++ xs
-firsts_apart [] es apart = sym (append-nil es)
-firsts_apart (x ∷ xs) es apart =
-    ap (λ l. firsts_behind bytes_eq l xs) put
-    ∙ firsts_apart xs (es ++ x ∷ []) (subst (λ (l : List (List ℕ × Block)). AllPairs (λ a b. a ≢ b) (keys_of l)) (sym joined) apart)
-    ∙ joined
+-- a name that stands in a list has a place in it
+not_among : (name : List ℕ) (es : List (List ℕ × Block)) → ((i : ℕ) → i < length es → get_or (keys_of es) i name ≢ name) → position_or_len (bytes_eq name) (plain_blocks es) ≡ length (plain_blocks es)
+not_among name [] differ = refl
+not_among name (e ∷ es) differ = by e.1.is_data (bytes_eq name e.0) refl (not_among name es (λ i below. differ (suc i) (omega (arith, below))))
   where
-    joined : (es ++ x ∷ []) ++ xs ≡ es ++ x ∷ xs
-    joined = append_assoc es (x ∷ []) xs
+    by : (d : Bool) (b : Bool) → bytes_eq name e.0 ≡ b → position_or_len (bytes_eq name) (plain_blocks es) ≡ length (plain_blocks es) →
+        position_or_len (bytes_eq name) (if d then plain_blocks es else e.0 ∷ plain_blocks es) ≡ length (if d then plain_blocks es else e.0 ∷ plain_blocks es)
+    by true b is more = more
+    by false true is more = absurd (differ 0 (omega arith) (sym (name_same name e.0 is)))
+    by false false is more = ap (λ b. cond (not b) (1 + position_or_len (bytes_eq name) (plain_blocks es)) 0) is ∙ omega (arith, more)
 
-    keys : keys_of (es ++ x ∷ xs) ≡ keys_of es ++ x.0 ∷ keys_of xs
-    keys = map-append (λ e. e.0) es (x ∷ xs)
+first_apart : (e : List ℕ × Block) (es : List (List ℕ × Block)) → AllPairs (λ a b. a ≢ b) (keys_of (e ∷ es)) → (i : ℕ) → i < length es → get_or (keys_of es) i e.0 ≢ e.0
+first_apart e es apart i below same =
+    let long = length-map es (λ (e : List ℕ × Block). e.0) in
+    apart 0 (suc i) e.0 (omega arith) (omega (arith, below, long)) (sym same)
 
-    long : length (keys_of es) ≡ length es
-    long = length-map es (λ e. e.0)
+others_apart : (e : List ℕ × Block) (es : List (List ℕ × Block)) → AllPairs (λ a b. a ≢ b) (keys_of (e ∷ es)) → AllPairs (λ a b. a ≢ b) (keys_of es)
+others_apart e es apart = λ i j d before below. apart (suc i) (suc j) d (omega (arith, before)) (omega (arith, below))
 
-    differs : (i : ℕ) → i < length es → get_or (keys_of es) i x.0 ≢ x.0
-    differs i below same =
-        let at : get_or (keys_of (es ++ x ∷ xs)) i x.0 ≡ get_or (keys_of es) i x.0 =
-        ap (λ l. get_or l i x.0) keys ∙ get_or_append_left (keys_of es) (x.0 ∷ keys_of xs) x.0 i (omega (arith, below, long)) in
-        let seam : get_or (keys_of (es ++ x ∷ xs)) (length es) x.0 ≡ x.0 =
-        ap (λ l. get_or l (length es) x.0) keys ∙ ap (λ n. get_or (keys_of es ++ x.0 ∷ keys_of xs) n x.0) (sym long) ∙ get_or-append_seam (keys_of es) x.0 (keys_of xs) x.0 in
-        apart i (length es) x.0 below (omega (arith, ap length keys, length-append (keys_of es) (x.0 ∷ keys_of xs), long)) (at ∙ same ∙ sym seam)
+-- the number at the block of a procedure is that of the procedure
+number_at : (es : List (List ℕ × Block)) (n d : ℕ) (name : List ℕ) → AllPairs (λ a b. a ≢ b) (keys_of es) → position_or_len (bytes_eq name) (plain_blocks es) < length (plain_blocks es) →
+    get_or (numbers_from n es) (position_or_len (bytes_eq name) (keys_of es)) d ≡ n + position_or_len (bytes_eq name) (plain_blocks es)
+number_at [] n d name apart below = absurd (omega (arith, below))
+number_at (e ∷ es) n d name apart below = by e.1.is_data (bytes_eq name e.0) refl below (λ m. number_at es m d name (others_apart e es apart))
+  where
+    by : (data' b : Bool) → bytes_eq name e.0 ≡ b →
+        position_or_len (bytes_eq name) (if data' then plain_blocks es else e.0 ∷ plain_blocks es) < length (if data' then plain_blocks es else e.0 ∷ plain_blocks es) →
+        ((m : ℕ) → position_or_len (bytes_eq name) (plain_blocks es) < length (plain_blocks es) → get_or (numbers_from m es) (position_or_len (bytes_eq name) (keys_of es)) d ≡ m + position_or_len (bytes_eq name) (plain_blocks es)) →
+        get_or (n ∷ numbers_from (if data' then n else suc n) es) (position_or_len (bytes_eq name) (e.0 ∷ keys_of es)) d
+        ≡ n + position_or_len (bytes_eq name) (if data' then plain_blocks es else e.0 ∷ plain_blocks es)
+    by true true is below more =
+        let same = name_same name e.0 is in
+        absurd (omega (arith, below, not_among name es (λ i within. subst (λ x. get_or (keys_of es) i x ≢ x) (sym same) (first_apart e es apart i within))))
+    by true false is below more =
+        ap (λ b. get_or (n ∷ numbers_from n es) (cond (not b) (1 + position_or_len (bytes_eq name) (keys_of es)) 0) d) is
+        ∙ ap (λ k. get_or (n ∷ numbers_from n es) k d) (add_one_first (position_or_len (bytes_eq name) (keys_of es))) ∙ more n below
+    by false true is below more =
+        ap (λ b. get_or (n ∷ numbers_from (suc n) es) (cond (not b) (1 + position_or_len (bytes_eq name) (keys_of es)) 0) d) is
+        ∙ add_none n
+        ∙ ap (λ b. n + cond (not b) (1 + position_or_len (bytes_eq name) (plain_blocks es)) 0) (sym is)
+    by false false is below more =
+        let within : position_or_len (bytes_eq name) (plain_blocks es) < length (plain_blocks es) =
+        omega (arith, ap (λ b. cond (not b) (1 + position_or_len (bytes_eq name) (plain_blocks es)) 0) is, below) in
+        let later = more (suc n) within in
+        ap (λ b. get_or (n ∷ numbers_from (suc n) es) (cond (not b) (1 + position_or_len (bytes_eq name) (keys_of es)) 0) d) is
+        ∙ ap (λ k. get_or (n ∷ numbers_from (suc n) es) k d) (add_one_first (position_or_len (bytes_eq name) (keys_of es)))
+        ∙ later
+        ∙ omega (arith, ap (λ b. cond (not b) (1 + position_or_len (bytes_eq name) (plain_blocks es)) 0) is)
 
-    put : put_first bytes_eq es x ≡ es ++ x ∷ []
-    put = ap (λ b. if b then es else es ++ x ∷ []) (not_there x.0 es differs)
+-- the number of the procedure of an item, from the numbers at the blocks
+pub item_number : (program : Played) (numbers : Numbers) (name : List ℕ) (block : Option ℕ) (count d : ℕ) → AreNumbers program numbers → procedure_number program.pieces name < procedures_in program.pieces →
+    block ≡ position (bytes_eq name) (keys_of numbers.names.now.blocks) → count ≡ length numbers.names.now.blocks →
+    get_or numbers.next.items (unwrap_or block count) d ≡ procedure_number program.pieces name
+item_number program numbers name block count d are there at few =
+    let es : List (List ℕ × Block) = numbers.names.now.blocks in
+    let long : length (keys_of es) ≡ length es = length-map es (λ e. e.0) in
+    let place : unwrap_or block count ≡ position_or_len (bytes_eq name) (keys_of es) =
+    ap (unwrap_or block) (few ∙ sym long) ∙ place_or_len (bytes_eq name) (keys_of es) block at in
+    let own : position_or_len (bytes_eq name) (plain_blocks es) ≡ procedure_number program.pieces name =
+    ap (position_or_len (bytes_eq name)) are.procedures ∙ sym (number_is program.pieces name) in
+    let below : position_or_len (bytes_eq name) (plain_blocks es) < length (plain_blocks es) =
+    omega (arith, own, there, count_is program.pieces, ap length are.procedures) in
+    ap (λ xs. get_or xs (unwrap_or block count) d) are.next
+    ∙ ap (λ k. get_or (numbers_from 0 es) k d) place
+    ∙ number_at es 0 d name are.apart below
+    ∙ omega (arith, own)
 
--- the blocks of a built program are its procedures
-pub blocks_are : (program : List StmtTree) → All IsBuilt program → AllPairs (λ a b. a ≢ b) (procedure_names program) →
-    keys_of (program_names program).blocks ≡ procedure_names program
-blocks_are program built apart =
-    let all : List (List ℕ × Block) = declared block_of (numbered (map Some program)) in
-    let keys : keys_of all ≡ procedure_names program = sym (procedure_keys program None 1 (has_no_data program built)) in
-    ap keys_of (firsts_apart all [] (subst (AllPairs (λ a b. a ≢ b)) (sym keys) apart)) ∙ keys
+-- there is a number at each block and behind them
+pub numbers_count : (n : ℕ) (es : List (List ℕ × Block)) → length (numbers_from n es) ≡ length es + 1
+numbers_count n [] = omega arith
+numbers_count n (e ∷ es) = let more = numbers_count (if e.1.is_data then n else suc n) es in omega (arith, more)
 
--- the number of the procedure of a name, from the table of blocks
-pub item_number : (program : List StmtTree) (names : Names) (name : List ℕ) (number : Option ℕ) (count : ℕ) → keys_of names.blocks ≡ procedure_names program →
-    number ≡ position (bytes_eq name) (keys_of names.blocks) → count ≡ length names.blocks → unwrap_or number count ≡ procedure_number program name
-item_number program names name number count keys at few =
-    let long : length (keys_of names.blocks) ≡ length names.blocks = length-map names.blocks (λ e. e.0) in
-    ap (unwrap_or number) (few ∙ sym long)
-    ∙ place_or_len (bytes_eq name) (keys_of names.blocks) number at
-    ∙ ap (position_or_len (bytes_eq name)) keys
-    ∙ sym (number_is program name)
+place_within : (p : List ℕ → Bool) (xs : List (List ℕ)) → position_or_len p xs ≤ length xs
+place_within p [] = omega arith
+place_within p (x ∷ xs) = by (p x) (place_within p xs)
+  where
+    by : (b : Bool) → position_or_len p xs ≤ length xs → cond (not b) (1 + position_or_len p xs) 0 ≤ suc (length xs)
+    by true le = omega arith
+    by false le = omega (arith, le)
+
+-- so the number of an item stands in the list
+pub item_below : (program : Played) (numbers : Numbers) (name : List ℕ) (block : Option ℕ) (count at many : ℕ) → AreNumbers program numbers →
+    block ≡ position (bytes_eq name) (keys_of numbers.names.now.blocks) → count ≡ length numbers.names.now.blocks → at ≡ unwrap_or block count → many ≡ length numbers.next.items → at < many
+item_below program numbers name block count at many are is few own long =
+    let es : List (List ℕ × Block) = numbers.names.now.blocks in
+    let keys : length (keys_of es) ≡ length es = length-map es (λ e. e.0) in
+    let place : unwrap_or block count ≡ position_or_len (bytes_eq name) (keys_of es) =
+    ap (unwrap_or block) (few ∙ sym keys) ∙ place_or_len (bytes_eq name) (keys_of es) block is in
+    omega (arith, own, place, long, keys, ap length are.next, numbers_count 0 es, place_within (bytes_eq name) (keys_of es))
+
+-- a block more
+pub numbers_more : (es : List (List ℕ × Block)) (i next : ℕ) (e : List ℕ × Block) (numbers numbers' all : List ℕ) → numbers ++ numbers_from next (drop i es) ≡ all → slice_get es i ≡ Some e →
+    numbers' ≡ numbers ++ next ∷ [] → numbers' ++ numbers_from (if e.1.is_data then next else suc next) (drop (i + 1) es) ≡ all
+numbers_more es i next e numbers numbers' all so_far at more =
+    let rest = drop (i + 1) es in
+    let here : drop i es ≡ e ∷ rest = drop_more es i e (slice_get_within es i e at) ∙ ap (λ x. x ∷ rest) (get_or_from_slice_get es i e e at) in
+    ap (λ l. l ++ numbers_from (if e.1.is_data then next else suc next) rest) more
+    ∙ append_assoc numbers (next ∷ []) (numbers_from (if e.1.is_data then next else suc next) rest)
+    ∙ sym (ap (λ l. numbers ++ numbers_from next l) here)
+    ∙ so_far

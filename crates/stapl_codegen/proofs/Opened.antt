@@ -1,16 +1,19 @@
 -- A block that is open at a place was begun by a PROCEDURE in front of it, and no ENDPROC stands between them.
-use Rattle.std.proofs.Common.{◌≡◌, ◌≢◌, ℕ, zero, suc, ◌+◌, ◌<◌, ◌≤◌, ◌⊎◌, inl, inr, false, List, [], ◌∷◌, length, take, map, get_or, slice_get, Option, Some, None, refl, sym, ap, subst, ◌∙◌, arith}
+use Rattle.std.proofs.Common.{◌≡◌, ◌≢◌, ℕ, zero, suc, ◌+◌, ◌<◌, ◌≤◌, ◌⊎◌, inl, inr, true, false, List, [], ◌∷◌, length, take, map, get_or, slice_get, Option, Some, None, refl, sym, ap, subst, ◌∙◌, arith}
 use Rattle.std.specs.Prelude.{All}
 use Rattle.std.specs.List.{AllPairs}
 use Rattle.std.proofs.lemmas.List.Elements.{All-head, All-tail}
 use Rattle.std.proofs.lemmas.Option.{same_Some, none-some}
 use Rattle.stapl_syntax.specs.Trees.{BodyTree, procedure, data_block, end_procedure, end_data, StmtTree}
 use Rattle.stapl_syntax.specs.Statements.{ends_procedure}
-use Rattle.stapl_built.specs.Built.{IsBuilt}
 use Rattle.stapl_syntax.specs.Names.{numbered_from, inside_behind, inside_from}
-use Rattle.stapl_meaning.specs.Scopes.{block_at}
+use Rattle.stapl_meaning.specs.Scopes.{plays, block_at}
 use Rattle.stapl_meaning.specs.Typed.{procedure_name, procedure_names}
-use Rattle.stapl_meaning.proofs.Ordered.{IsNoData, built_is_no_data}
+use Rattle.stapl_meaning.proofs.Ordered.{IsNoData, is_no_data}
+
+-- the statement is no part of a DATA block
+abbrev Plays : StmtTree → Type 0
+Plays st = plays None st.body ≡ true
 
 -- the statement is the PROCEDURE of this name
 abbrev pub IsProcedure : List ℕ → BodyTree → Type 0
@@ -81,16 +84,16 @@ one_more now st rest to block plain (inl (is, none)) = by st.body refl plain is
     by end_data same plain within = absurd (none-some block within)
     by b same plain within = still b same refl within
 
-opened_from : (now : Option (List ℕ)) (n : ℕ) (sts : List StmtTree) (to : ℕ) (block : List ℕ) → All IsBuilt sts →
+opened_from : (now : Option (List ℕ)) (n : ℕ) (sts : List StmtTree) (to : ℕ) (block : List ℕ) → All Plays sts →
     inside_from now (numbered_from n (take to (map Some sts))) ≡ Some block → IsOpen now sts to block
-opened_from now n sts zero block built within = inl (within, λ k st from below at. absurd (omega (arith, below)))
-opened_from now n [] (suc to) block built within = inl (within, λ k st from below at. absurd (none-some st at))
-opened_from now n (st ∷ rest) (suc to) block built within =
-    one_more now st rest to block (built_is_no_data st (All-head IsBuilt st rest built))
-    (opened_from (inside_behind now st.body) (n + 1) rest to block (All-tail IsBuilt st rest built) within)
+opened_from now n sts zero block play within = inl (within, λ k st from below at. absurd (omega (arith, below)))
+opened_from now n [] (suc to) block play within = inl (within, λ k st from below at. absurd (none-some st at))
+opened_from now n (st ∷ rest) (suc to) block play within =
+    one_more now st rest to block (is_no_data st.body (All-head Plays st rest play))
+    (opened_from (inside_behind now st.body) (n + 1) rest to block (All-tail Plays st rest play) within)
 
-pub opened : (program : List StmtTree) (i : ℕ) (block : List ℕ) → All IsBuilt program → block_at program i ≡ Some block → IsOpened program i block
-opened program i block built within = by (opened_from None 1 program i block built within)
+pub opened : (program : List StmtTree) (i : ℕ) (block : List ℕ) → All Plays program → block_at program i ≡ Some block → IsOpened program i block
+opened program i block play within = by (opened_from None 1 program i block play within)
   where
     by : IsOpen None program i block → IsOpened program i block
     by (inl (is, none)) = absurd (none-some block is)

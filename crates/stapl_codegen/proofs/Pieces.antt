@@ -5,35 +5,35 @@ use Rattle.std.proofs.lemmas.List.{length-map, drop_at}
 use Rattle.std.proofs.lemmas.Option.{slice_get_past}
 use Rattle.stapl_syntax.specs.Trees.{BodyTree, procedure, StmtTree}
 use Rattle.stapl_syntax.specs.Statements.{is_outer, begins_procedure}
-use Rattle.stapl_meaning.specs.Scopes.{entry_from}
+use Rattle.stapl_meaning.specs.Scopes.{Played, entry_from}
 use Rattle.stapl_code.specs.declared.instr.Instr.{Instr}
 use Rattle.stapl_code.specs.Machine.{nowhere, entry_of}
 use Rattle.stapl_code.specs.Safe.{entries_of}
-use Rattle.stapl_codegen.specs.Emit.{pieces_code, program_code, total_of, start_in, start_of, procedure_def, procedures_from, program_entries, retarget}
-use Rattle.stapl_codegen.proofs.Lists.{pieces_retarget, pieces_split}
+use Rattle.stapl_codegen.specs.Emit.{pieces_code, code_to, program_code, total_of, start_in, start_of, procedure_def, procedures_from, program_entries, retarget}
+use Rattle.stapl_codegen.proofs.Lists.{pieces_retarget, code_retarget, code_split}
 
-module _ (program : List StmtTree) where
+module _ (program : Played) where
   same_length : (i : ℕ) (sts : List StmtTree) → length (pieces_code program (λ j. j) i sts) ≡ length (pieces_code program (start_of program) i sts)
   same_length i sts =
       sym (length-map (pieces_code program (λ j. j) i sts) (retarget (start_of program))) ∙ ap length (pieces_retarget program (start_of program) i sts)
 
   pub total_is : total_of program ≡ length (program_code program)
-  total_is = same_length 0 program
+  total_is = sym (length-map (code_to program (λ j. j)) (retarget (start_of program))) ∙ ap length (code_retarget program (start_of program))
 
   -- the place of a piece of a procedure counts back from the end
-  pub start_is : (i : ℕ) (st : StmtTree) → slice_get program i ≡ Some st → is_outer st.body ≡ false → start_of program i ≡ length (program_code program) - length (pieces_code program (start_of program) i (drop i program))
+  pub start_is : (i : ℕ) (st : StmtTree) → slice_get program.pieces i ≡ Some st → is_outer st.body ≡ false → start_of program i ≡ length (program_code program) - length (pieces_code program (start_of program) i (drop i program.pieces))
   start_is i st at inner =
       ap (start_in program i) at
-      ∙ ap (λ b. if b then nowhere else total_of program - length (pieces_code program (λ j. j) i (drop i program))) inner
-      ∙ ap (λ n. n - length (pieces_code program (λ j. j) i (drop i program))) total_is
-      ∙ ap (λ n. length (program_code program) - n) (same_length i (drop i program))
+      ∙ ap (λ b. if b then nowhere else total_of program - length (pieces_code program (λ j. j) i (drop i program.pieces))) inner
+      ∙ ap (λ n. n - length (pieces_code program (λ j. j) i (drop i program.pieces))) total_is
+      ∙ ap (λ n. length (program_code program) - n) (same_length i (drop i program.pieces))
 
-  pub start_none : (i : ℕ) → slice_get program i ≡ None → start_of program i ≡ nowhere
+  pub start_none : (i : ℕ) → slice_get program.pieces i ≡ None → start_of program i ≡ nowhere
   start_none i at = ap (start_in program i) at
 
-  pub start_head : (i : ℕ) (st : StmtTree) → slice_get program i ≡ Some st → is_outer st.body ≡ true → start_of program i ≡ nowhere
+  pub start_head : (i : ℕ) (st : StmtTree) → slice_get program.pieces i ≡ Some st → is_outer st.body ≡ true → start_of program i ≡ nowhere
   start_head i st at head =
-      ap (start_in program i) at ∙ ap (λ b. if b then nowhere else total_of program - length (pieces_code program (λ j. j) i (drop i program))) head
+      ap (start_in program i) at ∙ ap (λ b. if b then nowhere else total_of program - length (pieces_code program (λ j. j) i (drop i program.pieces))) head
 
   drop_by : (code before suffix : List Instr) → code ≡ before ++ suffix → drop (length code - length suffix) code ≡ suffix
   drop_by code before suffix e =
@@ -41,12 +41,11 @@ module _ (program : List StmtTree) where
       ap (drop (length code - length suffix)) e ∙ drop_at before suffix _ n
 
   -- what stands at the place of a piece
-  pub code_from : (i : ℕ) (st : StmtTree) → slice_get program i ≡ Some st → is_outer st.body ≡ false → drop (start_of program i) (program_code program) ≡ pieces_code program (start_of program) i (drop i program)
+  pub code_from : (i : ℕ) (st : StmtTree) → slice_get program.pieces i ≡ Some st → is_outer st.body ≡ false → drop (start_of program i) (program_code program) ≡ pieces_code program (start_of program) i (drop i program.pieces)
   code_from i st at inner =
-      let r = pieces_split program (start_of program) i 0 program in
-      let e : 0 + i ≡ i = omega arith in
+      let r = code_split program (start_of program) i in
       ap (λ n. drop n (program_code program)) (start_is i st at inner)
-      ∙ drop_by (program_code program) r.0 (pieces_code program (start_of program) i (drop i program)) (r.1 ∙ ap (λ j. r.0 ++ pieces_code program (start_of program) j (drop i program)) e)
+      ∙ drop_by (program_code program) r.0 (pieces_code program (start_of program) i (drop i program.pieces)) r.1
 
 -- the procedures begin behind their heads
 entries_at : (place : ℕ → ℕ) (i : ℕ) (sts : List StmtTree) (p : ℕ) → place (i + length sts) ≡ nowhere →
@@ -65,7 +64,7 @@ entries_at place i (st ∷ rest) (suc p) e = by_head st.body (λ q. entries_at p
     by_head (procedure name uses) others = others p ∙ ap place (omega arith)
     by_head _ others = others (suc p) ∙ ap place (omega arith)
 
-pub entry_is : (program : List StmtTree) (p : ℕ) → entry_of (program_entries program) p ≡ start_of program (entry_from program p)
+pub entry_is : (program : Played) (p : ℕ) → entry_of (program_entries program) p ≡ start_of program (entry_from program.pieces p)
 entry_is program p =
-    entries_at (start_of program) 0 program p (start_none program (0 + length program) (slice_get_past program (0 + length program) (omega arith)))
+    entries_at (start_of program) 0 program.pieces p (start_none program (0 + length program.pieces) (slice_get_past program.pieces (0 + length program.pieces) (omega arith)))
     ∙ ap (start_of program) (omega arith)

@@ -4,19 +4,19 @@ use Rattle.std.specs.Prelude.{slice_get}
 use Rattle.std.proofs.lemmas.List.{drop_all}
 use Rattle.stapl_syntax.specs.Trees.{BodyTree, end_procedure, boolean, boolean_array, integer, integer_array, assign, assign_element, assign_array, assign_range, goto, if_then, print, exit, StmtTree}
 use Rattle.stapl_syntax.specs.Statements.{is_outer}
-use Rattle.stapl_meaning.specs.States.{State, Turned, Leads, Over, Broken, NoTurn, turn_of_piece, next_chosen}
-use Rattle.stapl_meaning.specs.Scopes.{Scope, scope_at, entry_from, zeros_of}
+use Rattle.stapl_meaning.specs.States.{State, Turned, Leads, Over, Broken, NoTurn, turn_of_piece}
+use Rattle.stapl_meaning.specs.Scopes.{Played, Scope, scope_at, zeros_of}
 use Rattle.stapl_meaning.specs.Turns.{done, turn, turn_of}
-use Rattle.stapl_meaning.specs.Plays.{after, goes_on, run, start}
+use Rattle.stapl_meaning.specs.Plays.{after, goes_on, run, start, beginning}
 use Rattle.stapl_code.specs.declared.instr.Instr.{Instr}
 use Rattle.stapl_code.specs.declared.instr.Instr.TheVariants.{Turn}
-use Rattle.stapl_code.specs.Machine.{Constants, nowhere, entry_of, stretch, begins, code_turn, code_run, begun}
-use Rattle.stapl_code.proofs.Preceded.{preceded_nothing}
-use Rattle.stapl_codegen.specs.Emit.{body_code, firsts_at, constants_in, pieces_code, program_code, start_of, program_entries}
+use Rattle.stapl_code.specs.Machine.{Constants, nowhere, stretch, begins, code_turn, code_run}
+use Rattle.stapl_codegen.specs.Emit.{body_code, at_first, firsts_at, constants_in, pieces_code, program_code, start_of, program_entries}
 use Rattle.stapl_codegen.specs.Correct.{GoesOn, IsClosed, placed_run, Stands}
 use Rattle.stapl_codegen.proofs.Heads.{head_of, get_head, drop_tail}
-use Rattle.stapl_codegen.proofs.Texts.{constants_at}
-use Rattle.stapl_codegen.proofs.Bodies.{placed, piece_placed, Behind, body_follows, end_law}
+use Rattle.stapl_codegen.proofs.Texts.{presets_known, constants_at}
+use Rattle.stapl_codegen.proofs.Bodies.{placed, piece_placed, Behind, body_follows}
+use Rattle.stapl_codegen.proofs.Prologue.{begins_alike}
 use Rattle.stapl_codegen.proofs.Pieces.{start_is, start_none, start_head, code_from, entry_is}
 
 closed_drop : (n : ℕ) (sts : List StmtTree) → IsClosed sts → IsClosed (drop n sts)
@@ -40,23 +40,40 @@ outer_stays scope s (print list) e = absurd cc
 outer_stays scope s (exit x) e = absurd cc
 outer_stays scope s _ e = refl
 
--- the code of pieces is none, or begins with a turn
-pub record BeginsWithTurn (code : List Instr) : Type 0 where
+-- the code of pieces begins with the turn of one of them
+pub record BeginsWithTurn (program : Played) (code : List Instr) : Type 0 where
+  pub first : ℕ
   pub piece : ℕ
   pub rest : List Instr
   pub is : code ≡ Turn piece ∷ rest
+  pub starts : start_of program first ≡ length (program_code program) - length code
 
-pieces_begin : (program : List StmtTree) (place : ℕ → ℕ) (i : ℕ) (sts : List StmtTree) → pieces_code program place i sts ≢ [] → BeginsWithTurn (pieces_code program place i sts)
-pieces_begin program place i [] some = absurd (some refl)
-pieces_begin program place i (st ∷ rest) some = by_outer (is_outer st.body) (pieces_begin program place (i + 1) rest) some
+-- the code of an inner piece, before that of others
+abbrev piece_before : Played → ℕ → StmtTree → List Instr → List Instr
+piece_before program i st rest = Turn (i + 1) ∷ body_code (scope_at program i) (start_of program) (firsts_at program i) st.body rest
+
+pieces_begin : (program : Played) (i : ℕ) (sts : List StmtTree) → drop i program.pieces ≡ sts → pieces_code program (start_of program) i sts ≢ [] →
+    BeginsWithTurn program (pieces_code program (start_of program) i sts)
+pieces_begin program i [] e some = absurd (some refl)
+pieces_begin program i (st ∷ rest) e some =
+    by_outer (is_outer st.body) refl (pieces_begin program (i + 1) rest (rw add-one (drop_tail i program.pieces ∙ ap (drop 1) e))) some
   where
-    by_outer : (b : Bool) → (pieces_code program place (i + 1) rest ≢ [] → BeginsWithTurn (pieces_code program place (i + 1) rest)) →
-        cond b (pieces_code program place (i + 1) rest) (Turn (i + 1) ∷ body_code (scope_at program i) place (firsts_at program i) st.body (pieces_code program place (i + 1) rest)) ≢ [] →
-        BeginsWithTurn (cond b (pieces_code program place (i + 1) rest) (Turn (i + 1) ∷ body_code (scope_at program i) place (firsts_at program i) st.body (pieces_code program place (i + 1) rest)))
-    by_outer true behind some = behind some
-    by_outer false behind some = record { piece = i + 1; rest = body_code (scope_at program i) place (firsts_at program i) st.body (pieces_code program place (i + 1) rest); is = refl }
+    by_outer : (b : Bool) → is_outer st.body ≡ b →
+        (pieces_code program (start_of program) (i + 1) rest ≢ [] → BeginsWithTurn program (pieces_code program (start_of program) (i + 1) rest)) →
+        cond b (pieces_code program (start_of program) (i + 1) rest) (piece_before program i st (pieces_code program (start_of program) (i + 1) rest)) ≢ [] →
+        BeginsWithTurn program (cond b (pieces_code program (start_of program) (i + 1) rest) (piece_before program i st (pieces_code program (start_of program) (i + 1) rest)))
+    by_outer true is behind some = behind some
+    by_outer false is behind some = record {
+      first = i;
+      piece = i + 1;
+      rest = body_code (scope_at program i) (start_of program) (firsts_at program i) st.body (pieces_code program (start_of program) (i + 1) rest);
+      is = refl;
+      starts = start_is program i st (get_head i program.pieces ∙ ap head_of e) is
+          ∙ ap (λ l. length (program_code program) - length (pieces_code program (start_of program) i l)) e
+          ∙ ap (λ b. length (program_code program) - length (cond b (pieces_code program (start_of program) (i + 1) rest) (piece_before program i st (pieces_code program (start_of program) (i + 1) rest)))) is;
+    }
 
-module _ (program : List StmtTree) where
+module _ (program : Played) where
   abbrev Code : List Instr
   Code = program_code program
 
@@ -79,24 +96,24 @@ module _ (program : List StmtTree) where
   behind_turn scope q code e = record { falls_on = λ t. ap (λ n. Leads [] n t) e }
 
   -- what follows a piece that is not the last of its procedure
-  behind_piece : (i : ℕ) (sts : List StmtTree) → drop (i + 1) program ≡ sts → GoesOn sts → Behind place Entries These All (scope_at program i) (From (i + 1) sts)
+  behind_piece : (i : ℕ) (sts : List StmtTree) → drop (i + 1) program.pieces ≡ sts → GoesOn sts → Behind place Entries These All (scope_at program i) (From (i + 1) sts)
   behind_piece i [] e go = absurd go
   behind_piece i (st ∷ rest) e go =
       let code = body_code (scope_at program (i + 1)) place (firsts_at program (i + 1)) st.body (From (i + 1 + 1) rest) in
       let is : From (i + 1) (st ∷ rest) ≡ Turn (i + 1 + 1) ∷ code = ap (λ b. cond b (From (i + 1 + 1) rest) (Turn (i + 1 + 1) ∷ code)) go in
-      let at = start_is program (i + 1) st (get_head (i + 1) program ∙ ap head_of e) go in
+      let at = start_is program (i + 1) st (get_head (i + 1) program.pieces ∙ ap head_of e) go in
       let at' : All - length (Turn (i + 1 + 1) ∷ code) ≡ place (i + 1) = sym (at ∙ ap (λ l. All - length (From (i + 1) l)) e ∙ ap (λ c. All - length c) is) in
       subst (Behind place Entries These All (scope_at program i)) (sym is) (behind_turn (scope_at program i) (i + 1 + 1) code at')
 
-  module _ (closed : IsClosed program) (short : All ≤ nowhere) where
+  module _ (closed : IsClosed program.pieces) (short : All ≤ nowhere) where
     none_there : (s : State) → code_turn Entries These Code nowhere s ≡ NoTurn []
     none_there s = ap (λ c. begins Entries These All c s) (drop_all nowhere Code short)
 
-    inner_follows : (i : ℕ) (s : State) (st : StmtTree) (rest : List StmtTree) → drop i program ≡ st ∷ rest → is_outer st.body ≡ false → code_turn Entries These Code (place i) s ≡ placed place (turn program i s)
+    inner_follows : (i : ℕ) (s : State) (st : StmtTree) (rest : List StmtTree) → drop i program.pieces ≡ st ∷ rest → is_outer st.body ≡ false → code_turn Entries These Code (place i) s ≡ placed place (turn program i s)
     inner_follows i s st rest e inner =
-        let at : slice_get program i ≡ Some st = get_head i program ∙ ap head_of e in
-        let next : drop (i + 1) program ≡ rest = rw add-one (drop_tail i program ∙ ap (drop 1) e) in
-        let c : IsClosed (st ∷ rest) = subst IsClosed e (closed_drop i program closed) in
+        let at : slice_get program.pieces i ≡ Some st = get_head i program.pieces ∙ ap head_of e in
+        let next : drop (i + 1) program.pieces ≡ rest = rw add-one (drop_tail i program.pieces ∙ ap (drop 1) e) in
+        let c : IsClosed (st ∷ rest) = subst IsClosed e (closed_drop i program.pieces closed) in
         let scope = scope_at program i in
         let first = firsts_at program i in
         let body = body_code scope place first st.body (From (i + 1) rest) in
@@ -107,16 +124,16 @@ module _ (program : List StmtTree) where
         ∙ piece_placed place (i + 1) (done scope s st.body)
         ∙ ap (λ o. placed place (turn_of (scope_at program i) (i + 1) s o)) (sym at)
 
-    by_piece : (i : ℕ) (s : State) (sts : List StmtTree) → drop i program ≡ sts → code_turn Entries These Code (place i) s ≡ placed place (turn program i s)
+    by_piece : (i : ℕ) (s : State) (sts : List StmtTree) → drop i program.pieces ≡ sts → code_turn Entries These Code (place i) s ≡ placed place (turn program i s)
     by_piece i s [] e =
-        let at : slice_get program i ≡ None = get_head i program ∙ ap head_of e in
+        let at : slice_get program.pieces i ≡ None = get_head i program.pieces ∙ ap head_of e in
         ap (λ n. code_turn Entries These Code n s) (start_none program i at)
         ∙ none_there s
         ∙ ap (λ o. placed place (turn_of (scope_at program i) (i + 1) s o)) (sym at)
     by_piece i s (st ∷ rest) e = by_outer (is_outer st.body) refl
       where
-        at : slice_get program i ≡ Some st
-        at = get_head i program ∙ ap head_of e
+        at : slice_get program.pieces i ≡ Some st
+        at = get_head i program.pieces ∙ ap head_of e
 
         by_outer : (b : Bool) → is_outer st.body ≡ b → code_turn Entries These Code (place i) s ≡ placed place (turn program i s)
         by_outer true h =
@@ -126,7 +143,7 @@ module _ (program : List StmtTree) where
         by_outer false h = inner_follows i s st rest e h
 
     pub turn_follows : (i : ℕ) (s : State) → code_turn Entries These Code (place i) s ≡ placed place (turn program i s)
-    turn_follows i s = by_piece i s (drop i program) refl
+    turn_follows i s = by_piece i s (drop i program.pieces) refl
 
     goes_follows : (n : ℕ) → ((i : ℕ) (s : State) → code_run Entries These Code n (place i) s ≡ placed_run place (run program n i s)) → (t : Turned) (s : State) → goes_on (placed place t) s (code_run Entries These Code n) ≡ placed_run place (goes_on t s (run program n))
     goes_follows n rest (Leads events i t) s = ap (after events) (rest i t)
@@ -140,16 +157,19 @@ module _ (program : List StmtTree) where
         ap (λ t. goes_on t s (code_run Entries These Code n)) (turn_follows i s)
         ∙ goes_follows n (run_follows n) (turn program i s) s
 
-    module _ (some : Code ≢ []) where
-      -- the code has no prologue: its first instruction is a turn
-      begun_is : (s : State) → begun Entries These (stretch Entries These All Code [] s) ≡ next_chosen (entry_of Entries) s s.chosen
-      begun_is s = by_turn (pieces_begin program place 0 program some)
-        where
-          by_turn : BeginsWithTurn Code → begun Entries These (stretch Entries These All Code [] s) ≡ next_chosen (entry_of Entries) s s.chosen
-          by_turn b = ap (λ c. begun Entries These (stretch Entries These All c [] s)) b.is ∙ sym (preceded_nothing (next_chosen (entry_of Entries) s s.chosen))
+    module _ (some : From 0 program.pieces ≢ []) where
+      first_turn : BeginsWithTurn program (From 0 program.pieces)
+      first_turn = pieces_begin program 0 program.pieces refl some
+
+      -- behind the prologue stands the turn of a piece
+      turn_behind : (t : State) → stretch Entries These All (From 0 program.pieces) [] t ≡ Leads [] (place first_turn.first) t
+      turn_behind t =
+          ap (λ c. stretch Entries These All c [] t) first_turn.is
+          ∙ ap (λ n. Leads [] n t) (ap (λ c. All - length c) (sym first_turn.is) ∙ sym first_turn.starts)
 
       pub stands : Stands program place Entries These Code (zeros_of program)
       stands chosen n =
           let s : State = start chosen (zeros_of program) in
-          ap (λ t. goes_on t s (code_run Entries These Code n)) (begun_is s ∙ end_law place Entries These All (scope_at program 0) s chosen (entry_is program))
-          ∙ goes_follows n (run_follows n) (next_chosen (entry_from program) s chosen) s
+          ap (λ t. goes_on t s (code_run Entries These Code n))
+          (begins_alike program place Entries These All (entry_is program) first_turn.first at_first (From 0 program.pieces) s (presets_known program) turn_behind)
+          ∙ goes_follows n (run_follows n) (beginning program s) s

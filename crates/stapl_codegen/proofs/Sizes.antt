@@ -1,27 +1,29 @@
--- How many instructions a program has: no more than the symbols of its statements and one for each piece.
-use Rattle.std.proofs.Common.{◌≡◌, ℕ, ◌+◌, ◌≤◌, Bool, true, false, cond, List, [], ◌∷◌, ◌++◌, None, Some, length, arith, refl}
+-- How many instructions a program has: no more than the symbols of its statements and of its DATA blocks, and one for
+-- each piece.
+use Rattle.std.proofs.Common.{◌≡◌, ℕ, ◌+◌, ◌≤◌, Bool, true, false, cond, List, [], ◌∷◌, ◌++◌, None, Some, length, arith, refl, sym}
 use Rattle.std.specs.Prelude.{All}
 use Rattle.std.specs.List.{sum_by}
+use Rattle.std.proofs.lemmas.Bool.{true≢false}
 use Rattle.std.proofs.lemmas.List.Elements.{All-head, All-tail}
 use Rattle.std.proofs.lemmas.List.Sums.{sum_by-cons}
-use Rattle.stapl_lexer.specs.Pieces.{text_limit}
 use Rattle.stapl_syntax.specs.Kinds.{expr_kind}
-use Rattle.stapl_syntax.specs.Programs.{piece_limit}
 use Rattle.stapl_syntax.specs.Statements.{is_outer}
-use Rattle.stapl_syntax.specs.Trees.{ExprTree, number, scalar, element, unary, binary, abs, int, ArrayTree, literal, whole, range, of_int, PartTree, string, value, character, BodyTree, assign, assign_element, assign_array, assign_range, goto, if_then, print, exit, StmtTree}
+use Rattle.stapl_syntax.specs.Trees.{ExprTree, number, scalar, element, unary, binary, abs, int, ArrayTree, literal, whole, range, of_int, PartTree, string, value, character, BodyTree, boolean, boolean_array, integer, integer_array, assign, assign_element, assign_array, assign_range, goto, if_then, print, exit, StmtTree}
 use Rattle.stapl_built.specs.Built.{is_built_simple, IsBuilt}
 use Rattle.stapl_built.specs.Sizes.{expr_size, array_size, part_size, body_size, statements_size}
 use Rattle.stapl_meaning.specs.declared.values.ValueKind.{ValueKind}
 use Rattle.stapl_meaning.specs.declared.values.ValueKind.TheVariants as kinds
 use Rattle.stapl_meaning.specs.Values.{Lookup, unary_side, sides}
 use Rattle.stapl_meaning.specs.Operands.{Operand, a_range, array_operands, bit_number, given_kind, printed_kind, part_operands}
-use Rattle.stapl_meaning.specs.Scopes.{Scope, scope_at}
+use Rattle.stapl_meaning.specs.Scopes.{has_initial_value, Preset, Scope, Played, scope_at, preset_scope}
+use Rattle.stapl_meaning.specs.Typed.{IsTypedPreset}
 use Rattle.stapl_meaning.proofs.Resolved.{built_is_inner}
 use Rattle.stapl_code.specs.declared.instr.Instr.{Instr}
 use Rattle.stapl_code.specs.declared.instr.Instr.TheVariants.{Turn, LoadAt, CheckIndex, CheckRange, Unary, Binary, ToInt, Store, StoreAt, JumpIfZero, Print, CheckChar, Exit}
 use Rattle.stapl_code.specs.declared.instr.Source.TheVariants as sources
 use Rattle.stapl_codegen.proofs.Views.{IsInner, an_end, a_bit, some_bits, an_integer, no_integers, some_integers, a_simple, inner_view}
-use Rattle.stapl_codegen.specs.Emit.{operator_number, sign_number, absolute_number, expr_code, int_code, operands_code, print_parts, Firsts, last, body_code, firsts_at, piece_code, pieces_code, start_of, program_code}
+use Rattle.stapl_codegen.specs.Emit.{operator_number, sign_number, absolute_number, expr_code, int_code, operands_code, print_parts, Firsts, last, behind_row, row_code, body_code, at_first, firsts_at, presets_code, piece_code, pieces_code, code_to}
+use Rattle.stapl_codegen.specs.Accepted.{IsAccepted}
 
 module _ (look : Lookup) where
   mutual
@@ -114,7 +116,7 @@ module _ (scope : Scope) (place : ℕ → ℕ) where
   inner_length first _ (some_integers name size zs some) rest = omega arith
   inner_length first _ (a_simple b built) rest = simple_length first b rest built
 
-module _ (program : List StmtTree) (place : ℕ → ℕ) where
+module _ (program : Played) (place : ℕ → ℕ) where
   piece_length : (i : ℕ) (st : StmtTree) (rest : List Instr) → IsBuilt st → length (piece_code program place i st rest) ≤ body_size st.body + 1 + length rest
   piece_length i st rest built = by_case (is_outer st.body) refl
     where
@@ -133,6 +135,31 @@ module _ (program : List StmtTree) (place : ℕ → ℕ) where
       let more = pieces_length (i + 1) rest (All-tail IsBuilt st rest built) in
       omega (arith, sum_by-cons (λ (st : StmtTree). body_size st.body) st rest, one, more)
 
--- a program whose text is no longer than a text may be
-pub code_length : (program : List StmtTree) → All IsBuilt program → statements_size program ≤ text_limit → length program ≤ piece_limit → length (program_code program) ≤ 4294304
-code_length program built size few = let all = pieces_length program (start_of program) 0 program built in omega (arith, all, size, few)
+-- an initial value of a DATA block
+preset_length : (scope : Scope) (place : ℕ → ℕ) (first : Firsts) (b : BodyTree) (rest : List Instr) → has_initial_value b ≡ true →
+    length (row_code scope place first b rest) ≤ body_size b + length rest
+preset_length scope place first (boolean name (Some b)) rest starts = omega arith
+preset_length scope place first (boolean_array name size (Some bits)) rest starts = omega arith
+preset_length scope place first (integer name (Some z)) rest starts = omega arith
+preset_length scope place first (integer_array name size (Some zs)) rest starts = omega arith
+preset_length scope place first (boolean name None) rest starts = absurd (true≢false (sym starts))
+preset_length scope place first (boolean_array name size None) rest starts = absurd (true≢false (sym starts))
+preset_length scope place first (integer name None) rest starts = absurd (true≢false (sym starts))
+preset_length scope place first (integer_array name size None) rest starts = absurd (true≢false (sym starts))
+preset_length scope place first _ rest starts = absurd (true≢false (sym starts))
+
+presets_length : (program : Played) (place : ℕ → ℕ) (first : Firsts) (presets : List Preset) (rest : List Instr) → All (IsTypedPreset program) presets →
+    length (presets_code program place first presets rest) ≤ sum_by (λ (preset : Preset). body_size preset.body) presets + length rest
+presets_length program place first [] rest typed = omega arith
+presets_length program place first (preset ∷ presets) rest typed =
+    let more : List Instr = presets_code program place (behind_row first preset.body) presets rest in
+    let one = preset_length (preset_scope program preset) place first preset.body more (All-head (IsTypedPreset program) preset presets typed).starts in
+    let others = presets_length program place (behind_row first preset.body) presets rest (All-tail (IsTypedPreset program) preset presets typed) in
+    omega (arith, sum_by-cons (λ (preset : Preset). body_size preset.body) preset presets, one, others)
+
+-- the code of a program
+pub code_length : (program : Played) (place : ℕ → ℕ) → IsAccepted program → length (code_to program place) ≤ 8488608
+code_length program place accepted =
+    let pieces = pieces_length program place 0 program.pieces accepted.built in
+    let all = presets_length program place at_first program.presets (pieces_code program place 0 program.pieces) accepted.typed.presets in
+    omega (arith, all, pieces, accepted.size, accepted.presets_size, accepted.typed.few)

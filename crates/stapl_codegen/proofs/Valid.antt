@@ -9,8 +9,8 @@ use Rattle.stapl_syntax.specs.Statements.{is_outer, ends_procedure}
 use Rattle.stapl_built.specs.Built.{is_built_inner, IsBuilt}
 use Rattle.stapl_syntax.specs.declared.names.Declaration.{Declaration}
 use Rattle.stapl_syntax.specs.Names.{declaration, inside_behind}
-use Rattle.stapl_meaning.specs.Scopes.{scope_at, block_at, program_names}
-use Rattle.stapl_meaning.specs.Typed.{IsInBlock, IsDeclaredAt, IsTyped}
+use Rattle.stapl_meaning.specs.Scopes.{Played, scope_at, block_at}
+use Rattle.stapl_meaning.specs.Typed.{IsInBlock, IsDeclared, IsTyped}
 use Rattle.stapl_meaning.proofs.Resolved.{built_is_inner}
 use Rattle.stapl_meaning.proofs.Entries.{all_at}
 use Rattle.std.specs.List.{AllByRecursion}
@@ -23,7 +23,7 @@ use Rattle.stapl_code.specs.declared.raw.VarDef.{VarDef}
 use Rattle.stapl_code.specs.Valid.{is_turn, is_last, is_target, procedure_break}
 use Rattle.stapl_codegen.specs.Emit.{body_code, firsts_at, pieces_code, program_code, start_of}
 use Rattle.stapl_codegen.proofs.Heads.{head_of, get_head, drop_tail, drop_front}
-use Rattle.stapl_codegen.proofs.Lists.{pieces_split, pieces_append}
+use Rattle.stapl_codegen.proofs.Lists.{pieces_split, code_split, pieces_append}
 use Rattle.stapl_codegen.proofs.Drafts.{inside_more}
 use Rattle.stapl_codegen.proofs.Ordered.{AreOwn}
 use Rattle.stapl_codegen.proofs.Opened.{IsProcedure, opened, once}
@@ -96,7 +96,7 @@ begun : (b : BodyTree) (name : List ℕ) (now : Option (List ℕ)) → IsProcedu
 begun (procedure p uses) name now is = ap Some is
 begun _ name now is = absurd is
 
-module _ (program : List StmtTree) (built : All IsBuilt program) (typed : IsTyped program) where
+module _ (program : Played) (built : All IsBuilt program.pieces) (typed : IsTyped program) where
   abbrev pub code : List Instr
   code = program_code program
 
@@ -104,7 +104,7 @@ module _ (program : List StmtTree) (built : All IsBuilt program) (typed : IsType
   From i sts = pieces_code program (start_of program) i sts
 
   abbrev pub defs : List VarDef
-  defs = map variable_def (program_names program).variables
+  defs = map variable_def program.names.variables
 
   -- a piece of a procedure begins with its turn
   begins_with_turn : (i : ℕ) (st : StmtTree) (rest : List StmtTree) → is_outer st.body ≡ false →
@@ -113,23 +113,23 @@ module _ (program : List StmtTree) (built : All IsBuilt program) (typed : IsType
       ap (λ b. cond b (From (i + 1) rest) (Turn (i + 1) ∷ body_code (scope_at program i) (start_of program) (firsts_at program i) st.body (From (i + 1) rest))) inner
 
   -- where the code from a place on begins, if the statement there has code
-  pub start_from : (i : ℕ) (st : StmtTree) (rest : List StmtTree) → drop i program ≡ st ∷ rest → is_outer st.body ≡ false →
+  pub start_from : (i : ℕ) (st : StmtTree) (rest : List StmtTree) → drop i program.pieces ≡ st ∷ rest → is_outer st.body ≡ false →
       start_of program i ≡ length code - length (From i (st ∷ rest))
   start_from i st rest e inner =
-      start_is program i st (get_head i program ∙ ap head_of e) inner ∙ ap (λ l. length code - length (From i l)) e
+      start_is program i st (get_head i program.pieces ∙ ap head_of e) inner ∙ ap (λ l. length code - length (From i l)) e
 
-  pub code_within : (i : ℕ) (sts : List StmtTree) → drop i program ≡ sts → length (From i sts) ≤ length code
+  pub code_within : (i : ℕ) (sts : List StmtTree) → drop i program.pieces ≡ sts → length (From i sts) ≤ length code
   code_within i sts e =
-      let split = pieces_split program (start_of program) i 0 program in
-      let whole : length code ≡ length (split.0 ++ From (0 + i) (drop i program)) = ap length split.1 in
-      let from : length (From (0 + i) (drop i program)) ≡ length (From i sts) = ap (λ j. length (From j (drop i program))) (omega arith) ∙ ap (λ l. length (From i l)) e in
-      omega (arith, whole, from, length-append split.0 (From (0 + i) (drop i program)))
+      let split = code_split program (start_of program) i in
+      let whole : length code ≡ length (split.0 ++ From i (drop i program.pieces)) = ap length split.1 in
+      let from : length (From i (drop i program.pieces)) ≡ length (From i sts) = ap (λ l. length (From i l)) e in
+      omega (arith, whole, from, length-append split.0 (From i (drop i program.pieces)))
 
   -- a procedure: its head, its own statements, and what stands behind it
   module _ (head : StmtTree) (name : List ℕ) (is_head : IsProcedure name head.body) (h : ℕ) (own back : List StmtTree)
-      (at : drop h program ≡ head ∷ own ++ back) (are : AreOwn own) where
-    pub own_at : drop (h + 1) program ≡ own ++ back
-    own_at = rw add-one (drop_tail h program ∙ ap (drop 1) at)
+      (at : drop h program.pieces ≡ head ∷ own ++ back) (are : AreOwn own) where
+    pub own_at : drop (h + 1) program.pieces ≡ own ++ back
+    own_at = rw add-one (drop_tail h program.pieces ∙ ap (drop 1) at)
 
     abbrev pub procedure_code : List Instr
     procedure_code = From (h + 1) own
@@ -138,44 +138,44 @@ module _ (program : List StmtTree) (built : All IsBuilt program) (typed : IsType
     entry = start_of program (h + 1)
 
     -- a statement of the procedure, by its place in it
-    there : (k j : ℕ) (st : StmtTree) (rest : List StmtTree) → j ≡ h + 1 + k → drop k own ≡ st ∷ rest → drop j program ≡ st ∷ rest ++ back
+    there : (k j : ℕ) (st : StmtTree) (rest : List StmtTree) → j ≡ h + 1 + k → drop k own ≡ st ∷ rest → drop j program.pieces ≡ st ∷ rest ++ back
     there k j st rest is e =
         let long = fewer k own st rest e in
-        ap (λ n. drop n program) is ∙ drop_front k (h + 1) program own back own_at (omega (arith, long)) ∙ ap (λ l. l ++ back) e
+        ap (λ n. drop n program.pieces) is ∙ drop_front k (h + 1) program.pieces own back own_at (omega (arith, long)) ∙ ap (λ l. l ++ back) e
 
-    got : (k j : ℕ) (st : StmtTree) (rest : List StmtTree) → j ≡ h + 1 + k → drop k own ≡ st ∷ rest → slice_get program j ≡ Some st
-    got k j st rest is e = get_head j program ∙ ap head_of (there k j st rest is e)
+    got : (k j : ℕ) (st : StmtTree) (rest : List StmtTree) → j ≡ h + 1 + k → drop k own ≡ st ∷ rest → slice_get program.pieces j ≡ Some st
+    got k j st rest is e = get_head j program.pieces ∙ ap head_of (there k j st rest is e)
 
-    head_there : slice_get program h ≡ Some head
-    head_there = get_head h program ∙ ap head_of at
+    head_there : slice_get program.pieces h ≡ Some head
+    head_there = get_head h program.pieces ∙ ap head_of at
 
     -- the block that is open in the procedure is the procedure
-    open_first : block_at program (h + 1) ≡ Some name
+    open_first : block_at program.pieces (h + 1) ≡ Some name
     open_first =
-        sym (inside_more program h head (at ∙ ap (λ l. head ∷ l) (sym own_at)) (block_at program h) (inside_behind (block_at program h) head.body) refl refl)
-        ∙ begun head.body name (block_at program h) is_head
+        sym (inside_more program h head (at ∙ ap (λ l. head ∷ l) (sym own_at)) (block_at program.pieces h) (inside_behind (block_at program.pieces h) head.body) refl refl)
+        ∙ begun head.body name (block_at program.pieces h) is_head
 
     open_next : (k j : ℕ) (st next : StmtTree) (rest : List StmtTree) → j ≡ h + 1 + k → drop k own ≡ st ∷ next ∷ rest →
-        block_at program j ≡ Some name → block_at program (j + 1) ≡ Some name
+        block_at program.pieces j ≡ Some name → block_at program.pieces (j + 1) ≡ Some name
     open_next k j st next rest is e now =
-        let here : drop j program ≡ st ∷ next ∷ rest ++ back = there k j st (next ∷ rest) is e in
-        let after : drop (j + 1) program ≡ next ∷ rest ++ back = rw add-one (drop_tail j program ∙ ap (drop 1) here) in
-        sym (inside_more program j st (here ∙ ap (λ l. st ∷ l) (sym after)) (block_at program j) (inside_behind (block_at program j) st.body) refl refl)
-        ∙ stays_inside st.body (block_at program j) (own_inner own k st (next ∷ rest) are e) (own_goes_on own k st next rest are e)
+        let here : drop j program.pieces ≡ st ∷ next ∷ rest ++ back = there k j st (next ∷ rest) is e in
+        let after : drop (j + 1) program.pieces ≡ next ∷ rest ++ back = rw add-one (drop_tail j program.pieces ∙ ap (drop 1) here) in
+        sym (inside_more program j st (here ∙ ap (λ l. st ∷ l) (sym after)) (block_at program.pieces j) (inside_behind (block_at program.pieces j) st.body) refl refl)
+        ∙ stays_inside st.body (block_at program.pieces j) (own_inner own k st (next ∷ rest) are e) (own_goes_on own k st next rest are e)
         ∙ now
 
-    open_along : (n k j : ℕ) (sts : List StmtTree) (st : StmtTree) (rest : List StmtTree) → j ≡ h + 1 + k → drop k own ≡ sts → block_at program j ≡ Some name →
-        drop n sts ≡ st ∷ rest → block_at program (j + n) ≡ Some name
-    open_along zero k j sts st rest is e now found = ap (block_at program) (omega arith) ∙ now
+    open_along : (n k j : ℕ) (sts : List StmtTree) (st : StmtTree) (rest : List StmtTree) → j ≡ h + 1 + k → drop k own ≡ sts → block_at program.pieces j ≡ Some name →
+        drop n sts ≡ st ∷ rest → block_at program.pieces (j + n) ≡ Some name
+    open_along zero k j sts st rest is e now found = ap (block_at program.pieces) (omega arith) ∙ now
     open_along (suc n) k j [] st rest is e now found = absurd cc
     open_along (suc n) k j (x ∷ []) st rest is e now found = absurd (omega (arith, fewer n [] st rest found))
     open_along (suc n) k j (x ∷ y ∷ ys) st rest is e now found =
         let next : j + 1 + n ≡ j + suc n = omega arith in
-        ap (block_at program) (sym next)
+        ap (block_at program.pieces) (sym next)
         ∙ open_along n (suc k) (j + 1) (y ∷ ys) st rest (omega (arith, is)) (drop_tail k own ∙ ap (drop 1) e) (open_next k j x y ys is e now) found
 
-    open_in : (k j : ℕ) (st : StmtTree) (rest : List StmtTree) → j ≡ h + 1 + k → drop k own ≡ st ∷ rest → block_at program j ≡ Some name
-    open_in k j st rest is e = ap (block_at program) is ∙ open_along k 0 (h + 1) own st rest (omega arith) refl open_first e
+    open_in : (k j : ℕ) (st : StmtTree) (rest : List StmtTree) → j ≡ h + 1 + k → drop k own ≡ st ∷ rest → block_at program.pieces j ≡ Some name
+    open_in k j st rest is e = ap (block_at program.pieces) is ∙ open_along k 0 (h + 1) own st rest (omega arith) refl open_first e
 
     -- the code of a statement of the procedure, behind so many instructions of it
     pub record IsBehind (k j : ℕ) (sts : List StmtTree) : Type 0 where
@@ -243,7 +243,7 @@ module _ (program : List StmtTree) (built : All IsBuilt program) (typed : IsType
       pub below : index < length own
       pub is : j ≡ h + 1 + index
 
-    not_past : (j : ℕ) → IsInBlock program name j → h < j → ((k : ℕ) (st : StmtTree) → suc h ≤ k → k < j → slice_get program k ≡ Some st → ends_procedure st.body ≡ false) → j < h + 1 + length own
+    not_past : (j : ℕ) → IsInBlock program name j → h < j → ((k : ℕ) (st : StmtTree) → suc h ≤ k → k < j → slice_get program.pieces k ≡ Some st → ends_procedure st.body ≡ false) → j < h + 1 + length own
     not_past j in_block above none = by (nat_lt j (h + 1 + length own)) refl
       where
         by : (b : Bool) → nat_lt j (h + 1 + length own) ≡ b → j < h + 1 + length own
@@ -259,10 +259,10 @@ module _ (program : List StmtTree) (built : All IsBuilt program) (typed : IsType
 
     own_place : (j : ℕ) → IsInBlock program name j → IsOwnPlace j
     own_place j in_block =
-        let o = opened program j name built in_block.inside in
-        let same : o.at ≡ h = once program o.at h o.head head name typed.procedures_apart o.stands o.begins head_there is_head in
+        let o = opened program.pieces j name typed.play in_block.inside in
+        let same : o.at ≡ h = once program.pieces o.at h o.head head name typed.procedures_apart o.stands o.begins head_there is_head in
         let above : h < j = omega (arith, o.below, same) in
-        let none = λ (k : ℕ) (st : StmtTree) (from : suc h ≤ k) (to : k < j) (there : slice_get program k ≡ Some st). o.none k st (omega (arith, same, from)) to there in
+        let none = λ (k : ℕ) (st : StmtTree) (from : suc h ≤ k) (to : k < j) (there : slice_get program.pieces k ≡ Some st). o.none k st (omega (arith, same, from)) to there in
         let below = not_past j in_block above none in
         record { index = j - (h + 1); below = omega (arith, above, below); is = omega (arith, above) }
 
@@ -281,7 +281,7 @@ module _ (program : List StmtTree) (built : All IsBuilt program) (typed : IsType
       leads : AllByRecursion (Leads j) (labels_named st.body)
       declares : IfSome (declaration st.body) (λ (d : Declaration). (scope_at program j).look.kind d.name ≡ Some d.kind)
 
-    kind_declared : (j : ℕ) (block : List ℕ) (o : Option Declaration) → IfSome o (IsDeclaredAt program j block) → IfSome o (λ (d : Declaration). (scope_at program j).look.kind d.name ≡ Some d.kind)
+    kind_declared : (j : ℕ) (block : List ℕ) (o : Option Declaration) → IfSome o (IsDeclared program (scope_at program j).look (1 + j) block) → IfSome o (λ (d : Declaration). (scope_at program j).look.kind d.name ≡ Some d.kind)
     kind_declared j block None is = tt
     kind_declared j block (Some d) is = is.kind
 
@@ -292,14 +292,14 @@ module _ (program : List StmtTree) (built : All IsBuilt program) (typed : IsType
         let t = typed.statements j st at inner in
         let same : t.block ≡ name = same_Some t.block name (sym t.inside ∙ open_in k j st rest is e) in
         record {
-          is_inner = built_is_inner st (all_at IsBuilt program j st built at) inner;
+          is_inner = built_is_inner st (all_at IsBuilt program.pieces j st built at) inner;
           suits = t.suits;
           leads = subst (λ (b : List ℕ). AllByRecursion (λ label. IsInBlock program b ((scope_at program j).label label)) (labels_named st.body)) same t.leads;
           declares = kind_declared j t.block (declaration st.body) t.declares;
         }
 
     agrees : (j : ℕ) → Agrees defs (scope_at program j).look
-    agrees j = agrees_from (program_names program) (block_at program j)
+    agrees j = agrees_from (program.names) (block_at program.pieces j)
 
     leads_to : (j : ℕ) (label : List ℕ) → Leads j label → is_target entry procedure_code (start_of program ((scope_at program j).label label)) ≡ true
     leads_to j label leads = target name ((scope_at program j).label label) refl leads
@@ -365,8 +365,8 @@ module _ (program : List StmtTree) (built : All IsBuilt program) (typed : IsType
         by : (sts : List StmtTree) → AreOwn sts → own ≡ sts → drop entry code ≡ From (h + 1) (own ++ back)
         by [] are' same = absurd are'
         by (st ∷ rest) are' same =
-            let first : drop (h + 1) program ≡ st ∷ rest ++ back = own_at ∙ ap (λ l. l ++ back) same in
-            code_from program (h + 1) st (get_head (h + 1) program ∙ ap head_of first) (own_inner (st ∷ rest) 0 st rest are' refl)
+            let first : drop (h + 1) program.pieces ≡ st ∷ rest ++ back = own_at ∙ ap (λ l. l ++ back) same in
+            code_from program (h + 1) st (get_head (h + 1) program.pieces ∙ ap head_of first) (own_inner (st ∷ rest) 0 st rest are' refl)
             ∙ ap (From (h + 1)) own_at
 
     -- the code of the procedure breaks no rule

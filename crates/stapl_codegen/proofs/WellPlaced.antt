@@ -62,6 +62,14 @@ off_same : (kind : ValueKind) (ks : List ValueKind) → off kind (kind ∷ ks) �
 off_same kinds.Int ks = refl
 off_same kinds.Bit ks = refl
 
+-- what instructions find: a value that goes into a scalar of its kind, and variables that they want
+module _ (variables : List VarDef) where
+  pub store_finds : (n : ℕ) (kind : ValueKind) → variable_kind (slice_get variables n) ≡ Some kind → kinds_behind variables (Store n) (kind ∷ []) ≡ Some []
+  store_finds n kind found = ap (λ k. then_kinds (taken_off k (kind ∷ [])) Some) found ∙ ap (λ o. then_kinds o Some) (off_same kind [])
+
+  pub wanted : (x : Instr) (ks after : List ValueKind) → list_all (is_met variables) (wants x) ≡ true → kinds_moved variables x ks ≡ Some after → kinds_behind variables x ks ≡ Some after
+  wanted x ks after met moved = ap (λ b. if b then kinds_moved variables x ks else None) met ∙ moved
+
 module _ (variables : List VarDef) (entry : ℕ) (code : List Instr) where
   jump_stands : (to : ℕ) → is_target entry code to ≡ true → stands_well entry code false (Jump to) false ≡ true
   jump_stands to leads = rw leads refl
@@ -80,10 +88,7 @@ module _ (variables : List VarDef) (entry : ℕ) (code : List Instr) where
     abbrev Good : Firsts → BodyTree → Type 0
     Good first b = IsGood variables entry code scope place first b
 
-    -- a value goes into a scalar or an element of its kind
-    store_finds : (n : ℕ) (kind : ValueKind) → variable_kind (slice_get variables n) ≡ Some kind → kinds_behind variables (Store n) (kind ∷ []) ≡ Some []
-    store_finds n kind found = ap (λ k. then_kinds (taken_off k (kind ∷ [])) Some) found ∙ ap (λ o. then_kinds o Some) (off_same kind [])
-
+    -- a value goes into an element of its kind
     store_at_finds : (n : ℕ) (kind : ValueKind) → element_kind_of (slice_get variables n) ≡ Some kind → kinds_behind variables (StoreAt n) (kind ∷ kinds.Int ∷ []) ≡ Some []
     store_at_finds n kind found =
         ap (λ k. then_kinds (then_kinds (taken_off k (kind ∷ kinds.Int ∷ [])) (taken_off (Some kinds.Int))) Some) found
@@ -105,10 +110,6 @@ module _ (variables : List VarDef) (entry : ℕ) (code : List Instr) where
         ap (λ b. b && true) (bits_agree variables scope.look agrees name u.0)
     source_met first (of_int e) h = refl
 
-    -- what stands behind a row whose wants are met
-    wanted : (x : Instr) (ks after : List ValueKind) → list_all (is_met variables) (wants x) ≡ true → kinds_moved variables x ks ≡ Some after → kinds_behind variables x ks ≡ Some after
-    wanted x ks after met moved = ap (λ b. if b then kinds_moved variables x ks else None) met ∙ moved
-
     abbrev IsDeclared : BodyTree → Type 0
     IsDeclared b = IfSome (declaration b) (λ (d : Declaration). scope.look.kind d.name ≡ Some d.kind)
 
@@ -120,7 +121,7 @@ module _ (variables : List VarDef) (entry : ℕ) (code : List Instr) where
         ap (λ b. b && list_all (is_met variables) (source_wants (source_code scope.look first.literal a))) (bits_agree variables scope.look agrees name t.0) ∙ source_met first.literal a t.1 in
         record {
           typed = array_typed variables scope.look agrees [] a t.1;
-          finds = wanted copy (kinds_onto (array_operands scope.look a) []) [] met (ap (λ o. then_kinds o Some) (source_off first.literal a []));
+          finds = wanted variables copy (kinds_onto (array_operands scope.look a) []) [] met (ap (λ o. then_kinds o Some) (source_off first.literal a []));
           stands = refl;
         }
 
@@ -135,7 +136,7 @@ module _ (variables : List VarDef) (entry : ℕ) (code : List Instr) where
         let both : List ValueKind = kinds.Int ∷ kinds.Int ∷ [] in
         record {
           typed = range_typed variables scope.look agrees [] name high low (array_operands scope.look a) v.0 v.1 u.1 (array_typed variables scope.look agrees both a t.1);
-          finds = wanted copy (kinds_onto (array_operands scope.look a) both) [] met
+          finds = wanted variables copy (kinds_onto (array_operands scope.look a) both) [] met
               (ap (λ o. then_kinds (then_kinds (then_kinds o (taken_off (Some kinds.Int))) (taken_off (Some kinds.Int))) Some) (source_off first.literal a both));
           stands = refl;
         }
@@ -148,7 +149,7 @@ module _ (variables : List VarDef) (entry : ℕ) (code : List Instr) where
         let kind : ValueKind = given_kind (scope.look.kind name) in
         let good : Good first (assign name e) = record {
           typed = one_typed variables scope.look [] kind e t.0;
-          finds = store_finds (scope.look.variable name) kind (scalar_agrees variables scope.look agrees name kind t.1);
+          finds = store_finds variables (scope.look.variable name) kind (scalar_agrees variables scope.look agrees name kind t.1);
           stands = refl;
         } in
         row_fine variables entry code scope place first (assign name e) rest agrees good follows.some (follows.fine false)
@@ -195,7 +196,7 @@ module _ (variables : List VarDef) (entry : ℕ) (code : List Instr) where
     inner_fine first _ (a_bit name (Some b)) rest suit leads is between follows =
         let good : Good first (boolean name (Some b)) = record {
           typed = one_typed variables scope.look [] kinds.Bit (number (bit_number b)) (bit_fits b);
-          finds = store_finds (scope.look.variable name) kinds.Bit (scalar_agrees variables scope.look agrees name kinds.Bit (ap held_kind is));
+          finds = store_finds variables (scope.look.variable name) kinds.Bit (scalar_agrees variables scope.look agrees name kinds.Bit (ap held_kind is));
           stands = refl;
         } in
         row_fine variables entry code scope place first (boolean name (Some b)) rest agrees good follows.some (follows.fine false)
@@ -203,13 +204,13 @@ module _ (variables : List VarDef) (entry : ℕ) (code : List Instr) where
     inner_fine first _ (some_bits name size (Some bits)) rest suit leads is between follows =
         let set : Instr = SetBits (scope.look.variable name) first.literal in
         let met = ap (λ b. b && true) (bits_agree variables scope.look agrees name (ap is_bit_array is)) in
-        let good : Good first (boolean_array name size (Some bits)) = record { typed = tt; finds = wanted set [] [] met refl; stands = refl } in
+        let good : Good first (boolean_array name size (Some bits)) = record { typed = tt; finds = wanted variables set [] [] met refl; stands = refl } in
         row_fine variables entry code scope place first (boolean_array name size (Some bits)) rest agrees good follows.some (follows.fine false)
     inner_fine first _ (an_integer name None) rest suit leads is between follows = follows.fine false
     inner_fine first _ (an_integer name (Some z)) rest suit leads is between follows =
         let good : Good first (integer name (Some z)) = record {
           typed = one_typed variables scope.look [] kinds.Int (number z) (number_fits z);
-          finds = store_finds (scope.look.variable name) kinds.Int (scalar_agrees variables scope.look agrees name kinds.Int (ap held_kind is));
+          finds = store_finds variables (scope.look.variable name) kinds.Int (scalar_agrees variables scope.look agrees name kinds.Int (ap held_kind is));
           stands = refl;
         } in
         row_fine variables entry code scope place first (integer name (Some z)) rest agrees good follows.some (follows.fine false)
@@ -217,7 +218,7 @@ module _ (variables : List VarDef) (entry : ℕ) (code : List Instr) where
     inner_fine first _ (some_integers name size zs some) rest suit leads is between follows =
         let set : Instr = SetInts (scope.look.variable name) zs in
         let met = ap (λ b. b && true) (integers_agree variables scope.look agrees name is) in
-        let good : Good first (integer_array name size (Some zs)) = record { typed = tt; finds = wanted set [] [] met refl; stands = refl } in
+        let good : Good first (integer_array name size (Some zs)) = record { typed = tt; finds = wanted variables set [] [] met refl; stands = refl } in
         row_fine variables entry code scope place first (integer_array name size (Some zs)) rest agrees good follows.some (follows.fine false)
     inner_fine first _ (a_simple b built) rest suit leads is between follows = simple_fine first b rest built suit leads follows
 

@@ -7,19 +7,20 @@ use Rattle.std.proofs.lemmas.Bool.{lt-ltb, and_from}
 use Rattle.stapl_syntax.specs.Trees.{BodyTree, procedure, StmtTree}
 use Rattle.stapl_syntax.specs.Statements.{is_outer, begins_procedure}
 use Rattle.stapl_built.specs.Built.{IsBuilt}
-use Rattle.stapl_meaning.specs.Scopes.{scope_at}
+use Rattle.stapl_meaning.specs.Scopes.{Played, scope_at}
 use Rattle.stapl_meaning.specs.Typed.{IsTyped}
 use Rattle.stapl_code.specs.declared.instr.Instr.{Instr}
 use Rattle.stapl_code.specs.declared.instr.Instr.TheVariants.{Turn}
 use Rattle.stapl_code.specs.declared.raw.VarDef.{VarDef}
 use Rattle.stapl_code.specs.declared.raw.ProcDef.{ProcDef}
 use Rattle.stapl_code.specs.Valid.{next_entry, procedure_break, procedures_break, prologue_break, entry_break, first_of, IsValid}
-use Rattle.stapl_codegen.specs.Emit.{body_code, firsts_at, procedure_def, procedures_from, procedures_of, pieces_code, program_code, start_of}
+use Rattle.stapl_codegen.specs.Emit.{body_code, at_first, firsts_at, presets_code, procedure_def, procedures_from, procedures_of, pieces_code, program_code, start_of}
 use Rattle.stapl_codegen.specs.Generated.{lists_of}
 use Rattle.stapl_codegen.proofs.Heads.{drop_tail, drop_front}
-use Rattle.stapl_codegen.proofs.Lists.{pieces_append}
+use Rattle.stapl_codegen.proofs.Lists.{presets_before, pieces_append}
 use Rattle.stapl_codegen.proofs.Ordered.{AreOwn, Part, ArePartsOf, IsOwnOf, statements_in, cut}
 use Rattle.stapl_codegen.proofs.Opened.{IsProcedure}
+use Rattle.stapl_codegen.proofs.PrologueFine.{prologue_fine}
 use Rattle.stapl_codegen.proofs.Ranges.{Each}
 use Rattle.stapl_codegen.proofs.Valid as valid
 
@@ -51,7 +52,7 @@ abbrev pub Rising : List ProcDef → Type 0
 Rising [] = Unit {0}
 Rising (p ∷ ps) = Each (λ (q : ProcDef). p.entry < q.entry) ps × Rising ps
 
-module _ (program : List StmtTree) (built : All IsBuilt program) (typed : IsTyped program) where
+module _ (program : Played) (built : All IsBuilt program.pieces) (typed : IsTyped program) where
   abbrev code : List Instr
   code = program_code program
 
@@ -92,7 +93,7 @@ module _ (program : List StmtTree) (built : All IsBuilt program) (typed : IsType
 
   -- a procedure
   begun : (h : ℕ) (head : StmtTree) (name : List ℕ) (uses : Option (List (List ℕ))) (own back : List StmtTree) → head.body ≡ procedure name uses → is_outer head.body ≡ true →
-      drop h program ≡ head ∷ own ++ back → AreOwn own → AreFineFrom (h + 1 + length own) back → AreFineFrom h (head ∷ own ++ back)
+      drop h program.pieces ≡ head ∷ own ++ back → AreOwn own → AreFineFrom (h + 1 + length own) back → AreFineFrom h (head ∷ own ++ back)
   begun h head name uses own back is outer at are fine =
       let is_head : IsProcedure name head.body = subst (IsProcedure name) (sym is) refl in
       let entry : ℕ = start_of program (h + 1) in
@@ -133,15 +134,15 @@ module _ (program : List StmtTree) (built : All IsBuilt program) (typed : IsType
       subst (λ (c : List Instr). AreFine (total - length c) (procedures h (head ∷ own ++ back))) (sym head_code)
       (subst (AreFine (total - length (From (h + 1) (own ++ back)))) (sym list) fine_whole)
 
-  parts_fine : (parts : List Part) (h : ℕ) → drop h program ≡ statements_in parts → ArePartsOf parts → AreFineFrom h (statements_in parts)
+  parts_fine : (parts : List Part) (h : ℕ) → drop h program.pieces ≡ statements_in parts → ArePartsOf parts → AreFineFrom h (statements_in parts)
   parts_fine [] h at are = record { next = omega arith; unbroken = refl; begin = tt; rise = tt }
   parts_fine (p ∷ ps) h at are = by p.head.body refl (parts_fine ps (h + 1 + length p.own) rest_at are.1)
     where
-      own_at : drop (h + 1) program ≡ p.own ++ statements_in ps
-      own_at = rw add-one (drop_tail h program ∙ ap (drop 1) at)
+      own_at : drop (h + 1) program.pieces ≡ p.own ++ statements_in ps
+      own_at = rw add-one (drop_tail h program.pieces ∙ ap (drop 1) at)
 
-      rest_at : drop (h + 1 + length p.own) program ≡ statements_in ps
-      rest_at = drop_front (length p.own) (h + 1) program p.own (statements_in ps) own_at (omega arith) ∙ ap (λ l. l ++ statements_in ps) (drop_all (length p.own) p.own (omega arith))
+      rest_at : drop (h + 1 + length p.own) program.pieces ≡ statements_in ps
+      rest_at = drop_front (length p.own) (h + 1) program.pieces p.own (statements_in ps) own_at (omega arith) ∙ ap (λ l. l ++ statements_in ps) (drop_all (length p.own) p.own (omega arith))
 
       by : (b : BodyTree) → p.head.body ≡ b → AreFineFrom (h + 1 + length p.own) (statements_in ps) → AreFineFrom h (p.head ∷ p.own ++ statements_in ps)
       by (procedure name uses) is fine =
@@ -152,14 +153,22 @@ module _ (program : List StmtTree) (built : All IsBuilt program) (typed : IsType
           subst (λ (own : List StmtTree). AreFineFrom h (p.head ∷ own ++ statements_in ps)) (sym none)
           (alone h p.head (statements_in ps) are.0.outer (ap begins_procedure is) (subst (λ (n : ℕ). AreFineFrom n (statements_in ps)) next fine))
 
-  -- all procedures, from the first instruction on
-  pub procedures_fine : AreFine 0 (procedures_of program)
+  -- the prologue, which ends where the first procedure begins
+  abbrev prologue : List Instr
+  prologue = presets_code program (start_of program) at_first program.presets []
+
+  prologue_first : code ≡ prologue ++ From 0 program.pieces
+  prologue_first = presets_before program (start_of program) at_first program.presets (From 0 program.pieces)
+
+  -- all procedures, behind the prologue
+  pub procedures_fine : AreFine (length prologue) (procedures_of program)
   procedures_fine =
-      let c = cut false program typed.ordered in
-      let is : program ≡ statements_in c.parts = c.is ∙ ap (λ l. l ++ statements_in c.parts) c.own_is in
+      let c = cut false program.pieces typed.ordered in
+      let is : program.pieces ≡ statements_in c.parts = c.is ∙ ap (λ l. l ++ statements_in c.parts) c.own_is in
       let fine = parts_fine c.parts 0 is c.are in
-      let none : length code - length code ≡ 0 = omega arith in
-      subst (λ (n : ℕ). AreFine n (procedures_of program)) none
+      let behind : length code - length (From 0 program.pieces) ≡ length prologue =
+      omega (arith, ap length prologue_first, length-append prologue (From 0 program.pieces)) in
+      subst (λ (n : ℕ). AreFine n (procedures_of program)) behind
       (subst (λ (sts : List StmtTree). AreFine (length code - length (From 0 sts)) (procedures 0 sts)) (sym is) fine)
 
   begin_all : (start : ℕ) (ps : List ProcDef) → Each (BeginsFrom start) ps → list_all (λ (p : ProcDef). nat_lt p.entry (length code)) ps ≡ true
@@ -172,6 +181,11 @@ module _ (program : List StmtTree) (built : All IsBuilt program) (typed : IsType
       let fine = procedures_fine in
       let ps = procedures_of program in
       let total = length code in
+      let count : length prologue - 0 ≡ length prologue = omega arith in
+      let slice : slice_range code 0 (length prologue) ≡ prologue =
+      ap (λ n. take n code) count ∙ ap (take (length prologue)) prologue_first ∙ take_at prologue (From 0 program.pieces) (length prologue) refl in
       ap (λ n. first_of (prologue_break defs 0 [] (slice_range code 0 n)) (first_of (procedures_break defs code ps) (entry_break total ps))) fine.next
+      ∙ ap (λ c. first_of (prologue_break defs 0 [] c) (first_of (procedures_break defs code ps) (entry_break total ps))) slice
+      ∙ ap (λ o. first_of o (first_of (procedures_break defs code ps) (entry_break total ps))) (prologue_fine program (start_of program) at_first program.presets typed.presets 0)
       ∙ ap (λ o. first_of o (entry_break total ps)) fine.unbroken
-      ∙ ap (λ b. if b then None else Some (total - 1)) (begin_all 0 ps fine.begin)
+      ∙ ap (λ b. if b then None else Some (total - 1)) (begin_all (length prologue) ps fine.begin)

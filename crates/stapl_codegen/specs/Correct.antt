@@ -7,8 +7,8 @@ use Rattle.stapl_meaning.specs.States.{State}
 use Rattle.stapl_meaning.specs.Plays.{Outcome, Ended, Going, Stopped, Run, play}
 use Rattle.stapl_code.specs.declared.instr.Instr.{Instr}
 use Rattle.stapl_code.specs.Machine.{Constants, code_play, nowhere}
-use Rattle.stapl_meaning.specs.Scopes.{zeros_of}
-use Rattle.stapl_codegen.specs.Emit.{constants_in, start_of, program_code, program_entries}
+use Rattle.stapl_meaning.specs.Scopes.{Played, zeros_of}
+use Rattle.stapl_codegen.specs.Emit.{constants_in, pieces_code, start_of, program_code, program_entries}
 
 -- the statement may lead to the piece behind it
 abbrev pub falls : BodyTree → Bool
@@ -44,11 +44,11 @@ placed_run place r = record { events = r.events; outcome = placed_outcome place 
 -- The code stands for the program, if the pieces begin at these places of the code: for each choice of procedures and
 -- each number of turns, its play is that of the program. The code is told by where its procedures begin, its constants,
 -- its instructions, and what its variables hold at first.
-abbrev pub Stands : List StmtTree → (ℕ → ℕ) → List ℕ → Constants → List Instr → List Held → Type 0
+abbrev pub Stands : Played → (ℕ → ℕ) → List ℕ → Constants → List Instr → List Held → Type 0
 Stands program place entries constants code variables =
     (chosen : List ℕ) (n : ℕ) → code_play entries constants code chosen variables n ≡ placed_run place (play program chosen n)
 
 -- the code of a program stands for it
 abbrev pub CodeStands : Type 0
-CodeStands = (program : List StmtTree) → IsClosed program → program_code program ≢ [] → length (program_code program) ≤ nowhere →
+CodeStands = (program : Played) → IsClosed program.pieces → pieces_code program (start_of program) 0 program.pieces ≢ [] → length (program_code program) ≤ nowhere →
     Stands program (start_of program) (program_entries program) (constants_in program) (program_code program) (zeros_of program)

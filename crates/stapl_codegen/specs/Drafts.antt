@@ -1,16 +1,16 @@
 -- What is written so far of the code of a program, and where its pieces begin.
-use Rattle.std.specs.Prelude.{◌≡◌, ℕ, ◌+◌, ◌<◌, Bool, List, [], ◌∷◌, length, slice_index, Option, if◌then◌else◌}
+use Rattle.std.specs.Prelude.{◌≡◌, ℕ, ◌+◌, ◌<◌, Bool, List, [], ◌∷◌, ◌++◌, length, slice_index, Option, None, Some, if◌then◌else◌}
 use Rattle.stapl_syntax.specs.Trees.{ExprTree, ArrayTree, PartTree, BodyTree, StmtTree}
 use Rattle.stapl_syntax.specs.Statements.{is_outer}
 use Rattle.stapl_syntax.specs.Names.{Names, inside_behind}
 use Rattle.stapl_meaning.specs.declared.values.ValueKind.{ValueKind}
 use Rattle.stapl_meaning.specs.Operands.{Operand, array_operands, part_operands}
-use Rattle.stapl_meaning.specs.Scopes.{Scope, program_names, block_at, lookup_from, label_from}
+use Rattle.stapl_meaning.specs.Scopes.{Scope, Preset, Played, block_at, lookup_from, label_from}
 use Rattle.stapl_code.specs.declared.instr.PrintPart.{PrintPart}
 use Rattle.stapl_code.specs.declared.instr.Source.{Source}
 use Rattle.stapl_code.specs.declared.instr.Instr.{Instr}
 use Rattle.stapl_code.specs.declared.instr.Instr.TheVariants.{Turn}
-use Rattle.stapl_codegen.specs.Emit.{expr_code, int_code, operands_code, source_code, print_parts, Firsts, body_code, texts_of, literals_of, pieces_code, start_of}
+use Rattle.stapl_codegen.specs.Emit.{expr_code, int_code, operands_code, source_code, print_parts, Firsts, row_texts, row_literals, presets_items, at_first, row_code, body_code, presets_code, texts_of, literals_of, code_to, start_of}
 
 -- Where a piece stands: the names of its program, how many pieces that has, the block that is open before the piece,
 -- and the number of the piece, which is also the place behind it.
@@ -37,9 +37,9 @@ scope_of_site site = record {
 }
 
 -- where the piece at a place of a program stands
-abbrev pub site_at : List StmtTree → ℕ → Site
+abbrev pub site_at : Played → ℕ → Site
 site_at program i =
-    record { names = program_names program; count = length program; inside = block_at program i; piece = i + 1 }
+    record { names = program.names; count = length program.pieces; inside = block_at program.pieces i; piece = i + 1 }
 
 -- where the piece behind this statement stands
 abbrev pub site_behind : Site → BodyTree → Site
@@ -80,21 +80,42 @@ body_code_in d b = body_code (scope_of_site d.site) (λ j. j) (firsts_in d) b []
 abbrev pub piece_code_in : Draft → StmtTree → List Instr
 piece_code_in d st = if is_outer st.body then [] else Turn d.site.piece ∷ body_code_in d st.body
 
+-- where an initial value of a DATA block stands, and its code
+abbrev pub preset_site : Site → Preset → Site
+preset_site site preset = record site { inside = Some preset.block }
+
+abbrev pub preset_code_in : Draft → Option Preset → List Instr
+preset_code_in d None = []
+preset_code_in d (Some preset) =
+    row_code (scope_of_site (preset_site d.site preset)) (λ j. j) (firsts_in d) preset.body []
+
+-- what an initial value has
+abbrev pub preset_items : {A : Type 0} → (BodyTree → List A) → Option Preset → List A
+preset_items of None = []
+preset_items of (Some preset) = of preset.body
+
+-- these initial values are still to be written
+pub record ArePresetsLeft (program : Played) (d : Draft) (presets : List Preset) : Type 0 where
+  pub code : d.code ++ presets_code program (λ j. j) (firsts_in d) presets [] ≡ presets_code program (λ j. j) at_first program.presets []
+  pub texts : d.texts ++ presets_items row_texts presets ≡ presets_items row_texts program.presets
+  pub literals : d.literals ++ presets_items row_literals presets ≡ presets_items row_literals program.presets
+  pub site : d.site ≡ site_at program 0
+
 -- these are where the first n pieces of a program begin
-pub record StartsTo (program : List StmtTree) (n : ℕ) (starts : List ℕ) : Type 0 where
+pub record StartsTo (program : Played) (n : ℕ) (starts : List ℕ) : Type 0 where
   pub all : length starts ≡ n
   pub each : (k : ℕ) → k < n → slice_index starts k ≡ start_of program k
 
 -- these are where the pieces of a program begin
-abbrev pub AreStarts : List StmtTree → List ℕ → Type 0
-AreStarts program starts = StartsTo program (length program) starts
+abbrev pub AreStarts : Played → List ℕ → Type 0
+AreStarts program starts = StartsTo program (length program.pieces) starts
 
 -- These are the instructions of a program, whose targets are its places, its texts, its literals, and where its pieces
 -- begin.
 pub record IsDraft
-    (program : List StmtTree) (code : List Instr) (texts : List (List ℕ)) (literals : List (List Bool)) (starts : List ℕ) :
+    (program : Played) (code : List Instr) (texts : List (List ℕ)) (literals : List (List Bool)) (starts : List ℕ) :
     Type 0 where
-  pub code_is : code ≡ pieces_code program (λ j. j) 0 program
+  pub code_is : code ≡ code_to program (λ j. j)
   pub texts_are : texts ≡ texts_of program
   pub literals_are : literals ≡ literals_of program
   pub begins : AreStarts program starts

@@ -12,7 +12,7 @@ use Rattle.stapl_meaning.specs.declared.values.ValueKind.{ValueKind}
 use Rattle.stapl_meaning.specs.declared.values.ValueKind.TheVariants as kinds
 use Rattle.stapl_meaning.specs.Values.{Lookup, unary_side, sides}
 use Rattle.stapl_meaning.specs.Operands.{Test, Plain, Character, Index, Range, Operand, printed_kind}
-use Rattle.stapl_meaning.specs.Scopes.{Scope, scope_at, procedure_number}
+use Rattle.stapl_meaning.specs.Scopes.{Scope, Preset, Played, scope_at, preset_scope, procedure_number}
 use Rattle.stapl_meaning.specs.Turns.{operands, rows}
 use Rattle.stapl_code.specs.declared.instr.PrintPart.{PrintPart}
 use Rattle.stapl_code.specs.declared.instr.PrintPart.TheVariants as parts
@@ -191,15 +191,26 @@ rows_code scope place first (b ∷ bs) rest = row_code scope place first b (rows
 abbrev pub body_code : Scope → (ℕ → ℕ) → Firsts → BodyTree → List Instr → List Instr
 body_code scope place first b rest = rows_code scope place first (rows b) rest
 
--- what each row has, from rows one after the other, and from the statements of a program
+-- what each row has: from rows one after the other, from initial values of DATA blocks, and from statements
 module _ {A : Type 0} (of : BodyTree → List A) where
   abbrev pub rows_items : List BodyTree → List A
   rows_items [] = []
   rows_items (b ∷ bs) = of b ++ rows_items bs
 
-  abbrev pub program_items : List StmtTree → List A
-  program_items [] = []
-  program_items (st ∷ rest) = rows_items (rows st.body) ++ program_items rest
+  abbrev pub presets_items : List Preset → List A
+  presets_items [] = []
+  presets_items (preset ∷ presets) = of preset.body ++ presets_items presets
+
+  abbrev pub statements_items : List StmtTree → List A
+  statements_items [] = []
+  statements_items (st ∷ rest) = rows_items (rows st.body) ++ statements_items rest
+
+  -- from a program: from its DATA blocks, and then from its pieces, or from those before a place
+  abbrev pub program_items : Played → List A
+  program_items program = presets_items program.presets ++ statements_items program.pieces
+
+  abbrev pub items_before : Played → ℕ → List A
+  items_before program i = presets_items program.presets ++ statements_items (take i program.pieces)
 
 -- the texts and the literals of a statement
 abbrev pub body_texts : BodyTree → List (List ℕ)
@@ -209,21 +220,30 @@ abbrev pub body_literals : BodyTree → List (List Bool)
 body_literals b = rows_items row_literals (rows b)
 
 -- the texts and the literals of a program, in their order
-abbrev pub texts_of : List StmtTree → List (List ℕ)
+abbrev pub texts_of : Played → List (List ℕ)
 texts_of program = program_items row_texts program
 
-abbrev pub literals_of : List StmtTree → List (List Bool)
+abbrev pub literals_of : Played → List (List Bool)
 literals_of program = program_items row_literals program
 
-abbrev pub constants_in : List StmtTree → Constants
+abbrev pub constants_in : Played → Constants
 constants_in program = record { texts = texts_of program; literals = literals_of program }
 
--- the numbers of the first text and the first literal behind the place of a piece
-abbrev pub firsts_at : List StmtTree → ℕ → Firsts
-firsts_at program i =
-    record { text = length (texts_of (take i program)); literal = length (literals_of (take i program)) }
+-- the numbers of the first text and the first literal of a program, and of those behind the place of a piece
+abbrev pub at_first : Firsts
+at_first = record { text = 0; literal = 0 }
 
-module _ (program : List StmtTree) (place : ℕ → ℕ) where
+abbrev pub firsts_at : Played → ℕ → Firsts
+firsts_at program i =
+    record { text = length (items_before row_texts program i); literal = length (items_before row_literals program i) }
+
+module _ (program : Played) (place : ℕ → ℕ) where
+  -- the code that sets initial values of DATA blocks, before the rest
+  abbrev pub presets_code : Firsts → List Preset → List Instr → List Instr
+  presets_code first [] rest = rest
+  presets_code first (preset ∷ presets) rest =
+      row_code (preset_scope program preset) place first preset.body (presets_code (behind_row first preset.body) presets rest)
+
   -- the code of the piece at a place: its turn, and its statement; a statement outside procedures has no code
   abbrev pub piece_code : ℕ → StmtTree → List Instr → List Instr
   piece_code i st rest =
@@ -235,20 +255,24 @@ module _ (program : List StmtTree) (place : ℕ → ℕ) where
   pieces_code i [] = []
   pieces_code i (st ∷ rest) = piece_code i st (pieces_code (i + 1) rest)
 
--- How long the code is, and where the code of a piece begins. Neither depends on the targets of jumps.
-abbrev pub total_of : List StmtTree → ℕ
-total_of program = length (pieces_code program (λ i. i) 0 program)
+  -- the code of the program: its prologue sets DATA blocks
+  abbrev pub code_to : List Instr
+  code_to = presets_code at_first program.presets (pieces_code 0 program.pieces)
 
-abbrev pub start_in : List StmtTree → ℕ → Option StmtTree → ℕ
+-- How long the code is, and where the code of a piece begins. Neither depends on the targets of jumps.
+abbrev pub total_of : Played → ℕ
+total_of program = length (code_to program (λ i. i))
+
+abbrev pub start_in : Played → ℕ → Option StmtTree → ℕ
 start_in program i None = nowhere
 start_in program i (Some st) =
-    if is_outer st.body then nowhere else total_of program - length (pieces_code program (λ j. j) i (drop i program))
+    if is_outer st.body then nowhere else total_of program - length (pieces_code program (λ j. j) i (drop i program.pieces))
 
-abbrev pub start_of : List StmtTree → ℕ → ℕ
-start_of program i = start_in program i (slice_get program i)
+abbrev pub start_of : Played → ℕ → ℕ
+start_of program i = start_in program i (slice_get program.pieces i)
 
-abbrev pub program_code : List StmtTree → List Instr
-program_code program = pieces_code program (start_of program) 0 program
+abbrev pub program_code : Played → List Instr
+program_code program = code_to program (start_of program)
 
 -- the procedure that a statement begins, if its code begins at this place, and then others
 abbrev pub procedure_def : ℕ → BodyTree → List ProcDef → List ProcDef
@@ -260,29 +284,29 @@ abbrev pub procedures_from : (ℕ → ℕ) → ℕ → List StmtTree → List Pr
 procedures_from place i [] = []
 procedures_from place i (st ∷ rest) = procedure_def (place (i + 1)) st.body (procedures_from place (i + 1) rest)
 
-abbrev pub procedures_of : List StmtTree → List ProcDef
-procedures_of program = procedures_from (start_of program) 0 program
+abbrev pub procedures_of : Played → List ProcDef
+procedures_of program = procedures_from (start_of program) 0 program.pieces
 
 -- where the procedures begin
-abbrev pub program_entries : List StmtTree → List ℕ
+abbrev pub program_entries : Played → List ℕ
 program_entries program = entries_of (procedures_of program)
 
 -- an item of an action, which always runs
-abbrev pub item_def : List StmtTree → ItemTree → ItemDef
-item_def program item = record { procedure = procedure_number program item.0; flag = 0 }
+abbrev pub item_def : Played → ItemTree → ItemDef
+item_def program item = record { procedure = procedure_number program.pieces item.0; flag = 0 }
 
 -- the action that a statement is, and then others
-abbrev pub action_def : List StmtTree → BodyTree → List ActionDef → List ActionDef
+abbrev pub action_def : Played → BodyTree → List ActionDef → List ActionDef
 action_def program (action name text items) others = record { name = name; items = map (item_def program) items } ∷ others
 action_def program _ others = others
 
 -- the actions among some pieces of a program
-abbrev pub actions_from : List StmtTree → List StmtTree → List ActionDef
+abbrev pub actions_from : Played → List StmtTree → List ActionDef
 actions_from program [] = []
 actions_from program (st ∷ rest) = action_def program st.body (actions_from program rest)
 
-abbrev pub actions_of : List StmtTree → List ActionDef
-actions_of program = actions_from program program
+abbrev pub actions_of : Played → List ActionDef
+actions_of program = actions_from program program.pieces
 
 -- an instruction with another target
 abbrev pub retarget : (ℕ → ℕ) → Instr → Instr

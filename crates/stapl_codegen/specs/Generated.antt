@@ -1,11 +1,10 @@
 -- The lists of the code of a program.
-use Rattle.std.specs.Prelude.{◌≡◌, ℕ, nat_abs, List, map}
+use Rattle.std.specs.Prelude.{◌≡◌, ℕ, nat_abs, map}
 use Rattle.stapl_syntax.specs.declared.names.Key.{Key}
 use Rattle.stapl_syntax.specs.declared.names.Variable.{Variable}
 use Rattle.stapl_syntax.specs.declared.names.VarKind.{VarKind}
 use Rattle.stapl_syntax.specs.declared.names.VarKind.TheVariants as kinds
-use Rattle.stapl_syntax.specs.Trees.{StmtTree}
-use Rattle.stapl_meaning.specs.Scopes.{program_names, zeros_of}
+use Rattle.stapl_meaning.specs.Scopes.{Played, zeros_of}
 use Rattle.stapl_code.specs.declared.raw.VarDef.{VarDef}
 use Rattle.stapl_code.specs.declared.raw.CodeLists.{CodeLists}
 use Rattle.stapl_code.specs.Safe.{entries_of, constants_of}
@@ -23,9 +22,9 @@ abbrev pub variable_def : Key × Variable → VarDef
 variable_def v = record { kind = kind_number v.1.kind; size = nat_abs v.1.size }
 
 -- the lists of the code
-abbrev pub lists_of : List StmtTree → CodeLists
+abbrev pub lists_of : Played → CodeLists
 lists_of program = record {
-  variables = map variable_def (program_names program).variables;
+  variables = map variable_def program.names.variables;
   literals = literals_of program;
   texts = texts_of program;
   procedures = procedures_of program;
@@ -34,6 +33,6 @@ lists_of program = record {
 }
 
 -- The code of a program: it has its lists, and stands for it.
-pub record IsCodeOf (program : List StmtTree) (code : CodeLists) : Type 0 where
+pub record IsCodeOf (program : Played) (code : CodeLists) : Type 0 where
   pub lists : code ≡ lists_of program
   pub stands : Stands program (start_of program) (entries_of code.procedures) (constants_of code) code.instrs (zeros_of program)

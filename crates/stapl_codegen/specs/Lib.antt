@@ -4,3 +4,4 @@ pub mod Drafts
 pub mod Accepted
 pub mod Generated
 pub mod Unstuck
+pub mod Numbers

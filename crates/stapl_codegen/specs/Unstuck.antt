@@ -1,25 +1,24 @@
 -- That no play of an accepted program gets stuck.
 use Rattle.std.specs.Prelude.{◌≡◌, ◌≢◌, ℕ, List}
-use Rattle.stapl_syntax.specs.Trees.{StmtTree}
 use Rattle.stapl_meaning.specs.States.{State, Turned}
-use Rattle.stapl_meaning.specs.Scopes.{procedures_in}
+use Rattle.stapl_meaning.specs.Scopes.{Played, procedures_in}
 use Rattle.stapl_meaning.specs.Turns.{IsTurn}
 use Rattle.stapl_meaning.specs.Plays.{Stopped, Going, play}
 use Rattle.stapl_code.specs.Safe.{AllBelow}
 use Rattle.stapl_codegen.specs.Accepted.{IsAccepted}
 
 -- a program has exactly one turn at a place, in a state
-pub record HasOneTurn (program : List StmtTree) (place : ℕ) (s : State) : Type 0 where
+pub record HasOneTurn (program : Played) (place : ℕ) (s : State) : Type 0 where
   pub turned : Turned
   pub is_turn : IsTurn program place s turned
   pub only : (other : Turned) → IsTurn program place s other → other ≡ turned
 
 -- A play has an ending after its turns, or it still goes on, and then there is exactly one turn.
-pub record IsNotStuck (program : List StmtTree) (chosen : List ℕ) (n : ℕ) : Type 0 where
+pub record IsNotStuck (program : Played) (chosen : List ℕ) (n : ℕ) : Type 0 where
   pub stands : (play program chosen n).outcome ≢ Stopped
   pub goes_on : (place : ℕ) → (play program chosen n).outcome ≡ Going place → HasOneTurn program place (play program chosen n).state
 
 -- No play of an accepted program gets stuck, whichever of its procedures are chosen, and however many turns there are.
 abbrev pub ProgramsAreNotStuck : Type 0
 ProgramsAreNotStuck =
-    (program : List StmtTree) → IsAccepted program → (chosen : List ℕ) → AllBelow (procedures_in program) chosen → (n : ℕ) → IsNotStuck program chosen n
+    (program : Played) → IsAccepted program → (chosen : List ℕ) → AllBelow (procedures_in program.pieces) chosen → (n : ℕ) → IsNotStuck program chosen n

@@ -5,13 +5,13 @@ ghost use Rattle.stapl_syntax.specs.Trees.{trees};
 ghost use Rattle.stapl_syntax.specs.ProgramValues.{trees_of};
 ghost use Rattle.stapl_syntax.specs.Programs.{piece_limit};
 ghost use Rattle.stapl_built.specs.Unbuilt.{IsBuiltProgram};
-ghost use Rattle.stapl_meaning.specs.Scopes.{program_names};
+ghost use Rattle.stapl_meaning.specs.Scopes.{program_names, as_played};
 ghost use Rattle.stapl_code.specs.Ranges.{IsInRange};
 ghost use Rattle.stapl_code.specs.Valid.{IsValid};
 ghost use Rattle.stapl_codegen.specs.Accepted.{IsAccepted};
 ghost use Rattle.stapl_codegen.specs.Generated.{lists_of, IsCodeOf};
 
-use crate::definitions::{actions, procedures, variables};
+use crate::definitions::{Numbers, actions, procedure_numbers, procedures, variables};
 use crate::draft::write_program;
 use crate::laws::{accepted_code_is_valid, programs_are_accepted};
 use base::ItemList;
@@ -45,14 +45,19 @@ fn names_of_program(alloc: Global, program: &[Stmt]) -> Result<Names, AllocError
 
 // The lists of the code of an accepted program.
 fn program_lists(alloc: Global, program: &[Stmt]) -> Result<CodeLists, AllocError>
-    requires { IsAccepted (trees program.now) }
-    ensures { IfOk result (λ lists. lists ≡ lists_of (trees program.now)) }
+    requires { IsAccepted (as_played (trees program.now)) }
+    ensures { IfOk result (λ lists. lists ≡ lists_of (as_played (trees program.now))) }
 {
     let names = names_of_program(alloc, program)?;
     let written = write_program(alloc, program, &names)?;
     let variables = variables(alloc, &names)?;
     let procedures = procedures(alloc, program, &written.starts)?;
-    let actions = actions(alloc, program, &names)?;
+    let next = procedure_numbers(alloc, &names)?;
+    let numbers = Numbers {
+        names: &names,
+        next,
+    };
+    let actions = actions(alloc, program, &numbers)?;
     Ok(CodeLists {
         variables: ItemList::of(variables),
         literals: ItemList::of(written.literals),
@@ -65,8 +70,8 @@ fn program_lists(alloc: Global, program: &[Stmt]) -> Result<CodeLists, AllocErro
 
 // The same lists, which are in their ranges and valid, and stand for the program.
 fn valid_lists(alloc: Global, program: &[Stmt]) -> Result<CodeLists, AllocError>
-    requires { IsAccepted (trees program.now) }
-    ensures code { IfOk result (IsCodeOf (trees program.now)) }
+    requires { IsAccepted (as_played (trees program.now)) }
+    ensures code { IfOk result (IsCodeOf (as_played (trees program.now))) }
     ensures in_range { IfOk result IsInRange }
     ensures valid { IfOk result IsValid }
 {
@@ -80,7 +85,7 @@ fn valid_lists(alloc: Global, program: &[Stmt]) -> Result<CodeLists, AllocError>
 /// `AllocError` comes only for want of memory.
 pub fn generate(alloc: Global, program: &Program) -> Result<Code, AllocError>
     requires { IsBuiltProgram program.now.text (trees_of program.now) }
-    ensures { IfOk result (IsCodeOf (trees_of program.now)) }
+    ensures { IfOk result (IsCodeOf (as_played (trees_of program.now))) }
 {
     programs_are_accepted();
     let lists = valid_lists(alloc, program.statements())?;

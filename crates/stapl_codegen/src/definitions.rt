@@ -1,18 +1,19 @@
 //! The definitions of procedures, actions and variables in a code.
-ghost use Rattle.std.specs.Prelude.{◌≡◌, [], ◌∷◌, ◌++◌, ◌<◌, ◌^◌, ◌-◌, length, map, replicate, OnOk, IfOk};
-ghost use Rattle.std.specs.Map.{keys_of};
-ghost use Rattle.stapl_syntax.specs.Trees.{item_tree, body_tree, stmt_tree, trees};
-ghost use Rattle.stapl_meaning.specs.Scopes.{program_names};
-ghost use Rattle.stapl_meaning.specs.Typed.{procedure_names};
+ghost use Rattle.std.specs.Prelude.{◌≡◌, [], ◌∷◌, ◌++◌, ◌<◌, ◌^◌, ◌-◌, suc, All, length, map, replicate, OnOk, IfOk, if◌then◌else◌};
+ghost use Rattle.stapl_syntax.specs.Trees.{StmtTree, end_data, item_tree, body_tree, stmt_tree, trees};
+ghost use Rattle.stapl_meaning.specs.Scopes.{as_played};
+ghost use Rattle.stapl_meaning.specs.Typed.{NamesProcedure, NamesProcedures};
 ghost use Rattle.stapl_codegen.specs.Emit.{start_of, procedure_def, procedures_from, procedures_of, item_def, action_def, actions_from, actions_of};
 ghost use Rattle.stapl_codegen.specs.Drafts.{AreStarts};
 ghost use Rattle.stapl_codegen.specs.Generated.{kind_number, variable_def};
+ghost use Rattle.stapl_codegen.specs.Numbers.{numbers_from, AreNumbers};
 
+use crate::blocks::{data_behind, plays};
 use crate::draft::start_of_place;
 use base::ItemList;
 use stapl_code::{ActionDef, ItemDef, ProcDef, VarDef};
 use stapl_names::Names;
-use stapl_syntax::{Body, Item, Key, Stmt, VarKind, Variable};
+use stapl_syntax::{Block, Body, Item, Key, Stmt, VarKind, Variable};
 use std::alloc::{AllocError, Global};
 
 // The number of a kind of variables.
@@ -48,10 +49,19 @@ pub(crate) fn variables(alloc: Global, names: &Names) -> Result<Vec<VarDef>, All
     Ok(defs)
 }
 
-// The procedure that a statement begins, whose code begins at an entry, if it begins one.
-fn put_procedure(procedures: &mut Vec<ProcDef>, entry: u32, body: &Body) -> Result<(), AllocError>
-    ensures { OnOk result (procedures.new.items ≡ procedures.old.items ++ procedure_def entry (body_tree body.now) []) }
+// The procedure that a statement begins, whose code begins at an entry, if it plays and begins one.
+fn put_procedure(
+    procedures: &mut Vec<ProcDef>,
+    entry: u32,
+    playing: bool,
+    body: &Body,
+) -> Result<(), AllocError>
+    ensures { OnOk result (procedures.new.items
+        ≡ procedures.old.items ++ procedure_def entry (if playing then body_tree body.now else end_data) []) }
 {
+    if !playing {
+        return Ok(());
+    }
     if let Body::Procedure(name, _) = body {
         procedures.push(ProcDef { name: *name, entry })?;
     }
@@ -64,29 +74,61 @@ pub(crate) fn procedures(
     program: &[Stmt],
     starts: &[u32],
 ) -> Result<Vec<ProcDef>, AllocError>
-    requires starts { AreStarts (trees program.now) starts.now }
+    requires starts { AreStarts (as_played (trees program.now)) starts.now }
     requires countable { length program.now < 2 ^ 32 - 1 }
-    ensures { IfOk result (λ procedures. procedures.items ≡ procedures_of (trees program.now)) }
+    ensures { IfOk result (λ procedures. procedures.items ≡ procedures_of (as_played (trees program.now))) }
 {
     let mut procedures = Vec::new(alloc);
+    let mut block = None;
     for i in 0..program.len() {
         let st = &program[i];
         let entry = start_of_place(program, starts, i as u32 + 1);
-        put_procedure(&mut procedures, entry, &st.body)?;
+        put_procedure(&mut procedures, entry, plays(&block, &st.body), &st.body)?;
+        block = data_behind(block, &st.body);
     }
     Ok(procedures)
 }
 
+/// The names of a program, and at each of its blocks and behind them the number of the next procedure.
+#[derive(Drop)]
+pub(crate) struct Numbers<'a> {
+    pub(crate) names: &'a Names,
+    pub(crate) next: Vec<u32>,
+}
+
+// The number of the next procedure behind a block, if it is this one before it.
+fn number_behind(block: &Block, next: u32) -> u32
+    requires { next < 2 ^ 32 - 1 }
+    ensures { result ≡ (if block.now.is_data then next else suc next) }
+{
+    if block.is_data { next } else { next + 1 }
+}
+
+/// The number of the next procedure at each block, and behind them: a DATA block is no procedure.
+pub(crate) fn procedure_numbers(alloc: Global, names: &Names) -> Result<Vec<u32>, AllocError>
+    ensures { IfOk result (λ numbers. numbers.items ≡ numbers_from 0 names.now.blocks) }
+{
+    let mut numbers = Vec::new(alloc);
+    let mut next = 0;
+    for block in 0..names.blocks() {
+        numbers.push(next)?;
+        next = number_behind(names.block_at(block), next);
+    }
+    numbers.push(next)?;
+    Ok(numbers)
+}
+
 // An item of an action: the number of its procedure.
-#[tactic(auto, using(crate::proofs::Numbers::item_number))]
-fn item_def(program: &[Stmt], names: &Names, item: &Item) -> ItemDef
-    requires names { names.now ≡ program_names (trees program.now) }
-    requires blocks { keys_of names.now.blocks ≡ procedure_names (trees program.now) }
-    ensures { result ≡ item_def (trees program.now) (item_tree item.now) }
+fn item_def(program: &[Stmt], numbers: &Numbers, item: &Item) -> ItemDef
+    requires known { AreNumbers (as_played (trees program.now)) numbers.now }
+    requires there { NamesProcedure (as_played (trees program.now)) (item_tree item.now) }
+    ensures { result ≡ item_def (as_played (trees program.now)) (item_tree item.now) }
 {
     let _program = program;
+    let names = numbers.names;
+    let block = names.block(&item.procedure).unwrap_or(names.blocks());
     ItemDef {
-        procedure: names.block(&item.procedure).unwrap_or(names.blocks()),
+        procedure: numbers.next[block as usize],
         flag: 0,
     }
 }
@@ -95,34 +137,40 @@ fn item_def(program: &[Stmt], names: &Names, item: &Item) -> ItemDef
 fn item_defs(
     alloc: Global,
     program: &[Stmt],
-    names: &Names,
+    numbers: &Numbers,
     items: &[Item],
 ) -> Result<Vec<ItemDef>, AllocError>
-    requires names { names.now ≡ program_names (trees program.now) }
-    requires blocks { keys_of names.now.blocks ≡ procedure_names (trees program.now) }
-    ensures { IfOk result (λ defs. defs.items ≡ map (item_def (trees program.now)) (map item_tree items.now)) }
+    requires known { AreNumbers (as_played (trees program.now)) numbers.now }
+    requires there { All (NamesProcedure (as_played (trees program.now))) (map item_tree items.now) }
+    ensures { IfOk result (λ defs.
+        defs.items ≡ map (item_def (as_played (trees program.now))) (map item_tree items.now)) }
 {
     let mut defs = Vec::new(alloc);
     for item in items {
-        defs.push(item_def(program, names, item))?;
+        defs.push(item_def(program, numbers, item))?;
     }
     Ok(defs)
 }
 
-// The action that a statement is, if it is one.
+// The action that a statement is, if it plays and is one.
 fn put_action(
-    alloc: Global,
     actions: &mut Vec<ActionDef>,
+    alloc: Global,
     program: &[Stmt],
-    names: &Names,
+    numbers: &Numbers,
+    playing: bool,
     body: &Body,
 ) -> Result<(), AllocError>
-    requires names { names.now ≡ program_names (trees program.now) }
-    requires blocks { keys_of names.now.blocks ≡ procedure_names (trees program.now) }
-    ensures { OnOk result (actions.new.items ≡ actions.old.items ++ action_def (trees program.now) (body_tree body.now) []) }
+    requires known { AreNumbers (as_played (trees program.now)) numbers.now }
+    requires there { NamesProcedures (as_played (trees program.now)) (if playing then body_tree body.now else end_data) }
+    ensures { OnOk result (actions.new.items ≡ actions.old.items
+        ++ action_def (as_played (trees program.now)) (if playing then body_tree body.now else end_data) []) }
 {
+    if !playing {
+        return Ok(());
+    }
     if let Body::Action(name, _, items) = body {
-        let items = item_defs(alloc, program, names, items.as_slice())?;
+        let items = item_defs(alloc, program, numbers, items.as_slice())?;
         actions.push(ActionDef {
             name: **name,
             items: ItemList::of(items),
@@ -135,15 +183,19 @@ fn put_action(
 pub(crate) fn actions(
     alloc: Global,
     program: &[Stmt],
-    names: &Names,
+    numbers: &Numbers,
 ) -> Result<Vec<ActionDef>, AllocError>
-    requires names { names.now ≡ program_names (trees program.now) }
-    requires blocks { keys_of names.now.blocks ≡ procedure_names (trees program.now) }
-    ensures { IfOk result (λ actions. actions.items ≡ actions_of (trees program.now)) }
+    requires known { AreNumbers (as_played (trees program.now)) numbers.now }
+    requires there { All (λ (st : StmtTree). NamesProcedures (as_played (trees program.now)) st.body)
+        (as_played (trees program.now)).pieces }
+    ensures { IfOk result (λ actions. actions.items ≡ actions_of (as_played (trees program.now))) }
 {
     let mut actions = Vec::new(alloc);
+    let mut block = None;
     for st in program {
-        put_action(alloc, &mut actions, program, names, &st.body)?;
+        let playing = plays(&block, &st.body);
+        put_action(&mut actions, alloc, program, numbers, playing, &st.body)?;
+        block = data_behind(block, &st.body);
     }
     Ok(actions)
 }

@@ -1,22 +1,21 @@
 //! The instructions of a program: first with targets that are places of the program, then with numbers of instructions.
-ghost use Rattle.std.specs.Prelude.{◌≡◌, All, ◌<◌, ◌≤◌, ◌^◌, ◌-◌, length, map, IfOk, if◌then◌else◌};
-ghost use Rattle.stapl_syntax.specs.Trees.{body_tree, stmt_tree, trees};
+ghost use Rattle.std.specs.Prelude.{◌≡◌, [], ◌++◌, None, ◌<◌, ◌^◌, ◌-◌, map, OnOk, IfOk, if◌then◌else◌};
+ghost use Rattle.stapl_syntax.specs.Trees.{end_data, body_tree, stmt_tree, trees};
 ghost use Rattle.stapl_syntax.specs.Statements.{is_outer};
-ghost use Rattle.stapl_lexer.specs.Pieces.{text_limit};
-ghost use Rattle.stapl_built.specs.Built.{IsBuilt};
-ghost use Rattle.stapl_built.specs.Sizes.{statements_size};
-ghost use Rattle.stapl_syntax.specs.Programs.{piece_limit};
-ghost use Rattle.stapl_meaning.specs.Scopes.{program_names};
+ghost use Rattle.stapl_meaning.specs.Scopes.{idle, preset_of, presets_from, program_names, as_played};
 ghost use Rattle.stapl_code.specs.Machine.{nowhere};
-ghost use Rattle.stapl_codegen.specs.Emit.{texts_of, literals_of, program_code, start_of, retarget};
-ghost use Rattle.stapl_codegen.specs.Drafts.{AreStarts, IsDraft};
+ghost use Rattle.stapl_codegen.specs.Emit.{row_texts, row_literals, body_texts, body_literals, texts_of, literals_of, program_code, start_of, retarget};
+ghost use Rattle.stapl_codegen.specs.Drafts.{site_behind, piece_code_in, preset_code_in, preset_items, ArePresetsLeft, AreStarts, IsDraft};
+ghost use Rattle.stapl_codegen.specs.Accepted.{IsAccepted};
 
+use crate::blocks::{data_behind, has_initial_value, plays};
 use crate::emit::Emitter;
 use bit_list::Bits;
 use stapl_code::Instr;
+use stapl_lexer::Name;
 use stapl_meaning::Text;
 use stapl_names::Names;
-use stapl_syntax::Stmt;
+use stapl_syntax::{Body, Stmt};
 use std::alloc::{AllocError, Global};
 
 /// The instructions of a program, its texts, its literals, and where the code of each place begins.
@@ -28,31 +27,87 @@ pub(crate) struct Written {
     pub(crate) starts: Vec<u32>,
 }
 
-// Where the code of a piece begins, behind so many instructions.
-fn start_at(before: usize, st: &Stmt) -> u32
+// Where the code of a piece begins, behind so many instructions. A piece that does not play has no code.
+fn start_at(before: usize, playing: bool, st: &Stmt) -> u32
     requires { before < 2 ^ 32 - 1 }
-    ensures { result ≡ (if is_outer (body_tree st.now.body) then nowhere else before) }
+    ensures { result ≡ (if is_outer (if playing then body_tree st.now.body else end_data) then nowhere else before) }
 {
-    if st.body.is_outer() {
+    if !playing || st.body.is_outer() {
         return u32::MAX;
     }
     before as u32
 }
 
+// Writes a piece, which does nothing if it does not play.
+fn draft_piece(emitter: &mut Emitter, playing: bool, st: &Stmt) -> Result<(), AllocError>
+    requires { emitter.old.site.piece < 2 ^ 32 - 1 }
+    ensures code { OnOk result (emitter.new.code
+        ≡ emitter.old.code ++ piece_code_in emitter.old (if playing then stmt_tree st.now else idle)) }
+    ensures texts { OnOk result (emitter.new.texts
+        ≡ emitter.old.texts ++ body_texts (if playing then stmt_tree st.now else idle).body) }
+    ensures literals { OnOk result (emitter.new.literals
+        ≡ emitter.old.literals ++ body_literals (if playing then stmt_tree st.now else idle).body) }
+    ensures site { OnOk result (emitter.new.site
+        ≡ site_behind emitter.old.site (if playing then stmt_tree st.now else idle).body) }
+{
+    if playing {
+        emitter.statement(st)?;
+        return Ok(());
+    }
+    emitter.skip();
+    Ok(())
+}
+
+// Writes the initial value of a statement, if it stands in a DATA block and has one.
+fn draft_preset(emitter: &mut Emitter, block: &Option<Name>, body: &Body) -> Result<(), AllocError>
+    requires { emitter.old.site.inside ≡ None }
+    ensures code { OnOk result (emitter.new.code
+        ≡ emitter.old.code ++ preset_code_in emitter.old (preset_of block.now (body_tree body.now))) }
+    ensures texts { OnOk result (emitter.new.texts
+        ≡ emitter.old.texts ++ preset_items row_texts (preset_of block.now (body_tree body.now))) }
+    ensures literals { OnOk result (emitter.new.literals
+        ≡ emitter.old.literals ++ preset_items row_literals (preset_of block.now (body_tree body.now))) }
+    ensures site { OnOk result (emitter.new.site ≡ emitter.old.site) }
+{
+    let Some(name) = block else {
+        return Ok(());
+    };
+    if !has_initial_value(body) {
+        return Ok(());
+    }
+    emitter.preset(name, body)?;
+    Ok(())
+}
+
+// Writes the initial values of the DATA blocks of a program, before its pieces.
+fn draft_presets(emitter: &mut Emitter, program: &[Stmt]) -> Result<(), AllocError>
+    requires { ArePresetsLeft (as_played (trees program.now)) emitter.old (presets_from None (trees program.now)) }
+    ensures { OnOk result (ArePresetsLeft (as_played (trees program.now)) emitter.new []) }
+{
+    let mut block = None;
+    for st in program {
+        draft_preset(emitter, &block, &st.body)?;
+        block = data_behind(block, &st.body);
+    }
+    Ok(())
+}
+
 // Writes a program with targets that are places of it.
-#[tactic(auto, using(crate::proofs::Drafts::is_draft))]
 fn draft_program(alloc: Global, program: &[Stmt], names: &Names) -> Result<Written, AllocError>
     requires names { names.now ≡ program_names (trees program.now) }
-    requires built { All IsBuilt (trees program.now) }
-    requires few { length program.now ≤ piece_limit }
-    requires small { statements_size (trees program.now) ≤ text_limit }
-    ensures { IfOk result (λ w. IsDraft (trees program.now) w.code.items w.texts.items w.literals.items w.starts.items) }
+    requires accepted { IsAccepted (as_played (trees program.now)) }
+    ensures { IfOk result (λ w.
+        IsDraft (as_played (trees program.now)) w.code.items w.texts.items w.literals.items w.starts.items) }
 {
     let mut emitter = Emitter::new(alloc, names, program.len() as u32);
+    draft_presets(&mut emitter, program)?;
     let mut starts = Vec::new(alloc);
+    let mut block = None;
     for st in program {
-        starts.push(start_at(emitter.len(), st))?;
-        emitter.statement(st)?;
+        let playing = plays(&block, &st.body);
+        starts.push(start_at(emitter.len(), playing, st))?;
+        draft_piece(&mut emitter, playing, st)?;
+        block = data_behind(block, &st.body);
     }
     let (code, texts, literals) = emitter.into_parts();
     Ok(Written {
@@ -65,8 +120,8 @@ fn draft_program(alloc: Global, program: &[Stmt], names: &Names) -> Result<Writt
 
 /// Where the code of a place of the program begins.
 pub(crate) fn start_of_place(program: &[Stmt], starts: &[u32], place: u32) -> u32
-    requires { AreStarts (trees program.now) starts.now }
-    ensures { result ≡ start_of (trees program.now) place }
+    requires { AreStarts (as_played (trees program.now)) starts.now }
+    ensures { result ≡ start_of (as_played (trees program.now)) place }
 {
     let _program = program;
     match starts.get(place as usize) {
@@ -76,8 +131,8 @@ pub(crate) fn start_of_place(program: &[Stmt], starts: &[u32], place: u32) -> u3
 }
 
 fn retargeted(program: &[Stmt], starts: &[u32], instr: Instr) -> Instr
-    requires { AreStarts (trees program.now) starts.now }
-    ensures { result ≡ retarget (start_of (trees program.now)) instr }
+    requires { AreStarts (as_played (trees program.now)) starts.now }
+    ensures { result ≡ retarget (start_of (as_played (trees program.now))) instr }
 {
     match instr {
         Instr::Jump(to) => Instr::Jump(start_of_place(program, starts, to)),
@@ -93,8 +148,8 @@ fn retarget_all(
     starts: &[u32],
     draft: Vec<Instr>,
 ) -> Result<Vec<Instr>, AllocError>
-    requires { AreStarts (trees program.now) starts.now }
-    ensures { IfOk result (λ code. code.items ≡ map (retarget (start_of (trees program.now))) draft.items) }
+    requires { AreStarts (as_played (trees program.now)) starts.now }
+    ensures { IfOk result (λ code. code.items ≡ map (retarget (start_of (as_played (trees program.now)))) draft.items) }
 {
     let mut code = Vec::new(alloc);
     for instr in draft {
@@ -110,13 +165,11 @@ pub(crate) fn write_program(
     names: &Names,
 ) -> Result<Written, AllocError>
     requires names { names.now ≡ program_names (trees program.now) }
-    requires built { All IsBuilt (trees program.now) }
-    requires few { length program.now ≤ piece_limit }
-    requires small { statements_size (trees program.now) ≤ text_limit }
-    ensures code { IfOk result (λ w. w.code.items ≡ program_code (trees program.now)) }
-    ensures texts { IfOk result (λ w. w.texts.items ≡ texts_of (trees program.now)) }
-    ensures literals { IfOk result (λ w. w.literals.items ≡ literals_of (trees program.now)) }
-    ensures starts { IfOk result (λ w. AreStarts (trees program.now) w.starts.items) }
+    requires accepted { IsAccepted (as_played (trees program.now)) }
+    ensures code { IfOk result (λ w. w.code.items ≡ program_code (as_played (trees program.now))) }
+    ensures texts { IfOk result (λ w. w.texts.items ≡ texts_of (as_played (trees program.now))) }
+    ensures literals { IfOk result (λ w. w.literals.items ≡ literals_of (as_played (trees program.now))) }
+    ensures starts { IfOk result (λ w. AreStarts (as_played (trees program.now)) w.starts.items) }
 {
     let draft = draft_program(alloc, program, names)?;
     let Written {

@@ -1,13 +1,14 @@
 //! The instructions of statements. Their targets are places of the program.
-ghost use Rattle.std.specs.Prelude.{◌≡◌, [], ◌∷◌, ◌++◌, ◌<◌, ◌^◌, ◌-◌, length, map, option_map, slice_get, take, OnOk, IfOk};
+ghost use Rattle.std.specs.Prelude.{◌≡◌, [], ◌∷◌, ◌++◌, ◌<◌, ◌^◌, ◌-◌, true, length, map, option_map, slice_get, take, OnOk, IfOk};
 ghost use Rattle.bit_list.specs.Integers.{int_of};
-ghost use Rattle.stapl_syntax.specs.Trees.{assign_element, assign_array, assign_range, print, expr_tree, array_tree, part_tree, body_tree, stmt_tree};
+ghost use Rattle.stapl_syntax.specs.Trees.{assign_element, assign_array, assign_range, print, end_data, expr_tree, array_tree, part_tree, body_tree, stmt_tree};
 ghost use Rattle.stapl_meaning.specs.Values.{alike, side, sides, unary_side};
 ghost use Rattle.stapl_meaning.specs.Operands.{a_character, a_range, bit_number, given_kind, printed_kind};
 ghost use Rattle.stapl_code.specs.declared.instr.Instr.TheVariants.{Store, SetBits, SetInts, JumpIfZero};
-ghost use Rattle.stapl_codegen.specs.Emit.{by_kind, operator_number, sign_number, literal_code, shown_part, part_texts, array_literals, body_texts, body_literals};
+ghost use Rattle.stapl_codegen.specs.Emit.{by_kind, operator_number, sign_number, literal_code, shown_part, part_texts, array_literals, row_texts, row_literals, body_texts, body_literals};
+ghost use Rattle.stapl_meaning.specs.Scopes.{has_initial_value};
 ghost use Rattle.stapl_codegen.specs.Drafts.{scope_of_site, site_behind};
-ghost use Rattle.stapl_codegen.specs.Drafts.{expr_code_in, int_code_in, operands_code_in, array_operands_in, source_in, part_operands_in, print_parts_in, body_code_in, piece_code_in};
+ghost use Rattle.stapl_codegen.specs.Drafts.{expr_code_in, int_code_in, operands_code_in, array_operands_in, source_in, part_operands_in, print_parts_in, body_code_in, piece_code_in, preset_code_in};
 
 use base::ItemList;
 use bit_list::Bits;
@@ -705,6 +706,35 @@ impl<'a> Emitter<'a> {
         self.turn(st)?;
         self.inside = inside_behind(&self.inside, &st.body);
         self.piece += 1;
+        Ok(())
+    }
+
+    /// A piece that does nothing, behind which the next piece follows.
+    pub(crate) fn skip(&mut self)
+        requires { self.old.site.piece < 2 ^ 32 - 1 }
+        ensures code { self.new.code ≡ self.old.code }
+        ensures texts { self.new.texts ≡ self.old.texts }
+        ensures literals { self.new.literals ≡ self.old.literals }
+        ensures site { self.new.site ≡ site_behind self.old.site end_data }
+    {
+        self.inside = None;
+        self.piece += 1;
+    }
+
+    /// The initial value of a declaration of a DATA block more.
+    #[tactic(auto, using(crate::proofs::Emits::one_row_items))]
+    pub(crate) fn preset(&mut self, block: &Name, body: &Body) -> Result<(), AllocError>
+        requires starts { has_initial_value (body_tree body.now) ≡ true }
+        requires outside { self.old.site.inside ≡ None }
+        ensures code { OnOk result (self.new.code ≡ self.old.code
+            ++ preset_code_in self.old (Some record { block = block.now; body = body_tree body.now })) }
+        ensures texts { OnOk result (self.new.texts ≡ self.old.texts ++ row_texts (body_tree body.now)) }
+        ensures literals { OnOk result (self.new.literals ≡ self.old.literals ++ row_literals (body_tree body.now)) }
+        ensures site { OnOk result (self.new.site ≡ self.old.site) }
+    {
+        self.inside = Some(*block);
+        self.body(body)?;
+        self.inside = None;
         Ok(())
     }
 

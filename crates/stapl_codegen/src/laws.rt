@@ -2,6 +2,7 @@
 ghost use Rattle.std.specs.Prelude.{ℕ, List};
 ghost use Rattle.stapl_syntax.specs.Trees.{StmtTree};
 ghost use Rattle.stapl_built.specs.Unbuilt.{IsBuiltProgram};
+ghost use Rattle.stapl_meaning.specs.Scopes.{Played, as_played};
 ghost use Rattle.stapl_code.specs.Ranges.{IsInRange};
 ghost use Rattle.stapl_code.specs.Valid.{IsValid};
 ghost use Rattle.stapl_codegen.specs.Accepted.{IsAccepted};
@@ -21,7 +22,7 @@ pub fn code_stands()
 
 /// The compiler takes each built program.
 pub fn programs_are_accepted()
-    ensures { (text : List ℕ) (program : List StmtTree) → IsBuiltProgram text program → IsAccepted program }
+    ensures { (text : List ℕ) (program : List StmtTree) → IsBuiltProgram text program → IsAccepted (as_played program) }
 {
     programs_are_typed();
     programs_are_built();
@@ -33,9 +34,9 @@ pub fn programs_are_accepted()
 
 /// The lists of the code of an accepted program are in their ranges and valid, and they stand for the program.
 pub fn accepted_code_is_valid()
-    ensures in_range { (program : List StmtTree) → IsAccepted program → IsInRange (lists_of program) }
-    ensures valid { (program : List StmtTree) → IsAccepted program → IsValid (lists_of program) }
-    ensures code { (program : List StmtTree) → IsAccepted program → IsCodeOf program (lists_of program) }
+    ensures in_range { (program : Played) → IsAccepted program → IsInRange (lists_of program) }
+    ensures valid { (program : Played) → IsAccepted program → IsValid (lists_of program) }
+    ensures code { (program : Played) → IsAccepted program → IsCodeOf program (lists_of program) }
 {}
 
 /// No play of an accepted program gets stuck: it has an ending after its turns, or it still goes on, and then there is

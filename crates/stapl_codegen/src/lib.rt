@@ -1,6 +1,7 @@
 //! The compiler: from the statements of a program to the code of the stack machine.
 #![tactic(auto)]
 
+mod blocks;
 mod compiling;
 mod definitions;
 mod draft;

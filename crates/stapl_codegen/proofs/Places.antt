@@ -1,0 +1,29 @@
+-- The pieces of a program along its statements.
+use Rattle.std.proofs.Common.{◌≡◌, ℕ, ◌+◌, List, ◌∷◌, drop, None, Option, refl, sym, ap, ◌∙◌, add-one, if◌then◌else◌}
+use Rattle.stapl_syntax.specs.Trees.{StmtTree}
+use Rattle.stapl_meaning.specs.Scopes.{data_behind, plays, idle, pieces_from}
+use Rattle.stapl_codegen.proofs.Heads.{drop_tail}
+
+-- this DATA block is open before a place: the pieces from there on are those of the statements
+pub record IsOpenAt (sts : List StmtTree) (i : ℕ) (block : Option (List ℕ)) : Type 0 where
+  pub same : drop i (pieces_from None sts) ≡ pieces_from block (drop i sts)
+
+pub at_start : (sts : List StmtTree) → IsOpenAt sts 0 None
+at_start sts = record { same = refl }
+
+module _ (sts : List StmtTree) (i : ℕ) (block : Option (List ℕ)) (st : StmtTree) (rest : List StmtTree) (is : drop i sts ≡ st ∷ rest) (at : IsOpenAt sts i block) where
+  -- the piece at the place, and those behind it
+  abbrev pub piece : StmtTree
+  piece = if plays block st.body then st else idle
+
+  pub here : drop i (pieces_from None sts) ≡ piece ∷ pieces_from (data_behind block st.body) rest
+  here = at.same ∙ ap (pieces_from block) is
+
+  pub behind : drop (i + 1) (pieces_from None sts) ≡ pieces_from (data_behind block st.body) rest
+  behind = rw add-one (drop_tail i (pieces_from None sts) ∙ ap (drop 1) here)
+
+  pub piece_first : drop i (pieces_from None sts) ≡ piece ∷ drop (i + 1) (pieces_from None sts)
+  piece_first = here ∙ ap (λ l. piece ∷ l) (sym behind)
+
+  pub next : rest ≡ drop (i + 1) sts → IsOpenAt sts (i + 1) (data_behind block st.body)
+  next same = record { same = behind ∙ ap (pieces_from (data_behind block st.body)) same }

@@ -1,0 +1,95 @@
+-- The prologue of the code does what the initial values of DATA blocks do.
+use Rattle.std.proofs.Common.{◌≡◌, ℕ, List, [], ◌∷◌, refl, sym, ap, ◌∙◌}
+use Rattle.stapl_syntax.specs.Trees.{BodyTree, end_data}
+use Rattle.stapl_meaning.specs.declared.values.Value.{Value}
+use Rattle.stapl_meaning.specs.Values.{Got, Known, Faults, Stuck}
+use Rattle.stapl_meaning.specs.Operands.{values_of}
+use Rattle.stapl_meaning.specs.States.{State, Did, Falls, Jumps, Returns, Ends, Turned, Leads, Over, Broken, NoTurn, with_got, preceded, next_chosen, begun, led}
+use Rattle.stapl_meaning.specs.Scopes.{Preset, Scope, Played, entry_from, preset_scope}
+use Rattle.stapl_meaning.specs.Turns.{operands, effect, target, carried}
+use Rattle.stapl_meaning.specs.Plays.{set_up, beginning}
+use Rattle.stapl_code.specs.declared.instr.Instr.{Instr}
+use Rattle.stapl_code.specs.Machine.{Constants, entry_of, stretch}
+use Rattle.stapl_code.proofs.Preceded.{begun_preceded}
+use Rattle.stapl_codegen.specs.Emit.{Firsts, behind_row, row_texts, row_literals, presets_items, presets_code}
+use Rattle.stapl_codegen.proofs.Constants.{HasConstants, has_front, has_behind}
+use Rattle.stapl_codegen.proofs.Bodies.{placed, preceded_placed, end_law, row_follows, row_tied}
+
+-- ---- where the last one leads is of no matter
+
+-- initial values are set, and this place follows
+abbrev set_up_to : Played → ℕ → List Preset → State → Turned
+set_up_to program place [] s = Leads [] place s
+set_up_to program place (preset ∷ presets) s = carried (preset_scope program preset) preset.body s (set_up_to program place presets)
+
+module _ (entry : ℕ → ℕ) (scope : Scope) where
+  -- two ways to go on, behind which the same begins
+  abbrev BeginAlike : (State → Turned) → (State → Turned) → Type 0
+  BeginAlike go go' = (s : State) → begun entry (go s) ≡ begun entry (go' s)
+
+  module _ (go go' : State → Turned) (alike : BeginAlike go go') where
+    led_alike : (b : BodyTree) (s : State) (did : Got Did) →
+        begun entry (with_got did s (λ d. led scope.entry (target scope b) d go)) ≡ begun entry (with_got did s (λ d. led scope.entry (target scope b) d go'))
+    led_alike b s (Known (Falls events t)) = begun_preceded entry events (go t) ∙ ap (preceded events) (alike t) ∙ sym (begun_preceded entry events (go' t))
+    led_alike b s (Known (Jumps t)) = refl
+    led_alike b s (Known (Returns t)) = refl
+    led_alike b s (Known (Ends ending t)) = refl
+    led_alike b s (Faults k) = refl
+    led_alike b s Stuck = refl
+
+    values_alike : (b : BodyTree) (s : State) (values : Got (List Value)) →
+        begun entry (with_got values s (λ vs. with_got (effect scope b vs s) s (λ d. led scope.entry (target scope b) d go)))
+        ≡ begun entry (with_got values s (λ vs. with_got (effect scope b vs s) s (λ d. led scope.entry (target scope b) d go')))
+    values_alike b s (Known vs) = led_alike b s (effect scope b vs s)
+    values_alike b s (Faults k) = refl
+    values_alike b s Stuck = refl
+
+    carried_alike : (b : BodyTree) (s : State) → begun entry (carried scope b s go) ≡ begun entry (carried scope b s go')
+    carried_alike b s = values_alike b s (values_of scope.look s.store.variables (operands scope b))
+
+set_up_alike : (program : Played) (place : ℕ) (presets : List Preset) (s : State) →
+    begun (entry_from program.pieces) (set_up_to program place presets s) ≡ begun (entry_from program.pieces) (set_up program presets s)
+set_up_alike program place [] s = refl
+set_up_alike program place (preset ∷ presets) s =
+    carried_alike (entry_from program.pieces) (preset_scope program preset) (set_up_to program place presets) (set_up program presets)
+    (set_up_alike program place presets) preset.body s
+
+-- ---- the prologue
+
+module _ (program : Played) (place : ℕ → ℕ) (entries : List ℕ) (constants : Constants) (total : ℕ) (entry_is : (p : ℕ) → entry_of entries p ≡ place (entry_from program.pieces p)) where
+  prologue_follows : (first_place : ℕ) (first : Firsts) (presets : List Preset) (rest : List Instr) (s : State) →
+      HasConstants constants first (presets_items row_texts presets) (presets_items row_literals presets) →
+      ((t : State) → stretch entries constants total rest [] t ≡ Leads [] (place first_place) t) →
+      stretch entries constants total (presets_code program place first presets rest) [] s ≡ placed place (set_up_to program first_place presets s)
+  prologue_follows first_place first [] rest s has behind = behind s
+  prologue_follows first_place first (preset ∷ presets) rest s has behind =
+      let b : BodyTree = preset.body in
+      let own : HasConstants constants first (row_texts b) (row_literals b) = record {
+        texts = has_front constants.texts first.text (row_texts b) (presets_items row_texts presets) has.texts;
+        literals = has_front constants.literals first.literal (row_literals b) (presets_items row_literals presets) has.literals;
+      } in
+      let others : HasConstants constants (behind_row first b) (presets_items row_texts presets) (presets_items row_literals presets) = record {
+        texts = has_behind constants.texts first.text (row_texts b) (presets_items row_texts presets) has.texts;
+        literals = has_behind constants.literals first.literal (row_literals b) (presets_items row_literals presets) has.literals;
+      } in
+      row_follows place entries constants total (preset_scope program preset) s first b (presets_code program place (behind_row first b) presets rest)
+      (set_up_to program first_place presets) (row_tied place entries constants total (preset_scope program preset) first b own) entry_is
+      (λ t. prologue_follows first_place (behind_row first b) presets rest t others behind)
+
+  begun_placed : (t : Turned) → begun (entry_of entries) (placed place t) ≡ placed place (begun (entry_from program.pieces) t)
+  begun_placed (Leads events i s) =
+      ap (preceded events) (end_law place entries constants total (preset_scope program (record { block = []; body = end_data })) s s.chosen entry_is)
+      ∙ preceded_placed place events (next_chosen (entry_from program.pieces) s s.chosen)
+  begun_placed (Over events ending s) = refl
+  begun_placed (Broken events k s) = refl
+  begun_placed (NoTurn events) = refl
+
+  -- the beginning of a play
+  pub begins_alike : (first_place : ℕ) (first : Firsts) (rest : List Instr) (s : State) →
+      HasConstants constants first (presets_items row_texts program.presets) (presets_items row_literals program.presets) →
+      ((t : State) → stretch entries constants total rest [] t ≡ Leads [] (place first_place) t) →
+      begun (entry_of entries) (stretch entries constants total (presets_code program place first program.presets rest) [] s) ≡ placed place (beginning program s)
+  begins_alike first_place first rest s has behind =
+      ap (begun (entry_of entries)) (prologue_follows first_place first program.presets rest s has behind)
+      ∙ begun_placed (set_up_to program first_place program.presets s)
+      ∙ ap (placed place) (set_up_alike program first_place program.presets s)

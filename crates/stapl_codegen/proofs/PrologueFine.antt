@@ -1,0 +1,154 @@
+-- The prologue of the code of an accepted program breaks no rule, and its instructions are in their ranges.
+use Rattle.std.proofs.Common.{◌≡◌, ℕ, ◌+◌, ◌≤◌, Bool, true, false, ◌&&◌, List, [], ◌∷◌, length, length-append, Option, Some, None, arith, refl, sym, ap, subst, ◌∙◌, true≢false}
+use Rattle.std.specs.Prelude.{All, IfSome, map, nat_abs, slice_get}
+use Rattle.std.specs.Option.{option_map}
+use Rattle.std.proofs.lemmas.List.{append-nil}
+use Rattle.std.proofs.lemmas.List.Elements.{All-head, All-tail}
+use Rattle.std.proofs.lemmas.Option.{slice_get-map}
+use Rattle.stapl_syntax.specs.declared.names.Declaration.{Declaration}
+use Rattle.stapl_syntax.specs.Names.{declaration}
+use Rattle.stapl_syntax.specs.Kinds.{is_bit_array, operands_suit}
+use Rattle.stapl_syntax.specs.Trees.{BodyTree, boolean, boolean_array, integer, integer_array}
+use Rattle.stapl_built.specs.Built.{is_built_inner}
+use Rattle.stapl_meaning.specs.declared.values.ValueKind.{ValueKind}
+use Rattle.stapl_meaning.specs.declared.values.ValueKind.TheVariants as kinds
+use Rattle.stapl_meaning.specs.Values.{Lookup}
+use Rattle.stapl_meaning.specs.Scopes.{has_initial_value, Preset, Scope, Played, preset_scope}
+use Rattle.stapl_meaning.specs.Typed.{IsDeclared, IsTypedPreset}
+use Rattle.stapl_code.specs.declared.instr.Instr.{Instr}
+use Rattle.stapl_code.specs.declared.instr.Instr.TheVariants.{Push, PushBit, Store, SetBits, SetInts}
+use Rattle.stapl_code.specs.declared.raw.VarDef.{VarDef}
+use Rattle.stapl_code.specs.Kinds.{kinds_behind}
+use Rattle.stapl_code.specs.Valid.{is_last, sets_up, kinds_kept, judged, prologue_break}
+use Rattle.stapl_meaning.specs.Turns.{rows}
+use Rattle.stapl_codegen.specs.Emit.{Firsts, row_texts, row_literals, behind_row, rows_items, presets_items, row_code, rows_code, presets_code}
+use Rattle.stapl_codegen.specs.Generated.{kind_number, variable_def}
+use Rattle.stapl_codegen.proofs.Drafts.{past_length, one_row}
+use Rattle.stapl_codegen.proofs.Ranges.{InRange, AreThere, agrees_from, body_range}
+use Rattle.stapl_codegen.proofs.Sides.{held_kind}
+use Rattle.stapl_codegen.proofs.WellKinded.{Agrees, scalar_agrees, bits_agree, integers_agree}
+use Rattle.stapl_codegen.proofs.WellPlaced.{store_finds, wanted}
+
+module _ (program : Played) where
+  abbrev pub defs : List VarDef
+  defs = map variable_def program.names.variables
+
+  -- these instructions of the prologue break no rule, where the operands have these kinds
+  abbrev Fine : List ValueKind → List Instr → Type 0
+  Fine ks rest = (i : ℕ) → prologue_break defs i ks rest ≡ None
+
+  -- an instruction that leaves operands, and is not the last, and one that leaves none
+  one_more : (x y : Instr) (ks after : List ValueKind) (rest : List Instr) → kinds_behind defs x ks ≡ Some after → sets_up x ≡ true → Fine after (y ∷ rest) → Fine ks (x ∷ y ∷ rest)
+  one_more x y ks after rest finds sets more i =
+      ap (λ o. judged o (sets_up x) i (λ ks. prologue_break defs (i + 1) ks (y ∷ rest))) finds
+      ∙ ap (λ b. judged (Some after) b i (λ ks. prologue_break defs (i + 1) ks (y ∷ rest))) sets
+      ∙ more (i + 1)
+
+  none_left : (b : Bool) → kinds_kept b (Some []) ≡ Some []
+  none_left true = refl
+  none_left false = refl
+
+  one_last : (x : Instr) (ks : List ValueKind) (rest : List Instr) → kinds_behind defs x ks ≡ Some [] → sets_up x ≡ true → Fine [] rest → Fine ks (x ∷ rest)
+  one_last x ks rest finds sets more i =
+      ap (λ o. judged (kinds_kept (is_last rest) o) (sets_up x) i (λ ks. prologue_break defs (i + 1) ks rest)) finds
+      ∙ ap (λ o. judged o (sets_up x) i (λ ks. prologue_break defs (i + 1) ks rest)) (none_left (is_last rest))
+      ∙ ap (λ b. judged (Some []) b i (λ ks. prologue_break defs (i + 1) ks rest)) sets
+      ∙ more (i + 1)
+
+  module _ (scope : Scope) (agrees : Agrees defs scope.look) (place : ℕ → ℕ) where
+    abbrev HasKind : BodyTree → Type 0
+    HasKind b = IfSome (declaration b) (λ (d : Declaration). scope.look.kind d.name ≡ Some d.kind)
+
+    preset_fine : (first : Firsts) (b : BodyTree) (rest : List Instr) → has_initial_value b ≡ true → HasKind b → Fine [] rest → Fine [] (row_code scope place first b rest)
+    preset_fine first (boolean name (Some true)) rest starts is more =
+        let n : ℕ = scope.look.variable name in
+        one_more (PushBit 1) (Store n) [] (kinds.Bit ∷ []) rest refl refl
+        (one_last (Store n) (kinds.Bit ∷ []) rest (store_finds defs n kinds.Bit (scalar_agrees defs scope.look agrees name kinds.Bit (ap held_kind is))) refl more)
+    preset_fine first (boolean name (Some false)) rest starts is more =
+        let n : ℕ = scope.look.variable name in
+        one_more (PushBit 0) (Store n) [] (kinds.Bit ∷ []) rest refl refl
+        (one_last (Store n) (kinds.Bit ∷ []) rest (store_finds defs n kinds.Bit (scalar_agrees defs scope.look agrees name kinds.Bit (ap held_kind is))) refl more)
+    preset_fine first (boolean_array name size (Some bits)) rest starts is more =
+        let set : Instr = SetBits (scope.look.variable name) first.literal in
+        one_last set [] rest (wanted defs set [] [] (ap (λ b. b && true) (bits_agree defs scope.look agrees name (ap is_bit_array is))) refl) refl more
+    preset_fine first (integer name (Some z)) rest starts is more =
+        let n : ℕ = scope.look.variable name in
+        one_more (Push z) (Store n) [] (kinds.Int ∷ []) rest refl refl
+        (one_last (Store n) (kinds.Int ∷ []) rest (store_finds defs n kinds.Int (scalar_agrees defs scope.look agrees name kinds.Int (ap held_kind is))) refl more)
+    preset_fine first (integer_array name size (Some zs)) rest starts is more =
+        let set : Instr = SetInts (scope.look.variable name) zs in
+        one_last set [] rest (wanted defs set [] [] (ap (λ b. b && true) (integers_agree defs scope.look agrees name is)) refl) refl more
+    preset_fine first (boolean name None) rest starts is more = absurd (true≢false (sym starts))
+    preset_fine first (boolean_array name size None) rest starts is more = absurd (true≢false (sym starts))
+    preset_fine first (integer name None) rest starts is more = absurd (true≢false (sym starts))
+    preset_fine first (integer_array name size None) rest starts is more = absurd (true≢false (sym starts))
+    preset_fine first _ rest starts is more = absurd (true≢false (sym starts))
+
+  kind_declared : (look : Lookup) (piece : ℕ) (block : List ℕ) (o : Option Declaration) → IfSome o (IsDeclared program look piece block) →
+      IfSome o (λ (d : Declaration). look.kind d.name ≡ Some d.kind)
+  kind_declared look piece block None is = tt
+  kind_declared look piece block (Some d) is = is.kind
+
+  agrees_in : (preset : Preset) → Agrees defs (preset_scope program preset).look
+  agrees_in preset = agrees_from program.names (Some preset.block)
+
+  pub prologue_fine : (place : ℕ → ℕ) (first : Firsts) (presets : List Preset) → All (IsTypedPreset program) presets → Fine [] (presets_code program place first presets [])
+  prologue_fine place first [] typed = λ i. refl
+  prologue_fine place first (preset ∷ presets) typed =
+      let own = All-head (IsTypedPreset program) preset presets typed in
+      preset_fine (preset_scope program preset) (agrees_in preset) place first preset.body (presets_code program place (behind_row first preset.body) presets [])
+      own.starts (kind_declared (preset_scope program preset).look own.piece preset.block (declaration preset.body) own.declares)
+      (prologue_fine place (behind_row first preset.body) presets (All-tail (IsTypedPreset program) preset presets typed))
+
+  -- ---- ranges
+
+  module _ (place : ℕ → ℕ) (literals texts : ℕ) where
+    defined : (look : Lookup) (piece : ℕ) (block : List ℕ) (o : Option Declaration) → IfSome o (IsDeclared program look piece block) →
+        IfSome o (λ (d : Declaration). slice_get defs (look.variable d.name) ≡ Some (record { kind = kind_number d.kind; size = nat_abs d.size }))
+    defined look piece block None is = tt
+    defined look piece block (Some d) is =
+        slice_get-map variable_def program.names.variables (look.variable d.name) ∙ ap (option_map variable_def) is.entry
+
+    preset_suits : (look : Lookup) (b : BodyTree) → has_initial_value b ≡ true → operands_suit look.kind b ≡ true
+    preset_suits look (boolean name start) starts = refl
+    preset_suits look (boolean_array name size start) starts = refl
+    preset_suits look (integer name start) starts = refl
+    preset_suits look (integer_array name size start) starts = refl
+    preset_suits look _ starts = absurd (true≢false (sym starts))
+
+    -- the numbers of the constants of the first and of the others
+    there : (first : Firsts) (preset : Preset) (presets : List Preset) → rows preset.body ≡ preset.body ∷ [] →
+        first.text + length (presets_items row_texts (preset ∷ presets)) ≤ texts → first.literal + length (presets_items row_literals (preset ∷ presets)) ≤ literals →
+        AreThere defs literals texts (preset_scope program preset) (agrees_in preset) place first preset.body
+    there first preset presets one few_texts few_literals = record {
+      few_texts = omega (
+        arith,
+        few_texts,
+        length-append (row_texts preset.body) (presets_items row_texts presets),
+        ap length (ap (rows_items row_texts) one ∙ append-nil (row_texts preset.body)),
+      );
+      few_literals = omega (
+        arith,
+        few_literals,
+        length-append (row_literals preset.body) (presets_items row_literals presets),
+        ap length (ap (rows_items row_literals) one ∙ append-nil (row_literals preset.body)),
+      );
+    }
+
+    pub presets_range : (first : Firsts) (presets : List Preset) (rest : List Instr) → All (IsTypedPreset program) presets → All (λ (preset : Preset). is_built_inner preset.body ≡ true) presets →
+        first.text + length (presets_items row_texts presets) ≤ texts → first.literal + length (presets_items row_literals presets) ≤ literals →
+        InRange defs literals texts rest → InRange defs literals texts (presets_code program place first presets rest)
+    presets_range first [] rest typed built few_texts few_literals more = more
+    presets_range first (preset ∷ presets) rest typed built few_texts few_literals more =
+        let own = All-head (IsTypedPreset program) preset presets typed in
+        let scope : Scope = preset_scope program preset in
+        let one = one_row preset.body own.starts in
+        let next : Firsts = behind_row first preset.body in
+        let others = presets_range next presets rest (All-tail (IsTypedPreset program) preset presets typed) (All-tail (λ (preset : Preset). is_built_inner preset.body ≡ true) preset presets built)
+        (omega (arith, few_texts, past_length first.text (row_texts preset.body), length-append (row_texts preset.body) (presets_items row_texts presets)))
+        (omega (arith, few_literals, past_length first.literal (row_literals preset.body), length-append (row_literals preset.body) (presets_items row_literals presets))) more in
+        subst (λ bs. InRange defs literals texts (rows_code scope place first bs (presets_code program place next presets rest))) one
+        (body_range defs literals texts scope (agrees_in preset) place first preset.body (presets_code program place next presets rest)
+        (All-head (λ (preset : Preset). is_built_inner preset.body ≡ true) preset presets built) (preset_suits scope.look preset.body own.starts)
+        (defined scope.look own.piece preset.block (declaration preset.body) own.declares) own.few_values
+        (there first preset presets one few_texts few_literals) others)
