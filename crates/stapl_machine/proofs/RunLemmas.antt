@@ -8,10 +8,10 @@ use Rattle.stapl_meaning.specs.declared.events.Event.{Event}
 use Rattle.stapl_meaning.specs.declared.events.Ending.{Ending}
 use Rattle.stapl_meaning.specs.declared.values.Held.{Held}
 use Rattle.stapl_meaning.specs.declared.values.Value.{Value}
-use Rattle.stapl_meaning.specs.States.{State, Turned, Leads, Over, Broken, NoTurn, preceded, turn_of_piece, next_chosen}
+use Rattle.stapl_meaning.specs.States.{State, Turned, Leads, Over, Broken, NoTurn, preceded, turn_of_piece, next_chosen, begun}
 use Rattle.stapl_meaning.specs.Plays.{Run, after, goes_on, ending_of}
 use Rattle.stapl_meaning.specs.Texts.{event_line}
-use Rattle.stapl_code.specs.Machine.{Constants, entry_of, stretch, begun}
+use Rattle.stapl_code.specs.Machine.{Constants, entry_of, stretch}
 use Rattle.stapl_code.proofs.Preceded.{begun_preceded}
 use Rattle.stapl_code.specs.Safe.{entries_of, constants_of}
 use Rattle.stapl_code.specs.Ticks.{ticks, ticks_then}
@@ -207,8 +207,8 @@ module _ {K : Type 0} {written : K → Option (List ℕ)} where
     events = d.events;
     put = d.put;
     runs = ap (λ (t : Turned). goes_on t s (run_of code n))
-        (ap (begun (entries_of code.procedures) (constants_of code)) d.does ∙ begun_preceded (entries_of code.procedures) (constants_of code) d.events rest)
-        ∙ goes_after d.events (begun (entries_of code.procedures) (constants_of code) rest) s (run_of code n);
+        (ap (begun (entry_of (entries_of code.procedures))) d.does ∙ begun_preceded (entry_of (entries_of code.procedures)) d.events rest)
+        ∙ goes_after d.events (begun (entry_of (entries_of code.procedures)) rest) s (run_of code n);
   }
 
   -- it was broken off
@@ -218,12 +218,12 @@ module _ {K : Type 0} {written : K → Option (List ℕ)} where
       let left : Run = begun_run code n d.rest s in
       let all : (begun_run code n whole s).events ≡ d.events ++ left.events =
       ap (λ (r : Run). r.events) (ap (λ (t : Turned). goes_on t s (run_of code n))
-      (ap (begun (entries_of code.procedures) (constants_of code)) d.does ∙ begun_preceded (entries_of code.procedures) (constants_of code) d.events d.rest)
-      ∙ goes_after d.events (begun (entries_of code.procedures) (constants_of code) d.rest) s (run_of code n)) in
+      (ap (begun (entry_of (entries_of code.procedures))) d.does ∙ begun_preceded (entry_of (entries_of code.procedures)) d.events d.rest)
+      ∙ goes_after d.events (begun (entry_of (entries_of code.procedures)) d.rest) s (run_of code n)) in
       record { front = rw (all, flat_map-append event_line d.events left.events) (front_with (flat_map event_line left.events) d.front) }
 
 -- the prologue has no piece
-begun_piece : (entries : List ℕ) (constants : Constants) (piece : ℕ) (t : Turned) → begun entries constants (turn_of_piece piece t) ≡ begun entries constants t
+begun_piece : (entries : List ℕ) (constants : Constants) (piece : ℕ) (t : Turned) → begun (entry_of entries) (turn_of_piece piece t) ≡ begun (entry_of entries) t
 begun_piece entries constants piece (Leads events place s) = refl
 begun_piece entries constants piece (Over events ending s) = refl
 begun_piece entries constants piece (Broken events k s) = refl
@@ -237,10 +237,10 @@ module _ (code : CodeLists) (chosen : List ℕ) (work : Workspace) (n : ℕ) (no
   abbrev prologue : List Value → Turned
   prologue ops = stretch (entries_of code.procedures) (constants_of code) (length code.instrs) code.instrs ops (state_of chosen at_first)
 
-  first_begun : begun (entries_of code.procedures) (constants_of code) (rest_of code 0 chosen at_first) ≡ begun (entries_of code.procedures) (constants_of code) (prologue [])
+  first_begun : begun (entry_of (entries_of code.procedures)) (rest_of code 0 chosen at_first) ≡ begun (entry_of (entries_of code.procedures)) (prologue [])
   first_begun =
       begun_piece (entries_of code.procedures) (constants_of code) work.piece (prologue (operands_of work))
-      ∙ ap (λ (ops : List Value). begun (entries_of code.procedures) (constants_of code) (prologue (reverse ops))) none
+      ∙ ap (λ (ops : List Value). begun (entry_of (entries_of code.procedures)) (prologue (reverse ops))) none
 
   pub play_is : begun_run code n (rest_of code 0 chosen at_first) (state_of chosen at_first) ≡ play_from code chosen work.variables.items n
   play_is = ap (λ (t : Turned). goes_on t (state_of chosen at_first) (run_of code n)) first_begun
@@ -253,8 +253,8 @@ module _ (code : CodeLists) (chosen : List ℕ) (work : Workspace) (n : ℕ) (no
 
 pub play_ticks_does : (code : CodeLists) (n : ℕ) (whole rest : Turned) (events : List Event) → whole ≡ preceded events rest → begun_ticks code n whole ≡ begun_ticks code n rest
 play_ticks_does code n whole rest events e =
-    ap (λ (t : Turned). ticks_then t (run_ticks_of code n)) (ap (begun (entries_of code.procedures) (constants_of code)) e ∙ begun_preceded (entries_of code.procedures) (constants_of code) events rest)
-    ∙ ticks_preceded events (begun (entries_of code.procedures) (constants_of code) rest) (run_ticks_of code n)
+    ap (λ (t : Turned). ticks_then t (run_ticks_of code n)) (ap (begun (entry_of (entries_of code.procedures))) e ∙ begun_preceded (entry_of (entries_of code.procedures)) events rest)
+    ∙ ticks_preceded events (begun (entry_of (entries_of code.procedures)) rest) (run_ticks_of code n)
 
 pub ticked_twice : (a b c x y z all : ℕ) → b ≡ a + x → c ≡ b + y → z ≡ y → x + z ≡ all → c ≡ a + all
 ticked_twice a b c x y z all e f g h = omega arith

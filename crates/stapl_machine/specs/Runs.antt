@@ -6,11 +6,11 @@ use Rattle.tool_io.specs.Lines.{Puts, PutsFront}
 use Rattle.stapl_meaning.specs.declared.events.Event.{Event}
 use Rattle.stapl_meaning.specs.declared.events.Ending.{Ending}
 use Rattle.stapl_meaning.specs.declared.values.Held.{Held}
-use Rattle.stapl_meaning.specs.States.{State, Turned, next_chosen}
+use Rattle.stapl_meaning.specs.States.{State, Turned, next_chosen, begun}
 use Rattle.stapl_meaning.specs.Plays.{Run, after, goes_on, ending_of}
 use Rattle.stapl_meaning.specs.Texts.{event_line}
 use Rattle.stapl_code.specs.declared.raw.CodeLists.{CodeLists}
-use Rattle.stapl_code.specs.Machine.{entry_of, code_run, begun, code_play}
+use Rattle.stapl_code.specs.Machine.{entry_of, code_run, code_play}
 use Rattle.stapl_code.specs.Ticks.{ticks_then, run_ticks, play_ticks}
 use Rattle.stapl_code.specs.Safe.{entries_of, constants_of}
 use Rattle.stapl_machine.specs.declared.turns.Trouble.{Trouble}
@@ -31,10 +31,10 @@ chosen_ticks code n s = ticks_then (next_chosen (entry_of (entries_of code.proce
 
 -- at most n turns behind a prologue that came to this, and how many instructions they take
 abbrev pub begun_run : CodeLists → ℕ → Turned → State → Run
-begun_run code n t before = goes_on (begun (entries_of code.procedures) (constants_of code) t) before (run_of code n)
+begun_run code n t before = goes_on (begun (entry_of (entries_of code.procedures)) t) before (run_of code n)
 
 abbrev pub begun_ticks : CodeLists → ℕ → Turned → ℕ
-begun_ticks code n t = ticks_then (begun (entries_of code.procedures) (constants_of code) t) (run_ticks_of code n)
+begun_ticks code n t = ticks_then (begun (entry_of (entries_of code.procedures)) t) (run_ticks_of code n)
 
 -- the prologue and at most n turns of the chosen procedures, where the variables hold this, and how many instructions
 -- they take
