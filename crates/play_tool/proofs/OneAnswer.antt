@@ -9,7 +9,7 @@ use Rattle.stapl_lexer.specs.declared.reason.Reason.{Reason}
 use Rattle.stapl_syntax.specs.Trees.{StmtTree}
 use Rattle.stapl_checker.proofs.UniqueLemmas.{one_first_fault, one_program, no_fault}
 use Rattle.stapl_meaning.specs.declared.events.Ending.{Ending}
-use Rattle.stapl_meaning.specs.Scopes.{chosen_of}
+use Rattle.stapl_meaning.specs.Scopes.{chosen_of, Played, as_played}
 use Rattle.stapl_meaning.specs.Plays.{play, ending_of}
 use Rattle.stapl_meaning.specs.Texts.{text_of}
 use Rattle.play_tool.specs.declared.checking.CheckWords.{CheckWords}
@@ -34,22 +34,22 @@ pub record Said : Type 0 where
 abbrev said : List ℕ → Status → Said
 said text status = record { text = text; status = status }
 
-no_action_played : (program : List StmtTree) (action chosen : List ℕ) → chosen_of program action ≡ None → chosen_of program action ≡ Some chosen → ⊥
+no_action_played : (program : Played) (action chosen : List ℕ) → chosen_of program action ≡ None → chosen_of program action ≡ Some chosen → ⊥
 no_action_played program action chosen e f = none-some chosen (sym e ∙ f)
 
 -- what a play says that ends so
-abbrev said_of : List StmtTree → ℕ → List ℕ → Ending → Said
+abbrev said_of : Played → ℕ → List ℕ → Ending → Said
 said_of program turns chosen ending = said (text_of (play program chosen turns).events ending) (done_with ending)
 
-same_play : (program : List StmtTree) (turns : ℕ) (a b : List ℕ) (e f : Ending) → a ≡ b → e ≡ f → said_of program turns a e ≡ said_of program turns b f
+same_play : (program : Played) (turns : ℕ) (a b : List ℕ) (e f : Ending) → a ≡ b → e ≡ f → said_of program turns a e ≡ said_of program turns b f
 same_play program turns a b e f p q = rw (p, q) refl
 
-one_ending : (program : List StmtTree) (turns : ℕ) (a b : List ℕ) (e f : Ending) → a ≡ b → ending_of (play program a turns).outcome ≡ Some e →
+one_ending : (program : Played) (turns : ℕ) (a b : List ℕ) (e f : Ending) → a ≡ b → ending_of (play program a turns).outcome ≡ Some e →
     ending_of (play program b turns).outcome ≡ Some f → e ≡ f
 one_ending program turns a b e f p x y = same_Some e f (sym x ∙ ap (λ (z : List ℕ). ending_of (play program z turns).outcome) p ∙ y)
 
 -- an accepted program gives one answer
-one_play : {program : List StmtTree} {action xs ys : List ℕ} {turns : ℕ} {s t : Status} → Plays program action turns xs s →
+one_play : {program : Played} {action xs ys : List ℕ} {turns : ℕ} {s t : Status} → Plays program action turns xs s →
     Plays program action turns ys t → said xs s ≡ said ys t
 one_play (no_action e) (no_action f) = refl
 one_play {program = program} {action = action} (no_action e) (played chosen ending f g) = absurd (no_action_played program action chosen e f)
@@ -62,7 +62,7 @@ one_play {program = program} {turns = turns} (played chosen a f g) (played other
 one_asked : {program : List StmtTree} {request : Request} {xs ys : List ℕ} {s t : Status} → PlaysAsked program request xs s → PlaysAsked program request ys t →
     said xs s ≡ said ys t
 one_asked {program = program} {request = request} {ys = ys} {t = t} a b =
-    one_play a.plays (subst (λ (z : List ℕ). Plays program z request.turns ys t) (same_Some b.action a.action (sym b.asked ∙ a.asked)) b.plays)
+    one_play a.plays (subst (λ (z : List ℕ). Plays (as_played program) z request.turns ys t) (same_Some b.action a.action (sym b.asked ∙ a.asked)) b.plays)
 
 -- the first piece that is not built is one
 same_unbuilt : (p l q m : ℕ) → p ≡ q → l ≡ m → said (refusal_line p l reasons.NotYetBuilt) (Refused p reasons.NotYetBuilt) ≡ said (refusal_line q m reasons.NotYetBuilt) (Refused q reasons.NotYetBuilt)

@@ -19,7 +19,7 @@ use Rattle.stapl_syntax.specs.declared.names.VarKind.TheVariants as variables
 use Rattle.stapl_syntax.specs.Trees.{ItemTree, BodyTree, action, StmtTree}
 use Rattle.stapl_meaning.specs.declared.events.Event.{Event}
 use Rattle.stapl_meaning.specs.declared.events.Ending.{Ending}
-use Rattle.stapl_meaning.specs.Scopes.{program_names, zeros_of, procedure_number, item_procedure, chosen_before, chosen_from, chosen_of}
+use Rattle.stapl_meaning.specs.Scopes.{Played, zeros_of, procedure_number, item_procedure, chosen_before, chosen_from, chosen_of}
 use Rattle.stapl_meaning.specs.Scopes as scopes
 use Rattle.stapl_meaning.specs.Plays.{Outcome, Ended, Going, Stopped, Run, play, ending_of}
 use Rattle.stapl_meaning.specs.declared.events.Ending.TheVariants.{Spent}
@@ -56,22 +56,22 @@ zeros_are : (vs : List (Key × Variable)) → map zero_of (map variable_def vs) 
 zeros_are [] = refl
 zeros_are (v ∷ vs) = λ j. zero_same v j ∷ zeros_are vs j
 
-pub same_zeros : (program : List StmtTree) (code : CodeLists) → IsCodeOf program code → zeros_of_code code ≡ zeros_of program
-same_zeros program code is = ap zeros_of_code is.lists ∙ zeros_are (program_names program).variables
+pub same_zeros : (program : Played) (code : CodeLists) → IsCodeOf program code → zeros_of_code code ≡ zeros_of program
+same_zeros program code is = ap zeros_of_code is.lists ∙ zeros_are program.names.variables
 
-pub zeros_fit : (program : List StmtTree) (code : CodeLists) → IsCodeOf program code → AllFit code.variables (zeros_of_code code)
+pub zeros_fit : (program : Played) (code : CodeLists) → IsCodeOf program code → AllFit code.variables (zeros_of_code code)
 zeros_fit program code is =
-    let vs : List (Key × Variable) = (program_names program).variables in
+    let vs : List (Key × Variable) = program.names.variables in
     subst (λ (lists : CodeLists). AllFit lists.variables (zeros_of_code lists)) (sym is.lists)
     (subst (AllFit (map variable_def vs)) (sym (zeros_are vs)) (variables_fit vs))
 
 -- The code's action of a name has the program's procedures.
 
-items_same : (program : List StmtTree) (items : List ItemTree) → procedures_in (map (item_def program) items) ≡ map (item_procedure program) items
+items_same : (program : Played) (items : List ItemTree) → procedures_in (map (item_def program) items) ≡ map (item_procedure program) items
 items_same program [] = refl
-items_same program (item ∷ items) = ap (λ l. procedure_number program item.0 ∷ l) (items_same program items)
+items_same program (item ∷ items) = ap (λ l. procedure_number program.pieces item.0 ∷ l) (items_same program items)
 
-actions_same : (program sts : List StmtTree) (name : List ℕ) → procedures_named (actions_from program sts) name ≡ chosen_from program sts name
+actions_same : (program : Played) (sts : List StmtTree) (name : List ℕ) → procedures_named (actions_from program sts) name ≡ chosen_from program sts name
 actions_same program [] name = refl
 actions_same program (st ∷ rest) name = by st.body (actions_same program rest name)
   where
@@ -80,8 +80,8 @@ actions_same program (st ∷ rest) name = by st.body (actions_same program rest 
     by (action own text items) more = λ j. if bytes_eq name own then Some (items_same program items j) else more j
     by _ more = more
 
-pub same_chosen : (program : List StmtTree) (code : CodeLists) (name : List ℕ) → IsCodeOf program code → procedures_named code.actions name ≡ chosen_of program name
-same_chosen program code name is = ap (λ (lists : CodeLists). procedures_named lists.actions name) is.lists ∙ actions_same program program name
+pub same_chosen : (program : Played) (code : CodeLists) (name : List ℕ) → IsCodeOf program code → procedures_named code.actions name ≡ chosen_of program name
+same_chosen program code name is = ap (λ (lists : CodeLists). procedures_named lists.actions name) is.lists ∙ actions_same program program.pieces name
 
 -- The procedures of an action are among those of the code.
 
@@ -106,7 +106,7 @@ ending_placed place (Ended ending) = refl
 ending_placed place (Going i) = refl
 ending_placed place Stopped = refl
 
-pub play_of_action : (program : List StmtTree) (code : CodeLists) (name chosen : List ℕ) (turns : ℕ) → IsCodeOf program code →
+pub play_of_action : (program : Played) (code : CodeLists) (name chosen : List ℕ) (turns : ℕ) → IsCodeOf program code →
     procedures_named code.actions name ≡ Some chosen → IsPlayOf program name turns (play_of code chosen turns)
 play_of_action program code name chosen turns is e =
     let same : play_of code chosen turns ≡ placed_run (start_of program) (play program chosen turns) = rw (same_zeros program code is) (is.stands chosen turns) in
@@ -118,12 +118,12 @@ play_of_action program code name chosen turns is e =
     }
 
 -- The same, where the code's actions are told.
-pub none_chosen : (program : List StmtTree) (name : List ℕ) (code : CodeLists) (actions : List ActionDef) → IsCodeOf program code →
+pub none_chosen : (program : Played) (name : List ℕ) (code : CodeLists) (actions : List ActionDef) → IsCodeOf program code →
     actions ≡ code.actions → procedures_named actions name ≡ None → chosen_of program name ≡ None
 none_chosen program name code actions is same none =
     sym (same_chosen program code name is) ∙ ap (λ (z : List ActionDef). procedures_named z name) (sym same) ∙ none
 
-pub play_chosen_of : {program : List StmtTree} {name : List ℕ} {turns : ℕ} (code : CodeLists) (actions : List ActionDef) (chosen : List ℕ) →
+pub play_chosen_of : {program : Played} {name : List ℕ} {turns : ℕ} (code : CodeLists) (actions : List ActionDef) (chosen : List ℕ) →
     IsCodeOf program code → actions ≡ code.actions → procedures_named actions name ≡ Some chosen → IsPlayOf program name turns (play_of code chosen turns)
 play_chosen_of {program = program} {name = name} {turns = turns} code actions chosen is same some =
     play_of_action program code name chosen turns is (ap (λ (z : List ActionDef). procedures_named z name) (sym same) ∙ some)
@@ -138,26 +138,26 @@ has_ending run goes = of_outcome run.outcome refl
     of_outcome Stopped e = absurd (goes e)
 
 -- Without the action there is none of that name.
-pub no_such_action : {program : List StmtTree} {name : List ℕ} {turns : ℕ} {before after : Option (List ℕ)} → chosen_of program name ≡ None →
+pub no_such_action : {program : Played} {name : List ℕ} {turns : ℕ} {before after : Option (List ℕ)} → chosen_of program name ≡ None →
     after ≡ then_bytes before (codes "R action\n") → Wrote (Plays program name turns) before after NoAction
 no_such_action none e = record { text = codes "R action\n"; answer = no_action none; written = e }
 
-pub no_such_action_front : {program : List StmtTree} {name : List ℕ} {turns : ℕ} {before after : Option (List ℕ)} → chosen_of program name ≡ None →
+pub no_such_action_front : {program : Played} {name : List ℕ} {turns : ℕ} {before after : Option (List ℕ)} → chosen_of program name ≡ None →
     MovesFront before (codes "R action\n") after → WroteFront (Plays program name turns) before after
 no_such_action_front none m = record { text = codes "R action\n"; status = NoAction; answer = no_action none; front = m }
 
 -- With it, what the run writes is the program's.
-plays_so : {program : List StmtTree} {name : List ℕ} {turns : ℕ} (run : Run) (ending : Ending) → IsPlayOf program name turns run → ending_of run.outcome ≡ Some ending →
+plays_so : {program : Played} {name : List ℕ} {turns : ℕ} (run : Run) (ending : Ending) → IsPlayOf program name turns run → ending_of run.outcome ≡ Some ending →
     Plays program name turns (text_of run.events ending) (done_with ending)
 plays_so {program = program} {name = name} {turns = turns} run ending p e =
     subst (λ (events : List Event). Plays program name turns (text_of events ending) (done_with ending)) (sym p.same_events)
     (played p.chosen ending p.is_chosen (sym p.same_ending ∙ e))
 
-pub run_to : {program : List StmtTree} {name : List ℕ} {turns : ℕ} {before after : Option (List ℕ)} {ending : Ending} (run : Run) → IsPlayOf program name turns run →
+pub run_to : {program : Played} {name : List ℕ} {turns : ℕ} {before after : Option (List ℕ)} {ending : Ending} (run : Run) → IsPlayOf program name turns run →
     RunWritten run before after ending → Wrote (Plays program name turns) before after (done_with ending)
 run_to {ending = ending} run p w = record { text = text_of run.events ending; answer = plays_so run ending p w.ended; written = w.written }
 
-pub run_front : {program : List StmtTree} {name : List ℕ} {turns : ℕ} {before after : Option (List ℕ)} (run : Run) → IsPlayOf program name turns run →
+pub run_front : {program : Played} {name : List ℕ} {turns : ℕ} {before after : Option (List ℕ)} (run : Run) → IsPlayOf program name turns run →
     HasEnding run → RunFront run before after → WroteFront (Plays program name turns) before after
 run_front run p h f = record {
   text = text_of run.events h.ending;
@@ -166,10 +166,10 @@ run_front run p h f = record {
   front = f.front h.ending h.comes;
 }
 
-not_chosen : (program : List StmtTree) (name chosen : List ℕ) → chosen_of program name ≡ Some chosen → chosen_of program name ≡ None → ⊥
+not_chosen : (program : Played) (name chosen : List ℕ) → chosen_of program name ≡ Some chosen → chosen_of program name ≡ None → ⊥
 not_chosen program name chosen e f = cc
 
-same_run_text : {program : List StmtTree} {name text : List ℕ} {turns : ℕ} {before after : Option (List ℕ)} {status : Status} (run : Run) → IsPlayOf program name turns run →
+same_run_text : {program : Played} {name text : List ℕ} {turns : ℕ} {before after : Option (List ℕ)} {status : Status} (run : Run) → IsPlayOf program name turns run →
     RunFront run before after → Plays program name turns text status → MovesFront before text after
 same_run_text {program = program} {name = name} run p f (no_action none) = absurd (not_chosen program name p.chosen p.is_chosen none)
 same_run_text {program = program} {turns = turns} {before = before} {after = after} run p f (played chosen ending is e) =
@@ -178,7 +178,7 @@ same_run_text {program = program} {turns = turns} {before = before} {after = aft
     let ended : ending_of run.outcome ≡ Some ending = p.same_ending ∙ ap (λ (z : List ℕ). ending_of (play program z turns).outcome) same ∙ e in
     subst (λ (z : List Event). MovesFront before (text_of z ending) after) events (f.front ending ended)
 
-pub run_prefix : {program : List StmtTree} {name : List ℕ} {turns : ℕ} {before after : Option (List ℕ)} (run : Run) → IsPlayOf program name turns run →
+pub run_prefix : {program : Played} {name : List ℕ} {turns : ℕ} {before after : Option (List ℕ)} (run : Run) → IsPlayOf program name turns run →
     RunFront run before after → IsPrefixOf (Plays program name turns) before after
 run_prefix run p f = record { prefix = λ text status plays. same_run_text run p f plays }
 

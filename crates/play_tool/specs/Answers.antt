@@ -9,7 +9,7 @@ use Rattle.stapl_syntax.specs.Programs.{IsProgram, FirstFault}
 use Rattle.stapl_built.specs.Unbuilt.{IsUnbuiltAt, IsBuiltProgram}
 use Rattle.stapl_meaning.specs.declared.events.Ending.{Ending}
 use Rattle.stapl_meaning.specs.declared.events.Ending.TheVariants as endings
-use Rattle.stapl_meaning.specs.Scopes.{chosen_of}
+use Rattle.stapl_meaning.specs.Scopes.{Played, as_played, chosen_of}
 use Rattle.stapl_meaning.specs.Plays.{play, ending_of}
 use Rattle.stapl_meaning.specs.Texts.{text_of}
 use Rattle.play_tool.specs.declared.mode.Mode.{Mode}
@@ -30,7 +30,7 @@ done_with endings.Spent = Spent
 
 -- What is written of the play of an action, and the status: the program has no such action, or it is played for at most
 -- so many turns. A play that still goes on after them is spent.
-pub data Plays (program : List StmtTree) (action : List ℕ) (turns : ℕ) : List ℕ → Status → Type 0 where
+pub data Plays (program : Played) (action : List ℕ) (turns : ℕ) : List ℕ → Status → Type 0 where
   no_action : chosen_of program action ≡ None → Plays program action turns (codes "R action\n") NoAction
   played : (chosen : List ℕ) (ending : Ending) → chosen_of program action ≡ Some chosen → ending_of (play program chosen turns).outcome ≡ Some ending →
       Plays program action turns (text_of (play program chosen turns).events ending) (done_with ending)
@@ -39,7 +39,7 @@ pub data Plays (program : List StmtTree) (action : List ℕ) (turns : ℕ) : Lis
 pub record PlaysAsked (program : List StmtTree) (request : Request) (text : List ℕ) (status : Status) : Type 0 where
   pub action : List ℕ
   pub asked : request.action ≡ Some action
-  pub plays : Plays program action request.turns text status
+  pub plays : Plays (as_played program) action request.turns text status
 
 -- The play that a request asks for, of a text that is a program: a piece of it is not built yet, or the action that is
 -- named is played.

@@ -4,9 +4,8 @@ use Rattle.std.specs.Str.{bytes_eq}
 use Rattle.tool_io.specs.Bytes.{then_bytes, MovesFront}
 use Rattle.tool_io.specs.declared.lines.Lines.{Lines}
 use Rattle.tool_io.specs.Lines.{PutsFront}
-use Rattle.stapl_syntax.specs.Trees.{StmtTree}
 use Rattle.stapl_meaning.specs.declared.events.Ending.{Ending}
-use Rattle.stapl_meaning.specs.Scopes.{chosen_of}
+use Rattle.stapl_meaning.specs.Scopes.{Played, chosen_of}
 use Rattle.stapl_meaning.specs.Plays.{Run, play, ending_of}
 use Rattle.stapl_meaning.specs.Texts.{text_of}
 use Rattle.stapl_code.specs.declared.raw.ActionDef.{ActionDef}
@@ -49,7 +48,7 @@ pub record PutsRunFront {K : Type 0} (written : K → Option (List ℕ)) (run : 
   pub front : (ending : Ending) → ending_of run.outcome ≡ Some ending → PutsFront written old (text_of run.events ending) new
 
 -- The run has the events and the ending of the play of this action of a program.
-pub record IsPlayOf (program : List StmtTree) (action : List ℕ) (turns : ℕ) (run : Run) : Type 0 where
+pub record IsPlayOf (program : Played) (action : List ℕ) (turns : ℕ) (run : Run) : Type 0 where
   pub chosen : List ℕ
   pub is_chosen : chosen_of program action ≡ Some chosen
   pub same_events : run.events ≡ (play program chosen turns).events

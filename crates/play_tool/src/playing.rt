@@ -4,6 +4,7 @@ ghost use Rattle.tool_io.specs.Causes.{HasRisen, NeverFalls};
 ghost use Rattle.tool_io.specs.Lines.{IsWhole, IsOverSame, SinkNeverFalls, sink_of, Puts};
 ghost use Rattle.stapl_syntax.specs.ProgramValues.{trees_of};
 ghost use Rattle.stapl_built.specs.Unbuilt.{IsBuiltProgram};
+ghost use Rattle.stapl_meaning.specs.Scopes.{as_played};
 ghost use Rattle.stapl_meaning.specs.Plays.{ending_of};
 ghost use Rattle.stapl_meaning.specs.Texts.{text_of};
 ghost use Rattle.stapl_code.specs.Safe.{AllBelow, AllFit};
@@ -191,14 +192,14 @@ pub fn play_program<K: Sink>(
 ) -> Result<Status, NoAnswer>
     requires { IsBuiltProgram program.now.text (trees_of program.now) }
     ensures answered { IfOk result (λ status. IsFault status → ⊥) }
-    ensures ok { IfOk result (Wrote (Plays (trees_of program.now) action.now turns) (K.written out.old)
+    ensures ok { IfOk result (Wrote (Plays (as_played (trees_of program.now)) action.now turns) (K.written out.old)
         (K.written out.new)) }
     ensures read { IsErrOf result NoAnswer.Read → ⊥ }
     ensures write { IsErrOf result NoAnswer.Write → HasRisen K.faults K.is_last out.old out.new }
     ensures front { IsErrOf result NoAnswer.Write →
-        WroteFront (Plays (trees_of program.now) action.now turns) (K.written out.old) (K.written out.new) }
+        WroteFront (Plays (as_played (trees_of program.now)) action.now turns) (K.written out.old) (K.written out.new) }
     ensures memory { IsErrOf result NoAnswer.Memory →
-        IsPrefixOf (Plays (trees_of program.now) action.now turns) (K.written out.old) (K.written out.new) }
+        IsPrefixOf (Plays (as_played (trees_of program.now)) action.now turns) (K.written out.old) (K.written out.new) }
     ensures later { NeverFalls K.faults K.is_last out.old out.new }
 {
     let code = generate(alloc, program)?;
