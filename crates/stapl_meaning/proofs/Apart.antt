@@ -85,26 +85,13 @@ among_apart _ _ (same_name x xs ys is) apart =
     AllPairs-cons (λ a b. a ≢ b) x xs (among_all (λ b. x ≢ b) xs ys is (head_apart x ys apart)) (among_apart xs ys is (tail_apart x ys apart))
 among_apart _ _ (other_name y xs ys is) apart = among_apart xs ys is (tail_apart y ys apart)
 
-procedures_among : (now inside : Option (List ℕ)) (n : ℕ) (rest : List StmtTree) →
-    IsAmong (procedure_names (pieces_from now rest)) (keys_of (declared_from block_of inside (numbered_from n (map Some rest))))
-procedures_among now inside n [] = no_names
-procedures_among now inside n (st ∷ rest) =
-    by (plays now st.body) st.body (procedures_among (data_behind now st.body) (inside_behind inside st.body) (n + 1) rest)
+plain_among : (es : List (List ℕ × Block)) → IsAmong (plain_blocks es) (keys_of es)
+plain_among [] = no_names
+plain_among (e ∷ es) = by e.1.is_data (plain_among es)
   where
-    others : List (List ℕ)
-    others = procedure_names (pieces_from (data_behind now st.body) rest)
-
-    declared_more : List (List ℕ × Block)
-    declared_more = declared_from block_of (inside_behind inside st.body) (numbered_from (n + 1) (map Some rest))
-
-    by : (c : Bool) (b : BodyTree) → IsAmong others (keys_of declared_more) →
-        IsAmong (procedure_name (if c then record { label = st.label; body = b } else idle).body others) (keys_of (cons_option (block_of_body n b) declared_more))
-    by true (procedure name uses) is = same_name name others (keys_of declared_more) is
-    by false (procedure name uses) is = other_name name others (keys_of declared_more) is
-    by true (data_block name) is = other_name name others (keys_of declared_more) is
-    by false (data_block name) is = other_name name others (keys_of declared_more) is
-    by true _ is = is
-    by false _ is = is
+    by : (b : Bool) → IsAmong (plain_blocks es) (keys_of es) → IsAmong (if b then plain_blocks es else e.0 ∷ plain_blocks es) (e.0 ∷ keys_of es)
+    by true is = other_name e.0 (plain_blocks es) (keys_of es) is
+    by false is = same_name e.0 (plain_blocks es) (keys_of es) is
 
 -- those that are no DATA blocks are the procedures that play, if blocks begin outside blocks
 plain_declared : (now inside : Option (List ℕ)) (n : ℕ) (rest : List StmtTree) → ((i : ℕ) (st : StmtTree) → slice_get rest i ≡ Some st → BeginsOutside st.body → data_from now (take i rest) ≡ None) →
@@ -176,10 +163,6 @@ module _ (program : List StmtTree) (sound : IsSound program) where
       none_has_key bytes_eq name_same e.0 (declared block_of (numbered (take i (map Some program))))
       (new_block (declared_in (names_of (numbered (take i (map Some program))))).block (1 + i) st.body e is (new_at i st at).0))
 
-  pub procedures_apart : AllPairs (λ a b. a ≢ b) (procedure_names (pieces_from None program))
-  procedures_apart =
-      among_apart (procedure_names (pieces_from None program)) (keys_of (declared block_of (numbered (map Some program)))) (procedures_among None None 1 program) declared_apart
-
   pub actions_apart : AllPairs (λ a b. a ≢ b) (action_names (pieces_from None program))
   actions_apart =
       among_apart (action_names (pieces_from None program)) (keys_of (declared action_of (numbered (map Some program)))) (actions_among None None 1 program)
@@ -236,6 +219,11 @@ module _ (program : List StmtTree) (sound : IsSound program) where
 
   pub procedures_are : plain_blocks (program_names program).blocks ≡ procedure_names (pieces_from None program)
   procedures_are = ap plain_blocks blocks_are ∙ plain_declared None None 1 program (none_outside program sound)
+
+  pub procedures_apart : AllPairs (λ a b. a ≢ b) (procedure_names (pieces_from None program))
+  procedures_apart =
+      subst (AllPairs (λ a b. a ≢ b)) procedures_are
+      (among_apart (plain_blocks (program_names program).blocks) (keys_of (program_names program).blocks) (plain_among (program_names program).blocks) blocks_apart)
 
 -- ---- some action stands
 
