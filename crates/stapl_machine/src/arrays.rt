@@ -46,8 +46,8 @@ fn bit_at(bits: &Bits, index: i32) -> Result<Value, Stop>
     }
 }
 
-// The element of an array at an index.
-fn element(variables: &[Held], n: u32, index: i32) -> Result<Value, Stop>
+/// The element of an array at an index.
+pub fn element(variables: &[Held], n: u32, index: i32) -> Result<Value, Stop>
     ensures { IsValue result (element_of (slice_get variables.now n) (Int index)) }
 {
     match variables.get(n as usize) {
@@ -79,8 +79,8 @@ fn index_in(index: i32, count: usize) -> Result<Value, Stop>
     }
 }
 
-// An index that is one of an array.
-fn index_of(variables: &[Held], n: u32, index: i32) -> Result<Value, Stop>
+/// An index that is one of an array.
+pub fn index_of(variables: &[Held], n: u32, index: i32) -> Result<Value, Stop>
     ensures { IsValue result (index_held (slice_get variables.now n) (Int index)) }
 {
     match variables.get(n as usize) {
@@ -172,8 +172,8 @@ fn set_element(held: &mut Held, index: i32, value: Value) -> Result<(), Stop>
     }
 }
 
-// Puts a value into an element of an array of its kind.
-fn store_at(variables: &mut Vec<Held>, n: u32, index: i32, value: Value) -> Result<(), Stop>
+/// Puts a value into an element of an array of its kind.
+pub fn store_at(variables: &mut Vec<Held>, n: u32, index: i32, value: Value) -> Result<(), Stop>
     ensures written { IsSure (λ done g. g ≡ Known variables.new.items) result
         (element_written variables.old.items n (slice_get variables.old.items n) index value) }
     ensures same { OnErr result (variables.new.items ≡ variables.old.items) }

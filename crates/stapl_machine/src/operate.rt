@@ -21,19 +21,22 @@ pub enum Stop {
     Memory,
 }
 
-fn sum(a: i32, b: i32) -> i32
+/// The sum, of which 32 bits are left.
+pub fn sum(a: i32, b: i32) -> i32
     ensures { result ≡ int_wrap w32 (a +ℤ b) }
 {
     a.wrapping_add(b)
 }
 
-fn difference(a: i32, b: i32) -> i32
+/// The difference, of which 32 bits are left.
+pub fn difference(a: i32, b: i32) -> i32
     ensures { result ≡ int_wrap w32 (a -ℤ b) }
 {
     a.wrapping_sub(b)
 }
 
-fn product(a: i32, b: i32) -> i32
+/// The product, of which 32 bits are left.
+pub fn product(a: i32, b: i32) -> i32
     ensures { result ≡ int_wrap w32 (a *ℤ b) }
 {
     a.wrapping_mul(b)
@@ -96,19 +99,22 @@ fn shift_right(a: i32, b: i32) -> Result<Value, Stop>
     Ok(Value::Int(over_power(a, b as u32)))
 }
 
-fn common_bits(a: i32, b: i32) -> i32
+/// The bits that both have.
+pub fn common_bits(a: i32, b: i32) -> i32
     ensures { result ≡ bitwise ◌&&◌ a b }
 {
     a & b
 }
 
-fn different_bits(a: i32, b: i32) -> i32
+/// The bits that one of them has.
+pub fn different_bits(a: i32, b: i32) -> i32
     ensures { result ≡ bitwise differ a b }
 {
     a ^ b
 }
 
-fn joint_bits(a: i32, b: i32) -> i32
+/// The bits that one of them or both have.
+pub fn joint_bits(a: i32, b: i32) -> i32
     ensures { result ≡ bitwise ◌||◌ a b }
 {
     a | b

@@ -1,7 +1,7 @@
 use Rattle.std.proofs.Common.{◌≡◌, ◌+◌}
 use Rattle.tool_io.specs.Lines.{IsWhole, IsOverSame, SinkNeverFalls}
 use Rattle.stapl_machine.specs.Turns.{rest_of, ticks_from, Does}
-use Rattle.stapl_machine.proofs.turns.rest_of_turn.Given as goal
+use Rattle.stapl_machine.proofs.turns.one_by_one.Given as goal
 
 abbrev pub invariant-loop-i : goal.invariant-loop-i
 invariant-loop-i g l = record {
