@@ -1,6 +1,6 @@
 -- What follows instructions that were tried without the general machine.
-use Rattle.std.specs.Prelude.{◌≡◌, ℕ, ◌+◌, List, []}
-use Rattle.stapl_meaning.specs.States.{Turned, Leads}
+use Rattle.std.specs.Prelude.{◌≡◌, ◌<◌, ◌≤◌, ℕ, ◌+◌, List, []}
+use Rattle.stapl_meaning.specs.States.{Turned, Leads, NoTurn}
 use Rattle.stapl_code.specs.declared.raw.CodeLists.{CodeLists}
 use Rattle.stapl_machine.specs.declared.act.Workspace.{Workspace}
 use Rattle.stapl_machine.specs.declared.tries.Tried.{Tried}
@@ -29,11 +29,15 @@ IsCleanTry _ work = Unit {0}
 abbrev pub behind_reached : CodeLists → List ℕ → Reached → Workspace → Turned
 behind_reached code chosen (reached.Within i) work = rest_of code i chosen work
 behind_reached code chosen (reached.Turn place) work = Leads [] place (state_of chosen work)
+behind_reached code chosen reached.End work = NoTurn []
 
 abbrev pub ticks_behind_reached : CodeLists → List ℕ → Reached → Workspace → ℕ
 ticks_behind_reached code chosen (reached.Within i) work = ticks_from code i chosen work
 ticks_behind_reached code chosen (reached.Turn place) work = 0
+ticks_behind_reached code chosen reached.End work = 0
 
-abbrev pub IsCleanReached : Reached → Workspace → Type 0
-IsCleanReached (reached.Turn place) work = work.operands.items ≡ []
-IsCleanReached _ work = Unit {0}
+-- an instruction that is reached is one of so many, and none before the first one; before a turn no operand is left
+abbrev pub IsReached : Reached → ℕ → ℕ → Workspace → Type 0
+IsReached (reached.Within i) first n work = (first ≤ i) × (i < n)
+IsReached (reached.Turn place) first n work = work.operands.items ≡ []
+IsReached reached.End first n work = Unit {0}

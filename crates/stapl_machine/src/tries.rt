@@ -4,17 +4,20 @@ ghost use Rattle.stapl_meaning.specs.declared.values.Value.TheVariants.{Int};
 ghost use Rattle.stapl_meaning.specs.Values.{Known, element_of, index_held};
 ghost use Rattle.stapl_code.specs.Machine.{Falls, Stops, operated};
 ghost use Rattle.stapl_meaning.specs.States.{Leads};
-ghost use Rattle.stapl_code.specs.declared.instr.Instr.TheVariants.{Load, LoadAt, CheckIndex, Store, StoreAt, Unary, Binary, JumpIfZero};
+ghost use Rattle.stapl_code.specs.declared.instr.Instr.TheVariants.{Load, LoadAt, CheckIndex, CheckRange, Store, StoreAt, Unary, Binary, ToInt, JumpIfZero};
+ghost use Rattle.stapl_code.specs.declared.instr.Source.TheVariants.{Range};
 ghost use Rattle.stapl_code.specs.declared.raw.CodeLists.{CodeLists};
 ghost use Rattle.stapl_machine.specs.Acts.{operands_of, state_of, step_of};
 ghost use Rattle.stapl_machine.specs.Tries.{IsTried, IsWritten, element_put};
 
 use crate::act::Workspace;
 use crate::arrays::{element, index_of, store_at};
+use crate::copying::range_integer;
 use crate::effects::{load, operate_before, store};
 use crate::operands::{leave, replace, top, top_two};
 use crate::operate::{common_bits, difference, different_bits, joint_bits, product, sum};
-use stapl_code::Instr;
+use crate::parts::range;
+use stapl_code::{Instr, Source};
 use stapl_meaning::{Held, Value};
 
 /// What came of an instruction that was tried.
@@ -228,6 +231,39 @@ fn try_store_at(n: u32, work: &mut Workspace) -> Tried
 }
 
 #[inline(always)]
+fn try_range(n: u32, work: &Workspace) -> Tried
+    ensures { (code : CodeLists) (here : ℕ) (chosen : List ℕ) →
+        IsTried result chosen work.now work.now (step_of code here (CheckRange n) chosen work.now) }
+{
+    match top_two(&work.operands) {
+        Some((high, low)) => match range(&work.variables, n, high, low) {
+            Ok(_) => Tried::On,
+            Err(_) => Tried::Not,
+        },
+        None => Tried::Not,
+    }
+}
+
+#[inline(always)]
+fn try_integer(n: u32, work: &mut Workspace) -> Tried
+    ensures tried { (code : CodeLists) (here : ℕ) (chosen : List ℕ) →
+        IsTried result chosen work.old work.new (step_of code here (ToInt (Range n)) chosen work.old) }
+    ensures piece { work.new.piece ≡ work.old.piece }
+{
+    match top_two(&work.operands) {
+        Some((high, low)) => match range_integer(&work.variables, n, &[high, low]) {
+            Ok(value) => {
+                leave(&mut work.operands);
+                replace(&mut work.operands, value);
+                Tried::On
+            }
+            Err(_) => Tried::Not,
+        },
+        None => Tried::Not,
+    }
+}
+
+#[inline(always)]
 fn try_if(to: u32, work: &mut Workspace) -> Tried
     ensures tried { (code : CodeLists) (here : ℕ) (chosen : List ℕ) →
         IsTried result chosen work.old work.new (step_of code here (JumpIfZero to) chosen work.old) }
@@ -281,6 +317,8 @@ pub fn try_step(here: u32, instr: &Instr, work: &mut Workspace) -> Tried
         Instr::StoreAt(n) => try_store_at(*n, work),
         Instr::CheckIndex(n) => try_index(*n, work),
         Instr::Unary(number) => try_unary(*number, work),
+        Instr::CheckRange(n) => try_range(*n, work),
+        Instr::ToInt(Source::Range(n)) => try_integer(*n, work),
         _ => Tried::Not,
     }
 }

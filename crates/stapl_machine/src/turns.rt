@@ -7,7 +7,7 @@ ghost use Rattle.stapl_meaning.specs.declared.events.Event.TheVariants.{Print};
 ghost use Rattle.stapl_code.specs.Ticks.{tick_of};
 ghost use Rattle.stapl_machine.specs.Acts.{state_of};
 ghost use Rattle.stapl_machine.specs.Moves.{led_to, IsClean};
-ghost use Rattle.stapl_machine.specs.Reaches.{behind_try, ticks_behind_try, IsCleanTry, behind_reached, ticks_behind_reached, IsCleanReached};
+ghost use Rattle.stapl_machine.specs.Reaches.{behind_try, ticks_behind_try, IsCleanTry, behind_reached, ticks_behind_reached, IsReached};
 ghost use Rattle.stapl_machine.specs.Turns.{rest_of, ticks_from, behind_it, ticks_behind_it, IsCleanBehind, piece_of, turn_at, ticks_at, IsDone, IsCounted, Keeps};
 
 use crate::act::Workspace;
@@ -55,7 +55,7 @@ fn tell<K: Sink>(out: &mut Lines<K>, text: &[u8]) -> Result<(), Trouble>
 
 // Carries out instruction i of a turn by the general machine, and answers where the turn led if it ended.
 #[inline(never)]
-fn carry_on<K: Sink, L: Ledger>(
+fn carry_out<K: Sink, L: Ledger>(
     code: &CodeLists,
     chosen: &[u32],
     i: usize,
@@ -119,76 +119,19 @@ fn try_at<L: Ledger>(
     }
 }
 
-// Carries out instruction i of a turn, and answers where the turn led if it ended.
-fn carry_out<K: Sink, L: Ledger>(
-    code: &CodeLists,
-    chosen: &[u32],
-    i: usize,
-    work: &mut Workspace,
-    out: &mut Lines<K>,
-    steps: &mut Steps<L>,
-) -> Result<Option<Went>, Trouble>
-    requires inside { i < length code.now.instrs }
-    requires countable { length code.now.instrs < 2 ^ 32 }
-    requires whole { IsWhole out.old }
-    ensures does { IsDone K.written (rest_of code.now i chosen.now work.old) out.old result
-        (λ end. behind_it code.now i chosen.now end work.new) out.new }
-    ensures clean { IfOk result (λ end. IsCleanBehind end work.new) }
-    ensures ticks { IfOk result (λ end.
-        steps.new + ticks_behind_it code.now i chosen.now end work.new
-        ≡ steps.old + ticks_from code.now i chosen.now work.old) }
-    ensures most { OnErr result (steps.new ≤ steps.old + ticks_from code.now i chosen.now work.old) }
-    ensures sink { Keeps K.faults K.is_last out.old out.new result }
-{
-    match try_at(code, i, work, steps) {
-        Tried::On => Ok(None),
-        Tried::To(place) => Ok(Some(Went::On(place))),
-        Tried::Not => match carry_on(code, chosen, i, work, out, steps) {
-            Ok(end) => Ok(end),
-            Err(trouble) => Err(trouble),
-        },
-    }
-}
-
-// The instructions from a place on, up to the end of the turn, one by one.
-#[inline(never)]
-fn one_by_one<K: Sink, L: Ledger>(
-    code: &CodeLists,
-    chosen: &[u32],
-    from: usize,
-    work: &mut Workspace,
-    out: &mut Lines<K>,
-    steps: &mut Steps<L>,
-) -> Result<Went, Trouble>
-    requires countable { length code.now.instrs < 2 ^ 32 }
-    requires whole { IsWhole out.old }
-    ensures does { IsDone K.written (rest_of code.now from chosen.now work.old) out.old result
-        (λ went. led_to went (state_of chosen.now work.new)) out.new }
-    ensures clean { IfOk result (λ went. IsClean went work.new.operands.items) }
-    ensures ticks { IsCounted result steps.old steps.new (ticks_from code.now from chosen.now work.old) }
-    ensures sink { Keeps K.faults K.is_last out.old out.new result }
-{
-    for i in from..code.instrs.len() {
-        match carry_out(code, chosen, i, work, out, steps) {
-            Ok(None) => {}
-            Ok(Some(went)) => return Ok(went),
-            Err(trouble) => return Err(trouble),
-        }
-    }
-    Ok(Went::Over(None))
-}
-
 /// Where common instructions led.
 #[derive(Clone, Copy, PartialEq, Eq, Debug)]
 pub enum Reached {
-    /// To an instruction of the same turn, or to the end of the code.
+    /// To an instruction of the same turn, which is not done.
     Within(usize),
     /// To the turn at this place.
     Turn(u32),
+    /// To the end of the code, where no turn may lead.
+    End,
 }
 
-// Carries out the common instructions from a place on, up to the first one that is none, or that something stands in
-// the way of. This is the loop of a play that takes the time.
+// Carries out the common instructions from a place on, up to the first that is none, or that something stands in the
+// way of. This is the loop in which a play spends its time.
 #[inline(always)]
 fn hurry<L: Ledger>(
     code: &CodeLists,
@@ -202,7 +145,7 @@ fn hurry<L: Ledger>(
     ensures ticks { (chosen : List ℕ) →
         steps.new + ticks_behind_reached code.now chosen result work.new
         ≡ steps.old + ticks_from code.now from chosen work.old }
-    ensures clean { IsCleanReached result work.new }
+    ensures reached { IsReached result from (length code.now.instrs) work.new }
 {
     for i in from..code.instrs.len() {
         match try_at(code, i, work, steps) {
@@ -211,7 +154,7 @@ fn hurry<L: Ledger>(
             Tried::Not => return Reached::Within(i),
         }
     }
-    Reached::Within(code.instrs.len())
+    Reached::End
 }
 
 /// The instructions from a place on, up to the end of the turn.
@@ -232,12 +175,17 @@ pub fn rest_of_turn<K: Sink, L: Ledger>(
     ensures ticks { IsCounted result steps.old steps.new (ticks_from code.now from chosen.now work.old) }
     ensures sink { Keeps K.faults K.is_last out.old out.new result }
 {
-    match hurry(code, from, work, steps) {
-        Reached::Turn(place) => Ok(Went::On(place)),
-        Reached::Within(i) => match one_by_one(code, chosen, i, work, out, steps) {
-            Ok(went) => Ok(went),
-            Err(trouble) => Err(trouble),
-        },
+    let mut place = from;
+    'parts: loop {
+        match hurry(code, place, work, steps) {
+            Reached::Turn(to) => return Ok(Went::On(to)),
+            Reached::End => return Ok(Went::Over(None)),
+            Reached::Within(i) => match carry_out(code, chosen, i, work, out, steps) {
+                Ok(None) => place = i + 1,
+                Ok(Some(went)) => return Ok(went),
+                Err(trouble) => return Err(trouble),
+            },
+        }
     }
 }
 
