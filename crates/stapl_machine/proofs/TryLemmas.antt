@@ -1,5 +1,5 @@
 -- On the rest of a turn behind instructions that were tried.
-use Rattle.std.proofs.Common.{◌≡◌, ◌<◌, ◌≤◌, ℕ, ◌+◌, List, [], length, drop, get_or, sym, ap, ◌∙◌, arith}
+use Rattle.std.proofs.Common.{◌≡◌, ◌<◌, ℕ, ◌+◌, List, [], length, drop, get_or, sym, ap, ◌∙◌, arith}
 use Rattle.stapl_meaning.specs.declared.values.Value.{Value}
 use Rattle.stapl_meaning.specs.States.{State, Leads, turn_of_piece}
 use Rattle.stapl_code.specs.declared.instr.Instr.{Instr}

@@ -4,9 +4,8 @@ use Rattle.stapl_meaning.specs.declared.values.Value.{Value}
 use Rattle.stapl_meaning.specs.declared.values.Value.TheVariants.{Int, Bit}
 use Rattle.stapl_meaning.specs.declared.values.Held.{Held}
 use Rattle.stapl_meaning.specs.Values.{Got, Known, Stuck}
-use Rattle.stapl_meaning.specs.States.{State, Turned, Leads}
+use Rattle.stapl_meaning.specs.States.{Leads}
 use Rattle.stapl_meaning.specs.Effects.{element_written}
-use Rattle.stapl_code.specs.declared.raw.CodeLists.{CodeLists}
 use Rattle.stapl_code.specs.Machine.{Step, Falls, Stops}
 use Rattle.stapl_machine.specs.declared.act.Workspace.{Workspace}
 use Rattle.stapl_machine.specs.declared.tries.Tried.{Tried}

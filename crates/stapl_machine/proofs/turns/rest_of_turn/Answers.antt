@@ -1,7 +1,7 @@
 use Rattle.std.proofs.Common.{rules, ◌+◌, sym, ap, ◌∙◌}
 use Rattle.tool_io.proofs.CauseLemmas.{kept_start, kept_then}
 use Rattle.stapl_machine.specs.Turns.{behind_it, ticks_behind_it}
-use Rattle.stapl_machine.proofs.TurnLemmas.{does_nothing, does_then, does_then_front, does_same, does_of, front_of, ticks_then_equal}
+use Rattle.stapl_machine.proofs.TurnLemmas.{does_nothing, does_then, does_then_front, does_same, does_of, front_of}
 use Rattle.stapl_machine.proofs.turns.rest_of_turn.Goals as goal
 
 pub parts-init : goal.parts-init
