@@ -96,6 +96,7 @@ pub fn assign(variables: &mut Vec<Held>, n: u32, values: &[Value]) -> Result<Mad
 }
 
 /// The Boolean of a bit.
+#[inline(always)]
 pub fn bit(bit: u8) -> Result<Value, Stop>
     ensures { IsValue result (bit_of bit) }
 {

@@ -1,10 +1,10 @@
 //! The instructions that most turns are made of, done at once where nothing stands in their way.
 ghost use Rattle.std.specs.Prelude.{◌≡◌, ◌∷◌, [], List, ℕ, IfSome, slice_get};
-ghost use Rattle.stapl_meaning.specs.declared.values.Value.TheVariants.{Int};
+ghost use Rattle.stapl_meaning.specs.declared.values.Value.TheVariants.{Int, Bit};
 ghost use Rattle.stapl_meaning.specs.Values.{Known, element_of, index_held};
 ghost use Rattle.stapl_code.specs.Machine.{Falls, Stops, operated};
 ghost use Rattle.stapl_meaning.specs.States.{Leads};
-ghost use Rattle.stapl_code.specs.declared.instr.Instr.TheVariants.{Load, LoadAt, CheckIndex, CheckRange, Store, StoreAt, Unary, Binary, ToInt, JumpIfZero};
+ghost use Rattle.stapl_code.specs.declared.instr.Instr.TheVariants.{PushBit, Load, LoadAt, CheckIndex, CheckRange, Store, StoreAt, Unary, Binary, ToInt, JumpIfZero};
 ghost use Rattle.stapl_code.specs.declared.instr.Source.TheVariants.{Range};
 ghost use Rattle.stapl_code.specs.declared.raw.CodeLists.{CodeLists};
 ghost use Rattle.stapl_machine.specs.Acts.{operands_of, state_of, step_of};
@@ -13,9 +13,12 @@ ghost use Rattle.stapl_machine.specs.Tries.{IsTried, IsWritten, element_put};
 use crate::act::Workspace;
 use crate::arrays::{element, index_of, store_at};
 use crate::copying::range_integer;
-use crate::effects::{load, operate_before, store};
+use crate::effects::{bit, load, operate_before, store};
 use crate::operands::{leave, replace, top, top_two};
-use crate::operate::{common_bits, difference, different_bits, joint_bits, product, sum};
+use crate::operate::{
+    common_bits, difference, different_bits, divide, joint_bits, product, remainder, shift_left,
+    shift_right, sum,
+};
 use crate::parts::range;
 use stapl_code::{Instr, Source};
 use stapl_meaning::{Held, Value};
@@ -43,6 +46,18 @@ fn put(value: Value, work: &mut Workspace) -> Tried
     }
     work.operands.push_reserved(value);
     Tried::On
+}
+
+#[inline(always)]
+fn try_bit(number: u8, work: &mut Workspace) -> Tried
+    ensures tried { (code : CodeLists) (here : ℕ) (chosen : List ℕ) →
+        IsTried result chosen work.old work.new (step_of code here (PushBit number) chosen work.old) }
+    ensures piece { work.new.piece ≡ work.old.piece }
+{
+    match bit(number) {
+        Ok(value) => put(value, work),
+        Err(_) => Tried::Not,
+    }
 }
 
 #[inline(always)]
@@ -75,7 +90,7 @@ fn try_store(n: u32, work: &mut Workspace) -> Tried
     }
 }
 
-// What the operator of a number makes of two integers, if it is one that never faults.
+// What the operator of a number makes of two integers, if it does not fault.
 #[inline(always)]
 fn of_integers(number: u8, a: i32, b: i32) -> Option<Value>
     ensures { IfSome result (λ v. operated number (Int a) (Int b) ≡ Known v) }
@@ -84,9 +99,13 @@ fn of_integers(number: u8, a: i32, b: i32) -> Option<Value>
         0 => Some(Value::Int(sum(a, b))),
         1 => Some(Value::Int(difference(a, b))),
         2 => Some(Value::Int(product(a, b))),
+        3 => divide(a, b).ok(),
+        4 => remainder(a, b).ok(),
         5 => Some(Value::Int(common_bits(a, b))),
         6 => Some(Value::Int(joint_bits(a, b))),
         7 => Some(Value::Int(different_bits(a, b))),
+        8 => shift_left(a, b).ok(),
+        9 => shift_right(a, b).ok(),
         10 => Some(Value::Bit(a == b)),
         11 => Some(Value::Bit(a != b)),
         12 => Some(Value::Bit(a < b)),
@@ -97,12 +116,27 @@ fn of_integers(number: u8, a: i32, b: i32) -> Option<Value>
     }
 }
 
+// What the operator of a number makes of two Booleans.
+#[inline(always)]
+fn of_booleans(number: u8, a: bool, b: bool) -> Option<Value>
+    ensures { IfSome result (λ v. operated number (Bit a) (Bit b) ≡ Known v) }
+{
+    match number {
+        16 | 19 => Some(Value::Bit(a && b)),
+        17 | 20 => Some(Value::Bit(a || b)),
+        18 | 22 => Some(Value::Bit(a != b)),
+        21 => Some(Value::Bit(a == b)),
+        _ => None,
+    }
+}
+
 #[inline(always)]
 fn of_two(number: u8, left: Value, right: Value) -> Option<Value>
     ensures { IfSome result (λ v. operated number left right ≡ Known v) }
 {
     match (left, right) {
         (Value::Int(a), Value::Int(b)) => of_integers(number, a, b),
+        (Value::Bit(a), Value::Bit(b)) => of_booleans(number, a, b),
         _ => None,
     }
 }
@@ -309,6 +343,7 @@ pub fn try_step(here: u32, instr: &Instr, work: &mut Workspace) -> Tried
         Instr::Turn(_) => go(here, work),
         Instr::Jump(to) => go(*to, work),
         Instr::Push(value) => put(Value::Int(*value), work),
+        Instr::PushBit(number) => try_bit(*number, work),
         Instr::Load(n) => try_load(*n, work),
         Instr::Store(n) => try_store(*n, work),
         Instr::Binary(number) => try_binary(*number, work),

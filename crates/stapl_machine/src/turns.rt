@@ -133,7 +133,7 @@ pub enum Reached {
 // Carries out the common instructions from a place on, up to the first that is none, or that something stands in the
 // way of. This is the loop in which a play spends its time.
 #[inline(always)]
-fn hurry<L: Ledger>(
+fn carry_out_common<L: Ledger>(
     code: &CodeLists,
     from: usize,
     work: &mut Workspace,
@@ -177,7 +177,7 @@ pub fn rest_of_turn<K: Sink, L: Ledger>(
 {
     let mut place = from;
     'parts: loop {
-        match hurry(code, place, work, steps) {
+        match carry_out_common(code, place, work, steps) {
             Reached::Turn(to) => return Ok(Went::On(to)),
             Reached::End => return Ok(Went::Over(None)),
             Reached::Within(i) => match carry_out(code, chosen, i, work, out, steps) {

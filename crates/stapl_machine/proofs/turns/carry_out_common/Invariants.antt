@@ -1,6 +1,6 @@
 use Rattle.std.proofs.Common.{◌≡◌, ℕ, ◌+◌, List}
 use Rattle.stapl_machine.specs.Turns.{rest_of, ticks_from}
-use Rattle.stapl_machine.proofs.turns.hurry.Given as goal
+use Rattle.stapl_machine.proofs.turns.carry_out_common.Given as goal
 
 abbrev pub invariant-loop-i : goal.invariant-loop-i
 invariant-loop-i g l = record {
