@@ -4,6 +4,7 @@ pub mod PrintLemmas
 pub mod Slices
 pub mod MoveLemmas
 pub mod TurnLemmas
+pub mod TryLemmas
 pub mod RunLemmas
 pub mod Machines
 pub mod ArrayLemmas

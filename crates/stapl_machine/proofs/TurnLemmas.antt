@@ -77,7 +77,7 @@ module _ (code : CodeLists) (i : ℕ) where
   ticks_after ops s = ticks (entries_of code.procedures) (constants_of code) (length code.instrs) (drop (i + 1) code.instrs) ops s
 
   module _ (chosen : List ℕ) (work : Workspace) (x : Instr) (inside : i < length code.instrs) (is : x ≡ get_or code.instrs i x) where
-    one_more : rest_of code i chosen work ≡ turn_of_piece work.piece (continues (step_of code i x chosen work) behind)
+    pub one_more : rest_of code i chosen work ≡ turn_of_piece work.piece (continues (step_of code i x chosen work) behind)
     one_more =
         let here : length code.instrs - suc (length (drop (i + 1) code.instrs)) ≡ i = omega (arith, length-drop (i + 1) code.instrs) in
         let s = state_of chosen work in let ops = operands_of work in let entries = entries_of code.procedures in
@@ -85,7 +85,7 @@ module _ (code : CodeLists) (i : ℕ) where
         ∙ ap (λ h. turn_of_piece work.piece (continues (step entries (constants_of code) h (get_or code.instrs i x) ops s) behind)) here
         ∙ ap (λ y. turn_of_piece work.piece (continues (step_of code i y chosen work) behind)) (sym is)
 
-    one_tick : ticks_from code i chosen work ≡ tick_of x + ticks_behind (step_of code i x chosen work) ticks_after
+    pub one_tick : ticks_from code i chosen work ≡ tick_of x + ticks_behind (step_of code i x chosen work) ticks_after
     one_tick =
         let here : length code.instrs - suc (length (drop (i + 1) code.instrs)) ≡ i = omega (arith, length-drop (i + 1) code.instrs) in
         let s = state_of chosen work in let ops = operands_of work in let entries = entries_of code.procedures in

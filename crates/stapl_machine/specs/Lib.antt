@@ -1,9 +1,11 @@
 pub mod Found
 pub mod Prints
 pub mod Acts
+pub mod Tries
 pub mod Arrays
 pub mod Moves
 pub mod Turns
+pub mod Reaches
 pub mod Zeros
 pub mod Runs
 pub mod Machines

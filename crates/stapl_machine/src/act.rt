@@ -2,7 +2,6 @@
 ghost use Rattle.std.specs.Prelude.{◌≡◌, ◌≤◌, ◌+◌, List, ℕ, Option, length, drop};
 ghost use Rattle.stapl_meaning.specs.Plays.{start};
 ghost use Rattle.stapl_code.specs.Machine.{made, takes, lands, Slot, source_slots, dest_slots};
-ghost use Rattle.stapl_code.specs.declared.instr.Instr.TheVariants.{Load};
 ghost use Rattle.stapl_code.specs.declared.raw.CodeLists.{CodeLists};
 ghost use Rattle.stapl_code.specs.Safe.{constants_of};
 ghost use Rattle.stapl_machine.specs.Acts.{IsMade, IsActed, step_of};
@@ -140,19 +139,8 @@ fn behind(items: &[Value], at: usize) -> &[Value]
     &items[at..]
 }
 
-// The value of a scalar variable, which takes no operand.
-fn act_load(n: u32, work: &Workspace) -> Result<Made, Stop>
-    ensures { (code : CodeLists) (here : ℕ) (to : Option ℕ) (chosen : List ℕ) →
-        IsActed result code to chosen work.now (step_of code here (Load n) chosen work.now) }
-{
-    match load(&work.variables, n) {
-        Ok(value) => Ok(Made::Put(value)),
-        Err(stop) => Err(stop),
-    }
-}
-
-// Takes the operands of an instruction off, and does what it does with them.
-fn act_on(code: &CodeLists, instr: &Instr, work: &mut Workspace) -> Result<Made, Stop>
+/// Takes the operands of an instruction off, and does what it does with them.
+pub fn act(code: &CodeLists, instr: &Instr, work: &mut Workspace) -> Result<Made, Stop>
     ensures acts { (here : ℕ) (chosen : List ℕ) →
         IsActed result code.now (lands here instr.now) chosen work.new
         (step_of code.now here instr.now chosen work.old) }
@@ -171,21 +159,5 @@ fn act_on(code: &CodeLists, instr: &Instr, work: &mut Workspace) -> Result<Made,
             Ok(made)
         }
         Err(stop) => Err(stop),
-    }
-}
-
-/// Takes the operands of an instruction off, and does what it does with them. Those of each turn that take none are done
-/// at once, which saves a quarter of the instructions of a loop of sums.
-pub fn act(code: &CodeLists, instr: &Instr, work: &mut Workspace) -> Result<Made, Stop>
-    ensures acts { (here : ℕ) (chosen : List ℕ) →
-        IsActed result code.now (lands here instr.now) chosen work.new
-        (step_of code.now here instr.now chosen work.old) }
-    ensures piece { work.new.piece ≡ work.old.piece }
-{
-    match instr {
-        Instr::Turn(_) | Instr::Jump(_) => Ok(Made::Jump),
-        Instr::Push(value) => Ok(Made::Put(Value::Int(*value))),
-        Instr::Load(n) => act_load(*n, work),
-        _ => act_on(code, instr, work),
     }
 }

@@ -46,8 +46,8 @@ fn bit_at(bits: &Bits, index: i32) -> Result<Value, Stop>
     }
 }
 
-// The element of an array at an index.
-fn element(variables: &[Held], n: u32, index: i32) -> Result<Value, Stop>
+/// The element of an array at an index.
+pub fn element(variables: &[Held], n: u32, index: i32) -> Result<Value, Stop>
     ensures { IsValue result (element_of (slice_get variables.now n) (Int index)) }
 {
     match variables.get(n as usize) {
@@ -79,8 +79,8 @@ fn index_in(index: i32, count: usize) -> Result<Value, Stop>
     }
 }
 
-// An index that is one of an array.
-fn index_of(variables: &[Held], n: u32, index: i32) -> Result<Value, Stop>
+/// An index that is one of an array.
+pub fn index_of(variables: &[Held], n: u32, index: i32) -> Result<Value, Stop>
     ensures { IsValue result (index_held (slice_get variables.now n) (Int index)) }
 {
     match variables.get(n as usize) {
@@ -103,6 +103,7 @@ pub fn check_index(variables: &[Held], n: u32, values: &[Value]) -> Result<Made,
 }
 
 // Puts an integer at an index, if it is one of the list.
+#[inline(always)]
 fn write_integer(items: &mut [i32], index: i32, value: i32) -> Result<(), Stop>
     ensures written { IsSure (λ done g. g ≡ Known items.new) result
         (passed (is_index index (length items.old)) IndexOutOfRange (slice_set items.old (nat_abs index) value)) }
@@ -118,6 +119,7 @@ fn write_integer(items: &mut [i32], index: i32, value: i32) -> Result<(), Stop>
 }
 
 // Puts a bit at an index, if it is one of the list.
+#[inline(always)]
 fn write_bit(bits: &mut Bits, index: i32, value: bool) -> Result<(), Stop>
     ensures written { IsSure (λ done g. g ≡ Known bits.new) result
         (passed (is_index index (length bits.old)) IndexOutOfRange (slice_set bits.old (nat_abs index) value)) }
@@ -133,6 +135,7 @@ fn write_bit(bits: &mut Bits, index: i32, value: bool) -> Result<(), Stop>
 }
 
 // Puts an integer into an INTEGER array. The list of integers is taken out and put back, which asks for no memory.
+#[inline(always)]
 fn set_integer(held: &mut Held, index: i32, value: i32) -> Result<(), Stop>
     ensures written { IsSure (λ done g. g ≡ Known held.new) result (with_element held.old index (Int value)) }
     ensures same { OnErr result (held.new ≡ held.old) }
@@ -152,6 +155,7 @@ fn set_integer(held: &mut Held, index: i32, value: i32) -> Result<(), Stop>
 }
 
 // Puts a bit into a BOOLEAN array.
+#[inline(always)]
 fn set_bit(held: &mut Held, index: i32, value: bool) -> Result<(), Stop>
     ensures written { IsSure (λ done g. g ≡ Known held.new) result (with_element held.old index (Bit value)) }
     ensures same { OnErr result (held.new ≡ held.old) }
@@ -162,6 +166,7 @@ fn set_bit(held: &mut Held, index: i32, value: bool) -> Result<(), Stop>
     }
 }
 
+#[inline(always)]
 fn set_element(held: &mut Held, index: i32, value: Value) -> Result<(), Stop>
     ensures written { IsSure (λ done g. g ≡ Known held.new) result (with_element held.old index value) }
     ensures same { OnErr result (held.new ≡ held.old) }
@@ -172,8 +177,9 @@ fn set_element(held: &mut Held, index: i32, value: Value) -> Result<(), Stop>
     }
 }
 
-// Puts a value into an element of an array of its kind.
-fn store_at(variables: &mut Vec<Held>, n: u32, index: i32, value: Value) -> Result<(), Stop>
+/// Puts a value into an element of an array of its kind.
+#[inline(always)]
+pub fn store_at(variables: &mut Vec<Held>, n: u32, index: i32, value: Value) -> Result<(), Stop>
     ensures written { IsSure (λ done g. g ≡ Known variables.new.items) result
         (element_written variables.old.items n (slice_get variables.old.items n) index value) }
     ensures same { OnErr result (variables.new.items ≡ variables.old.items) }

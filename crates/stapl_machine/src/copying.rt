@@ -295,7 +295,8 @@ fn whole_integer(variables: &[Held], from: u32, values: &[Value]) -> Result<Valu
     }
 }
 
-fn range_integer(variables: &[Held], from: u32, values: &[Value]) -> Result<Value, Stop>
+/// The integer with the lowest 32 bits of a range, whose high and low indexes these values are.
+pub fn range_integer(variables: &[Held], from: u32, values: &[Value]) -> Result<Value, Stop>
     ensures { IsValue result (source_integer variables.now (Range from) values.now) }
 {
     match values {

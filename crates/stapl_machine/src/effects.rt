@@ -1,5 +1,5 @@
 //! What instructions make of the operands that they take, the topmost last.
-ghost use Rattle.std.specs.Prelude.{◌≡◌, ◌≢◌, IfErr, List, ℕ, slice_get};
+ghost use Rattle.std.specs.Prelude.{◌≡◌, ◌≢◌, IfErr, List, ℕ, slice_get, false};
 ghost use Rattle.stapl_meaning.specs.Values.{scalar_of};
 ghost use Rattle.stapl_meaning.specs.Operands.{character_of};
 ghost use Rattle.stapl_meaning.specs.States.{State};
@@ -35,6 +35,7 @@ pub enum Made {
 }
 
 /// The value of a scalar variable.
+#[inline(always)]
 pub fn load(variables: &[Held], n: u32) -> Result<Value, Stop>
     ensures { IsValue result (scalar_of (slice_get variables.now n)) }
 {
@@ -45,8 +46,10 @@ pub fn load(variables: &[Held], n: u32) -> Result<Value, Stop>
     }
 }
 
+#[inline(always)]
 fn write(held: &mut Held, value: Value) -> bool
-    ensures { with_scalar held.old value ≡ if_written result held.new }
+    ensures written { with_scalar held.old value ≡ if_written result held.new }
+    ensures same { result ≡ false → held.new ≡ held.old }
 {
     match (held, value) {
         (Held::Int(old), Value::Int(new)) => {
@@ -61,10 +64,12 @@ fn write(held: &mut Held, value: Value) -> bool
     }
 }
 
-// Writes a value into a scalar variable of its kind, and answers whether there is one.
-fn store(variables: &mut Vec<Held>, n: u32, value: Value) -> bool
-    ensures { scalar_written variables.old.items n (slice_get variables.old.items n) value
+/// Writes a value into a scalar variable of its kind, and answers whether there is one.
+#[inline(always)]
+pub fn store(variables: &mut Vec<Held>, n: u32, value: Value) -> bool
+    ensures written { scalar_written variables.old.items n (slice_get variables.old.items n) value
         ≡ if_written result variables.new.items }
+    ensures same { result ≡ false → variables.new.items ≡ variables.old.items }
 {
     if n as usize >= variables.len() {
         return false;
@@ -91,6 +96,7 @@ pub fn assign(variables: &mut Vec<Held>, n: u32, values: &[Value]) -> Result<Mad
 }
 
 /// The Boolean of a bit.
+#[inline(always)]
 pub fn bit(bit: u8) -> Result<Value, Stop>
     ensures { IsValue result (bit_of bit) }
 {
@@ -110,8 +116,9 @@ fn operate(number: u8, left: Value, right: Value) -> Result<Value, Stop>
     }
 }
 
-// What the operator of a number makes of a value before which it stands.
-fn operate_before(number: u8, value: Value) -> Result<Value, Stop>
+/// What the operator of a number makes of a value before which it stands.
+#[inline(always)]
+pub fn operate_before(number: u8, value: Value) -> Result<Value, Stop>
     ensures { IsValue result (signed_by (slice_get unary_results number) value) }
 {
     match number {

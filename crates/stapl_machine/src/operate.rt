@@ -21,19 +21,22 @@ pub enum Stop {
     Memory,
 }
 
-fn sum(a: i32, b: i32) -> i32
+/// The sum, of which 32 bits are left.
+pub fn sum(a: i32, b: i32) -> i32
     ensures { result ≡ int_wrap w32 (a +ℤ b) }
 {
     a.wrapping_add(b)
 }
 
-fn difference(a: i32, b: i32) -> i32
+/// The difference, of which 32 bits are left.
+pub fn difference(a: i32, b: i32) -> i32
     ensures { result ≡ int_wrap w32 (a -ℤ b) }
 {
     a.wrapping_sub(b)
 }
 
-fn product(a: i32, b: i32) -> i32
+/// The product, of which 32 bits are left.
+pub fn product(a: i32, b: i32) -> i32
     ensures { result ≡ int_wrap w32 (a *ℤ b) }
 {
     a.wrapping_mul(b)
@@ -46,7 +49,9 @@ fn quotient(a: i32, b: i32) -> i32
     a.wrapping_div(b)
 }
 
-fn divide(a: i32, b: i32) -> Result<Value, Stop>
+/// The quotient, or the fault of a zero divisor.
+#[inline(always)]
+pub fn divide(a: i32, b: i32) -> Result<Value, Stop>
     ensures { IsValue result (divided_by b (int_wrap w32 (int_div a b))) }
 {
     if b == 0 {
@@ -55,7 +60,9 @@ fn divide(a: i32, b: i32) -> Result<Value, Stop>
     Ok(Value::Int(quotient(a, b)))
 }
 
-fn remainder(a: i32, b: i32) -> Result<Value, Stop>
+/// The remainder, or the fault of a zero divisor.
+#[inline(always)]
+pub fn remainder(a: i32, b: i32) -> Result<Value, Stop>
     ensures { IsValue result (divided_by b (int_rem a b)) }
 {
     if b == 0 {
@@ -78,7 +85,9 @@ fn over_power(a: i32, n: u32) -> i32
     a >> n
 }
 
-fn shift_left(a: i32, b: i32) -> Result<Value, Stop>
+/// The product with a power of two, or the fault of a shift count.
+#[inline(always)]
+pub fn shift_left(a: i32, b: i32) -> Result<Value, Stop>
     ensures { IsValue result (shifted_by b (λ n. int_wrap w32 (a *ℤ pos (2 ^ n)))) }
 {
     if b < 0 || b >= 32 {
@@ -87,7 +96,9 @@ fn shift_left(a: i32, b: i32) -> Result<Value, Stop>
     Ok(Value::Int(times_power(a, b as u32)))
 }
 
-fn shift_right(a: i32, b: i32) -> Result<Value, Stop>
+/// The quotient by a power of two, rounded down, or the fault of a shift count.
+#[inline(always)]
+pub fn shift_right(a: i32, b: i32) -> Result<Value, Stop>
     ensures { IsValue result (shifted_by b (λ n. int_div_euclid a (pos (2 ^ n)))) }
 {
     if b < 0 || b >= 32 {
@@ -96,19 +107,22 @@ fn shift_right(a: i32, b: i32) -> Result<Value, Stop>
     Ok(Value::Int(over_power(a, b as u32)))
 }
 
-fn common_bits(a: i32, b: i32) -> i32
+/// The bits that both have.
+pub fn common_bits(a: i32, b: i32) -> i32
     ensures { result ≡ bitwise ◌&&◌ a b }
 {
     a & b
 }
 
-fn different_bits(a: i32, b: i32) -> i32
+/// The bits that one of them has.
+pub fn different_bits(a: i32, b: i32) -> i32
     ensures { result ≡ bitwise differ a b }
 {
     a ^ b
 }
 
-fn joint_bits(a: i32, b: i32) -> i32
+/// The bits that one of them or both have.
+pub fn joint_bits(a: i32, b: i32) -> i32
     ensures { result ≡ bitwise ◌||◌ a b }
 {
     a | b

@@ -19,6 +19,7 @@ use tool_io::{Lines, Sink};
 
 // At most so many turns from a place on, and how the run stands then. There is no ending where it met what no valid
 // code meets.
+#[inline(never)]
 fn run_turns<K: Sink, L: Ledger>(
     code: &CodeLists,
     chosen: &[u32],

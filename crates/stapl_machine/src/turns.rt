@@ -1,5 +1,5 @@
 //! Turns of a code.
-ghost use Rattle.std.specs.Prelude.{◌≡◌, ◌<◌, ◌≤◌, ◌+◌, ◌^◌, [], length, slice_get, OnOk, OnErr, IfOk, IfErr};
+ghost use Rattle.std.specs.Prelude.{◌≡◌, ◌<◌, ◌≤◌, ◌+◌, ◌^◌, [], List, ℕ, length, slice_get, OnOk, OnErr, IfOk, IfErr};
 ghost use Rattle.tool_io.specs.Causes.{HasRisen};
 ghost use Rattle.tool_io.specs.Lines.{IsWhole, IsOverSame, SinkNeverFalls, sink_of, Puts, PutsFront};
 ghost use Rattle.stapl_meaning.specs.Texts.{event_line};
@@ -7,10 +7,12 @@ ghost use Rattle.stapl_meaning.specs.declared.events.Event.TheVariants.{Print};
 ghost use Rattle.stapl_code.specs.Ticks.{tick_of};
 ghost use Rattle.stapl_machine.specs.Acts.{state_of};
 ghost use Rattle.stapl_machine.specs.Moves.{led_to, IsClean};
+ghost use Rattle.stapl_machine.specs.Reaches.{behind_try, ticks_behind_try, IsCleanTry, behind_reached, ticks_behind_reached, IsReached};
 ghost use Rattle.stapl_machine.specs.Turns.{rest_of, ticks_from, behind_it, ticks_behind_it, IsCleanBehind, piece_of, turn_at, ticks_at, IsDone, IsCounted, Keeps};
 
 use crate::act::Workspace;
 use crate::moves::{Moved, Went, advance};
+use crate::tries::{Tried, try_step};
 use crate::writing::put_print;
 use base::Steps;
 use stapl_code::{CodeLists, Instr};
@@ -28,6 +30,7 @@ pub enum Trouble {
 }
 
 // Counts an instruction. A Turn is counted in the turn that it begins.
+#[inline(always)]
 fn count<L: Ledger>(instr: &Instr, steps: &mut Steps<L>)
     ensures { steps.new ≡ steps.old + tick_of instr.now }
 {
@@ -50,7 +53,8 @@ fn tell<K: Sink>(out: &mut Lines<K>, text: &[u8]) -> Result<(), Trouble>
     }
 }
 
-// Carries out instruction i of a turn, and answers where the turn led if it ended.
+// Carries out instruction i of a turn by the general machine, and answers where the turn led if it ended.
+#[inline(never)]
 fn carry_out<K: Sink, L: Ledger>(
     code: &CodeLists,
     chosen: &[u32],
@@ -84,7 +88,77 @@ fn carry_out<K: Sink, L: Ledger>(
     }
 }
 
+// Carries out instruction i of a turn, if it is a common one and nothing stands in its way.
+#[inline(always)]
+fn try_at<L: Ledger>(
+    code: &CodeLists,
+    i: usize,
+    work: &mut Workspace,
+    steps: &mut Steps<L>,
+) -> Tried
+    requires inside { i < length code.now.instrs }
+    requires countable { length code.now.instrs < 2 ^ 32 }
+    ensures does { (chosen : List ℕ) →
+        rest_of code.now i chosen work.old ≡ behind_try code.now i chosen result work.new }
+    ensures ticks { (chosen : List ℕ) →
+        steps.new + ticks_behind_try code.now i chosen result work.new
+        ≡ steps.old + ticks_from code.now i chosen work.old }
+    ensures clean { IsCleanTry result work.new }
+{
+    let instr = &code.instrs.as_slice()[i];
+    match try_step(i as u32, instr, work) {
+        Tried::On => {
+            count(instr, steps);
+            Tried::On
+        }
+        Tried::To(place) => {
+            count(instr, steps);
+            Tried::To(place)
+        }
+        Tried::Not => Tried::Not,
+    }
+}
+
+/// Where common instructions led.
+#[derive(Clone, Copy, PartialEq, Eq, Debug)]
+pub enum Reached {
+    /// To an instruction of the same turn, which is not done.
+    Within(usize),
+    /// To the turn at this place.
+    Turn(u32),
+    /// To the end of the code, where no turn may lead.
+    End,
+}
+
+// Carries out the common instructions from a place on, up to the first that is none, or that something stands in the
+// way of. This is the loop in which a play spends its time.
+#[inline(always)]
+fn carry_out_common<L: Ledger>(
+    code: &CodeLists,
+    from: usize,
+    work: &mut Workspace,
+    steps: &mut Steps<L>,
+) -> Reached
+    requires countable { length code.now.instrs < 2 ^ 32 }
+    ensures does { (chosen : List ℕ) →
+        rest_of code.now from chosen work.old ≡ behind_reached code.now chosen result work.new }
+    ensures ticks { (chosen : List ℕ) →
+        steps.new + ticks_behind_reached code.now chosen result work.new
+        ≡ steps.old + ticks_from code.now from chosen work.old }
+    ensures reached { IsReached result from (length code.now.instrs) work.new }
+{
+    for i in from..code.instrs.len() {
+        match try_at(code, i, work, steps) {
+            Tried::On => {}
+            Tried::To(place) => return Reached::Turn(place),
+            Tried::Not => return Reached::Within(i),
+        }
+    }
+    Reached::End
+}
+
 /// The instructions from a place on, up to the end of the turn.
+#[inline(always)]
 pub fn rest_of_turn<K: Sink, L: Ledger>(
     code: &CodeLists,
     chosen: &[u32],
@@ -101,17 +175,22 @@ pub fn rest_of_turn<K: Sink, L: Ledger>(
     ensures ticks { IsCounted result steps.old steps.new (ticks_from code.now from chosen.now work.old) }
     ensures sink { Keeps K.faults K.is_last out.old out.new result }
 {
-    for i in from..code.instrs.len() {
-        match carry_out(code, chosen, i, work, out, steps) {
-            Ok(None) => {}
-            Ok(Some(went)) => return Ok(went),
-            Err(trouble) => return Err(trouble),
+    let mut place = from;
+    'parts: loop {
+        match carry_out_common(code, place, work, steps) {
+            Reached::Turn(to) => return Ok(Went::On(to)),
+            Reached::End => return Ok(Went::Over(None)),
+            Reached::Within(i) => match carry_out(code, chosen, i, work, out, steps) {
+                Ok(None) => place = i + 1,
+                Ok(Some(went)) => return Ok(went),
+                Err(trouble) => return Err(trouble),
+            },
         }
     }
-    Ok(Went::Over(None))
 }
 
 // The piece of the Turn at a place, if there is one.
+#[inline(always)]
 fn piece_at(instrs: &[Instr], i: usize) -> Option<u32>
     ensures { result ≡ piece_of (slice_get instrs.now i) }
 {
@@ -122,6 +201,7 @@ fn piece_at(instrs: &[Instr], i: usize) -> Option<u32>
 }
 
 /// One turn, and the beginning of the next procedure where this one is over.
+#[inline(always)]
 pub fn turn<K: Sink, L: Ledger>(
     code: &CodeLists,
     chosen: &[u32],
