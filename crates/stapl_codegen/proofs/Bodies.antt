@@ -14,7 +14,7 @@ use Rattle.stapl_code.specs.Machine.{Constants, Step, does, two, known_literal, 
 use Rattle.stapl_code.proofs.Preceded.{preceded_nothing}
 use Rattle.stapl_codegen.specs.Emit.{Firsts, last, row_texts, row_literals, behind_row, rows_items, body_texts, body_literals, row_code, rows_code, body_code}
 use Rattle.stapl_codegen.specs.Correct.{falls}
-use Rattle.stapl_codegen.proofs.Constants.{HasConstants, has_front, has_behind, literal_known, source_known, source_count}
+use Rattle.stapl_codegen.proofs.Constants.{HasConstants, row_has, others_have, literal_known, source_known, source_count}
 use Rattle.stapl_codegen.proofs.Exprs.{with_known, onto, taken-onto, operands_follow, one_each}
 use Rattle.stapl_codegen.proofs.Prints.{parts_are_joined, parts_count}
 
@@ -153,14 +153,8 @@ module _ (place : ℕ → ℕ) (entries : List ℕ) (constants : Constants) (tot
       stretch entries constants total (rows_code scope place first bs rest) [] s ≡ placed place (rows_done scope bs s)
   rows_follow s first [] rest entry_is has behind = behind.falls_on s
   rows_follow s first (b ∷ bs) rest entry_is has behind =
-      let own : HasConstants constants first (row_texts b) (row_literals b) = record {
-        texts = has_front constants.texts first.text (row_texts b) (rows_items row_texts bs) has.texts;
-        literals = has_front constants.literals first.literal (row_literals b) (rows_items row_literals bs) has.literals;
-      } in
-      let others : HasConstants constants (behind_row first b) (rows_items row_texts bs) (rows_items row_literals bs) = record {
-        texts = has_behind constants.texts first.text (row_texts b) (rows_items row_texts bs) has.texts;
-        literals = has_behind constants.literals first.literal (row_literals b) (rows_items row_literals bs) has.literals;
-      } in
+      let own = row_has constants first (row_texts b) (rows_items row_texts bs) (row_literals b) (rows_items row_literals bs) has in
+      let others = others_have constants first (row_texts b) (rows_items row_texts bs) (row_literals b) (rows_items row_literals bs) has in
       row_follows s first b (rows_code scope place (behind_row first b) bs rest) (rows_done scope bs) (row_tied first b own)
       entry_is (λ t. rows_follow t (behind_row first b) bs rest entry_is others behind)
 

@@ -24,12 +24,26 @@ module _ {A : Type 0} (all : List A) where
   drop_more n (x ∷ front) back e = drop_more (suc n) front back (drop_tail n all ∙ ap (drop 1) e)
 
   -- of two lists of items, the first and the second
-  pub has_front : (n : ℕ) (xs ys : List A) → HasItems all n (xs ++ ys) → HasItems all n xs
+  has_front : (n : ℕ) (xs ys : List A) → HasItems all n (xs ++ ys) → HasItems all n xs
   has_front n xs ys has = record { more = ys ++ has.more; from = has.from ∙ append_assoc xs ys has.more }
 
-  pub has_behind : (n : ℕ) (xs ys : List A) → HasItems all n (xs ++ ys) → HasItems all (past n xs) ys
+  has_behind : (n : ℕ) (xs ys : List A) → HasItems all n (xs ++ ys) → HasItems all (past n xs) ys
   has_behind n xs ys has =
       record { more = has.more; from = drop_more n xs (ys ++ has.more) (has.from ∙ append_assoc xs ys has.more) }
+
+-- of the constants of a row and of others, those of the row, and those of the others
+module _ (constants : Constants) (first : Firsts) (row_texts texts : List (List ℕ)) (row_literals literals : List (List Bool)) (has : HasConstants constants first (row_texts ++ texts) (row_literals ++ literals)) where
+  pub row_has : HasConstants constants first row_texts row_literals
+  row_has = record {
+    texts = has_front constants.texts first.text row_texts texts has.texts;
+    literals = has_front constants.literals first.literal row_literals literals has.literals;
+  }
+
+  pub others_have : HasConstants constants (record { text = past first.text row_texts; literal = past first.literal row_literals }) texts literals
+  others_have = record {
+    texts = has_behind constants.texts first.text row_texts texts has.texts;
+    literals = has_behind constants.literals first.literal row_literals literals has.literals;
+  }
 
 -- the literal of a number, if it is there
 pub literal_known : (literals : List (List Bool)) (n : ℕ) (bits : List Bool) → HasItems literals n (bits ∷ []) →

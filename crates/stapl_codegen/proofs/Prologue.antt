@@ -12,7 +12,7 @@ use Rattle.stapl_code.specs.declared.instr.Instr.{Instr}
 use Rattle.stapl_code.specs.Machine.{Constants, entry_of, stretch}
 use Rattle.stapl_code.proofs.Preceded.{begun_preceded}
 use Rattle.stapl_codegen.specs.Emit.{Firsts, behind_row, row_texts, row_literals, presets_items, presets_code}
-use Rattle.stapl_codegen.proofs.Constants.{HasConstants, has_front, has_behind}
+use Rattle.stapl_codegen.proofs.Constants.{HasConstants, row_has, others_have}
 use Rattle.stapl_codegen.proofs.Bodies.{placed, preceded_placed, end_law, row_follows, row_tied}
 
 -- ---- where the last one leads is of no matter
@@ -64,14 +64,8 @@ module _ (program : Played) (place : ℕ → ℕ) (entries : List ℕ) (constant
   prologue_follows first_place first [] rest s has behind = behind s
   prologue_follows first_place first (preset ∷ presets) rest s has behind =
       let b : BodyTree = preset.body in
-      let own : HasConstants constants first (row_texts b) (row_literals b) = record {
-        texts = has_front constants.texts first.text (row_texts b) (presets_items row_texts presets) has.texts;
-        literals = has_front constants.literals first.literal (row_literals b) (presets_items row_literals presets) has.literals;
-      } in
-      let others : HasConstants constants (behind_row first b) (presets_items row_texts presets) (presets_items row_literals presets) = record {
-        texts = has_behind constants.texts first.text (row_texts b) (presets_items row_texts presets) has.texts;
-        literals = has_behind constants.literals first.literal (row_literals b) (presets_items row_literals presets) has.literals;
-      } in
+      let own = row_has constants first (row_texts b) (presets_items row_texts presets) (row_literals b) (presets_items row_literals presets) has in
+      let others = others_have constants first (row_texts b) (presets_items row_texts presets) (row_literals b) (presets_items row_literals presets) has in
       row_follows place entries constants total (preset_scope program preset) s first b (presets_code program place (behind_row first b) presets rest)
       (set_up_to program first_place presets) (row_tied place entries constants total (preset_scope program preset) first b own) entry_is
       (λ t. prologue_follows first_place (behind_row first b) presets rest t others behind)
