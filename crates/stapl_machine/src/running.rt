@@ -28,7 +28,8 @@ pub struct Machine {
 }
 
 impl Machine {
-    /// A machine for one run of this code: its variables are 0, and no operand is held.
+    /// A machine for one run of this code: its variables are 0, and no operand is held. It takes the memory of the variables
+    /// and of as many operands as the code holds at once.
     ///
     /// `AllocError` comes only for want of memory.
     pub fn prepare(alloc: Global, code: &Code) -> Result<Machine, AllocError>
@@ -39,7 +40,7 @@ impl Machine {
         Ok(Machine {
             work: Workspace {
                 variables,
-                operands: Vec::new(alloc),
+                operands: Vec::with_capacity(alloc, code.depth() as usize)?,
                 text: Vec::new(alloc),
                 next: 0,
                 piece: 0,
