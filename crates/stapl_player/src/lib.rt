@@ -1,0 +1,6 @@
+//! Plays of a code: the choice of procedures.
+#![tactic(auto)]
+
+mod choosing;
+
+pub use choosing::{ChoiceRefused, choose};
