@@ -23,8 +23,8 @@ use Rattle.stapl_syntax.specs.declared.signs.Sign.{Sign}
 use Rattle.stapl_syntax.specs.declared.signs.Sign.TheVariants as signs
 use Rattle.stapl_syntax.specs.Symbols.{Symbol, Plain, Text, Literal, terminal_sign, word_sign, mark_sign, symbol_as, symbols_of}
 use Rattle.stapl_syntax.specs.Expressions.{IsArray, of_literal, of_target, of_whole, of_range, of_expr, name}
-use Rattle.stapl_syntax.specs.Trees.{ArrayTree, PartTree, BodyTree, action, procedure, boolean_array, assign_array, assign_range, if_then, print, StmtTree}
-use Rattle.stapl_syntax.specs.Parts.{IsPart, Separated, IsPrintPart, of_string, of_value, of_character, a_print_part, item_part, bits_part, comma, join}
+use Rattle.stapl_syntax.specs.Trees.{ArrayTree, PartTree, exported_array, BodyTree, action, procedure, boolean_array, assign_array, assign_range, if_then, print, export, StmtTree}
+use Rattle.stapl_syntax.specs.Parts.{IsPart, Separated, IsPrintPart, of_string, of_value, of_character, IsExported, of_exported_array, a_print_part, item_part, bits_part, comma, join}
 use Rattle.stapl_syntax.specs.Statements.{IsBody, IsLabelled}
 use Rattle.stapl_syntax.specs.Programs.{AreReadAs, IsProgram}
 use Rattle.stapl_syntax.specs.Contents.{IsFreeName, IsWellNamed, IsShortPart, PrintsShortStrings, AreLiteralBits, HoldsLiteral, HoldsLiterals}
@@ -161,6 +161,9 @@ short_parts n s (x ∷ y ∷ ys) is sound =
 
 short_body : (n : ℕ) (s : List Symbol) (body : BodyTree) → IsBody s body → AreSound n s → PrintsShortStrings n body
 short_body n s (print parts) is sound = short_parts n is.0 parts is.2 (subst (AreSound n) is.1 sound).1
+short_body n s (export key x) is sound =
+    let own = is.2 in
+    (subst (AreSound n) own.3 (sound_left n own.0 own.1 (subst (AreSound n) own.2 (subst (AreSound n) is.1 sound).1))).0
 short_body n s (if_then e body) is sound =
     short_body n is.1 body is.6 (sound_right n is.0 (join joins.Then ∷ is.1) (subst (AreSound n) is.2 sound).1).1
 short_body n s _ is sound = tt
@@ -203,6 +206,12 @@ literals n s (assign_range v high low a) is sound =
     let behind_dots = sound_after n _ ranged.0 upper.1 ranged.1 (sound_second n upper.0 upper.1 opened.0 upper.2 behind_name) in
     let behind_range = sound_after n _ closed.0 lower.1 closed.1 (sound_second n lower.0 lower.1 ranged.0 lower.2 behind_dots) in
     literal_array n given.0 a given.2 (sound_after n _ given.0 closed.0 given.1 behind_range)
+literals n s (export key (exported_array a)) is sound =
+    let given = is.2.4 in
+    by given.2 (sound_after n _ given.0 is.2.1 given.1 (sound_second n is.2.0 is.2.1 is.0 is.2.2 (sound_after n _ is.0 s is.1 sound)))
+  where
+    by : {s : List Symbol} → IsExported s (exported_array a) → AreSound n s → HoldsLiteral n a
+    by (of_exported_array {s = s} array) sound = literal_array n s a array sound
 literals n s (if_then e body) is sound =
     literals n is.1 body is.6 (sound_right n is.0 (join joins.Then ∷ is.1) (subst (AreSound n) is.2 sound).1).1
 literals n s _ is sound = tt

@@ -2,7 +2,7 @@
 use Rattle.std.specs.Prelude.{◌≡◌, ℕ, ◌*◌, ◌≤◌, List, Bool, false, IfSome, length, All}
 use Rattle.stapl_lexer.specs.Names.{IsUpperName}
 use Rattle.stapl_lexer.specs.ReservedWords.{is_reserved_word}
-use Rattle.stapl_syntax.specs.Trees.{ArrayTree, literal, PartTree, string, BodyTree, action, procedure, boolean_array, assign_array, assign_range, if_then, print}
+use Rattle.stapl_syntax.specs.Trees.{ArrayTree, literal, PartTree, string, exported_array, BodyTree, action, procedure, boolean_array, assign_array, assign_range, if_then, print, export}
 
 -- a name that a block or an action may bear
 pub record IsFreeName (name : List ℕ) : Type 0 where
@@ -20,9 +20,10 @@ abbrev pub IsShortPart : ℕ → PartTree → Type 0
 IsShortPart n (string bytes) = length bytes ≤ n
 IsShortPart n _ = Unit {0}
 
--- each string that a statement prints has at most so many bytes
+-- each string that a statement prints has at most so many bytes, and so has the key under which it exports
 abbrev pub PrintsShortStrings : ℕ → BodyTree → Type 0
 PrintsShortStrings n (print parts) = All (IsShortPart n) parts
+PrintsShortStrings n (export key x) = length key ≤ n
 PrintsShortStrings n (if_then e body) = PrintsShortStrings n body
 PrintsShortStrings n _ = Unit {0}
 
@@ -36,10 +37,11 @@ abbrev pub HoldsLiteral : ℕ → ArrayTree → Type 0
 HoldsLiteral n (literal bits) = AreLiteralBits n bits
 HoldsLiteral n _ = Unit {0}
 
--- each literal that stands in a declaration or an assignment as the array has the bits of one in so many bytes
+-- each literal that stands in a declaration, an assignment or an EXPORT as the array has the bits of one in so many bytes
 abbrev pub HoldsLiterals : ℕ → BodyTree → Type 0
 HoldsLiterals n (boolean_array name size bits) = IfSome bits (AreLiteralBits n)
 HoldsLiterals n (assign_array name array) = HoldsLiteral n array
 HoldsLiterals n (assign_range name high low array) = HoldsLiteral n array
+HoldsLiterals n (export key (exported_array array)) = HoldsLiteral n array
 HoldsLiterals n (if_then e body) = HoldsLiterals n body
 HoldsLiterals n _ = Unit {0}

@@ -19,14 +19,14 @@ pub fn blocks_are_well_named()
         IsProgram text statements → All (λ st. IsWellNamed st.body) statements }
 {}
 
-/// A string that a program prints is no longer than the text of the program.
+/// A string that a program prints, or a key under which it exports, is no longer than the text of the program.
 pub fn texts_of_prints_are_short()
     ensures { (text : List ℕ) (statements : List StmtTree) →
         IsProgram text statements → All (λ st. PrintsShortStrings (length text) st.body) statements }
 {}
 
-/// A literal that stands in a declaration or an assignment as the array has at least one bit, and at most four for each
-/// byte of the text.
+/// A literal that stands in a declaration, an assignment or an EXPORT as the array has at least one bit, and at most four
+/// for each byte of the text.
 pub fn literals_have_bits()
     ensures { (text : List ℕ) (statements : List StmtTree) →
         IsProgram text statements → All (λ st. HoldsLiterals (length text) st.body) statements }
