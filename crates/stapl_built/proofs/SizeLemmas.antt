@@ -15,12 +15,12 @@ use Rattle.stapl_lexer.specs.Pieces.{is_blank, is_semicolon, piece_of, pieces_fr
 use Rattle.stapl_lexer.specs.Segments.{Segment, spelling}
 use Rattle.stapl_lexer.proofs.PieceLemmas.{cut_lies}
 use Rattle.stapl_syntax.specs.Symbols.{Symbol, symbol_of, symbols_of}
-use Rattle.stapl_syntax.specs.Trees.{ExprTree, ArrayTree, PartTree, BodyTree, boolean, integer, assign, assign_element, assign_array, assign_range, if_then, for_loop, push, print, exit, end_data, end_procedure, StmtTree}
+use Rattle.stapl_syntax.specs.Trees.{ExprTree, ArrayTree, PartTree, BodyTree, boolean, integer, assign, assign_element, assign_array, assign_range, if_then, for_loop, push, pop, print, ExportTree, export, exit, end_data, end_procedure, StmtTree}
 use Rattle.stapl_syntax.specs.Expressions.{operator, dots, right_round, right_square, IsExpr, of_unary, tighter, of_binary, IsUnary, negation, complement, negated, of_primary, IsPrimary, of_number, of_cell, of_brackets, of_abs, of_array, IsCell, of_scalar, of_element, IsTarget, of_whole, of_range, IsArray, of_literal, of_target, of_expr}
-use Rattle.stapl_syntax.specs.Parts.{IsPrintPart, of_string, of_value, of_character, IsPart, a_print_part, step_part, Separated, comma, join}
+use Rattle.stapl_syntax.specs.Parts.{IsPrintPart, of_string, of_value, of_character, IsExported, of_exported_value, of_exported_array, IsPart, a_print_part, step_part, Separated, comma, join}
 use Rattle.stapl_syntax.specs.Statements.{IsBody, IsLabelled, IsPieceStatement}
 use Rattle.stapl_syntax.specs.Programs.{AreReadAs, IsProgram}
-use Rattle.stapl_built.specs.Sizes.{expr_size, array_size, part_size, step_size, body_size, statements_size}
+use Rattle.stapl_built.specs.Sizes.{expr_size, array_size, part_size, export_size, step_size, body_size, statements_size}
 
 -- ---- expressions and parts
 
@@ -79,6 +79,10 @@ parts_fit s (x ∷ y ∷ ys) is =
     let more = parts_fit is.1 (y ∷ ys) is.4 in
     omega (arith, sum_by-cons part_size x (y ∷ ys), ap length is.2, length-append is.0 (comma ∷ is.1), own, more)
 
+exported_fits : (s : List Symbol) (x : ExportTree) → IsExported s x → export_size x ≤ length s
+exported_fits _ _ (of_exported_value m) = expr_fits m
+exported_fits _ _ (of_exported_array m) = array_fits m
+
 -- a symbol, and what follows
 after_fits : {n : ℕ} {t : Symbol} {s r : List Symbol} → s ≡ t ∷ r → n ≤ length r → 1 + n ≤ length s
 after_fits is fits = omega (arith, ap length is, fits)
@@ -132,9 +136,13 @@ body_fits s (for_loop v a b c) is =
     let to = expr_fits y.3 in
     let step = step_fits y.1 c y.4 in
     let rest = later_fits x.4.1 (both_fit y.0 y.1 y.2 to step) in
-    omega (arith, later_fits is.1 (named_fits f.0 f.1 f.2 f.3 f.4.1 (both_fit x.0 x.1 x.2 from rest)))
+    omega (arith, after_fits is.1 (named_fits f.0 f.1 f.2 f.3 f.4.1 (both_fit x.0 x.1 x.2 from rest)))
 body_fits s (push e) is = after_fits is.1 (expr_fits is.2)
 body_fits s (print parts) is = after_fits is.1 (parts_fit is.0 parts is.2)
+body_fits s (pop e) is = after_fits is.1 (cell_fits is.2)
+body_fits s (export key x) is =
+    let p = is.2 in
+    omega (arith, ap length is.1, ap length p.2, length-append p.0 p.1, ap length p.3, exported_fits p.4.0 x p.4.2, ap length p.4.1)
 body_fits s (exit e) is = after_fits is.1 (expr_fits is.2)
 body_fits s (boolean v (Some b)) is =
     omega (arith, ap length is.1, ap length is.2.2, length-append is.2.0 is.2.1, ap length is.2.3)

@@ -1,21 +1,29 @@
 -- Which statements are built: those that the compiler takes. Which these are is this profile's, and grows.
 use Rattle.std.specs.Prelude.{◌≡◌, nat_lt, length, Bool, true, false, ◌||◌, None, Some}
 use Rattle.std.specs.List.{list_all}
-use Rattle.stapl_syntax.specs.Trees.{ItemTree, BodyTree, note, action, procedure, data_block, end_data, crc, end_procedure, boolean, boolean_array, integer, integer_array, assign, assign_element, assign_array, assign_range, goto, if_then, print, exit, StmtTree}
+use Rattle.stapl_syntax.specs.Trees.{ItemTree, BodyTree, note, action, procedure, data_block, end_data, crc, end_procedure, boolean, boolean_array, integer, integer_array, assign, assign_element, assign_array, assign_range, call, goto, if_then, for_loop, next, push, scalar, element, pop, print, export, exit, StmtTree}
 
--- a statement that may stand after THEN; each PRINT of a program has a part
+-- a statement that may stand after THEN; each PRINT of a program has a part, and each POP a cell
 abbrev pub is_built_simple : BodyTree → Bool
 is_built_simple (assign name e) = true
 is_built_simple (assign_element name index e) = true
 is_built_simple (assign_array name a) = true
 is_built_simple (assign_range name high low a) = true
+is_built_simple (call name) = true
 is_built_simple (goto name) = true
+is_built_simple (for_loop name from to step) = true
+is_built_simple (next name) = true
+is_built_simple (push e) = true
+is_built_simple (pop (scalar name)) = true
+is_built_simple (pop (element name index)) = true
 is_built_simple (if_then e body) = is_built_simple body
 is_built_simple (print parts) = nat_lt 0 (length parts)
+is_built_simple (export key x) = true
 is_built_simple (exit e) = true
 is_built_simple _ = false
 
--- a statement of a procedure or a declaration of a DATA block; each INTEGER array of a program that has initial values has one
+-- a statement of a procedure or a declaration of a DATA block; each INTEGER array of a program that has initial values
+-- has one of these
 abbrev pub is_built_inner : BodyTree → Bool
 is_built_inner end_procedure = true
 is_built_inner (boolean name start) = true

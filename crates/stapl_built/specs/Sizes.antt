@@ -2,7 +2,7 @@
 -- not counted. This measure is this profile's.
 use Rattle.std.specs.Prelude.{ℕ, ◌+◌, List, Option, None, Some}
 use Rattle.std.specs.List.{sum_by}
-use Rattle.stapl_syntax.specs.Trees.{ExprTree, number, scalar, element, unary, binary, abs, int, ArrayTree, literal, whole, range, of_int, PartTree, string, value, character, BodyTree, boolean, integer, assign, assign_element, assign_array, assign_range, if_then, for_loop, push, print, exit, StmtTree}
+use Rattle.stapl_syntax.specs.Trees.{ExprTree, number, scalar, element, unary, binary, abs, int, ArrayTree, literal, whole, range, of_int, PartTree, string, value, character, BodyTree, boolean, integer, assign, assign_element, assign_array, assign_range, if_then, for_loop, push, pop, print, ExportTree, exported_value, exported_array, export, exit, StmtTree}
 
 abbrev mutual
   -- an expression, without brackets around it
@@ -28,6 +28,11 @@ part_size (string bytes) = 1
 part_size (value x) = expr_size x
 part_size (character x) = 2 + expr_size x
 
+-- what EXPORT exports
+abbrev pub export_size : ExportTree → ℕ
+export_size (exported_value x) = expr_size x
+export_size (exported_array a) = array_size a
+
 -- the step of a FOR, if it has one
 abbrev pub step_size : Option ExprTree → ℕ
 step_size None = 0
@@ -42,9 +47,11 @@ body_size (assign_element name index x) = 2 + expr_size index + expr_size x
 body_size (assign_array name a) = 2 + array_size a
 body_size (assign_range name high low a) = 2 + expr_size high + expr_size low + array_size a
 body_size (if_then x body) = 2 + expr_size x + body_size body
-body_size (for_loop name from to step) = 2 + expr_size from + expr_size to + step_size step
+body_size (for_loop name from to step) = 3 + expr_size from + expr_size to + step_size step
 body_size (push x) = 1 + expr_size x
+body_size (pop cell) = 1 + expr_size cell
 body_size (print parts) = 1 + sum_by part_size parts
+body_size (export key x) = 2 + export_size x
 body_size (exit x) = 1 + expr_size x
 body_size _ = 1
 

@@ -1,10 +1,10 @@
 //! Which statements are built.
 ghost use Rattle.std.specs.Prelude.{◌≡◌, map};
 ghost use Rattle.std.specs.List.{list_all};
-ghost use Rattle.stapl_syntax.specs.Trees.{print, item_tree, part_tree, body_tree, stmt_tree};
+ghost use Rattle.stapl_syntax.specs.Trees.{pop, print, expr_tree, item_tree, part_tree, body_tree, stmt_tree};
 ghost use Rattle.stapl_built.specs.Built.{is_built_simple, is_built_inner, is_built_item, is_built_outer, is_built};
 
-use stapl_syntax::{Body, Item, PrintPart, Stmt};
+use stapl_syntax::{Body, Expr, Item, PrintPart, Stmt};
 
 // Each PRINT of a program has a part.
 #[tactic(auto, using(crate::proofs::BuiltLemmas::some_mapped))]
@@ -12,6 +12,13 @@ fn has_parts(parts: &[PrintPart]) -> bool
     ensures { result ≡ is_built_simple (print (map part_tree parts.now)) }
 {
     0 < parts.len()
+}
+
+// Each POP of a program has a cell.
+fn is_cell(cell: &Expr) -> bool
+    ensures { result ≡ is_built_simple (pop (expr_tree cell.now)) }
+{
+    matches!(cell, Expr::Scalar(_) | Expr::Element(_, _))
 }
 
 // A statement that may stand after THEN.
@@ -23,9 +30,15 @@ fn is_simple(body: &Body) -> bool
         | Body::AssignElement(_, _, _)
         | Body::AssignArray(_, _)
         | Body::AssignRange(_, _, _, _)
+        | Body::Call(_)
         | Body::Goto(_)
+        | Body::For(_, _, _, _)
+        | Body::Next(_)
+        | Body::Push(_)
+        | Body::Export(_, _)
         | Body::Exit(_) => true,
         Body::If(_, body) => is_simple(body),
+        Body::Pop(cell) => is_cell(cell),
         Body::Print(parts) => has_parts(parts.as_slice()),
         _ => false,
     }
