@@ -6,12 +6,13 @@ use Rattle.std.specs.Map.{lookup}
 use Rattle.std.specs.Str.{bytes_eq}
 use Rattle.std.proofs.lemmas.Bool.{and_parts, or_parts, not-true, not-false, true≢false}
 use Rattle.std.proofs.lemmas.List.Elements.{All-nil, All-cons}
+use Rattle.std.proofs.lemmas.List.Folds.{list_any-append}
 use Rattle.std.proofs.lemmas.Option.{same_Some, none-some, slice_get_within}
 use Rattle.std.proofs.lemmas.Slice.Eq.{bytes_eq-Decides}
 use Rattle.stapl_lexer.specs.declared.reason.Reason.TheVariants as reasons
 use Rattle.stapl_syntax.specs.declared.names.Block.{Block}
 use Rattle.stapl_syntax.specs.declared.names.Key.{Key}
-use Rattle.stapl_syntax.specs.Trees.{ItemTree, BodyTree, note, action, procedure, data_block, end_data, crc, StmtTree}
+use Rattle.stapl_syntax.specs.Trees.{ItemTree, BodyTree, note, action, procedure, data_block, end_data, crc, call, if_then, StmtTree}
 use Rattle.stapl_syntax.specs.Statements.{is_outer, begins_procedure}
 use Rattle.stapl_built.specs.Built.{is_built_outer, is_built_inner, IsBuilt}
 use Rattle.stapl_syntax.specs.Names.{numbered, block_of, block_of_body, label_of, label_in, key_in, key_eq, declared, declaration, block_named, has_label}
@@ -205,20 +206,24 @@ module _ (program : List StmtTree) (sound : IsSound program) where
   abbrev named : List ℕ → Option Block
   named name = block_named (program_names program) name
 
-  items_there : (items : List ItemTree) → list_any (λ name. is_none (named name)) (map item_name items ++ []) ≡ false →
+  items_there : (items : List ItemTree) → list_any (λ name. is_none (named name)) (map item_name items) ≡ false →
       list_all (λ name. not (is_data_block (named name))) (map item_name items) ≡ true → All (NamesProcedure (as_played program)) items
   items_there [] has own = All-nil (NamesProcedure (as_played program))
   items_there (item ∷ items) has own =
-      let both = or_parts (is_none (named item.0)) (list_any (λ name. is_none (named name)) (map item_name items ++ [])) has in
+      let both = or_parts (is_none (named item.0)) (list_any (λ name. is_none (named name)) (map item_name items)) has in
       let each = and_parts (not (is_data_block (named item.0))) (list_all (λ name. not (is_data_block (named name))) (map item_name items)) own in
       All-cons (NamesProcedure (as_played program)) item items (is_numbered item.0 both.0 (not-true (is_data_block (named item.0)) each.0)) (items_there items both.1 each.1)
 
   pub items_named : All (λ (st : StmtTree). NamesProcedures (as_played program) st.body) Pieces
   items_named = all_from_each (λ (st : StmtTree). NamesProcedures (as_played program) st.body) Pieces each
     where
-      by : (b : BodyTree) → list_any (λ name. is_none (named name)) (procedures_named b ++ blocks_used b) ≡ false →
+      by : (b : BodyTree) → list_any (λ name. is_none (named name)) (procedures_named b) ≡ false →
           list_all (λ name. not (is_data_block (named name))) (procedures_named b) ≡ true → NamesProcedures (as_played program) b
       by (action name text items) has own = items_there items has own
+      by (call name) has own =
+          is_numbered name (or_parts (is_none (named name)) false has).0
+          (not-true (is_data_block (named name)) (and_parts (not (is_data_block (named name))) true own).0)
+      by (if_then e body) has own = by body has own
       by _ has own = tt
 
       of : (i : ℕ) (st : StmtTree) → IsPieceOf program sound i st → NamesProcedures (as_played program) st.body
@@ -226,7 +231,10 @@ module _ (program : List StmtTree) (sound : IsSound program) where
           let known = known_from (program_names program) (block_at program i) in
           let kinded = and_parts (list_all (λ name. not (is_data_block (named name))) (procedures_named st.body)) (operands_suit known.kind st.body)
           (not-false (is_well_kinded known st.body) (sound.keeps i st reasons.TypeMismatch own.at)) in
-          by st.body (known_parts known st.body (sound.keeps i st reasons.Undefined own.at)).1 kinded.0
+          let all_known = known_parts known st.body (sound.keeps i st reasons.Undefined own.at) in
+          let procedures_known = or_parts (list_any (λ name. is_none (named name)) (procedures_named st.body)) (list_any (λ name. is_none (named name)) (blocks_used st.body))
+          (sym (list_any-append (λ name. is_none (named name)) (procedures_named st.body) (blocks_used st.body)) ∙ all_known.1) in
+          by st.body procedures_known.0 kinded.0
       of i st (idles is closed) = subst (λ (s : StmtTree). NamesProcedures (as_played program) s.body) (sym is) tt
 
       each : (i : ℕ) (st : StmtTree) → slice_get Pieces i ≡ Some st → NamesProcedures (as_played program) st.body

@@ -5,9 +5,9 @@ use Rattle.stapl_meaning.specs.declared.events.Event.{Event}
 use Rattle.stapl_meaning.specs.declared.values.Value.{Value}
 use Rattle.stapl_meaning.specs.Values.{Got, Known, Faults, Stuck}
 use Rattle.stapl_meaning.specs.Operands.{values_of}
-use Rattle.stapl_meaning.specs.States.{State, Did, Falls, Jumps, Returns, Ends, Turned, Leads, Over, Broken, NoTurn, with_got, preceded, turn_of_piece, next_chosen, jumps_to, led}
+use Rattle.stapl_meaning.specs.States.{State, Did, Falls, Jumps, Resumes, Returns, Ends, Turned, Leads, Over, Broken, NoTurn, with_got, preceded, turn_of_piece, next_chosen, jumps_to, led}
 use Rattle.stapl_meaning.specs.Scopes.{Scope, Played, scope_at}
-use Rattle.stapl_meaning.specs.Turns.{operands, effect, target, rows, HasEffect, Does, follows, operand_faults, effect_faults, falls, jumps, returns, ends, IsTurn, carried, rows_done, done, turn_of, turn, IsFound}
+use Rattle.stapl_meaning.specs.Turns.{operands, effect, target, rows, HasEffect, Does, follows, operand_faults, effect_faults, falls, jumps, resumes, returns, ends, IsTurn, carried, rows_done, done, turn_of, turn, IsFound}
 
 found_preceded : (events : List Event) (t : Turned) → IsFound t → IsFound (preceded events t)
 found_preceded events (Leads es place s) h = tt
@@ -56,6 +56,7 @@ module _ (scope : Scope) where
       has_effect b s (Known (Falls events t)) (rows_done scope rest) has ∙ ap (preceded events) (does_done rest t turned more)
   does_done _ _ _ (jumps b rest s t place has e) =
       has_effect b s (Known (Jumps t)) (rows_done scope rest) has ∙ ap (λ o. jumps_to o t) e
+  does_done _ _ _ (resumes b rest s t place has) = has_effect b s (Known (Resumes place t)) (rows_done scope rest) has
   does_done _ _ _ (returns b rest s t has) = has_effect b s (Known (Returns t)) (rows_done scope rest) has
   does_done _ _ _ (ends b rest s t ending has) = has_effect b s (Known (Ends ending t)) (rows_done scope rest) has
 
@@ -75,6 +76,7 @@ module _ (scope : Scope) where
     with_effect values (Known (Falls events t)) p q found =
         falls b rest s t events (rows_done scope rest t) (record { values = values; are = p; is = q }) (others t (found_behind events (rows_done scope rest t) found))
     with_effect values (Known (Jumps t)) p q found = with_target values t (target scope b) p q refl found
+    with_effect values (Known (Resumes place t)) p q found = resumes b rest s t place (record { values = values; are = p; is = q })
     with_effect values (Known (Returns t)) p q found = returns b rest s t (record { values = values; are = p; is = q })
     with_effect values (Known (Ends ending t)) p q found = ends b rest s t ending (record { values = values; are = p; is = q })
     with_effect values (Faults k) p q found = effect_faults b rest s k (record { values = values; are = p; is = q })
@@ -96,6 +98,7 @@ module _ (scope : Scope) where
   is_found _ _ _ (effect_faults b rest s k has) = tt
   is_found _ _ _ (falls b rest s t events turned has more) = found_preceded events turned (is_found rest t turned more)
   is_found _ _ _ (jumps b rest s t place has e) = tt
+  is_found _ _ _ (resumes b rest s t place has) = tt
   is_found _ _ _ (returns b rest s t has) = found_chosen scope.entry t t.chosen
   is_found _ _ _ (ends b rest s t ending has) = tt
 

@@ -1,18 +1,27 @@
 -- What values do to the state. Statements and instructions share these. Source: JESD71, statements.
-use Rattle.std.specs.Prelude.{ℕ, ℤ, pos, nat_abs, Bool, true, false, List, [], ◌∷◌, ◌++◌, length, Option, Some, None, slice_get, slice_set}
+use Rattle.std.specs.Prelude.{ℕ, ℤ, pos, ◌+ℤ◌, int_lt, int_le, nat_abs, nat_lt, ◌==◌, ◌&&◌, ◌||◌, not, if◌then◌else◌, Bool, true, false, List, [], ◌∷◌, ◌++◌, length, Option, Some, None, slice_get, slice_set}
+use Rattle.std.specs.Int.{int_wrap, w32}
+use Rattle.std.specs.Ordering.{int_eq}
 use Rattle.std.specs.Fmt.{signed_decimal}
 use Rattle.bit_list.specs.Ranges.{spliced}
 use Rattle.stapl_syntax.specs.Trees.{PartTree, string, value, character}
-use Rattle.stapl_meaning.specs.declared.events.Event.TheVariants.{Print}
+use Rattle.stapl_meaning.specs.declared.events.Event.TheVariants.{Print, Export}
+use Rattle.stapl_meaning.specs.declared.events.ExportValue.{ExportValue}
+use Rattle.stapl_meaning.specs.declared.events.ExportValue.TheVariants as exports
 use Rattle.stapl_meaning.specs.declared.events.Ending.TheVariants.{Exit}
-use Rattle.stapl_meaning.specs.declared.events.RunFault.TheVariants.{IndexOutOfRange}
+use Rattle.stapl_meaning.specs.declared.events.RunFault.TheVariants.{IndexOutOfRange, ZeroStep, NoRecord, RecordsFull}
+use Rattle.stapl_meaning.specs.declared.records.Loop.{Loop}
+use Rattle.stapl_meaning.specs.declared.records.Record.{Record}
+use Rattle.stapl_meaning.specs.declared.records.Record.TheVariants.{Pushed, Called, Looped}
 use Rattle.stapl_meaning.specs.declared.values.Value.{Value}
 use Rattle.stapl_meaning.specs.declared.values.Value.TheVariants.{Int, Bit}
 use Rattle.stapl_meaning.specs.declared.values.Held.{Held}
 use Rattle.stapl_meaning.specs.declared.values.Held.TheVariants as held
-use Rattle.stapl_meaning.specs.Values.{Got, Known, Stuck, then_get, is_index, passed, bits_held, Span, span_of, Source, source_bits, padded, asked, integer_of}
-use Rattle.stapl_meaning.specs.Operands.{character_of}
-use Rattle.stapl_meaning.specs.States.{State, Did, Falls, Jumps, Returns, Ends}
+use Rattle.stapl_meaning.specs.declared.values.ValueKind.{ValueKind}
+use Rattle.stapl_meaning.specs.declared.values.ValueKind.TheVariants as value_kinds
+use Rattle.stapl_meaning.specs.Values.{Got, Known, Faults, Stuck, then_get, is_index, passed, bits_held, Span, span_of, Source, source_bits, padded, asked, integer_of}
+use Rattle.stapl_meaning.specs.Operands.{character_of, bit_number}
+use Rattle.stapl_meaning.specs.States.{State, Did, Falls, Jumps, Resumes, Returns, Ends}
 
 -- a scalar with another value of its kind
 abbrev pub with_scalar : Held → Value → Got Held
@@ -104,10 +113,103 @@ abbrev pub parted : List Value → State → Got Did
 parted (Bit b ∷ []) s = Known (way_of b s)
 parted _ s = Stuck
 
--- the procedure is over
+-- how many records the stack may hold
+abbrev pub record_limit : ℕ
+record_limit = 16384
+
+-- the state with these records
+abbrev pub with_records : State → List Record → State
+with_records s records = record s { records = records }
+
+-- what is done if there is room for one more record
+abbrev pub with_room : State → Got Did → Got Did
+with_room s did = if nat_lt (length s.records) record_limit then did else Faults RecordsFull
+
+-- a value as a number, a Boolean as 0 or 1, and a number as a value of a kind
+abbrev pub number_of : Value → ℤ
+number_of (Int z) = z
+number_of (Bit b) = bit_number b
+
+abbrev pub value_as : ValueKind → ℤ → Value
+value_as value_kinds.Int z = Int z
+value_as value_kinds.Bit z = Bit (not (nat_abs z == 0))
+
+-- a value is put on top of the records
+abbrev pub pushed : List Value → State → Got Did
+pushed (v ∷ []) s = with_room s (Known (Falls [] (with_records s (Pushed (number_of v) ∷ s.records))))
+pushed _ s = Stuck
+
+-- the topmost record, which must be a value, as one of this kind, and the records below it
+abbrev pub topmost : ValueKind → List Record → Got (Value × List Record)
+topmost kind (Pushed z ∷ records) = Known (value_as kind z, records)
+topmost kind _ = Faults NoRecord
+
+-- the topmost record is taken off, and behind the other values it is assigned
+abbrev pub popped : ValueKind → (List Value → State → Got Did) → List Value → State → Got Did
+popped kind assigns values s =
+    then_get (topmost kind s.records) (λ top. assigns (values ++ top.0 ∷ []) (with_records s top.1))
+
+-- to the target, which is a procedure; a record keeps the place behind
+abbrev pub called : ℕ → List Value → State → Got Did
+called behind [] s = with_room s (Known (Jumps (with_records s (Called behind ∷ s.records))))
+called behind _ s = Stuck
+
+-- The procedure is over. Records are dropped down to and with the nearest CALL, behind which the play goes on; if there
+-- is none, all are.
+abbrev pub returned_from : List Record → State → Did
+returned_from [] s = Returns (with_records s [])
+returned_from (Called place ∷ records) s = Resumes place (with_records s records)
+returned_from (_ ∷ records) s = returned_from records s
+
 abbrev pub returned : List Value → State → Got Did
-returned [] s = Known (Returns s)
+returned [] s = Known (returned_from s.records s)
 returned _ s = Stuck
+
+-- Loops. A loop is a record with the variable, the limit and the step of its FOR, and with the place behind that.
+
+-- the state with a loop on top of these records, whose variable holds this integer
+abbrev pub with_loop : Loop → List Record → ℤ → State → Got State
+with_loop l records z s =
+    then_get (scalar_written s.store.variables l.variable (slice_get s.store.variables l.variable) (Int z))
+    (λ variables. Known (with_variables (with_records s (Looped l ∷ records)) variables))
+
+-- The loop of the variable of number n begins, from a first value, a limit and a step. Older records of that variable
+-- stay. The limit is tested by NEXT alone, behind the body.
+abbrev pub looped : ℕ → ℕ → List Value → State → Got Did
+looped n behind (Int first ∷ Int limit ∷ Int step ∷ []) s =
+    if int_eq step (pos 0) then Faults ZeroStep
+    else with_room s
+    (then_get (with_loop (record { variable = n; limit = limit; step = step; place = behind }) s.records first s)
+    (λ t. Known (Falls [] t)))
+looped n behind _ s = Stuck
+
+-- The topmost loop of the variable of number n, and the records below it. Above it may stand loops of other variables
+-- alone.
+abbrev pub nearest_loop : ℕ → List Record → Got (Loop × List Record)
+nearest_loop n (Looped l ∷ records) = if l.variable == n then Known (l, records) else nearest_loop n records
+nearest_loop n _ = Faults NoRecord
+
+-- the loop is over, if its variable holds this integer: it has come to the limit, or past it
+abbrev pub is_over : Loop → ℤ → Bool
+is_over l z = (int_lt (pos 0) l.step && int_le l.limit z) || (int_lt l.step (pos 0) && int_le z l.limit)
+
+-- the integer that a scalar holds
+abbrev pub integer_held : Option Held → Got ℤ
+integer_held (Some (held.Int z)) = Known z
+integer_held _ = Stuck
+
+-- A loop that is over is dropped. Another one goes on with its body, and its variable with one step more.
+abbrev pub went_round : Loop → List Record → ℤ → State → Got Did
+went_round l records z s =
+    if is_over l z then Known (Falls [] (with_records s records))
+    else then_get (with_loop l records (int_wrap w32 (z +ℤ l.step)) s) (λ t. Known (Resumes l.place t))
+
+-- the loop of the variable of number n goes round, or is over; loops of other variables above it are dropped
+abbrev pub repeated : ℕ → List Value → State → Got Did
+repeated n [] s =
+    then_get (nearest_loop n s.records) (λ top.
+    then_get (integer_held (slice_get s.store.variables n)) (λ z. went_round top.0 top.1 z s))
+repeated n _ s = Stuck
 
 -- the play is over, with a code
 abbrev pub exited : List Value → State → Got Did
@@ -146,3 +248,17 @@ joined (character e ∷ parts) (v ∷ vs) = after_character v (joined parts vs)
 -- a text is printed
 abbrev pub printed : Got (List ℕ) → State → Got Did
 printed text s = then_get text (λ bytes. Known (Falls (Print bytes ∷ []) s))
+
+-- a value is exported under a key
+abbrev pub export_of : Value → ExportValue
+export_of (Int z) = exports.Int z
+export_of (Bit b) = exports.Bit b
+
+abbrev pub exported : List ℕ → List Value → State → Got Did
+exported key (v ∷ []) s = Known (Falls (Export key (export_of v) ∷ []) s)
+exported key _ s = Stuck
+
+-- the bits of a source are exported under a key
+abbrev pub bits_exported : List ℕ → Source → List Value → State → Got Did
+bits_exported key source values s =
+    then_get (source_bits s.store.variables source values) (λ bits. Known (Falls (Export key (exports.Array bits) ∷ []) s))

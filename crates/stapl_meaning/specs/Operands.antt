@@ -6,7 +6,7 @@ use Rattle.stapl_syntax.specs.declared.names.Kind.{Kind}
 use Rattle.stapl_syntax.specs.declared.names.VarKind.{VarKind}
 use Rattle.stapl_syntax.specs.declared.names.VarKind.TheVariants as variables
 use Rattle.stapl_syntax.specs.Kinds.{is_bit_alone, expr_kind}
-use Rattle.stapl_syntax.specs.Trees.{ExprTree, ArrayTree, literal as bit_literal, whole, range, of_int, PartTree, string, value, character}
+use Rattle.stapl_syntax.specs.Trees.{ExprTree, number, ArrayTree, literal as bit_literal, whole, range, of_int, PartTree, string, value, character}
 use Rattle.stapl_meaning.specs.declared.events.RunFault.TheVariants.{BadChar}
 use Rattle.stapl_meaning.specs.declared.values.ValueKind.{ValueKind}
 use Rattle.stapl_meaning.specs.declared.values.ValueKind.TheVariants as kinds
@@ -93,6 +93,11 @@ array_operands look (bit_literal bits) = []
 array_operands look (whole name) = []
 array_operands look (range name high low) = a_range (look.variable name) high low
 array_operands look (of_int e) = an_integer e ∷ []
+
+-- the step of a FOR, which is 1 if none is written
+abbrev pub step_or_one : Option ExprTree → ExprTree
+step_or_one None = number (pos 1)
+step_or_one (Some e) = e
 
 -- the kind of what a variable without brackets is given, or an element
 abbrev pub given_kind : Option VarKind → ValueKind

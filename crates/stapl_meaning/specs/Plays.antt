@@ -48,7 +48,7 @@ then_runs r go = continued r.outcome r go
 
 -- the state when a play of these procedures starts
 abbrev pub start : List ℕ → List Held → State
-start chosen variables = record { chosen = chosen; store = record { variables = variables } }
+start chosen variables = record { chosen = chosen; records = []; store = record { variables = variables } }
 
 -- The initial values of DATA blocks are set, one after the other. This takes no turn, and leads to no place of its own.
 abbrev pub set_up : Played → List Preset → State → Turned

@@ -19,11 +19,12 @@ use Rattle.stapl_meaning.specs.declared.values.Held.TheVariants as held
 use Rattle.stapl_meaning.specs.Values.{Lookup}
 
 -- What a statement finds: variables by their names, the place of a label by its name, the place where the procedure of
--- a number begins, and the place behind the statement.
+-- a number begins, the number of a procedure by its name, and the place behind the statement.
 pub record Scope : Type 0 where
   pub look : Lookup
   pub label : List ℕ → ℕ
   pub entry : ℕ → ℕ
+  pub procedure : List ℕ → ℕ
   pub follow : ℕ
 
 -- A program as it plays.
@@ -129,24 +130,29 @@ entry_from [] p = 0
 entry_from (st ∷ rest) zero = suc (if begins_procedure st.body then 0 else entry_from rest zero)
 entry_from (st ∷ rest) (suc p) = suc (if begins_procedure st.body then entry_from rest p else entry_from rest (suc p))
 
--- what a statement finds, from the names of a program of so many pieces, if this block is open
-abbrev pub scope_of : Names → (ℕ → ℕ) → ℕ → Option (List ℕ) → ℕ → Scope
-scope_of names entry count inside i = record {
+-- what a statement finds, from the names of a program of so many pieces and from its procedures, if this block is open
+abbrev pub scope_of : Names → (ℕ → ℕ) → (List ℕ → ℕ) → ℕ → Option (List ℕ) → ℕ → Scope
+scope_of names entry number count inside i = record {
   look = lookup_from names inside;
   label = label_from names count inside;
   entry = entry;
+  procedure = number;
   follow = i + 1;
 }
+
+-- what a statement of these pieces finds
+abbrev pub scope_in : Names → List StmtTree → Option (List ℕ) → ℕ → Scope
+scope_in names pieces inside i = scope_of names (entry_from pieces) (procedure_number pieces) (length pieces) inside i
 
 -- what the statement at a place finds
 abbrev pub scope_at : Played → ℕ → Scope
 scope_at program i =
-    scope_of program.names (entry_from program.pieces) (length program.pieces) (block_at program.pieces i) i
+    scope_in program.names program.pieces (block_at program.pieces i) i
 
 -- what a declaration of a DATA block finds
 abbrev pub preset_scope : Played → Preset → Scope
 preset_scope program preset =
-    scope_of program.names (entry_from program.pieces) (length program.pieces) (Some preset.block) 0
+    scope_in program.names program.pieces (Some preset.block) 0
 
 -- what the variables hold when a play starts
 abbrev pub zero_by : VarKind → ℕ → Held

@@ -4,6 +4,7 @@ use Rattle.stapl_meaning.specs.declared.events.Event.{Event}
 use Rattle.stapl_meaning.specs.declared.events.RunFault.{RunFault}
 use Rattle.stapl_meaning.specs.declared.events.Ending.{Ending}
 use Rattle.stapl_meaning.specs.declared.events.Ending.TheVariants.{Exit, Fault}
+use Rattle.stapl_meaning.specs.declared.records.Record.{Record}
 use Rattle.stapl_meaning.specs.declared.values.Held.{Held}
 use Rattle.stapl_meaning.specs.Values.{Got, Known, Faults, Stuck}
 
@@ -11,16 +12,18 @@ use Rattle.stapl_meaning.specs.Values.{Got, Known, Faults, Stuck}
 pub record Store : Type 0 where
   pub variables : List Held
 
--- the procedures still to run, by number, and the store
+-- the procedures still to run, by number, the records, the topmost first, and the store
 pub record State : Type 0 where
   pub chosen : List ℕ
+  pub records : List Record
   pub store : Store
 
--- What a statement does: with its events it goes on to what follows, it jumps to its target, it ends its procedure, or it
--- ends the run.
+-- What a statement does: with its events it goes on to what follows, it jumps to its target, it goes on at the place that
+-- a record kept, it ends its procedure, or it ends the run.
 pub data Did : Type 0 where
   Falls : (events : List Event) (state : State) → Did
   Jumps : (state : State) → Did
+  Resumes : (place : ℕ) (state : State) → Did
   Returns : (state : State) → Did
   Ends : (ending : Ending) (state : State) → Did
 
@@ -73,5 +76,6 @@ jumps_to (Some place) s = Leads [] place s
 abbrev pub led : (ℕ → ℕ) → Option ℕ → Did → (State → Turned) → Turned
 led entry to (Falls events s) go = preceded events (go s)
 led entry to (Jumps s) go = jumps_to to s
+led entry to (Resumes place s) go = Leads [] place s
 led entry to (Returns s) go = next_chosen entry s s.chosen
 led entry to (Ends ending s) go = Over [] ending s

@@ -1,15 +1,16 @@
 -- Turns: the execution of one piece. Source: JESD71, statements. Statements are rows of a table with three columns: the
 -- operands, what their values do, and where the statement leads if it does not go on to what follows.
 use Rattle.std.specs.Prelude.{◌≡◌, ℕ, ◌+◌, List, [], ◌∷◌, ◌++◌, Option, Some, None, slice_get}
-use Rattle.stapl_syntax.specs.Trees.{number, BodyTree, end_procedure, boolean, boolean_array, integer, integer_array, assign, assign_element, assign_array, assign_range, goto, if_then, print, exit, StmtTree}
+use Rattle.stapl_syntax.specs.Kinds.{expr_kind}
+use Rattle.stapl_syntax.specs.Trees.{number, BodyTree, end_procedure, boolean, boolean_array, integer, integer_array, assign, assign_element, assign_array, assign_range, scalar, element, call, goto, if_then, for_loop, next, push, pop, print, exported_value, exported_array, export, exit, StmtTree}
 use Rattle.stapl_meaning.specs.declared.events.Event.{Event}
 use Rattle.stapl_meaning.specs.declared.events.RunFault.{RunFault}
 use Rattle.stapl_meaning.specs.declared.events.Ending.{Ending}
 use Rattle.stapl_meaning.specs.declared.values.Value.{Value}
 use Rattle.stapl_meaning.specs.Values.{Got, Known, Faults, Stuck, These, source_of}
-use Rattle.stapl_meaning.specs.Operands.{Operand, plain, an_integer, a_boolean, an_index, a_range, bit_number, given_kind, array_operands, part_operands, values_of}
-use Rattle.stapl_meaning.specs.States.{State, Did, Falls, Jumps, Returns, Ends, Turned, Leads, Over, Broken, NoTurn, with_got, preceded, turn_of_piece, next_chosen, led}
-use Rattle.stapl_meaning.specs.Effects.{assigned, element_assigned, IntoWhole, IntoRange, copied, integers_set, jumped, parted, returned, exited, joined, printed}
+use Rattle.stapl_meaning.specs.Operands.{Operand, plain, an_integer, a_boolean, an_index, a_range, bit_number, given_kind, printed_kind, step_or_one, array_operands, part_operands, values_of}
+use Rattle.stapl_meaning.specs.States.{State, Did, Falls, Jumps, Resumes, Returns, Ends, Turned, Leads, Over, Broken, NoTurn, with_got, preceded, turn_of_piece, next_chosen, led}
+use Rattle.stapl_meaning.specs.Effects.{assigned, element_assigned, IntoWhole, IntoRange, copied, integers_set, jumped, parted, pushed, popped, called, looped, repeated, returned, exited, joined, printed, exported, bits_exported}
 use Rattle.stapl_meaning.specs.Scopes.{Scope, Played, scope_at}
 
 -- The table. A statement that is not built has no operands, and finds nothing to do.
@@ -24,7 +25,12 @@ operands scope (assign_element name index e) =
 operands scope (assign_array name a) = array_operands scope.look a
 operands scope (assign_range name high low a) = a_range (scope.look.variable name) high low ++ array_operands scope.look a
 operands scope (if_then e body) = a_boolean e ∷ []
+operands scope (for_loop name from to step) = an_integer from ∷ an_integer to ∷ an_integer (step_or_one step) ∷ []
+operands scope (push e) = plain (printed_kind (expr_kind scope.look.kind e)) e ∷ []
+operands scope (pop (element name index)) = an_index (scope.look.variable name) index ∷ []
 operands scope (print parts) = part_operands scope.look parts
+operands scope (export key (exported_value e)) = plain (printed_kind (expr_kind scope.look.kind e)) e ∷ []
+operands scope (export key (exported_array a)) = array_operands scope.look a
 operands scope (exit e) = an_integer e ∷ []
 operands scope _ = []
 
@@ -40,14 +46,25 @@ effect scope (assign_element name index e) values s = element_assigned (scope.lo
 effect scope (assign_array name a) values s = copied (IntoWhole (scope.look.variable name)) (source_of scope.look a) values s
 effect scope (assign_range name high low a) values s =
     copied (IntoRange (scope.look.variable name)) (source_of scope.look a) values s
+effect scope (call name) values s = called scope.follow values s
 effect scope (goto name) values s = jumped values s
 effect scope (if_then e body) values s = parted values s
+effect scope (for_loop name from to step) values s = looped (scope.look.variable name) scope.follow values s
+effect scope (next name) values s = repeated (scope.look.variable name) values s
+effect scope (push e) values s = pushed values s
+effect scope (pop (scalar name)) values s =
+    popped (given_kind (scope.look.kind name)) (assigned (scope.look.variable name)) values s
+effect scope (pop (element name index)) values s =
+    popped (given_kind (scope.look.kind name)) (element_assigned (scope.look.variable name)) values s
 effect scope (print parts) values s = printed (joined parts values) s
+effect scope (export key (exported_value e)) values s = exported key values s
+effect scope (export key (exported_array a)) values s = bits_exported key (source_of scope.look a) values s
 effect scope (exit e) values s = exited values s
 effect scope _ values s = Stuck
 
 -- where it leads if it does not go on to what follows
 abbrev pub target : Scope → BodyTree → Option ℕ
+target scope (call name) = Some (scope.entry (scope.procedure name))
 target scope (goto name) = Some (scope.label name)
 target scope (if_then e body) = Some scope.follow
 target scope _ = None
@@ -84,6 +101,8 @@ pub data Does (scope : Scope) : List BodyTree → State → Turned → Type 0 wh
   -- the row is done, and the turn is over
   jumps : (b : BodyTree) (rest : List BodyTree) (s t : State) (place : ℕ) → HasEffect scope b s (Known (Jumps t)) →
       target scope b ≡ Some place → Does scope (b ∷ rest) s (Leads [] place t)
+  resumes : (b : BodyTree) (rest : List BodyTree) (s t : State) (place : ℕ) → HasEffect scope b s (Known (Resumes place t)) →
+      Does scope (b ∷ rest) s (Leads [] place t)
   returns : (b : BodyTree) (rest : List BodyTree) (s t : State) → HasEffect scope b s (Known (Returns t)) →
       Does scope (b ∷ rest) s (next_chosen scope.entry t t.chosen)
   ends : (b : BodyTree) (rest : List BodyTree) (s t : State) (ending : Ending) → HasEffect scope b s (Known (Ends ending t)) →

@@ -9,7 +9,7 @@ use Rattle.stapl_syntax.specs.declared.names.Key.{Key}
 use Rattle.stapl_syntax.specs.declared.names.VarKind.{VarKind}
 use Rattle.stapl_syntax.specs.declared.names.VarKind.TheVariants as kinds
 use Rattle.stapl_syntax.specs.declared.names.Variable.{Variable}
-use Rattle.stapl_syntax.specs.Trees.{ItemTree, BodyTree, action, procedure, StmtTree}
+use Rattle.stapl_syntax.specs.Trees.{ItemTree, BodyTree, action, procedure, call, if_then, StmtTree}
 use Rattle.stapl_syntax.specs.Statements.{is_outer, begins_procedure, ends_procedure}
 use Rattle.stapl_syntax.specs.Names.{declaration, variable_entry}
 use Rattle.stapl_meaning.specs.Values.{Lookup}
@@ -102,12 +102,18 @@ module _ (program : Played) where
     pub declares : IfSome (declaration preset.body) (IsDeclared (preset_scope program preset).look piece preset.block)
     pub few_values : has_too_many_values preset.body ≡ false
 
+  -- the name is that of a procedure
+  abbrev pub IsProcedure : List ℕ → Type 0
+  IsProcedure name = procedure_number program.pieces name < procedures_in program.pieces
+
   -- an item of an action names a procedure
   abbrev pub NamesProcedure : ItemTree → Type 0
-  NamesProcedure item = procedure_number program.pieces item.0 < procedures_in program.pieces
+  NamesProcedure item = IsProcedure item.0
 
   abbrev pub NamesProcedures : BodyTree → Type 0
   NamesProcedures (action name text items) = All NamesProcedure items
+  NamesProcedures (call name) = IsProcedure name
+  NamesProcedures (if_then e body) = NamesProcedures body
   NamesProcedures _ = Unit {0}
 
 -- A program is typed. Of no DATA block any piece is left.

@@ -3,15 +3,29 @@ ghost use Rattle.std.specs.Prelude.{◌≡◌};
 ghost use Rattle.stapl_meaning.specs.Texts.{fault_name};
 
 use base::ItemList;
+use bit_list::Bits;
 
 /// A text, by its bytes.
 pub type Text = ItemList<u8>;
+
+/// What EXPORT exports.
+#[derive(Drop)]
+pub enum ExportValue {
+    /// An integer.
+    Int(i32),
+    /// A Boolean.
+    Bit(bool),
+    /// The bits of an array, index 0 first.
+    Array(Bits),
+}
 
 /// What a turn of a play gives to the outside, in order.
 #[derive(Drop)]
 pub enum Event {
     /// One PRINT, by its joined parts.
     Print(Text),
+    /// One EXPORT, by its key and its value.
+    Export(Text, ExportValue),
 }
 
 /// What goes wrong in a turn, and ends the play. The rules are this profile's.
@@ -27,6 +41,12 @@ pub enum RunFault {
     LengthMismatch,
     /// A shift count is not in 0 to 31.
     ShiftCount,
+    /// The step of a FOR is 0.
+    ZeroStep,
+    /// POP meets no value on top of the record stack, or NEXT no loop of its variable.
+    NoRecord,
+    /// A record is to be put on the record stack, which is full.
+    RecordsFull,
     /// The number of a character is not in 0 to 255.
     BadChar,
 }
@@ -42,6 +62,9 @@ impl RunFault {
             RunFault::RangeReversed => b"RangeReversed",
             RunFault::LengthMismatch => b"LengthMismatch",
             RunFault::ShiftCount => b"ShiftCount",
+            RunFault::ZeroStep => b"ZeroStep",
+            RunFault::NoRecord => b"NoRecord",
+            RunFault::RecordsFull => b"RecordsFull",
             RunFault::BadChar => b"BadChar",
         }
     }

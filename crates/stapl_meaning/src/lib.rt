@@ -3,7 +3,9 @@
 
 mod events;
 pub mod laws;
+mod records;
 mod values;
 
-pub use events::{Ending, Event, RunFault, Text};
+pub use events::{Ending, Event, ExportValue, RunFault, Text};
+pub use records::{Loop, Record};
 pub use values::{Held, Value, ValueKind};
