@@ -229,13 +229,13 @@ module _ (variables : List VarDef) (literals : List (List Bool)) (contents : Lis
 
 -- it goes on, with the same procedures still to run, and with variables that hold what they have to
 abbrev pub Writes : List VarDef → State → Did → Type 0
-Writes variables s (did.Falls events t) = (t.chosen ≡ s.chosen) × AllFit variables t.store.variables
+Writes variables s (did.Falls events t) = (t.chosen ≡ s.chosen) × AllFit variables t.store.variables × (t.records ≡ s.records)
 Writes variables s _ = ⊥
 
 module _ (variables : List VarDef) (s : State) (fit : AllFit variables s.store.variables) where
   replaced_good : (n : ℕ) (v : VarDef) (g : Got Held) → slice_get variables n ≡ Some v → IsGot (Fits v) g →
       IsGot (Writes variables s) (written s (replaced s.store.variables n g))
-  replaced_good n v (Known h) at f = (refl, fit_set variables s.store.variables n v h fit at f)
+  replaced_good n v (Known h) at f = (refl, fit_set variables s.store.variables n v h fit at f, refl)
   replaced_good n v (Faults k) at f = tt
   replaced_good n v Stuck at f = absurd f
 
@@ -284,7 +284,7 @@ module _ (variables : List VarDef) (s : State) (fit : AllFit variables s.store.v
       then_good (HasLength span.count) (Writes variables s) (asked from span.count bits) put (asked_good from span.count bits) (λ new count.
       let within : span.low + length new ≤ length old = omega (arith, inside, count) in
       let fits : Fits v (array new) = (kind, length-spliced span.low new old within ∙ size) in
-      (refl, fit_set variables s.store.variables n v (array new) fit at fits)))
+      (refl, fit_set variables s.store.variables n v (array new) fit at fits, refl)))
 
   module _
       (n : ℕ) (kind : is_of_kind 3 (slice_get variables n) ≡ true) (from : values.Source) (vs : List Value)

@@ -1,34 +1,44 @@
 -- One instruction of a valid code finds its operands, and keeps what holds of the state: a line for each instruction,
 -- and one rule.
 use Rattle.std.proofs.Common.{◌≡◌, ℕ, zero, suc, ◌+◌, ◌<◌, ◌≤◌, Bool, true, false, List, [], ◌∷◌, ◌++◌, Option, Some, None, length, arith, refl, sym, ap, ◌∙◌, subst}
-use Rattle.std.specs.Prelude.{ℤ, nat_abs, slice_get, slice_set, All}
+use Rattle.std.specs.Prelude.{ℤ, pos, ◌+ℤ◌, ◌==◌, nat_abs, nat_lt, if◌then◌else◌, slice_get, slice_set, All}
+use Rattle.std.specs.Int.{int_wrap, w32}
+use Rattle.std.specs.Ordering.{int_eq}
 use Rattle.std.specs.List.{list_all}
-use Rattle.std.proofs.lemmas.Bool.{and_parts}
+use Rattle.std.proofs.lemmas.Bool.{and_parts, eqb-true}
 use Rattle.std.proofs.lemmas.List.{append-nil}
 use Rattle.stapl_meaning.specs.declared.events.Event.{Event}
-use Rattle.stapl_meaning.specs.declared.events.RunFault.TheVariants.{BadChar}
+use Rattle.stapl_meaning.specs.declared.events.Event.TheVariants as events
+use Rattle.stapl_meaning.specs.declared.events.ExportValue.TheVariants.{Array}
+use Rattle.stapl_meaning.specs.declared.events.RunFault.TheVariants.{BadChar, ZeroStep, RecordsFull}
 use Rattle.stapl_meaning.specs.declared.values.Held.{Held}
 use Rattle.stapl_meaning.specs.declared.values.Held.TheVariants as held
 use Rattle.stapl_meaning.specs.declared.values.Value.{Value}
 use Rattle.stapl_meaning.specs.declared.values.Value.TheVariants.{Int, Bit}
 use Rattle.stapl_meaning.specs.declared.values.ValueKind.{ValueKind}
 use Rattle.stapl_meaning.specs.declared.values.ValueKind.TheVariants as kinds
-use Rattle.stapl_meaning.specs.Values.{Got, Known, Faults, Stuck, then_get, combined, is_index, passed, range_held, element_of, index_held, source_integer, integer_of, scalar_of}
+use Rattle.stapl_meaning.specs.Values.{Got, Known, Faults, Stuck, then_get, combined, is_index, passed, range_held, element_of, index_held, source_bits, source_integer, integer_of, scalar_of}
+use Rattle.stapl_meaning.specs.Values as values
+use Rattle.stapl_meaning.specs.declared.records.Loop.{Loop}
+use Rattle.stapl_meaning.specs.declared.records.Record.{Record}
+use Rattle.stapl_meaning.specs.declared.records.Record.TheVariants.{Pushed, Called, Looped}
 use Rattle.stapl_meaning.specs.States.{State, Did, Turned, Leads, Over, Broken, NoTurn, next_chosen, jumps_to}
 use Rattle.stapl_meaning.specs.States as did
-use Rattle.stapl_meaning.specs.Effects.{scalar_written, element_assigned, IntoWhole, copied, integers_set, written, way_of, after_value, printed}
+use Rattle.stapl_meaning.specs.Effects.{scalar_written, element_assigned, IntoWhole, copied, integers_set, written, way_of, with_variables, with_records, record_limit, number_of, value_as, topmost, returned_from, with_loop, looped, nearest_loop, is_over, integer_held, went_round, after_value, printed, exported, bits_exported}
 use Rattle.stapl_code.specs.declared.raw.VarDef.{VarDef}
 use Rattle.stapl_code.specs.declared.operators.Operator.{Operator}
 use Rattle.stapl_code.specs.declared.instr.PrintPart.{PrintPart}
 use Rattle.stapl_code.specs.declared.instr.PrintPart.TheVariants as parts
+use Rattle.stapl_code.specs.declared.instr.ExportPart.{ExportPart}
+use Rattle.stapl_code.specs.declared.instr.ExportPart.TheVariants as exports
 use Rattle.stapl_code.specs.declared.instr.Source.{Source}
 use Rattle.stapl_code.specs.declared.instr.Instr.{Instr}
-use Rattle.stapl_code.specs.declared.instr.Instr.TheVariants.{Turn, Push, PushBit, Load, LoadAt, CheckIndex, CheckRange, Store, StoreAt, Unary, Binary, ToInt, CopyBits, SetBits, SetInts, Jump, JumpIfZero, EndProc, Print, CheckChar, Exit}
+use Rattle.stapl_code.specs.declared.instr.Instr.TheVariants.{Turn, Push, PushBit, Load, LoadAt, CheckIndex, CheckRange, Store, StoreAt, Unary, Binary, ToInt, CopyBits, SetBits, SetInts, For, Next, PushRecord, PopRecord, Call, Jump, JumpIfZero, EndProc, Print, Export, CheckChar, Exit}
 use Rattle.stapl_code.specs.Operators.{operator_table, unary_kinds, unary_results}
-use Rattle.stapl_code.specs.Machine.{Constants, AnArray, OfBits, OfInts, source_slots, source_wants, dest_slots, dest_want, target_of, known_literal, known_source, Made, Puts, PutsTwo, Does, puts, does, one, two, bit_of, operated_by, signed_by, Slot, Of, OfScalar, OfElement, slot_of, sides_of, result_of, part_slots, takes, gives, wants, known_text, parts_text, made, lands, Step, Falls, Emits, Stops, Faulted, Wrong, taken_onto, taken, on_taken, emitted, entry_of, on_made, step}
-use Rattle.stapl_code.specs.Ranges.{IsPart, IsSource, IsInstr}
-use Rattle.stapl_code.specs.Kinds.{then_kinds, scalar_kind, variable_kind, element_kind, is_met, put_on, left_by, clears, slot_kind, all_off, all_on, kinds_behind}
-use Rattle.stapl_code.specs.Valid.{is_turn, is_target, leads_well}
+use Rattle.stapl_code.specs.Machine.{Constants, AnInteger, AnArray, OfBits, OfInts, source_slots, source_wants, export_slots, export_wants, part_exported, dest_slots, dest_want, target_of, known_literal, known_source, Made, Puts, PutsFrom, PutsTwo, unrecorded, Does, puts, does, one, two, bit_of, operated_by, signed_by, Slot, Of, OfScalar, OfElement, slot_of, sides_of, result_of, part_slots, takes, gives, wants, known_text, parts_text, made, lands, Step, Falls, Emits, Stops, Faulted, Wrong, taken_onto, taken, on_taken, emitted, entry_of, on_made, step}
+use Rattle.stapl_code.specs.Ranges.{IsPart, IsSource, IsExport, IsInstr}
+use Rattle.stapl_code.specs.Kinds.{then_kinds, scalar_kind, variable_kind, element_kind, is_of_kind, is_met, put_on, left_by, clears, slot_kind, all_off, all_on, kinds_behind}
+use Rattle.stapl_code.specs.Valid.{is_turn, departs, is_target, leads_well}
 use Rattle.stapl_code.specs.Safe.{Fits, AllFit, AllBelow}
 use Rattle.stapl_code.proofs.KindCounts.{then_some, met_and_behind}
 use Rattle.stapl_code.proofs.Fitting.{FitAt, fit_at, fit_set}
@@ -79,12 +89,20 @@ character_good true z (Faults k) h = tt
 character_good true z Stuck h = absurd h
 character_good false z more h = tt
 
+-- the places that calls and loops of records keep
+abbrev pub ArePlaced : (ℕ → Type 0) → List Record → Type 0
+ArePlaced P [] = Unit {0}
+ArePlaced P (Pushed z ∷ records) = ArePlaced P records
+ArePlaced P (Called place ∷ records) = P place × ArePlaced P records
+ArePlaced P (Looped l ∷ records) = P l.place × ArePlaced P records
+
 module _
     (variables : List VarDef) (procedures : ℕ) (entries : List ℕ) (constants : Constants) (IsPlace : ℕ → Type 0) where
   -- what holds of the state between two instructions
   pub record Good (s : State) : Type 0 where
     pub variables_fit : AllFit variables s.store.variables
     pub chosen_below : AllBelow procedures s.chosen
+    pub records_placed : ArePlaced IsPlace s.records
 
   -- what holds of a turn's end: it leads to a place
   abbrev pub TurnedGood : Turned → Type 0
@@ -100,284 +118,455 @@ module _
   StepGood after (Faulted k s) = Unit {0}
   StepGood after Wrong = ⊥
 
-  -- the slots give these kinds
-  abbrev Adds : List Slot → List ValueKind → Type 0
-  Adds gs new = (below : List ValueKind) → all_on variables gs below ≡ Some (new ++ below)
-
-  abbrev IsTarget : Option ℕ → Type 0
-  IsTarget None = ⊥
-  IsTarget (Some to) = IsPlace to
-
-  -- what an instruction makes of its operands is what its columns say
-  abbrev MadeGood : List Slot → Bool → Option ℕ → Got Made → Type 0
-  MadeGood gs clear to (Known (Puts v)) = Adds gs (kind_of v ∷ [])
-  MadeGood gs clear to (Known (PutsTwo x y)) = Adds gs (kind_of y ∷ kind_of x ∷ [])
-  MadeGood gs clear to (Known (Does (did.Falls events t))) = Adds gs [] × Good t
-  MadeGood gs clear to (Known (Does (did.Jumps t))) = (clear ≡ true) × IsTarget to × Good t
-  MadeGood gs clear to (Known (Does (did.Returns t))) = (clear ≡ true) × Good t
-  MadeGood gs clear to (Known (Does (did.Ends ending t))) = clear ≡ true
-  MadeGood gs clear to (Faults k) = Unit {0}
-  MadeGood gs clear to Stuck = ⊥
-
-  puts_good : (clear : Bool) (to : Option ℕ) (slot : Slot) (g : Got Value) → GotOf (slot_kind variables slot) g →
-      MadeGood (slot ∷ []) clear to (puts g)
-  puts_good clear to slot (Known v) e = λ below. ap (λ o. then_kinds (put_on o below) (all_on variables [])) e
-  puts_good clear to slot (Faults k) e = tt
-  puts_good clear to slot Stuck e = absurd e
-
-  bit_good : (b : ℕ) → b ≤ 1 → GotOf (Some kinds.Bit) (bit_of b)
-  bit_good zero h = refl
-  bit_good (suc zero) h = refl
-  bit_good (suc (suc b)) h = absurd (omega arith)
-
-  passed_good : (b : Bool) (z : ℤ) → GotOf (Some kinds.Int) (passed b BadChar (Int z))
-  passed_good true z = refl
-  passed_good false z = tt
-
-  kept_good : (x y : ℤ) (g : Got Value) → IsAnswer g →
-      MadeGood (Of kinds.Int ∷ Of kinds.Int ∷ []) false None (then_get g (λ z. Known (PutsTwo (Int x) (Int y))))
-  kept_good x y (Known z) h = λ below. refl
-  kept_good x y (Faults k) h = tt
-  kept_good x y Stuck h = absurd h
-
-  is_put : (o : Option ValueKind) (mid after : List ValueKind) → then_kinds (put_on o mid) (all_on variables []) ≡ Some after →
-      (k : ValueKind) × (o ≡ Some k)
-  is_put None mid after e = absurd cc
-  is_put (Some k) mid after e = (k, refl)
-
-  load_good : (ov : Option VarDef) (oh : Option Held) (k : ValueKind) → FitAt ov oh → variable_kind ov ≡ Some k →
-      GotOf (variable_kind ov) (scalar_of oh)
-  load_good None oh k f e = absurd cc
-  load_good (Some v) None k f e = absurd f
-  load_good (Some v) (Some (held.Int z)) k f e = ap (λ (n : ℕ). scalar_kind n) f
-  load_good (Some v) (Some (held.Bit b)) k f e = ap (λ (n : ℕ). scalar_kind n) f
-  load_good (Some v) (Some (held.Ints zs)) k f e = absurd (let none = ap (λ (n : ℕ). scalar_kind n) f.0 in cc)
-  load_good (Some v) (Some (held.Bits bs)) k f e = absurd (let none = ap (λ (n : ℕ). scalar_kind n) f.0 in cc)
-
-  binary_good : (clear : Bool) (to : Option ℕ) (o : Option Operator) → CombinesAt o →
-      Each variables (sides_of o) (λ vs. MadeGood (result_of o) clear to (two vs (operated_by o)))
-  binary_good clear to None c = absurd c
-  binary_good clear to (Some o) c =
-      each_more (Some o.sides) (λ x. EachOf (Some o.sides) (λ y. GotOf (Some o.result) (combined o.op x y)))
-      (λ x. EachOf (Some o.sides) (λ y. MadeGood (Of o.result ∷ []) clear to (puts (combined o.op x y))))
-      (λ x. each_more (Some o.sides) (λ y. GotOf (Some o.result) (combined o.op x y))
-      (λ y. MadeGood (Of o.result ∷ []) clear to (puts (combined o.op x y)))
-      (λ y. puts_good clear to (Of o.result) (combined o.op x y))) c
-
-  unary_good : (clear : Bool) (to : Option ℕ) (o : Option ValueKind) (g : Option (Value → Got Value)) → Signs o g →
-      Each variables (slot_of o) (λ vs. MadeGood (slot_of o) clear to (one vs (signed_by g)))
-  unary_good clear to None g c = absurd c
-  unary_good clear to (Some k) None c = absurd c
-  unary_good clear to (Some k) (Some result) c =
-      each_more (Some k) (λ x. GotOf (Some k) (result x)) (λ x. MadeGood (Of k ∷ []) clear to (puts (result x)))
-      (λ x. puts_good clear to (Of k) (result x)) c
-
-  abbrev PartsGood : List PrintPart → List Value → Type 0
-  PartsGood list vs = TextGood (parts_text entries constants list vs)
-
-  -- each part of a Print finds its text or its operand
-  parts_good : (list : List PrintPart) → All (IsPart (length constants.texts)) list → Each variables (part_slots list) (PartsGood list)
-  parts_good [] r = tt
-  parts_good (parts.Text n ∷ rest) r =
-      let there : IsThere (slice_get constants.texts n) = text_there n constants.texts (r 0 parts.Int (omega arith)) in
-      each_map variables (part_slots rest) (PartsGood rest) (PartsGood (parts.Text n ∷ rest))
-      (λ vs. text_good (slice_get constants.texts n) (parts_text entries constants rest vs) there)
-      (parts_good rest (λ j d h. r (suc j) d (omega arith)))
-  parts_good (parts.Int ∷ rest) r = λ z.
-      each_map variables (part_slots rest) (PartsGood rest) (λ vs. PartsGood (parts.Int ∷ rest) (Int z ∷ vs))
-      (λ vs. value_good (Int z) (parts_text entries constants rest vs))
-      (parts_good rest (λ j d h. r (suc j) d (omega arith)))
-  parts_good (parts.Bit ∷ rest) r = λ b.
-      each_map variables (part_slots rest) (PartsGood rest) (λ vs. PartsGood (parts.Bit ∷ rest) (Bit b ∷ vs))
-      (λ vs. value_good (Bit b) (parts_text entries constants rest vs))
-      (parts_good rest (λ j d h. r (suc j) d (omega arith)))
-  parts_good (parts.Char ∷ rest) r = λ z.
-      each_map variables (part_slots rest) (PartsGood rest) (λ vs. PartsGood (parts.Char ∷ rest) (Int z ∷ vs))
-      (λ vs. character_good (is_index z 256) z (parts_text entries constants rest vs))
-      (parts_good rest (λ j d h. r (suc j) d (omega arith)))
-
-  jumps_good : (to : Option ℕ) (s : State) → IsTarget to → Good s → TurnedGood (jumps_to to s)
-  jumps_good None s there good = absurd there
-  jumps_good (Some to) s there good = (there, good)
-
-  emitted_good : (events : List Event) (ops : List Value) (s : State) (after : List ValueKind) → kinds_of ops ≡ after →
-      Good s → StepGood after (emitted events ops s)
-  emitted_good [] ops s after e good = (e, good)
-  emitted_good (event ∷ events) ops s after e good = (e, good)
-
-  module _ (s : State) (good : Good s) where
-    printed_good : (clear : Bool) (to : Option ℕ) (text : Got (List ℕ)) → TextGood text →
-        MadeGood [] clear to (does (printed text s))
-    printed_good clear to (Known bytes) h = (λ below. refl, good)
-    printed_good clear to (Faults k) h = tt
-    printed_good clear to Stuck h = absurd h
-
-    wrote_good : (g : Got Did) → IsGot (Writes variables s) g → MadeGood [] false None (does g)
-    wrote_good (Known (did.Falls events t)) h =
-        let good_now : Good t = record {
-          variables_fit = h.1;
-          chosen_below = subst (AllBelow procedures) (sym h.0) good.chosen_below;
-        } in
-        (λ below. refl, good_now)
-    wrote_good (Known _) h = absurd h
-    wrote_good (Faults k) h = tt
-    wrote_good Stuck h = absurd h
-
-    way_good : (to : ℕ) → IsPlace to → (b : Bool) → MadeGood [] true (Some to) (Known (Does (way_of b s)))
-    way_good to there true = (λ below. refl, good)
-    way_good to there false = (refl, there, good)
-
-    stored : (n : ℕ) (v : VarDef) (h : Held) → slice_get variables n ≡ Some v → Fits v h →
-        Good (record s { store = record { variables = slice_set s.store.variables n h } })
-    stored n v h at f = record {
-      variables_fit = fit_set variables s.store.variables n v h good.variables_fit at f;
-      chosen_below = good.chosen_below;
-    }
-
-    abbrev Stores : ℕ → Option Held → Value → Type 0
-    Stores n oh x = MadeGood [] false None (does (written s (scalar_written s.store.variables n oh x)))
-
-    store_good : (n : ℕ) (ov : Option VarDef) (oh : Option Held) (x : Value) → slice_get variables n ≡ ov → FitAt ov oh →
-        variable_kind ov ≡ Some (kind_of x) → Stores n oh x
-    store_good n None oh x at f e = absurd cc
-    store_good n (Some v) None x at f e = absurd f
-    store_good n (Some v) (Some (held.Int old)) (Int z) at f e = (λ below. refl, stored n v (held.Int z) at f)
-    store_good n (Some v) (Some (held.Bit old)) (Bit b) at f e = (λ below. refl, stored n v (held.Bit b) at f)
-    store_good n (Some v) (Some (held.Int old)) (Bit b) at f e = absurd (let int = ap (λ (n : ℕ). scalar_kind n) f in cc)
-    store_good n (Some v) (Some (held.Bit old)) (Int z) at f e = absurd (let bit = ap (λ (n : ℕ). scalar_kind n) f in cc)
-    store_good n (Some v) (Some (held.Ints zs)) x at f e = absurd (let none = ap (λ (n : ℕ). scalar_kind n) f.0 in cc)
-    store_good n (Some v) (Some (held.Bits bs)) x at f e = absurd (let none = ap (λ (n : ℕ). scalar_kind n) f.0 in cc)
-
   -- where the procedures begin are places
   module _ (begin : (p : ℕ) → p < procedures → IsPlace (entry_of entries p)) where
     pub chosen_good : (s : State) → Good s → (ps : List ℕ) → AllBelow procedures ps →
         TurnedGood (next_chosen (entry_of entries) s ps)
     chosen_good s good [] below = tt
     chosen_good s good (p ∷ ps) below =
-        (begin p below.0, record { variables_fit = good.variables_fit; chosen_below = below.1 })
+        (begin p below.0, record { variables_fit = good.variables_fit; chosen_below = below.1; records_placed = good.records_placed })
 
-    module _
-        (s : State) (good : Good s) (gs : List Slot) (clear : Bool) (to : Option ℕ) (ops : List Value) (mid after : List ValueKind)
-        (left : left_by clear (kinds_of ops) ≡ Some mid) (on : all_on variables gs mid ≡ Some after) where
-      none_below : clear ≡ true → ops ≡ []
-      none_below e = none_are_left ops mid (ap (λ c. left_by c (kinds_of ops)) (sym e) ∙ left)
+  -- the instruction that stands here
+  module _ (here : ℕ) where
+    -- the slots give these kinds
+    abbrev Adds : List Slot → List ValueKind → Type 0
+    Adds gs new = (below : List ValueKind) → all_on variables gs below ≡ Some (new ++ below)
 
-      -- the operands behind what was made
-      kinds_above : (new : List ValueKind) → Adds gs new → new ++ kinds_of ops ≡ after
-      kinds_above new adds =
-          let all : Some (new ++ mid) ≡ Some after = sym (adds mid) ∙ on in
-          ap (λ ks. new ++ ks) (are_left clear (kinds_of ops) mid left) ∙ cc
+    abbrev IsTarget : Option ℕ → Type 0
+    IsTarget None = ⊥
+    IsTarget (Some to) = IsPlace to
 
-      -- what was made leads on as its columns say
-      made_good : (g : Got Made) → MadeGood gs clear to g → StepGood after (on_made entries to ops s g)
-      made_good (Known (Puts v)) m = (kinds_above (kind_of v ∷ []) m, good)
-      made_good (Known (PutsTwo x y)) m = (kinds_above (kind_of y ∷ kind_of x ∷ []) m, good)
-      made_good (Known (Does (did.Falls events t))) m = emitted_good events ops t after (kinds_above [] m.0) m.1
-      made_good (Known (Does (did.Jumps t))) m = (none_below m.0, jumps_good to t m.1 m.2)
-      made_good (Known (Does (did.Returns t))) m = (none_below m.0, chosen_good t m.1 t.chosen m.1.chosen_below)
-      made_good (Known (Does (did.Ends ending t))) m = (none_below m, tt)
-      made_good (Faults k) m = tt
-      made_good Stuck m = absurd m
+    -- what an instruction makes of its operands is what its columns say
+    abbrev MadeGood : List Slot → Bool → Option ℕ → Got Made → Type 0
+    MadeGood gs clear to (Known (Puts v)) = Adds gs (kind_of v ∷ [])
+    MadeGood gs clear to (Known (PutsFrom v t)) = Adds gs (kind_of v ∷ []) × Good t
+    MadeGood gs clear to (Known (PutsTwo x y)) = Adds gs (kind_of y ∷ kind_of x ∷ [])
+    MadeGood gs clear to (Known (Does (did.Falls events t))) = Adds gs [] × Good t
+    MadeGood gs clear to (Known (Does (did.Jumps t))) = (clear ≡ true) × IsTarget to × Good t
+    MadeGood gs clear to (Known (Does (did.Resumes place t))) = (clear ≡ true) × IsPlace place × Good t
+    MadeGood gs clear to (Known (Does (did.Returns t))) = (clear ≡ true) × Good t
+    MadeGood gs clear to (Known (Does (did.Ends ending t))) = clear ≡ true
+    MadeGood gs clear to (Faults k) = Unit {0}
+    MadeGood gs clear to Stuck = ⊥
 
-    module _
-        (entry : ℕ) (procedure : List Instr) (targets : (to : ℕ) → is_target entry procedure to ≡ true → IsPlace to) (s : State)
-        (good : Good s) (here : ℕ) (after : List ValueKind) where
-      abbrev Makes : Instr → List Value → Type 0
-      Makes x vs = MadeGood (gives x) (clears x) (lands here x) (made entries constants x vs s)
+    puts_good : (clear : Bool) (to : Option ℕ) (slot : Slot) (g : Got Value) → GotOf (slot_kind variables slot) g →
+        MadeGood (slot ∷ []) clear to (puts g)
+    puts_good clear to slot (Known v) e = λ below. ap (λ o. then_kinds (put_on o below) (all_on variables [])) e
+    puts_good clear to slot (Faults k) e = tt
+    puts_good clear to slot Stuck e = absurd e
 
-      fits : (n : ℕ) → FitAt (slice_get variables n) (slice_get s.store.variables n)
-      fits n = fit_at variables s.store.variables n good.variables_fit
+    bit_good : (b : ℕ) → b ≤ 1 → GotOf (Some kinds.Bit) (bit_of b)
+    bit_good zero h = refl
+    bit_good (suc zero) h = refl
+    bit_good (suc (suc b)) h = absurd (omega arith)
 
-      abbrev Stands : Instr → Type 0
-      Stands x = IsInstr variables (length constants.literals) (length constants.texts) x
+    passed_good : (b : Bool) (z : ℤ) → GotOf (Some kinds.Int) (passed b BadChar (Int z))
+    passed_good true z = refl
+    passed_good false z = tt
 
-      -- its variables are what they have to be
-      abbrev IsMet : Instr → Type 0
-      IsMet x = list_all (is_met variables) (wants x) ≡ true
+    kept_good : (x y : ℤ) (g : Got Value) → IsAnswer g →
+        MadeGood (Of kinds.Int ∷ Of kinds.Int ∷ []) false None (then_get g (λ z. Known (PutsTwo (Int x) (Int y))))
+    kept_good x y (Known z) h = λ below. refl
+    kept_good x y (Faults k) h = tt
+    kept_good x y Stuck h = absurd h
 
-      resolves : (source : Source) → IsSource (length variables) (length constants.literals) source →
-          list_all (is_met variables) (source_wants source) ≡ true → Resolves variables constants.literals s.store.variables source
-      resolves source = source_good variables constants.literals s.store.variables source good.variables_fit
+    is_put : (o : Option ValueKind) (mid after : List ValueKind) → then_kinds (put_on o mid) (all_on variables []) ≡ Some after →
+        (k : ValueKind) × (o ≡ Some k)
+    is_put None mid after e = absurd cc
+    is_put (Some k) mid after e = (k, refl)
 
-      -- a line for each instruction
-      row_good : (x : Instr) (mid : List ValueKind) → all_on variables (gives x) mid ≡ Some after → IsMet x →
-          leads_well entry procedure x ≡ true → Stands x → (is_turn (Some x) ≡ true → IsPlace here) → Each variables (takes x) (Makes x)
-      row_good (Turn piece) mid on met leads r at = (refl, at refl, good)
-      row_good (Push z) mid on met leads r at = λ below. refl
-      row_good (PushBit b) mid on met leads r at = puts_good false None (Of kinds.Bit) (bit_of b) (bit_good b r)
-      row_good (Load n) mid on met leads r at =
-          let kind = is_put (variable_kind (slice_get variables n)) mid after on in
-          puts_good false None (OfScalar n) (scalar_of (slice_get s.store.variables n))
-          (load_good (slice_get variables n) (slice_get s.store.variables n) kind.0 (fits n) kind.1)
-      row_good (LoadAt n) mid on met leads r at = λ i.
-          let kind = is_put (element_kind (slice_get variables n)) mid after on in
-          puts_good false None (OfElement n) (element_of (slice_get s.store.variables n) (Int i))
-          (element_good (slice_get variables n) (slice_get s.store.variables n) kind.0 i (fits n) kind.1)
-      row_good (CheckIndex n) mid on met leads r at = λ i.
-          let array = (and_parts (is_met variables (AnArray n)) true met).0 in
-          puts_good false None (Of kinds.Int) (index_held (slice_get s.store.variables n) (Int i))
-          (index_good (slice_get variables n) (slice_get s.store.variables n) i (fits n) array)
-      row_good (CheckRange n) mid on met leads r at = λ high low.
-          let bits = (and_parts (is_met variables (OfBits n)) true met).0 in
-          kept_good high low (range_held (slice_get s.store.variables n) (Int high) (Int low))
-          (range_good (slice_get variables n) (slice_get s.store.variables n) (fits n) bits high low)
-      row_good (Store n) mid on met leads r at =
-          each_of (variable_kind (slice_get variables n)) (Stores s good n (slice_get s.store.variables n))
-          (λ v. store_good s good n (slice_get variables n) (slice_get s.store.variables n) v refl (fits n))
-      row_good (StoreAt n) mid on met leads r at = λ i.
-          each_of (element_kind (slice_get variables n)) (λ v. Makes (StoreAt n) (Int i ∷ v ∷ []))
-          (λ v e. wrote_good s good (element_assigned n (Int i ∷ v ∷ []) s)
-          (element_stored variables s good.variables_fit n (slice_get variables n) (slice_get s.store.variables n) i v refl (fits n) e))
-      row_good (Unary op) mid on met leads r at =
-          unary_good false None (slice_get unary_kinds op) (slice_get unary_results op) (signed_good op r)
-      row_good (Binary op) mid on met leads r at = binary_good false None (slice_get operator_table op) (combined_good op r)
-      row_good (ToInt source) mid on met leads r at =
-          let integer : List Value → Got Value =
-          λ vs. then_get (known_source constants.literals source) (λ from. source_integer s.store.variables from vs)
-          in
-          each_map variables (source_slots source) (λ vs. GotOf (Some kinds.Int) (integer vs)) (Makes (ToInt source))
-          (λ vs. puts_good false None (Of kinds.Int) (integer vs))
-          (integer_good variables constants.literals s.store.variables source (resolves source r met))
-      row_good (CopyBits dest source) mid on met leads r at =
-          let both = and_parts (is_met variables (dest_want dest)) (list_all (is_met variables) (source_wants source)) met in
-          each_map variables (dest_slots dest (source_slots source)) (Copies variables s good.variables_fit constants.literals dest source)
-          (Makes (CopyBits dest source))
-          (λ vs. wrote_good s good (then_get (known_source constants.literals source) (λ from. copied (target_of dest) from vs s)))
-          (copy_good variables s good.variables_fit constants.literals dest source both.0 (resolves source r.1 both.1))
-      row_good (SetBits n literal) mid on met leads r at =
-          let bits = (and_parts (is_met variables (OfBits n)) true met).0 in
-          wrote_good s good (then_get (known_literal (slice_get constants.literals literal)) (λ from. copied (IntoWhole n) from [] s))
-          (bits_good variables s good.variables_fit constants.literals n literal bits r.1)
-      row_good (SetInts n list) mid on met leads r at =
-          let integers = (and_parts (is_met variables (OfInts n)) true met).0 in
-          wrote_good s good (integers_set n list [] s) (integers_good variables s good.variables_fit n list integers)
-      row_good (Jump to) mid on met leads r at = (refl, targets to leads, good)
-      row_good (JumpIfZero to) mid on met leads r at = way_good s good to (targets to leads)
-      row_good EndProc mid on met leads r at = (refl, good)
-      row_good (Print list) mid on met leads r at =
-          each_map variables (part_slots list) (PartsGood list) (Makes (Print list))
-          (λ vs. printed_good s good false None (parts_text entries constants list vs)) (parts_good list r.1)
-      row_good CheckChar mid on met leads r at = λ z.
-          puts_good false None (Of kinds.Int) (passed (is_index z 256) BadChar (Int z)) (passed_good (is_index z 256) z)
-      row_good Exit mid on met leads r at = λ z. refl
+    load_good : (ov : Option VarDef) (oh : Option Held) (k : ValueKind) → FitAt ov oh → variable_kind ov ≡ Some k →
+        GotOf (variable_kind ov) (scalar_of oh)
+    load_good None oh k f e = absurd cc
+    load_good (Some v) None k f e = absurd f
+    load_good (Some v) (Some (held.Int z)) k f e = ap (λ (n : ℕ). scalar_kind n) f
+    load_good (Some v) (Some (held.Bit b)) k f e = ap (λ (n : ℕ). scalar_kind n) f
+    load_good (Some v) (Some (held.Ints zs)) k f e = absurd (let none = ap (λ (n : ℕ). scalar_kind n) f.0 in cc)
+    load_good (Some v) (Some (held.Bits bs)) k f e = absurd (let none = ap (λ (n : ℕ). scalar_kind n) f.0 in cc)
 
-      pub step_good : (x : Instr) (ops : List Value) → kinds_behind variables x (kinds_of ops) ≡ Some after →
-          leads_well entry procedure x ≡ true → Stands x → (is_turn (Some x) ≡ true → IsPlace here) →
-          StepGood after (step entries constants here x ops s)
-      step_good x ops e leads r at =
-          let behind : List ValueKind → Option (List ValueKind) = λ ks. then_kinds (left_by (clears x) ks) (all_on variables (gives x)) in
-          let both = met_and_behind variables x (kinds_of ops) after e in
-          let off = then_some (all_off variables (takes x) (kinds_of ops)) behind after both.1 in
-          let on = then_some (left_by (clears x) off.0) (all_on variables (gives x)) after off.2 in
-          let t = taken_as variables (takes x) 0 [] ops off.0 off.1 in
-          let count : length (takes x) ≡ length (takes x) + 0 = omega arith in
-          let go : List Value → List Value → Step = λ vs ops. on_made entries (lands here x) ops s (made entries constants x vs s) in
-          let is : on_taken (taken (length (takes x)) ops) go ≡ go t.values t.rest =
-          ap (λ (n : ℕ). on_taken (taken_onto n [] ops) go) count
-          ∙ ap (λ o. on_taken o go) t.are
-          ∙ ap (λ vs. go vs t.rest) (append-nil t.values)
-          in
-          let makes = each_at variables (takes x) (Makes x) (row_good x on.0 on.2 both.0 leads r at) t.values t.fill in
-          let left = ap (left_by (clears x)) t.left ∙ on.1 in
-          subst (StepGood after) (sym is)
-          (made_good s good (gives x) (clears x) (lands here x) t.rest on.0 after left on.2 (made entries constants x t.values s) makes)
+    binary_good : (clear : Bool) (to : Option ℕ) (o : Option Operator) → CombinesAt o →
+        Each variables (sides_of o) (λ vs. MadeGood (result_of o) clear to (two vs (operated_by o)))
+    binary_good clear to None c = absurd c
+    binary_good clear to (Some o) c =
+        each_more (Some o.sides) (λ x. EachOf (Some o.sides) (λ y. GotOf (Some o.result) (combined o.op x y)))
+        (λ x. EachOf (Some o.sides) (λ y. MadeGood (Of o.result ∷ []) clear to (puts (combined o.op x y))))
+        (λ x. each_more (Some o.sides) (λ y. GotOf (Some o.result) (combined o.op x y))
+        (λ y. MadeGood (Of o.result ∷ []) clear to (puts (combined o.op x y)))
+        (λ y. puts_good clear to (Of o.result) (combined o.op x y))) c
+
+    unary_good : (clear : Bool) (to : Option ℕ) (o : Option ValueKind) (g : Option (Value → Got Value)) → Signs o g →
+        Each variables (slot_of o) (λ vs. MadeGood (slot_of o) clear to (one vs (signed_by g)))
+    unary_good clear to None g c = absurd c
+    unary_good clear to (Some k) None c = absurd c
+    unary_good clear to (Some k) (Some result) c =
+        each_more (Some k) (λ x. GotOf (Some k) (result x)) (λ x. MadeGood (Of k ∷ []) clear to (puts (result x)))
+        (λ x. puts_good clear to (Of k) (result x)) c
+
+    abbrev PartsGood : List PrintPart → List Value → Type 0
+    PartsGood list vs = TextGood (parts_text entries constants list vs)
+
+    -- each part of a Print finds its text or its operand
+    parts_good : (list : List PrintPart) → All (IsPart (length constants.texts)) list → Each variables (part_slots list) (PartsGood list)
+    parts_good [] r = tt
+    parts_good (parts.Text n ∷ rest) r =
+        let there : IsThere (slice_get constants.texts n) = text_there n constants.texts (r 0 parts.Int (omega arith)) in
+        each_map variables (part_slots rest) (PartsGood rest) (PartsGood (parts.Text n ∷ rest))
+        (λ vs. text_good (slice_get constants.texts n) (parts_text entries constants rest vs) there)
+        (parts_good rest (λ j d h. r (suc j) d (omega arith)))
+    parts_good (parts.Int ∷ rest) r = λ z.
+        each_map variables (part_slots rest) (PartsGood rest) (λ vs. PartsGood (parts.Int ∷ rest) (Int z ∷ vs))
+        (λ vs. value_good (Int z) (parts_text entries constants rest vs))
+        (parts_good rest (λ j d h. r (suc j) d (omega arith)))
+    parts_good (parts.Bit ∷ rest) r = λ b.
+        each_map variables (part_slots rest) (PartsGood rest) (λ vs. PartsGood (parts.Bit ∷ rest) (Bit b ∷ vs))
+        (λ vs. value_good (Bit b) (parts_text entries constants rest vs))
+        (parts_good rest (λ j d h. r (suc j) d (omega arith)))
+    parts_good (parts.Char ∷ rest) r = λ z.
+        each_map variables (part_slots rest) (PartsGood rest) (λ vs. PartsGood (parts.Char ∷ rest) (Int z ∷ vs))
+        (λ vs. character_good (is_index z 256) z (parts_text entries constants rest vs))
+        (parts_good rest (λ j d h. r (suc j) d (omega arith)))
+
+    jumps_good : (to : Option ℕ) (s : State) → IsTarget to → Good s → TurnedGood (jumps_to to s)
+    jumps_good None s there good = absurd there
+    jumps_good (Some to) s there good = (there, good)
+
+    -- a value as one of a kind is of that kind
+    kind_as : (kind : ValueKind) (z : ℤ) → kind_of (value_as kind z) ≡ kind
+    kind_as kinds.Int z = refl
+    kind_as kinds.Bit z = refl
+
+    emitted_good : (events : List Event) (ops : List Value) (s : State) (after : List ValueKind) → kinds_of ops ≡ after →
+        Good s → StepGood after (emitted events ops s)
+    emitted_good [] ops s after e good = (e, good)
+    emitted_good (event ∷ events) ops s after e good = (e, good)
+
+    module _ (s : State) (good : Good s) where
+      printed_good : (clear : Bool) (to : Option ℕ) (text : Got (List ℕ)) → TextGood text →
+          MadeGood [] clear to (does (printed text s))
+      printed_good clear to (Known bytes) h = (λ below. refl, good)
+      printed_good clear to (Faults k) h = tt
+      printed_good clear to Stuck h = absurd h
+
+      wrote_good : (g : Got Did) → IsGot (Writes variables s) g → MadeGood [] false None (does g)
+      wrote_good (Known (did.Falls events t)) h =
+          let good_now : Good t = record {
+            variables_fit = h.1;
+            chosen_below = subst (AllBelow procedures) (sym h.0) good.chosen_below;
+            records_placed = subst (ArePlaced IsPlace) (sym h.2) good.records_placed;
+          } in
+          (λ below. refl, good_now)
+      wrote_good (Known _) h = absurd h
+      wrote_good (Faults k) h = tt
+      wrote_good Stuck h = absurd h
+
+      way_good : (to : ℕ) → IsPlace to → (b : Bool) → MadeGood [] true (Some to) (Known (Does (way_of b s)))
+      way_good to there true = (λ below. refl, good)
+      way_good to there false = (refl, there, good)
+
+      stored : (n : ℕ) (v : VarDef) (h : Held) → slice_get variables n ≡ Some v → Fits v h →
+          Good (record s { store = record { variables = slice_set s.store.variables n h } })
+      stored n v h at f = record {
+        variables_fit = fit_set variables s.store.variables n v h good.variables_fit at f;
+        chosen_below = good.chosen_below;
+        records_placed = good.records_placed;
+      }
+
+      with_placed : (records : List Record) → ArePlaced IsPlace records → Good (with_records s records)
+      with_placed records placed = record { variables_fit = good.variables_fit; chosen_below = good.chosen_below; records_placed = placed }
+
+      pushed_good : (v : Value) (room : Bool) →
+          MadeGood [] false None (does (if room then Known (did.Falls [] (with_records s (Pushed (number_of v) ∷ s.records))) else Faults RecordsFull))
+      pushed_good v true = (λ below. refl, with_placed (Pushed (number_of v) ∷ s.records) good.records_placed)
+      pushed_good v false = tt
+
+      popped_good : (kind : ValueKind) (records : List Record) → ArePlaced IsPlace records →
+          MadeGood (Of kind ∷ []) false None (unrecorded (topmost kind records) s)
+      popped_good kind [] placed = tt
+      popped_good kind (Pushed z ∷ records) placed =
+          (λ below. ap (λ k. Some (k ∷ below)) (sym (kind_as kind z)), with_placed records placed)
+      popped_good kind (Called place ∷ records) placed = tt
+      popped_good kind (Looped l ∷ records) placed = tt
+
+      called_good : (to : ℕ) → IsPlace to → IsPlace (suc here) → (room : Bool) →
+          MadeGood [] true (Some to) (does (if room then Known (did.Jumps (with_records s (Called (suc here) ∷ s.records))) else Faults RecordsFull))
+      called_good to there behind true = (refl, there, with_placed (Called (suc here) ∷ s.records) (behind, good.records_placed))
+      called_good to there behind false = tt
+
+      returned_good : (records : List Record) → ArePlaced IsPlace records → MadeGood [] true None (Known (Does (returned_from records s)))
+      returned_good [] placed = (refl, with_placed [] tt)
+      returned_good (Pushed z ∷ records) placed = returned_good records placed
+      returned_good (Called place ∷ records) placed = (refl, placed.0, with_placed records placed.1)
+      returned_good (Looped l ∷ records) placed = returned_good records placed.1
+
+      -- a loop whose variable is an INTEGER scalar, with an integer in it
+      loop_good : (l : Loop) (records : List Record) (z : ℤ) → IsPlace l.place → ArePlaced IsPlace records →
+          is_of_kind 0 (slice_get variables l.variable) ≡ true → IsGot Good (with_loop l records z s)
+      loop_good l records z place placed kind =
+          by (slice_get variables l.variable) (slice_get s.store.variables l.variable) refl
+          (fit_at variables s.store.variables l.variable good.variables_fit) kind
+        where
+          by : (ov : Option VarDef) (oh : Option Held) → slice_get variables l.variable ≡ ov → FitAt ov oh → is_of_kind 0 ov ≡ true →
+              IsGot Good
+              (then_get (scalar_written s.store.variables l.variable oh (Int z)) (λ list. Known (with_variables (with_records s (Looped l ∷ records)) list)))
+          by None oh at f e = absurd cc
+          by (Some v) None at f e = absurd f
+          by (Some v) (Some (held.Int old)) at f e = record {
+            variables_fit = fit_set variables s.store.variables l.variable v (held.Int z) good.variables_fit at f;
+            chosen_below = good.chosen_below;
+            records_placed = (place, placed);
+          }
+          by (Some v) (Some (held.Bit old)) at f e = absurd (let other = ap (λ (n : ℕ). n == 0) f in cc)
+          by (Some v) (Some (held.Ints old)) at f e = absurd (let other = ap (λ (n : ℕ). n == 0) f.0 in cc)
+          by (Some v) (Some (held.Bits old)) at f e = absurd (let other = ap (λ (n : ℕ). n == 0) f.0 in cc)
+
+      begun_good : (g : Got State) → IsGot Good g → MadeGood [] true None (does (then_get g (λ t. Known (did.Falls [] t))))
+      begun_good (Known t) h = (λ below. refl, h)
+      begun_good (Faults k) h = tt
+      begun_good Stuck h = absurd h
+
+      looped_good : (n body : ℕ) (first limit step : ℤ) → IsPlace body → is_of_kind 0 (slice_get variables n) ≡ true →
+          MadeGood [] true None (does (looped n body (Int first ∷ Int limit ∷ Int step ∷ []) s))
+      looped_good n body first limit step place kind =
+          by (int_eq step (pos 0)) (nat_lt (length s.records) record_limit)
+        where
+          l : Loop
+          l = record { variable = n; limit = limit; step = step; place = body }
+
+          by : (zero room : Bool) → MadeGood [] true None (does
+              (if zero then Faults ZeroStep else (if room then then_get (with_loop l s.records first s) (λ t. Known (did.Falls [] t)) else Faults RecordsFull)))
+          by true room = tt
+          by false true = begun_good (with_loop l s.records first s) (loop_good l s.records first place good.records_placed kind)
+          by false false = tt
+
+      gone_good : (l : Loop) (g : Got State) → IsPlace l.place → IsGot Good g →
+          MadeGood [] true None (does (then_get g (λ t. Known (did.Resumes l.place t))))
+      gone_good l (Known t) place h = (refl, place, h)
+      gone_good l (Faults k) place h = tt
+      gone_good l Stuck place h = absurd h
+
+      round_good : (l : Loop) (records : List Record) (z : ℤ) → IsPlace l.place → ArePlaced IsPlace records →
+          is_of_kind 0 (slice_get variables l.variable) ≡ true → MadeGood [] true None (does (went_round l records z s))
+      round_good l records z place placed kind = by (is_over l z)
+        where
+          next : ℤ
+          next = int_wrap w32 (z +ℤ l.step)
+
+          by : (over : Bool) → MadeGood [] true None (does
+              (if over then Known (did.Falls [] (with_records s records)) else then_get (with_loop l records next s) (λ t. Known (did.Resumes l.place t))))
+          by true = (λ below. refl, with_placed records placed)
+          by false = gone_good l (with_loop l records next s) place (loop_good l records next place placed kind)
+
+      -- an INTEGER scalar holds an integer
+      integer_good_at : (ov : Option VarDef) (oh : Option Held) → FitAt ov oh → is_of_kind 0 ov ≡ true → IsAnswer (integer_held oh)
+      integer_good_at None oh f e = absurd cc
+      integer_good_at (Some v) None f e = absurd f
+      integer_good_at (Some v) (Some (held.Int z)) f e = tt
+      integer_good_at (Some v) (Some (held.Bit b)) f e = absurd (let other = ap (λ (n : ℕ). n == 0) f in cc)
+      integer_good_at (Some v) (Some (held.Ints zs)) f e = absurd (let other = ap (λ (n : ℕ). n == 0) f.0 in cc)
+      integer_good_at (Some v) (Some (held.Bits bs)) f e = absurd (let other = ap (λ (n : ℕ). n == 0) f.0 in cc)
+
+      repeated_good : (n : ℕ) → is_of_kind 0 (slice_get variables n) ≡ true → (records : List Record) → ArePlaced IsPlace records →
+          MadeGood [] true None (does (then_get (nearest_loop n records) (λ top.
+          then_get (integer_held (slice_get s.store.variables n)) (λ z. went_round top.0 top.1 z s))))
+      repeated_good n kind [] placed = tt
+      repeated_good n kind (Pushed z ∷ records) placed = tt
+      repeated_good n kind (Called place ∷ records) placed = tt
+      repeated_good n kind (Looped l ∷ records) placed = by (l.variable == n) refl (repeated_good n kind records placed.1)
+        where
+          counts : (g : Got ℤ) → IsAnswer g → l.variable ≡ n → MadeGood [] true None (does (then_get g (λ z. went_round l records z s)))
+          counts (Known z) h same = round_good l records z placed.0 placed.1 (ap (λ (m : ℕ). is_of_kind 0 (slice_get variables m)) same ∙ kind)
+          counts (Faults k) h same = tt
+          counts Stuck h same = absurd h
+
+          by : (own : Bool) → l.variable == n ≡ own → MadeGood [] true None (does (then_get (nearest_loop n records) (λ top.
+              then_get (integer_held (slice_get s.store.variables n)) (λ z. went_round top.0 top.1 z s)))) →
+              MadeGood [] true None (does (then_get (if own then Known (l, records) else nearest_loop n records) (λ top.
+              then_get (integer_held (slice_get s.store.variables n)) (λ z. went_round top.0 top.1 z s))))
+          by true e others =
+              counts (integer_held (slice_get s.store.variables n))
+              (integer_good_at (slice_get variables n) (slice_get s.store.variables n) (fit_at variables s.store.variables n good.variables_fit) kind)
+              (eqb-true l.variable n e)
+          by false e others = others
+
+      -- what is exported
+      exports_good : (key : List ℕ) (g : Got (List Bool)) → IsAnswer g →
+          MadeGood [] false None (does (then_get g (λ bits. Known (did.Falls (events.Export key (Array bits) ∷ []) s))))
+      exports_good key (Known bits) h = (λ below. refl, good)
+      exports_good key (Faults k) h = tt
+      exports_good key Stuck h = absurd h
+
+      -- the key is there
+      keyed_good : (o : Option (List ℕ)) → IsThere o → (go : List ℕ → Got Did) → ((key : List ℕ) → MadeGood [] false None (does (go key))) →
+          MadeGood [] false None (does (then_get (known_text o) go))
+      keyed_good None there go all = absurd there
+      keyed_good (Some key) there go all = all key
+
+      abbrev Stores : ℕ → Option Held → Value → Type 0
+      Stores n oh x = MadeGood [] false None (does (written s (scalar_written s.store.variables n oh x)))
+
+      store_good : (n : ℕ) (ov : Option VarDef) (oh : Option Held) (x : Value) → slice_get variables n ≡ ov → FitAt ov oh →
+          variable_kind ov ≡ Some (kind_of x) → Stores n oh x
+      store_good n None oh x at f e = absurd cc
+      store_good n (Some v) None x at f e = absurd f
+      store_good n (Some v) (Some (held.Int old)) (Int z) at f e = (λ below. refl, stored n v (held.Int z) at f)
+      store_good n (Some v) (Some (held.Bit old)) (Bit b) at f e = (λ below. refl, stored n v (held.Bit b) at f)
+      store_good n (Some v) (Some (held.Int old)) (Bit b) at f e = absurd (let int = ap (λ (n : ℕ). scalar_kind n) f in cc)
+      store_good n (Some v) (Some (held.Bit old)) (Int z) at f e = absurd (let bit = ap (λ (n : ℕ). scalar_kind n) f in cc)
+      store_good n (Some v) (Some (held.Ints zs)) x at f e = absurd (let none = ap (λ (n : ℕ). scalar_kind n) f.0 in cc)
+      store_good n (Some v) (Some (held.Bits bs)) x at f e = absurd (let none = ap (λ (n : ℕ). scalar_kind n) f.0 in cc)
+
+    -- where the procedures begin are places
+    module _ (begin : (p : ℕ) → p < procedures → IsPlace (entry_of entries p)) where
+      module _
+          (s : State) (good : Good s) (gs : List Slot) (clear : Bool) (to : Option ℕ) (ops : List Value) (mid after : List ValueKind)
+          (left : left_by clear (kinds_of ops) ≡ Some mid) (on : all_on variables gs mid ≡ Some after) where
+        none_below : clear ≡ true → ops ≡ []
+        none_below e = none_are_left ops mid (ap (λ c. left_by c (kinds_of ops)) (sym e) ∙ left)
+
+        -- the operands behind what was made
+        kinds_above : (new : List ValueKind) → Adds gs new → new ++ kinds_of ops ≡ after
+        kinds_above new adds =
+            let all : Some (new ++ mid) ≡ Some after = sym (adds mid) ∙ on in
+            ap (λ ks. new ++ ks) (are_left clear (kinds_of ops) mid left) ∙ cc
+
+        -- what was made leads on as its columns say
+        made_good : (g : Got Made) → MadeGood gs clear to g → StepGood after (on_made entries to ops s g)
+        made_good (Known (Puts v)) m = (kinds_above (kind_of v ∷ []) m, good)
+        made_good (Known (PutsFrom v t)) m = (kinds_above (kind_of v ∷ []) m.0, m.1)
+        made_good (Known (PutsTwo x y)) m = (kinds_above (kind_of y ∷ kind_of x ∷ []) m, good)
+        made_good (Known (Does (did.Falls events t))) m = emitted_good events ops t after (kinds_above [] m.0) m.1
+        made_good (Known (Does (did.Jumps t))) m = (none_below m.0, jumps_good to t m.1 m.2)
+        made_good (Known (Does (did.Resumes place t))) m = (none_below m.0, (m.1, m.2))
+        made_good (Known (Does (did.Returns t))) m = (none_below m.0, chosen_good begin t m.1 t.chosen m.1.chosen_below)
+        made_good (Known (Does (did.Ends ending t))) m = (none_below m, tt)
+        made_good (Faults k) m = tt
+        made_good Stuck m = absurd m
+
+      module _
+          (entry : ℕ) (procedure : List Instr) (targets : (to : ℕ) → is_target entry procedure to ≡ true → IsPlace to) (s : State)
+          (good : Good s) (after : List ValueKind) where
+        abbrev Makes : Instr → List Value → Type 0
+        Makes x vs = MadeGood (gives x) (clears x) (lands entries here x) (made entries constants here x vs s)
+
+        fits : (n : ℕ) → FitAt (slice_get variables n) (slice_get s.store.variables n)
+        fits n = fit_at variables s.store.variables n good.variables_fit
+
+        abbrev Stands : Instr → Type 0
+        Stands x = IsInstr variables (length constants.literals) (length constants.texts) procedures x
+
+        -- its variables are what they have to be
+        abbrev IsMet : Instr → Type 0
+        IsMet x = list_all (is_met variables) (wants x) ≡ true
+
+        resolves : (source : Source) → IsSource (length variables) (length constants.literals) source →
+            list_all (is_met variables) (source_wants source) ≡ true → Resolves variables constants.literals s.store.variables source
+        resolves source = source_good variables constants.literals s.store.variables source good.variables_fit
+
+        -- a line for each instruction
+        row_good : (x : Instr) (mid : List ValueKind) → all_on variables (gives x) mid ≡ Some after → IsMet x →
+            leads_well entry procedure x ≡ true → Stands x → (is_turn (Some x) ≡ true → IsPlace here) → (departs x ≡ true → IsPlace (suc here)) → Each variables (takes x) (Makes x)
+        row_good (Turn piece) mid on met leads r at behind = (refl, at refl, good)
+        row_good (Push z) mid on met leads r at behind = λ below. refl
+        row_good (PushBit b) mid on met leads r at behind = puts_good false None (Of kinds.Bit) (bit_of b) (bit_good b r)
+        row_good (Load n) mid on met leads r at behind =
+            let kind = is_put (variable_kind (slice_get variables n)) mid after on in
+            puts_good false None (OfScalar n) (scalar_of (slice_get s.store.variables n))
+            (load_good (slice_get variables n) (slice_get s.store.variables n) kind.0 (fits n) kind.1)
+        row_good (LoadAt n) mid on met leads r at behind = λ i.
+            let kind = is_put (element_kind (slice_get variables n)) mid after on in
+            puts_good false None (OfElement n) (element_of (slice_get s.store.variables n) (Int i))
+            (element_good (slice_get variables n) (slice_get s.store.variables n) kind.0 i (fits n) kind.1)
+        row_good (CheckIndex n) mid on met leads r at behind = λ i.
+            let array = (and_parts (is_met variables (AnArray n)) true met).0 in
+            puts_good false None (Of kinds.Int) (index_held (slice_get s.store.variables n) (Int i))
+            (index_good (slice_get variables n) (slice_get s.store.variables n) i (fits n) array)
+        row_good (CheckRange n) mid on met leads r at behind = λ high low.
+            let bits = (and_parts (is_met variables (OfBits n)) true met).0 in
+            kept_good high low (range_held (slice_get s.store.variables n) (Int high) (Int low))
+            (range_good (slice_get variables n) (slice_get s.store.variables n) (fits n) bits high low)
+        row_good (Store n) mid on met leads r at behind =
+            each_of (variable_kind (slice_get variables n)) (Stores s good n (slice_get s.store.variables n))
+            (λ v. store_good s good n (slice_get variables n) (slice_get s.store.variables n) v refl (fits n))
+        row_good (StoreAt n) mid on met leads r at behind = λ i.
+            each_of (element_kind (slice_get variables n)) (λ v. Makes (StoreAt n) (Int i ∷ v ∷ []))
+            (λ v e. wrote_good s good (element_assigned n (Int i ∷ v ∷ []) s)
+            (element_stored variables s good.variables_fit n (slice_get variables n) (slice_get s.store.variables n) i v refl (fits n) e))
+        row_good (Unary op) mid on met leads r at behind =
+            unary_good false None (slice_get unary_kinds op) (slice_get unary_results op) (signed_good op r)
+        row_good (Binary op) mid on met leads r at behind = binary_good false None (slice_get operator_table op) (combined_good op r)
+        row_good (ToInt source) mid on met leads r at behind =
+            let integer : List Value → Got Value =
+            λ vs. then_get (known_source constants.literals source) (λ from. source_integer s.store.variables from vs)
+            in
+            each_map variables (source_slots source) (λ vs. GotOf (Some kinds.Int) (integer vs)) (Makes (ToInt source))
+            (λ vs. puts_good false None (Of kinds.Int) (integer vs))
+            (integer_good variables constants.literals s.store.variables source (resolves source r met))
+        row_good (CopyBits dest source) mid on met leads r at behind =
+            let both = and_parts (is_met variables (dest_want dest)) (list_all (is_met variables) (source_wants source)) met in
+            each_map variables (dest_slots dest (source_slots source)) (Copies variables s good.variables_fit constants.literals dest source)
+            (Makes (CopyBits dest source))
+            (λ vs. wrote_good s good (then_get (known_source constants.literals source) (λ from. copied (target_of dest) from vs s)))
+            (copy_good variables s good.variables_fit constants.literals dest source both.0 (resolves source r.1 both.1))
+        row_good (SetBits n literal) mid on met leads r at behind =
+            let bits = (and_parts (is_met variables (OfBits n)) true met).0 in
+            wrote_good s good (then_get (known_literal (slice_get constants.literals literal)) (λ from. copied (IntoWhole n) from [] s))
+            (bits_good variables s good.variables_fit constants.literals n literal bits r.1)
+        row_good (SetInts n list) mid on met leads r at behind =
+            let integers = (and_parts (is_met variables (OfInts n)) true met).0 in
+            wrote_good s good (integers_set n list [] s) (integers_good variables s good.variables_fit n list integers)
+        row_good (For n body) mid on met leads r at behind = λ first limit step.
+            looped_good s good n body first limit step (targets body leads) (and_parts (is_met variables (AnInteger n)) true met).0
+        row_good (Next n) mid on met leads r at behind =
+            repeated_good s good n (and_parts (is_met variables (AnInteger n)) true met).0 s.records good.records_placed
+        row_good (PushRecord kind) mid on met leads r at behind =
+            each_of (Some kind) (λ v. Makes (PushRecord kind) (v ∷ []))
+            (λ v e. pushed_good s good v (nat_lt (length s.records) record_limit))
+        row_good (PopRecord kind) mid on met leads r at behind = popped_good s good kind s.records good.records_placed
+        row_good (Call p) mid on met leads r at behind =
+            called_good s good (entry_of entries p) (begin p r) (behind refl) (nat_lt (length s.records) record_limit)
+        row_good (Jump to) mid on met leads r at behind = (refl, targets to leads, good)
+        row_good (JumpIfZero to) mid on met leads r at behind = way_good s good to (targets to leads)
+        row_good EndProc mid on met leads r at behind = returned_good s good s.records good.records_placed
+        row_good (Print list) mid on met leads r at behind =
+            each_map variables (part_slots list) (PartsGood list) (Makes (Print list))
+            (λ vs. printed_good s good false None (parts_text entries constants list vs)) (parts_good list r.1)
+        row_good (Export key exports.Int) mid on met leads r at behind = λ z.
+            keyed_good s good (slice_get constants.texts key) (text_there key constants.texts r.0) (λ bytes. exported bytes (Int z ∷ []) s)
+            (λ bytes. (λ below. refl, good))
+        row_good (Export key exports.Bit) mid on met leads r at behind = λ b.
+            keyed_good s good (slice_get constants.texts key) (text_there key constants.texts r.0) (λ bytes. exported bytes (Bit b ∷ []) s)
+            (λ bytes. (λ below. refl, good))
+        row_good (Export key (exports.Array source)) mid on met leads r at behind =
+            let is = resolves source r.1 met in
+            let put : Got values.Source → List Value → List ℕ → Got Did = λ g vs bytes. then_get g (λ from. bits_exported bytes from vs s) in
+            each_map variables (source_slots source) (λ vs. IsAnswer (source_bits s.store.variables is.from vs))
+            (Makes (Export key (exports.Array source)))
+            (λ vs answer.
+            keyed_good s good (slice_get constants.texts key) (text_there key constants.texts r.0) (put (known_source constants.literals source) vs)
+            (λ bytes.
+            subst (λ g. MadeGood [] false None (does (put g vs bytes))) (sym is.known)
+            (exports_good s good bytes (source_bits s.store.variables is.from vs) answer))) is.bits
+        row_good CheckChar mid on met leads r at behind = λ z.
+            puts_good false None (Of kinds.Int) (passed (is_index z 256) BadChar (Int z)) (passed_good (is_index z 256) z)
+        row_good Exit mid on met leads r at behind = λ z. refl
+
+        pub step_good : (x : Instr) (ops : List Value) → kinds_behind variables x (kinds_of ops) ≡ Some after →
+            leads_well entry procedure x ≡ true → Stands x → (is_turn (Some x) ≡ true → IsPlace here) → (departs x ≡ true → IsPlace (suc here)) →
+            StepGood after (step entries constants here x ops s)
+        step_good x ops e leads r at behind_here =
+            let behind : List ValueKind → Option (List ValueKind) = λ ks. then_kinds (left_by (clears x) ks) (all_on variables (gives x)) in
+            let both = met_and_behind variables x (kinds_of ops) after e in
+            let off = then_some (all_off variables (takes x) (kinds_of ops)) behind after both.1 in
+            let on = then_some (left_by (clears x) off.0) (all_on variables (gives x)) after off.2 in
+            let t = taken_as variables (takes x) 0 [] ops off.0 off.1 in
+            let count : length (takes x) ≡ length (takes x) + 0 = omega arith in
+            let go : List Value → List Value → Step = λ vs ops. on_made entries (lands entries here x) ops s (made entries constants here x vs s) in
+            let is : on_taken (taken (length (takes x)) ops) go ≡ go t.values t.rest =
+            ap (λ (n : ℕ). on_taken (taken_onto n [] ops) go) count
+            ∙ ap (λ o. on_taken o go) t.are
+            ∙ ap (λ vs. go vs t.rest) (append-nil t.values)
+            in
+            let makes = each_at variables (takes x) (Makes x) (row_good x on.0 on.2 both.0 leads r at behind_here) t.values t.fill in
+            let left = ap (left_by (clears x)) t.left ∙ on.1 in
+            subst (StepGood after) (sym is)
+            (made_good s good (gives x) (clears x) (lands entries here x) t.rest on.0 after left on.2 (made entries constants here x t.values s) makes)

@@ -9,9 +9,11 @@ use Rattle.stapl_meaning.specs.declared.values.Held.{Held}
 use Rattle.stapl_meaning.specs.declared.values.Held.TheVariants as held
 use Rattle.stapl_meaning.specs.declared.values.Value.{Value}
 use Rattle.stapl_meaning.specs.declared.values.Value.TheVariants as values
+use Rattle.stapl_meaning.specs.declared.records.Record.{Record}
+use Rattle.stapl_meaning.specs.declared.records.Record.TheVariants.{Pushed, Called, Looped}
 use Rattle.stapl_meaning.specs.States.{State, Turned, Leads, Over, Broken, NoTurn, preceded, next_chosen, turn_of_piece, begun}
-use Rattle.stapl_meaning.specs.Effects.{scalar_written, written, replaced, span_written, with_integers}
-use Rattle.stapl_meaning.specs.Values.{then_get, bits_held}
+use Rattle.stapl_meaning.specs.Effects.{scalar_written, written, replaced, span_written, with_integers, returned_from}
+use Rattle.stapl_meaning.specs.Values.{Known, then_get, bits_held}
 use Rattle.stapl_meaning.specs.Plays.{goes_on, Stopped, start}
 use Rattle.stapl_meaning.specs.declared.values.ValueKind.{ValueKind}
 use Rattle.stapl_code.specs.declared.raw.VarDef.{VarDef}
@@ -19,7 +21,7 @@ use Rattle.stapl_code.specs.declared.raw.ProcDef.{ProcDef}
 use Rattle.stapl_code.specs.declared.raw.CodeLists.{CodeLists}
 use Rattle.stapl_code.specs.declared.instr.Instr.{Instr}
 use Rattle.stapl_code.specs.declared.instr.Instr.TheVariants.{Turn, Push, PushBit, Store, SetBits, SetInts, EndProc}
-use Rattle.stapl_code.specs.Machine.{does, puts, bit_of, known_literal, Step, Falls, Emits, Stops, Faulted, Wrong, on_made, entry_of, step, at_end, continues, stretch, begins, code_turn, code_run, code_play}
+use Rattle.stapl_code.specs.Machine.{Does, does, puts, bit_of, known_literal, Step, Falls, Emits, Stops, Faulted, Wrong, on_made, entry_of, step, at_end, continues, stretch, begins, code_turn, code_run, code_play}
 use Rattle.stapl_code.specs.Ranges.{IsInstr, IsInRange}
 use Rattle.stapl_code.specs.Kinds.{kinds_behind}
 use Rattle.stapl_code.specs.Valid.{is_turn, is_end, sets_up, departs, is_last, agree, kinds_kept, judged, first_of, is_target, leads_well, stands_well, prologue_break, rest_break, procedure_break, next_entry, procedures_break, entry_break, IsValid}
@@ -86,6 +88,10 @@ more_follow (x ∷ rest) e = omega arith
 turn_is_no_end : (x : Instr) → is_turn (Some x) ≡ true → is_end x ≡ false
 turn_is_no_end (Turn piece) e = refl
 turn_is_no_end _ e = absurd cc
+
+departs_is_no_end : (x : Instr) → departs x ≡ true → agree (is_end x) true ≡ true → ⊥
+departs_is_no_end EndProc e f = absurd cc
+departs_is_no_end _ e f = absurd cc
 
 is_a_turn : (x : Instr) → is_turn (Some x) ≡ true → (piece : ℕ) × (x ≡ Turn piece)
 is_a_turn (Turn piece) e = (piece, refl)
@@ -304,8 +310,15 @@ module _ (code : CodeLists) where
         let r = procedure_at code.procedures p h (λ i j d less inside. (range.procedures.in_order i j d less inside).1) within rest_ok.0 in
         subst IsPlace (sym r.entry_is) (procedure_place r.entry r.end r.some r.most r.whole (omega (arith, r.deep)))
 
+    returns_only : (ops : List Value) (s : State) (records : List Record) →
+        FallsOnly true (on_made (entries_of code.procedures) None ops s (Known (Does (returned_from records s))))
+    returns_only ops s [] = tt
+    returns_only ops s (Pushed z ∷ records) = returns_only ops s records
+    returns_only ops s (Called place ∷ records) = tt
+    returns_only ops s (Looped l ∷ records) = returns_only ops s records
+
     falls_inside : (here : ℕ) (x : Instr) (ops : List Value) (s : State) → FallsOnly (is_end x) (step (entries_of code.procedures) (constants_of code) here x ops s)
-    falls_inside here EndProc ops s = tt
+    falls_inside here EndProc ops s = returns_only ops s s.records
     falls_inside here x ops s = never_an_end (step (entries_of code.procedures) (constants_of code) here x ops s)
 
     preceded_good : (events : List Event) (t : Turned) → Ends t → Ends (preceded events t)
@@ -340,6 +353,18 @@ module _ (code : CodeLists) where
         deep = deep;
       }
 
+      -- behind an instruction that departs a turn begins
+      turn_behind : (j : ℕ) (x : Instr) (rest : List Instr) → drop j procedure ≡ x ∷ rest → (must : Bool) (ks after : List ValueKind) →
+          departs x ≡ true → stands_well entry procedure must x (is_last rest) ≡ true →
+          rest_break code.variables entry procedure (entry + j + 1) (departs x) after rest ≡ None → IsPlace (suc (entry + j))
+      turn_behind j x [] d must ks after leaves well e = absurd (departs_is_no_end x leaves (end_stands entry procedure must x true well))
+      turn_behind j x (y ∷ rest) d must ks after leaves well e =
+          let next : drop (j + 1) procedure ≡ y ∷ rest = rw add-one (drop_tail j procedure ∙ ap (drop 1) d) in
+          let judged = judged_none (kinds_behind code.variables y after) (stands_well entry procedure (departs x) y (is_last rest)) (entry + j + 1) (λ a. rest_break code.variables entry procedure (entry + j + 1 + 1) (departs y) a rest) e in
+          let turn = turn_stands entry procedure (departs x) y (is_last rest) judged.2 leaves in
+          let one : entry + (j + 1) ≡ suc (entry + j) = omega arith in
+          subst IsPlace one (turn_place (j + 1) y rest next turn)
+
       -- the rest of a turn
       rest_good : (rest : List Instr) (j : ℕ) (must : Bool) (ops : List Value) (s : State) → Ready s → drop j procedure ≡ rest → drop (entry + j) code.instrs ≡ rest ++ behind → 0 < length rest → rest_break code.variables entry procedure (entry + j) must (kinds_of ops) rest ≡ None → deepest code.variables (kinds_of ops) rest ≤ depth_of code → Safe (stretch (entries_of code.procedures) (constants_of code) total (rest ++ behind) ops s) (held (entries_of code.procedures) (constants_of code) total (rest ++ behind) ops s)
       rest_good [] j must ops s good d at some e below = absurd (omega arith)
@@ -350,8 +375,8 @@ module _ (code : CodeLists) where
           let one : entry + (j + 1) ≡ suc (entry + j) = omega arith in
           let again : entry + (j + 1) ≡ entry + j + 1 = omega arith in
           let next : drop (entry + (j + 1)) code.instrs ≡ rest ++ behind = ap (λ (n : ℕ). drop n code.instrs) one ∙ drop_tail (entry + j) code.instrs ∙ ap (drop 1) at in
-          let r = all_dropped (IsInstr code.variables (length code.literals) (length code.texts)) (entry + j) code.instrs x (rest ++ behind) range.instrs at in
-          let sg = step_good code.variables (length code.procedures) (entries_of code.procedures) (constants_of code) IsPlace begin entry procedure (target_place entry procedure behind whole stands deep) s good (total - suc (length (rest ++ behind))) k.0 x ops k.1 (target_stands entry procedure must x (is_last rest) k.2) r (λ t. subst IsPlace (sym here) (turn_place j x rest d t)) in
+          let r = all_dropped (IsInstr code.variables (length code.literals) (length code.texts) (length code.procedures)) (entry + j) code.instrs x (rest ++ behind) range.instrs at in
+          let sg = step_good code.variables (length code.procedures) (entries_of code.procedures) (constants_of code) IsPlace (total - suc (length (rest ++ behind))) begin entry procedure (target_place entry procedure behind whole stands deep) s good k.0 x ops k.1 (target_stands entry procedure must x (is_last rest) k.2) r (λ t. subst IsPlace (sym here) (turn_place j x rest d t)) (λ t. subst IsPlace (ap suc (sym here)) (turn_behind j x rest d must (kinds_of ops) k.0 t k.2 k.3)) in
           let under = deeper x (kinds_of ops) k.0 rest k.1 in
           let c = continue_good (is_end x) k.0 (step (entries_of code.procedures) (constants_of code) (total - suc (length (rest ++ behind))) x ops s) (stretch (entries_of code.procedures) (constants_of code) total (rest ++ behind)) (held (entries_of code.procedures) (constants_of code) total (rest ++ behind)) sg (falls_inside _ x ops s) (λ o t end kinds g.
           rest_good rest (j + 1) (departs x) o t g more next (more_follow rest (not_last (is_end x) (is_last rest) (end_stands entry procedure must x (is_last rest) k.2) end))
@@ -466,6 +491,14 @@ module _ (code : CodeLists) where
     no_turn (Turn piece) e t = cc
     no_turn _ e t = cc
 
+    no_departure : (x : Instr) → sets_up x ≡ true → departs x ≡ true → ⊥
+    no_departure (Push z) e t = absurd cc
+    no_departure (PushBit b) e t = absurd cc
+    no_departure (Store n) e t = absurd cc
+    no_departure (SetBits n literal) e t = absurd cc
+    no_departure (SetInts n list) e t = absurd cc
+    no_departure _ e t = absurd cc
+
     no_target : (to : ℕ) → is_target 0 [] to ≡ true → IsPlace to
     no_target to e = absurd (let a = and_right (nat_le 0 to) (is_turn (slice_get [] (to - 0))) e in cc)
 
@@ -490,9 +523,9 @@ module _ (code : CodeLists) where
         let k = judged_none (kinds_kept (is_last rest) (kinds_behind code.variables x (kinds_of ops))) (sets_up x) i (λ after. prologue_break code.variables (i + 1) after rest) e in
         let kept = none_kept rest (kinds_behind code.variables x (kinds_of ops)) k.0 k.1 in
         let next : drop (i + 1) code.instrs ≡ rest ++ behind = rw add-one (drop_tail i code.instrs ∙ ap (drop 1) at) in
-        let r = all_dropped (IsInstr code.variables (length code.literals) (length code.texts)) i code.instrs x (rest ++ behind) range.instrs at in
+        let r = all_dropped (IsInstr code.variables (length code.literals) (length code.texts) (length code.procedures)) i code.instrs x (rest ++ behind) range.instrs at in
         let here = total - suc (length (rest ++ behind)) in
-        let sg = step_good code.variables (length code.procedures) (entries_of code.procedures) (constants_of code) IsPlace begin 0 [] no_target s good here k.0 x ops kept.0 (leads_nowhere x k.2) r (λ t. absurd (no_turn x k.2 t)) in
+        let sg = step_good code.variables (length code.procedures) (entries_of code.procedures) (constants_of code) IsPlace here begin 0 [] no_target s good k.0 x ops kept.0 (leads_nowhere x k.2) r (λ t. absurd (no_turn x k.2 t)) (λ t. absurd (no_departure x k.2 t)) in
         let under = deeper x (kinds_of ops) k.0 rest kept.0 in
         let c = continue_begins k.0 (step (entries_of code.procedures) (constants_of code) here x ops s) (stretch (entries_of code.procedures) (constants_of code) total (rest ++ behind)) (held (entries_of code.procedures) (constants_of code) total (rest ++ behind)) sg (never_stops x here ops s k.2) (λ o t kinds g.
         prologue_good rest behind (i + 1) o t turn g next (λ f. no_operands o (kinds ∙ kept.1 f)) (ap (λ ks. prologue_break code.variables (i + 1) ks rest) kinds ∙ k.3)
@@ -543,7 +576,7 @@ module _ (code : CodeLists) where
       prologue_runs : BeginsSafe (stretch (entries_of code.procedures) (constants_of code) total code.instrs [] (start chosen variables)) (held (entries_of code.procedures) (constants_of code) total code.instrs [] (start chosen variables))
       prologue_runs =
           let s : State = start chosen variables in
-          let good : Ready s = record { variables_fit = fit; chosen_below = below } in
+          let good : Ready s = record { variables_fit = fit; chosen_below = below; records_placed = tt } in
           let first = next_entry total code.procedures in
           let prologue = slice_range code.instrs 0 first in
           let from : first - 0 ≡ first = omega arith in

@@ -10,19 +10,22 @@ use Rattle.stapl_meaning.specs.declared.values.Held.{Held}
 use Rattle.stapl_meaning.specs.Values.{Got, Known, Faults, Stuck, then_get, combined, scalar_of, element_of, index_held, range_held, source_integer}
 use Rattle.stapl_meaning.specs.Values as values
 use Rattle.stapl_meaning.specs.Operands.{character_of}
+use Rattle.stapl_meaning.specs.declared.records.Record.{Record}
 use Rattle.stapl_meaning.specs.States.{State, Did, Turned, Leads, Over, Broken, NoTurn, preceded, turn_of_piece, next_chosen, begun, jumps_to}
 use Rattle.stapl_meaning.specs.States as did
-use Rattle.stapl_meaning.specs.Effects.{assigned, element_assigned, Target, IntoWhole, IntoRange, copied, integers_set, jumped, parted, returned, exited, printed, after_value, after_character}
+use Rattle.stapl_meaning.specs.Effects.{assigned, element_assigned, Target, IntoWhole, IntoRange, copied, integers_set, jumped, parted, with_records, pushed, topmost, called, looped, repeated, returned, exited, printed, after_value, after_character, exported, bits_exported}
 use Rattle.stapl_meaning.specs.Plays.{Run, Going, goes_on, start}
 use Rattle.stapl_code.specs.declared.operators.Operator.{Operator}
 use Rattle.stapl_code.specs.declared.instr.PrintPart.{PrintPart}
 use Rattle.stapl_code.specs.declared.instr.PrintPart.TheVariants as parts
+use Rattle.stapl_code.specs.declared.instr.ExportPart.{ExportPart}
+use Rattle.stapl_code.specs.declared.instr.ExportPart.TheVariants as exports
 use Rattle.stapl_code.specs.declared.instr.Source.{Source}
 use Rattle.stapl_code.specs.declared.instr.Source.TheVariants as sources
 use Rattle.stapl_code.specs.declared.instr.Dest.{Dest}
 use Rattle.stapl_code.specs.declared.instr.Dest.TheVariants as dests
 use Rattle.stapl_code.specs.declared.instr.Instr.{Instr}
-use Rattle.stapl_code.specs.declared.instr.Instr.TheVariants.{Turn, Push, PushBit, Load, LoadAt, CheckIndex, CheckRange, Store, StoreAt, Unary, Binary, ToInt, CopyBits, SetBits, SetInts, Jump, JumpIfZero, EndProc, Print, CheckChar, Exit}
+use Rattle.stapl_code.specs.declared.instr.Instr.TheVariants.{Turn, Push, PushBit, Load, LoadAt, CheckIndex, CheckRange, Store, StoreAt, Unary, Binary, ToInt, CopyBits, SetBits, SetInts, For, Next, PushRecord, PopRecord, Call, Jump, JumpIfZero, EndProc, Print, Export, CheckChar, Exit}
 use Rattle.stapl_code.specs.Operators.{operator_table, unary_kinds, unary_results}
 
 -- what instructions name by number, and no run changes
@@ -30,10 +33,11 @@ pub record Constants : Type 0 where
   pub texts : List (List ℕ)
   pub literals : List (List Bool)
 
--- What an instruction makes of the operands that it takes: a value that goes on top, two of them, the second topmost, or
--- what a statement does.
+-- What an instruction makes of the operands that it takes: a value that goes on top, with another state or not, two of
+-- them, the second topmost, or what a statement does.
 pub data Made : Type 0 where
   Puts : Value → Made
+  PutsFrom : Value → State → Made
   PutsTwo : Value → Value → Made
   Does : Did → Made
 
@@ -51,6 +55,10 @@ one _ go = Stuck
 abbrev pub two : List Value → (Value → Value → Got Value) → Got Made
 two (x ∷ y ∷ []) go = puts (go x y)
 two _ go = Stuck
+
+-- a value taken off the records
+abbrev pub unrecorded : Got (Value × List Record) → State → Got Made
+unrecorded top s = then_get top (λ both. Known (PutsFrom both.0 (with_records s both.1)))
 
 -- two operands that stay if they pass a test
 abbrev pub kept : List Value → (Value → Value → Got Value) → Got Made
@@ -81,8 +89,9 @@ pub data Slot : Type 0 where
   OfScalar : ℕ → Slot
   OfElement : ℕ → Slot
 
--- What a variable has to be: an array, a BOOLEAN array, or an INTEGER array.
+-- What a variable has to be: an INTEGER scalar, an array, a BOOLEAN array, or an INTEGER array.
 pub data Want : Type 0 where
+  AnInteger : ℕ → Want
   AnArray : ℕ → Want
   OfBits : ℕ → Want
   OfInts : ℕ → Want
@@ -128,6 +137,17 @@ abbrev pub dest_want : Dest → Want
 dest_want (dests.Whole n) = OfBits n
 dest_want (dests.Range n) = OfBits n
 
+-- what an Export takes, and what it wants
+abbrev pub export_slots : ExportPart → List Slot
+export_slots exports.Int = Of kinds.Int ∷ []
+export_slots exports.Bit = Of kinds.Bit ∷ []
+export_slots (exports.Array source) = source_slots source
+
+abbrev pub export_wants : ExportPart → List Want
+export_wants exports.Int = []
+export_wants exports.Bit = []
+export_wants (exports.Array source) = source_wants source
+
 -- where a destination puts bits
 abbrev pub target_of : Dest → Target
 target_of (dests.Whole n) = IntoWhole n
@@ -146,8 +166,11 @@ takes (Unary op) = slot_of (slice_get unary_kinds op)
 takes (Binary op) = sides_of (slice_get operator_table op)
 takes (ToInt source) = source_slots source
 takes (CopyBits dest source) = dest_slots dest (source_slots source)
+takes (For n body) = Of kinds.Int ∷ Of kinds.Int ∷ Of kinds.Int ∷ []
+takes (PushRecord kind) = Of kind ∷ []
 takes (JumpIfZero to) = Of kinds.Bit ∷ []
 takes (Print list) = part_slots list
+takes (Export key part) = export_slots part
 takes CheckChar = Of kinds.Int ∷ []
 takes Exit = Of kinds.Int ∷ []
 takes _ = []
@@ -163,6 +186,7 @@ gives (CheckRange n) = Of kinds.Int ∷ Of kinds.Int ∷ []
 gives (Unary op) = slot_of (slice_get unary_kinds op)
 gives (Binary op) = result_of (slice_get operator_table op)
 gives (ToInt source) = Of kinds.Int ∷ []
+gives (PopRecord kind) = Of kind ∷ []
 gives CheckChar = Of kinds.Int ∷ []
 gives _ = []
 
@@ -174,10 +198,14 @@ wants (ToInt source) = source_wants source
 wants (CopyBits dest source) = dest_want dest ∷ source_wants source
 wants (SetBits n literal) = OfBits n ∷ []
 wants (SetInts n values) = OfInts n ∷ []
+wants (For n body) = AnInteger n ∷ []
+wants (Next n) = AnInteger n ∷ []
+wants (Export key part) = export_wants part
 wants _ = []
 
--- its target
+-- its target, which is a turn of the same procedure
 abbrev pub goes_to : Instr → Option ℕ
+goes_to (For n body) = Some body
 goes_to (Jump to) = Some to
 goes_to (JumpIfZero to) = Some to
 goes_to _ = None
@@ -197,6 +225,13 @@ known_source literals (sources.Whole n) = Known (values.Whole n)
 known_source literals (sources.Range n) = Known (values.Range n)
 known_source literals sources.FromInt = Known values.OfInt
 
+-- what is exported under a key
+abbrev pub part_exported : List (List Bool) → ExportPart → List ℕ → List Value → State → Got Did
+part_exported literals exports.Int key vs s = exported key vs s
+part_exported literals exports.Bit key vs s = exported key vs s
+part_exported literals (exports.Array source) key vs s =
+    then_get (known_source literals source) (λ from. bits_exported key from vs s)
+
 -- where the procedures begin, and the constants
 module _ (entries : List ℕ) (constants : Constants) where
   -- the joined bytes of the parts of a Print with these operands
@@ -212,37 +247,39 @@ module _ (entries : List ℕ) (constants : Constants) where
   parts_text (parts.Char ∷ rest) [] = Stuck
   parts_text (parts.Char ∷ rest) (v ∷ vs) = after_character v (parts_text rest vs)
 
-  -- what an instruction makes of its operands; its effects are those of statements
-  abbrev pub made : Instr → List Value → State → Got Made
-  made (Turn piece) vs s = does (jumped vs s)
-  made (Push z) vs s = Known (Puts (value.Int z))
-  made (PushBit b) vs s = puts (bit_of b)
-  made (Load n) vs s = puts (scalar_of (slice_get s.store.variables n))
-  made (LoadAt n) vs s = one vs (element_of (slice_get s.store.variables n))
-  made (CheckIndex n) vs s = one vs (index_held (slice_get s.store.variables n))
-  made (CheckRange n) vs s = kept vs (range_held (slice_get s.store.variables n))
-  made (Store n) vs s = does (assigned n vs s)
-  made (StoreAt n) vs s = does (element_assigned n vs s)
-  made (Unary op) vs s = one vs (signed_by (slice_get unary_results op))
-  made (Binary op) vs s = two vs (operated op)
-  made (ToInt source) vs s =
+  -- what an instruction that stands here makes of its operands; its effects are those of statements
+  abbrev pub made : ℕ → Instr → List Value → State → Got Made
+  made here (Turn piece) vs s = does (jumped vs s)
+  made here (Push z) vs s = Known (Puts (value.Int z))
+  made here (PushBit b) vs s = puts (bit_of b)
+  made here (Load n) vs s = puts (scalar_of (slice_get s.store.variables n))
+  made here (LoadAt n) vs s = one vs (element_of (slice_get s.store.variables n))
+  made here (CheckIndex n) vs s = one vs (index_held (slice_get s.store.variables n))
+  made here (CheckRange n) vs s = kept vs (range_held (slice_get s.store.variables n))
+  made here (Store n) vs s = does (assigned n vs s)
+  made here (StoreAt n) vs s = does (element_assigned n vs s)
+  made here (Unary op) vs s = one vs (signed_by (slice_get unary_results op))
+  made here (Binary op) vs s = two vs (operated op)
+  made here (ToInt source) vs s =
       puts (then_get (known_source constants.literals source) (λ from. source_integer s.store.variables from vs))
-  made (CopyBits dest source) vs s =
+  made here (CopyBits dest source) vs s =
       does (then_get (known_source constants.literals source) (λ from. copied (target_of dest) from vs s))
-  made (SetBits n literal) vs s =
+  made here (SetBits n literal) vs s =
       does (then_get (known_literal (slice_get constants.literals literal)) (λ from. copied (IntoWhole n) from vs s))
-  made (SetInts n list) vs s = does (integers_set n list vs s)
-  made (Jump to) vs s = does (jumped vs s)
-  made (JumpIfZero to) vs s = does (parted vs s)
-  made EndProc vs s = does (returned vs s)
-  made (Print list) vs s = does (printed (parts_text list vs) s)
-  made CheckChar vs s = one vs character_of
-  made Exit vs s = does (exited vs s)
-
--- where a jump of an instruction leads, which stands here: that of a Turn to itself
-abbrev pub lands : ℕ → Instr → Option ℕ
-lands here (Turn piece) = Some here
-lands here i = goes_to i
+  made here (SetInts n list) vs s = does (integers_set n list vs s)
+  made here (For n body) vs s = does (looped n body vs s)
+  made here (Next n) vs s = does (repeated n vs s)
+  made here (PushRecord kind) vs s = does (pushed vs s)
+  made here (PopRecord kind) vs s = unrecorded (topmost kind s.records) s
+  made here (Call p) vs s = does (called (suc here) vs s)
+  made here (Jump to) vs s = does (jumped vs s)
+  made here (JumpIfZero to) vs s = does (parted vs s)
+  made here EndProc vs s = does (returned vs s)
+  made here (Print list) vs s = does (printed (parts_text list vs) s)
+  made here (Export key part) vs s =
+      does (then_get (known_text (slice_get constants.texts key)) (λ bytes. part_exported constants.literals part bytes vs s))
+  made here CheckChar vs s = one vs character_of
+  made here Exit vs s = does (exited vs s)
 
 -- The rule.
 
@@ -281,12 +318,21 @@ nowhere = 2 ^ 32 - 1
 abbrev pub entry_of : List ℕ → ℕ → ℕ
 entry_of entries p = slice_index_or entries p nowhere
 
+-- where a jump or a call of an instruction leads, which stands here: that of a Turn to itself; a For goes on
+abbrev pub lands : List ℕ → ℕ → Instr → Option ℕ
+lands entries here (Turn piece) = Some here
+lands entries here (For n body) = None
+lands entries here (Call p) = Some (entry_of entries p)
+lands entries here i = goes_to i
+
 -- what was made, above these operands
 abbrev pub on_made : List ℕ → Option ℕ → List Value → State → Got Made → Step
 on_made entries to below s (Known (Puts v)) = Falls (v ∷ below) s
+on_made entries to below s (Known (PutsFrom v t)) = Falls (v ∷ below) t
 on_made entries to below s (Known (PutsTwo x y)) = Falls (y ∷ x ∷ below) s
 on_made entries to below s (Known (Does (did.Falls events t))) = emitted events below t
 on_made entries to below s (Known (Does (did.Jumps t))) = Stops below (jumps_to to t)
+on_made entries to below s (Known (Does (did.Resumes place t))) = Stops below (Leads [] place t)
 on_made entries to below s (Known (Does (did.Returns t))) = Stops below (next_chosen (entry_of entries) t t.chosen)
 on_made entries to below s (Known (Does (did.Ends ending t))) = Stops below (Over [] ending t)
 on_made entries to below s (Faults k) = Faulted k s
@@ -309,7 +355,7 @@ module _ (entries : List ℕ) (constants : Constants) where
   -- one instruction, which stands at a place
   abbrev pub step : ℕ → Instr → List Value → State → Step
   step here i ops s =
-      on_taken (taken (length (takes i)) ops) (λ vs below. on_made entries (lands here i) below s (made entries constants i vs s))
+      on_taken (taken (length (takes i)) ops) (λ vs below. on_made entries (lands entries here i) below s (made entries constants here i vs s))
 
   -- The rest of a turn: these instructions, which are the last ones of so many. A Turn that is met ends it.
   abbrev pub stretch : ℕ → List Instr → List Value → State → Turned

@@ -4,12 +4,14 @@ use Rattle.std.specs.Prelude.{◌≡◌, ◌≢◌, ℕ, ◌<◌, ◌≤◌, ◌
 use Rattle.stapl_syntax.specs.Contents.{IsFreeName}
 use Rattle.stapl_code.specs.declared.instr.PrintPart.{PrintPart}
 use Rattle.stapl_code.specs.declared.instr.PrintPart.TheVariants as parts
+use Rattle.stapl_code.specs.declared.instr.ExportPart.{ExportPart}
+use Rattle.stapl_code.specs.declared.instr.ExportPart.TheVariants as exports
 use Rattle.stapl_code.specs.declared.instr.Source.{Source}
 use Rattle.stapl_code.specs.declared.instr.Source.TheVariants as sources
 use Rattle.stapl_code.specs.declared.instr.Dest.{Dest}
 use Rattle.stapl_code.specs.declared.instr.Dest.TheVariants as dests
 use Rattle.stapl_code.specs.declared.instr.Instr.{Instr}
-use Rattle.stapl_code.specs.declared.instr.Instr.TheVariants.{Turn, PushBit, Load, LoadAt, CheckIndex, CheckRange, Store, StoreAt, Unary, Binary, ToInt, CopyBits, SetBits, SetInts, Print}
+use Rattle.stapl_code.specs.declared.instr.Instr.TheVariants.{Turn, PushBit, Load, LoadAt, CheckIndex, CheckRange, Store, StoreAt, Unary, Binary, ToInt, CopyBits, SetBits, SetInts, For, Next, Call, Print, Export}
 use Rattle.stapl_code.specs.declared.raw.VarDef.{VarDef}
 use Rattle.stapl_code.specs.declared.raw.ProcDef.{ProcDef}
 use Rattle.stapl_code.specs.declared.raw.ItemDef.{ItemDef}
@@ -68,6 +70,11 @@ IsSource variables literals (sources.Whole n) = n < variables
 IsSource variables literals (sources.Range n) = n < variables
 IsSource variables literals sources.FromInt = Unit {0}
 
+-- what is exported, with so many variables and literals
+abbrev pub IsExport : ℕ → ℕ → ExportPart → Type 0
+IsExport variables literals (exports.Array source) = IsSource variables literals source
+IsExport variables literals _ = Unit {0}
+
 abbrev pub IsDest : ℕ → Dest → Type 0
 IsDest variables (dests.Whole n) = n < variables
 IsDest variables (dests.Range n) = n < variables
@@ -77,26 +84,30 @@ abbrev pub size_of : Option VarDef → ℕ
 size_of None = 0
 size_of (Some v) = v.size
 
--- an instruction, where these are the variables, and there are so many literals and texts
-abbrev pub IsInstr : List VarDef → ℕ → ℕ → Instr → Type 0
-IsInstr variables literals texts (Turn piece) = (1 ≤ piece) × (piece ≤ 100000)
-IsInstr variables literals texts (PushBit b) = b ≤ 1
-IsInstr variables literals texts (Load n) = n < length variables
-IsInstr variables literals texts (LoadAt n) = n < length variables
-IsInstr variables literals texts (CheckIndex n) = n < length variables
-IsInstr variables literals texts (CheckRange n) = n < length variables
-IsInstr variables literals texts (Store n) = n < length variables
-IsInstr variables literals texts (StoreAt n) = n < length variables
-IsInstr variables literals texts (Unary op) = op < length unary_kinds
-IsInstr variables literals texts (Binary op) = op < length operator_table
-IsInstr variables literals texts (ToInt source) = IsSource (length variables) literals source
-IsInstr variables literals texts (CopyBits dest source) =
+-- an instruction, where these are the variables, and there are so many literals, texts and procedures
+abbrev pub IsInstr : List VarDef → ℕ → ℕ → ℕ → Instr → Type 0
+IsInstr variables literals texts procedures (Turn piece) = (1 ≤ piece) × (piece ≤ 100000)
+IsInstr variables literals texts procedures (PushBit b) = b ≤ 1
+IsInstr variables literals texts procedures (Load n) = n < length variables
+IsInstr variables literals texts procedures (LoadAt n) = n < length variables
+IsInstr variables literals texts procedures (CheckIndex n) = n < length variables
+IsInstr variables literals texts procedures (CheckRange n) = n < length variables
+IsInstr variables literals texts procedures (Store n) = n < length variables
+IsInstr variables literals texts procedures (StoreAt n) = n < length variables
+IsInstr variables literals texts procedures (Unary op) = op < length unary_kinds
+IsInstr variables literals texts procedures (Binary op) = op < length operator_table
+IsInstr variables literals texts procedures (ToInt source) = IsSource (length variables) literals source
+IsInstr variables literals texts procedures (CopyBits dest source) =
     IsDest (length variables) dest × IsSource (length variables) literals source
-IsInstr variables literals texts (SetBits n literal) = (n < length variables) × (literal < literals)
-IsInstr variables literals texts (SetInts n values) =
+IsInstr variables literals texts procedures (SetBits n literal) = (n < length variables) × (literal < literals)
+IsInstr variables literals texts procedures (SetInts n values) =
     (n < length variables) × (1 ≤ length values) × (length values ≤ size_of (slice_get variables n))
-IsInstr variables literals texts (Print list) = (1 ≤ length list) × All (IsPart texts) list
-IsInstr variables literals texts _ = Unit {0}
+IsInstr variables literals texts procedures (For n body) = n < length variables
+IsInstr variables literals texts procedures (Next n) = n < length variables
+IsInstr variables literals texts procedures (Call p) = p < procedures
+IsInstr variables literals texts procedures (Print list) = (1 ≤ length list) × All (IsPart texts) list
+IsInstr variables literals texts procedures (Export key part) = (key < texts) × IsExport (length variables) literals part
+IsInstr variables literals texts procedures _ = Unit {0}
 
 -- a literal
 pub record IsLiteral (bits : List Bool) : Type 0 where
@@ -110,5 +121,5 @@ pub record IsInRange (code : CodeLists) : Type 0 where
   pub texts : All (λ text. length text ≤ 4194304) code.texts
   pub procedures : AreProcedures code.procedures
   pub actions : AreActions (length code.procedures) code.actions
-  pub instrs : All (IsInstr code.variables (length code.literals) (length code.texts)) code.instrs
+  pub instrs : All (IsInstr code.variables (length code.literals) (length code.texts) (length code.procedures)) code.instrs
   pub countable : length code.instrs < 2 ^ 32

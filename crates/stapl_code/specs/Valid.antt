@@ -7,9 +7,10 @@
 --   A procedure begins with a Turn (procedure_break), and ends with an EndProc, which stands nowhere else
 --   (stands_well).
 --   An instruction finds operands of its kinds, and variables of the kind that it wants (kinds_behind).
---   No operand is left before a Turn, and behind a Jump, a JumpIfZero, an Exit and an EndProc (kinds_behind).
---   A target is a Turn of the same procedure (is_target).
---   Behind a Jump and an Exit stands a Turn (departs).
+--   No operand is left before a Turn, and behind a For, a Next, a Call, a Jump, a JumpIfZero, an Exit and an EndProc
+--   (kinds_behind).
+--   A target, that of a For too, is a Turn of the same procedure (is_target).
+--   Behind a For, a Next, a Call, a Jump and an Exit stands a Turn (departs).
 --   A procedure begins at an instruction (entry_break).
 use Rattle.std.specs.Prelude.{◌≡◌, ℕ, ◌+◌, ◌-◌, ◌&&◌, ◌||◌, not, Bool, true, false, List, [], ◌∷◌, length, Option, Some, None, slice_get, slice_range, nat_lt, nat_le, if◌then◌else◌}
 use Rattle.std.specs.List.{list_all}
@@ -18,7 +19,7 @@ use Rattle.stapl_code.specs.declared.raw.VarDef.{VarDef}
 use Rattle.stapl_code.specs.declared.raw.ProcDef.{ProcDef}
 use Rattle.stapl_code.specs.declared.raw.CodeLists.{CodeLists}
 use Rattle.stapl_code.specs.declared.instr.Instr.{Instr}
-use Rattle.stapl_code.specs.declared.instr.Instr.TheVariants.{Turn, Push, PushBit, Store, SetBits, SetInts, Jump, EndProc, Exit}
+use Rattle.stapl_code.specs.declared.instr.Instr.TheVariants.{Turn, Push, PushBit, Store, SetBits, SetInts, For, Next, Call, Jump, EndProc, Exit}
 use Rattle.stapl_code.specs.declared.valid.ValidateRefused.{ValidateRefused}
 use Rattle.stapl_code.specs.declared.valid.ValidateRefused.TheVariants.{Invalid, Memory}
 use Rattle.stapl_code.specs.Machine.{goes_to}
@@ -43,6 +44,9 @@ sets_up _ = false
 
 -- an instruction behind which a Turn has to stand
 abbrev pub departs : Instr → Bool
+departs (For n body) = true
+departs (Next n) = true
+departs (Call p) = true
 departs (Jump to) = true
 departs Exit = true
 departs _ = false

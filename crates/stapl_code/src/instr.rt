@@ -1,5 +1,6 @@
 //! The instructions of the stack machine.
 use base::ItemList;
+use stapl_meaning::ValueKind;
 
 /// A part of what a Print prints.
 #[derive(Clone, Copy, Debug, PartialEq, Eq)]
@@ -34,6 +35,17 @@ pub enum Dest {
     Whole(u32),
     /// Into a range of a BOOLEAN array, whose high and low indexes are from the operands.
     Range(u32),
+}
+
+/// What an Export exports.
+#[derive(Clone, Copy, Debug, PartialEq, Eq)]
+pub enum ExportPart {
+    /// An integer, from the operands.
+    Int,
+    /// A Boolean, from the operands.
+    Bit,
+    /// The bits of a source.
+    Array(Source),
 }
 
 /// One instruction. Variables, literals, texts and procedures are told by their numbers, and targets are numbers of
@@ -71,6 +83,17 @@ pub enum Instr {
     SetBits(u32, u32),
     /// Sets the elements of an INTEGER array from index 0 on, and those behind them to 0.
     SetInts(u32, ItemList<i32>),
+    /// Takes the first value, the limit and the step of a loop off the operands, the step topmost, puts the loop on the
+    /// record stack, and sets its variable, an INTEGER scalar. The body begins at a turn of the same procedure.
+    For(u32, u32),
+    /// Goes to the body of the topmost loop of an INTEGER scalar with one step more, or drops that loop if it is over.
+    Next(u32),
+    /// Takes a value of a kind off the operands, and puts it on the record stack.
+    PushRecord(ValueKind),
+    /// Takes a value off the record stack, and puts it on the operands as one of a kind.
+    PopRecord(ValueKind),
+    /// Goes to the procedure of a number. A record keeps the place behind it.
+    Call(u32),
     /// Goes to a turn of the same procedure.
     Jump(u32),
     /// Takes a Boolean off the operands, and goes to a turn of the same procedure where it is 0.
@@ -80,6 +103,8 @@ pub enum Instr {
     /// Prints its joined parts as one line. It takes an operand for each part that is no text; the last part's is the
     /// topmost.
     Print(ItemList<PrintPart>),
+    /// Exports a value, or the bits of a source, under the text of a number.
+    Export(u32, ExportPart),
     /// Tests that the topmost operand is the number of a character.
     CheckChar,
     /// Takes an integer off the operands, and ends the play with it.

@@ -1,10 +1,10 @@
 //! The kinds of operands.
-ghost use Rattle.std.specs.Prelude.{◌≡◌, ◌∷◌, List, Some, None, IfOk, if◌then◌else◌, slice_get};
+ghost use Rattle.std.specs.Prelude.{◌≡◌, ◌∷◌, [], List, Some, None, IfOk, if◌then◌else◌, slice_get};
 ghost use Rattle.std.specs.List.{list_all};
-ghost use Rattle.stapl_code.specs.Machine.{Slot, Of, part_slots, slot_of, sides_of, result_of, source_slots, source_wants, dest_slots, dest_want, takes, gives, wants};
+ghost use Rattle.stapl_code.specs.Machine.{Slot, Of, part_slots, slot_of, sides_of, result_of, source_slots, source_wants, dest_slots, dest_want, export_slots, export_wants, takes, gives, wants};
 ghost use Rattle.stapl_code.specs.Kinds.{off, variable_kind, element_kind, is_of_kind, is_met, put_on, taken_off, clears, all_off, all_on, kinds_behind};
 
-use crate::instr::{Dest, Instr, PrintPart, Source};
+use crate::instr::{Dest, ExportPart, Instr, PrintPart, Source};
 use crate::operators::{Operator, operator_of, unary_kind};
 use crate::raw::VarDef;
 use base::Stack;
@@ -94,6 +94,15 @@ fn source_is_met(variables: &[VarDef], source: Source) -> bool
     }
 }
 
+fn export_is_met(variables: &[VarDef], part: ExportPart) -> bool
+    ensures { result ≡ list_all (is_met variables.now) (export_wants part) }
+{
+    match part {
+        ExportPart::Int | ExportPart::Bit => true,
+        ExportPart::Array(source) => source_is_met(variables, source),
+    }
+}
+
 fn dest_is_met(variables: &[VarDef], dest: Dest) -> bool
     ensures { result ≡ is_met variables.now (dest_want dest) }
 {
@@ -115,6 +124,8 @@ fn wants_are_met(variables: &[VarDef], instr: &Instr) -> bool
         }
         Instr::SetBits(n, _) => is_of_kind(variables, 3, *n),
         Instr::SetInts(n, _) => is_of_kind(variables, 2, *n),
+        Instr::For(n, _) | Instr::Next(n) => is_of_kind(variables, 0, *n),
+        Instr::Export(_, part) => export_is_met(variables, *part),
         _ => true,
     }
 }
@@ -195,6 +206,27 @@ fn take_dest(kinds: &mut Stack<ValueKind>, dest: Dest) -> bool
     }
 }
 
+// Takes off the kinds of the first value, the limit and the step of a loop, and answers whether they were there.
+fn take_loop(kinds: &mut Stack<ValueKind>) -> bool
+    ensures { (variables : List VarDef) →
+        all_off variables (Of ValueKind.Int ∷ Of ValueKind.Int ∷ Of ValueKind.Int ∷ []) kinds.old
+        ≡ (if result then Some kinds.new else None) }
+{
+    take(kinds, ValueKind::Int) && take(kinds, ValueKind::Int) && take(kinds, ValueKind::Int)
+}
+
+// Takes off the kinds of what is exported, and answers whether they were there.
+fn take_export(kinds: &mut Stack<ValueKind>, part: ExportPart) -> bool
+    ensures { (variables : List VarDef) →
+        all_off variables (export_slots part) kinds.old ≡ (if result then Some kinds.new else None) }
+{
+    match part {
+        ExportPart::Int => take(kinds, ValueKind::Int),
+        ExportPart::Bit => take(kinds, ValueKind::Bit),
+        ExportPart::Array(source) => take_source(kinds, source),
+    }
+}
+
 // Takes off the kinds of the operands of an instruction, and answers whether they were there.
 fn take_operands(variables: &[VarDef], instr: &Instr, kinds: &mut Stack<ValueKind>) -> bool
     ensures { all_off variables.now (takes instr.now) kinds.old ≡ (if result then Some kinds.new else None) }
@@ -206,8 +238,14 @@ fn take_operands(variables: &[VarDef], instr: &Instr, kinds: &mut Stack<ValueKin
         | Instr::Load(_)
         | Instr::SetBits(_, _)
         | Instr::SetInts(_, _)
+        | Instr::Next(_)
+        | Instr::PopRecord(_)
+        | Instr::Call(_)
         | Instr::Jump(_)
         | Instr::EndProc => true,
+        Instr::For(_, _) => take_loop(kinds),
+        Instr::PushRecord(kind) => take(kinds, *kind),
+        Instr::Export(_, part) => take_export(kinds, *part),
         Instr::CheckRange(_) => take_indexes(kinds),
         Instr::Store(n) => take_some(kinds, kind_at(variables, *n)),
         Instr::StoreAt(n) => {
@@ -230,8 +268,14 @@ fn clears(instr: &Instr) -> bool
     ensures { result ≡ clears instr.now }
 {
     match instr {
-        Instr::Turn(_) | Instr::Jump(_) | Instr::JumpIfZero(_) | Instr::EndProc | Instr::Exit =>
-            true,
+        Instr::Turn(_)
+        | Instr::For(_, _)
+        | Instr::Next(_)
+        | Instr::Call(_)
+        | Instr::Jump(_)
+        | Instr::JumpIfZero(_)
+        | Instr::EndProc
+        | Instr::Exit => true,
         _ => false,
     }
 }
@@ -282,6 +326,10 @@ fn put_operands(
             kinds.push(ValueKind::Bit)?;
             Ok(true)
         }
+        Instr::PopRecord(kind) => {
+            kinds.push(*kind)?;
+            Ok(true)
+        }
         Instr::Load(n) => {
             let found = put(kinds, kind_at(variables, *n))?;
             Ok(found)
@@ -309,10 +357,15 @@ fn put_operands(
         | Instr::CopyBits(_, _)
         | Instr::SetBits(_, _)
         | Instr::SetInts(_, _)
+        | Instr::For(_, _)
+        | Instr::Next(_)
+        | Instr::PushRecord(_)
+        | Instr::Call(_)
         | Instr::Jump(_)
         | Instr::JumpIfZero(_)
         | Instr::EndProc
         | Instr::Print(_)
+        | Instr::Export(_, _)
         | Instr::Exit => Ok(true),
     }
 }

@@ -11,7 +11,7 @@ mod ranges;
 mod raw;
 mod valid;
 
-pub use instr::{Dest, Instr, PrintPart, Source};
+pub use instr::{Dest, ExportPart, Instr, PrintPart, Source};
 pub use operators::{Operator, operator_of, unary_kind};
 pub use raw::{ActionDef, CodeLists, ItemDef, ProcDef, RawCode, VarDef};
 pub use valid::{Code, ValidateRefused, validate};

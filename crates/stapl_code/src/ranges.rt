@@ -1,9 +1,9 @@
 //! The test of the ranges of a code's fields.
 ghost use Rattle.std.specs.Prelude.{◌≡◌, ◌≢◌, ◌<◌, ◌≤◌, ◌↔◌, IsTrue, All, AllPairs, sum_by, length, slice_get};
 ghost use Rattle.stapl_syntax.specs.Contents.{IsFreeName};
-ghost use Rattle.stapl_code.specs.Ranges.{IsVariable, elements_of, AreVariables, AreProcedures, IsItem, IsAction, AreActions, IsPart, IsSource, IsDest, size_of, IsInstr, IsLiteral, IsInRange};
+ghost use Rattle.stapl_code.specs.Ranges.{IsVariable, elements_of, AreVariables, AreProcedures, IsItem, IsAction, AreActions, IsPart, IsSource, IsExport, IsDest, size_of, IsInstr, IsLiteral, IsInRange};
 
-use crate::instr::{Dest, Instr, PrintPart, Source};
+use crate::instr::{Dest, ExportPart, Instr, PrintPart, Source};
 use crate::raw::{ActionDef, CodeLists, ItemDef, ProcDef, VarDef};
 use bit_list::Bits;
 use stapl_lexer::Name;
@@ -112,6 +112,15 @@ fn is_source(variables: usize, literals: usize, source: Source) -> bool
     }
 }
 
+fn is_export(variables: usize, literals: usize, part: ExportPart) -> bool
+    ensures { IsTrue result ↔ IsExport variables literals part }
+{
+    match part {
+        ExportPart::Int | ExportPart::Bit => true,
+        ExportPart::Array(source) => is_source(variables, literals, source),
+    }
+}
+
 fn is_dest(variables: usize, dest: Dest) -> bool
     ensures { IsTrue result ↔ IsDest variables dest }
 {
@@ -136,8 +145,14 @@ fn has_elements(variables: &[VarDef], n: u32, count: usize) -> bool
     (n as usize) < variables.len() && 1 <= count && count <= size_at(variables, n) as usize
 }
 
-fn is_instr(variables: &[VarDef], literals: usize, texts: usize, instr: &Instr) -> bool
-    ensures { IsTrue result ↔ IsInstr variables.now literals texts instr.now }
+fn is_instr(
+    variables: &[VarDef],
+    literals: usize,
+    texts: usize,
+    procedures: usize,
+    instr: &Instr,
+) -> bool
+    ensures { IsTrue result ↔ IsInstr variables.now literals texts procedures instr.now }
 {
     match instr {
         Instr::Turn(piece) => 1 <= *piece && *piece <= 100_000,
@@ -146,7 +161,9 @@ fn is_instr(variables: &[VarDef], literals: usize, texts: usize, instr: &Instr) 
         | Instr::CheckIndex(n)
         | Instr::CheckRange(n)
         | Instr::Store(n)
-        | Instr::StoreAt(n) => (*n as usize) < variables.len(),
+        | Instr::StoreAt(n)
+        | Instr::For(n, _)
+        | Instr::Next(n) => (*n as usize) < variables.len(),
         Instr::PushBit(bit) => *bit <= 1,
         Instr::Unary(op) => *op < 4,
         Instr::Binary(op) => *op < 23,
@@ -162,7 +179,13 @@ fn is_instr(variables: &[VarDef], literals: usize, texts: usize, instr: &Instr) 
             let parts = parts.as_slice();
             !parts.is_empty() && parts.iter().all(|part| is_part(texts, part))
         }
+        Instr::Export(key, part) => {
+            (*key as usize) < texts && is_export(variables.len(), literals, *part)
+        }
+        Instr::Call(procedure) => (*procedure as usize) < procedures,
         Instr::Push(_)
+        | Instr::PushRecord(_)
+        | Instr::PopRecord(_)
         | Instr::Jump(_)
         | Instr::JumpIfZero(_)
         | Instr::EndProc
@@ -230,12 +253,17 @@ fn are_actions(procedures: usize, actions: &[ActionDef]) -> bool
     !actions.is_empty() && actions.iter().all(|a| is_action(procedures, a)) && are_apart(actions)
 }
 
-fn are_instrs(variables: &[VarDef], literals: usize, texts: usize, instrs: &[Instr]) -> bool
-    ensures { IsTrue result ↔ All (IsInstr variables.now literals texts) instrs.now }
+fn are_instrs(lists: &CodeLists) -> bool
+    ensures { IsTrue result ↔ All (IsInstr lists.now.variables (length lists.now.literals) (length lists.now.texts)
+        (length lists.now.procedures)) lists.now.instrs }
 {
-    instrs
-        .iter()
-        .all(|instr| is_instr(variables, literals, texts, instr))
+    let variables = lists.variables.as_slice();
+    let literals = lists.literals.len();
+    let texts = lists.texts.len();
+    let procedures = lists.procedures.len();
+    lists.instrs.as_slice().iter().all(|instr| is_instr(
+        variables, literals, texts, procedures, instr,
+    ))
 }
 
 impl CodeLists {
@@ -243,18 +271,12 @@ impl CodeLists {
     pub fn is_in_range(&self) -> bool
         ensures { IsTrue result ↔ IsInRange self.now }
     {
-        let instrs = self.instrs.as_slice();
         are_variables(self.variables.as_slice())
             && are_literals(self.literals.as_slice())
             && are_texts(self.texts.as_slice())
             && are_procedures(self.procedures.as_slice())
             && are_actions(self.procedures.len(), self.actions.as_slice())
-            && are_instrs(
-                self.variables.as_slice(),
-                self.literals.len(),
-                self.texts.len(),
-                instrs,
-            )
-            && instrs.len() < 1 << 32
+            && are_instrs(self)
+            && self.instrs.len() < 1 << 32
     }
 }

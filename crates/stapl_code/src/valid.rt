@@ -92,7 +92,7 @@ fn departs(instr: &Instr) -> bool
     ensures { result ≡ departs instr.now }
 {
     match instr {
-        Instr::Jump(_) | Instr::Exit => true,
+        Instr::For(_, _) | Instr::Next(_) | Instr::Call(_) | Instr::Jump(_) | Instr::Exit => true,
         _ => false,
     }
 }
@@ -108,7 +108,9 @@ fn leads_well(entry: usize, procedure: &[Instr], instr: &Instr) -> bool
     ensures { result ≡ leads_well entry procedure.now instr.now }
 {
     match instr {
-        Instr::Jump(to) | Instr::JumpIfZero(to) => is_target(entry, procedure, *to),
+        Instr::For(_, to) | Instr::Jump(to) | Instr::JumpIfZero(to) => {
+            is_target(entry, procedure, *to)
+        }
         _ => true,
     }
 }
