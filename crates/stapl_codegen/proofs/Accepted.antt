@@ -6,7 +6,7 @@ use Rattle.std.proofs.lemmas.List.{append-nil}
 use Rattle.std.proofs.lemmas.List.Elements.{All-nil, All-cons, All-head, All-tail, All-append, All-weaker}
 use Rattle.std.proofs.lemmas.List.Sums.{sum_by-cons}
 use Rattle.stapl_lexer.specs.Pieces.{text_limit}
-use Rattle.stapl_syntax.specs.Trees.{ArrayTree, literal, PartTree, string, value, character, BodyTree, end_data, boolean, boolean_array, integer, integer_array, assign, assign_element, assign_array, assign_range, if_then, for_loop, push, print, exit, StmtTree}
+use Rattle.stapl_syntax.specs.Trees.{ArrayTree, literal, PartTree, string, value, character, BodyTree, end_data, boolean, boolean_array, integer, integer_array, assign, assign_element, assign_array, assign_range, if_then, for_loop, push, pop, print, exported_value, exported_array, export, exit, StmtTree}
 use Rattle.stapl_built.specs.Built.{is_built_outer, is_built_inner, IsBuilt}
 use Rattle.stapl_built.specs.Unbuilt.{IsBuiltProgram}
 use Rattle.stapl_built.specs.Sizes.{body_size, statements_size}
@@ -42,6 +42,7 @@ module _ (n : ℕ) where
 
   short_body : (body : BodyTree) → PrintsShortStrings n body → All IsShort (rows_items row_texts (rows body))
   short_body (print list) short = All-append IsShort (part_texts list) [] (short_parts list short) (All-nil IsShort)
+  short_body (export key x) short = All-cons IsShort key [] short (All-nil IsShort)
   short_body (if_then e body) short = short_body body short
   short_body (boolean name None) short = All-nil IsShort
   short_body (boolean name (Some b)) short = All-nil IsShort
@@ -64,6 +65,8 @@ module _ (n : ℕ) where
   held_body (boolean_array name size (Some bits)) holds = one_literal bits holds
   held_body (assign_array name a) holds = All-append (AreLiteralBits n) (array_literals a) [] (held_array a holds) (All-nil (AreLiteralBits n))
   held_body (assign_range name high low a) holds = All-append (AreLiteralBits n) (array_literals a) [] (held_array a holds) (All-nil (AreLiteralBits n))
+  held_body (export key (exported_value e)) holds = All-nil (AreLiteralBits n)
+  held_body (export key (exported_array a)) holds = All-append (AreLiteralBits n) (array_literals a) [] (held_array a holds) (All-nil (AreLiteralBits n))
   held_body (if_then e body) holds = held_body body holds
   held_body (boolean name None) holds = All-nil (AreLiteralBits n)
   held_body (boolean name (Some b)) holds = All-nil (AreLiteralBits n)
@@ -140,6 +143,8 @@ some_size (assign_range name high low a) = omega arith
 some_size (if_then x body) = omega arith
 some_size (for_loop name from to step) = omega arith
 some_size (push x) = omega arith
+some_size (pop cell) = omega arith
+some_size (export key x) = omega arith
 some_size (print parts) = omega arith
 some_size (exit x) = omega arith
 some_size _ = omega arith

@@ -45,15 +45,14 @@ module _ (constants : Constants) (first : Firsts) (row_texts texts : List (List 
     literals = has_behind constants.literals first.literal row_literals literals has.literals;
   }
 
--- the literal of a number, if it is there
-pub literal_known : (literals : List (List Bool)) (n : ℕ) (bits : List Bool) → HasItems literals n (bits ∷ []) →
-    slice_get literals n ≡ Some bits
-literal_known literals n bits has = get_head n literals ∙ ap head_of has.from
+-- the constant of a number, if it is there
+pub item_known : {A : Type 0} (all : List A) (n : ℕ) (x : A) → HasItems all n (x ∷ []) → slice_get all n ≡ Some x
+item_known all n x has = get_head n all ∙ ap head_of has.from
 
 -- an array takes its bits from where its instruction does
 pub source_known : (literals : List (List Bool)) (look : Lookup) (n : ℕ) (a : ArrayTree) → HasItems literals n (array_literals a) →
     known_source literals (source_code look n a) ≡ Known (source_of look a)
-source_known literals look n (literal bits) has = ap known_literal (literal_known literals n bits has)
+source_known literals look n (literal bits) has = ap known_literal (item_known literals n bits has)
 source_known literals look n (whole name) has = refl
 source_known literals look n (range name high low) has = refl
 source_known literals look n (of_int e) has = refl

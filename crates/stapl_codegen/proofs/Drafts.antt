@@ -1,23 +1,27 @@
 -- A piece more of a draft.
 use Rattle.std.proofs.Common.{◌≡◌, ℕ, zero, suc, ◌+◌, ◌-◌, ◌<◌, ◌≤◌, Bool, true, false, List, [], ◌∷◌, ◌++◌, Option, Some, None, map, length, get_or, drop, take, arith, length-append, append_assoc, sym, ap, subst, ◌∙◌, refl, ⊎_elim}
-use Rattle.std.specs.Prelude.{if◌then◌else◌, slice_index}
+use Rattle.std.specs.Prelude.{if◌then◌else◌, slice_index, IfSome}
 use Rattle.std.proofs.lemmas.List.{get_or_append_left, append-nil, take-map, drop_all, take_all}
 use Rattle.std.specs.List.{cons_option}
 use Rattle.std.proofs.lemmas.Bool.{cases_lt, true≢false}
 use Rattle.std.proofs.Math.Seq.{get_or-append_seam}
-use Rattle.stapl_syntax.specs.Trees.{BodyTree, boolean, boolean_array, integer, integer_array, StmtTree}
+use Rattle.stapl_syntax.specs.Trees.{BodyTree, boolean, boolean_array, integer, integer_array, call, StmtTree}
 use Rattle.stapl_syntax.specs.Statements.{is_outer}
 use Rattle.stapl_syntax.specs.Names.{numbered_from, numbered, inside_behind, inside_from, inside_after}
 use Rattle.stapl_meaning.specs.Turns.{rows}
-use Rattle.stapl_meaning.specs.Scopes.{has_initial_value, Preset, Played, block_at, entry_from, scope_at, preset_scope}
+use Rattle.stapl_meaning.specs.Scopes.{has_initial_value, Preset, Played, block_at, entry_from, procedure_number, scope_at, preset_scope}
+use Rattle.stapl_meaning.specs.Typed.{NamesProcedures, IsTyped}
+use Rattle.stapl_meaning.proofs.Entries.{all_at}
 use Rattle.stapl_code.specs.declared.instr.Instr.{Instr}
 use Rattle.stapl_code.specs.declared.instr.Instr.TheVariants.{Turn}
 use Rattle.stapl_code.specs.Machine.{nowhere}
 use Rattle.stapl_codegen.specs.Emit.{Firsts, past, behind_row, row_code, body_code, row_texts, row_literals, rows_items, presets_items, statements_items, items_before, body_texts, body_literals, at_first, firsts_at, presets_code, piece_code, pieces_code, code_to, start_in, start_of, total_of}
-use Rattle.stapl_codegen.specs.Drafts.{Site, Draft, site_at, site_behind, preset_site, scope_of_site, firsts_in, piece_code_in, preset_code_in, preset_items, ArePresetsLeft, StartsTo, IsDraft}
+use Rattle.stapl_codegen.specs.Numbers.{numbers_from}
+use Rattle.stapl_codegen.specs.Drafts.{number_in, Site, Draft, site_at, site_behind, preset_site, scope_of_site, firsts_in, piece_code_in, preset_code_in, preset_items, ArePresetsLeft, StartsTo, IsDraft}
 use Rattle.stapl_codegen.specs.Accepted.{IsAccepted}
 use Rattle.stapl_codegen.proofs.Heads.{head_of, get_head}
-use Rattle.stapl_codegen.proofs.Lists.{row_append, row_same, body_same, presets_before, piece_append}
+use Rattle.stapl_codegen.proofs.Lists.{RowAlike, row_append, row_same, body_same, presets_before, piece_append}
+use Rattle.stapl_codegen.proofs.Numbers.{calls_known}
 use Rattle.stapl_codegen.proofs.Sizes.{code_length}
 
 pub take_more : {A : Type 0} (i : ℕ) (xs : List A) (x : A) (rest : List A) → drop i xs ≡ x ∷ rest → take (i + 1) xs ≡ take i xs ++ x ∷ []
@@ -62,7 +66,7 @@ module _ (program : Played) (i : ℕ) (st : StmtTree) (is : drop i program.piece
   site_more site site' so_far after =
       after
       ∙ ap (λ (s : Site). site_behind s st.body) so_far
-      ∙ ap (λ (o : Option (List ℕ)). record { names = program.names; count = length program.pieces; inside = o; piece = i + 1 + 1 }) (inside_more _ _ refl refl)
+      ∙ ap (λ (o : Option (List ℕ)). record (site_at program (i + 1)) { inside = o }) (inside_more _ _ refl refl)
 
   items_more : {A : Type 0} (of : BodyTree → List A) (items items' : List A) → items ≡ items_before of program i → items' ≡ items ++ rows_items of (rows st.body) →
       items' ≡ items_before of program (i + 1)
@@ -80,20 +84,27 @@ module _ (program : Played) (i : ℕ) (st : StmtTree) (is : drop i program.piece
   from_more : From i ≡ piece_code program (λ j. j) i st (From (i + 1))
   from_more = ap (pieces_code program (λ j. j) i) is
 
+  -- what the statement calls
+  calls : IsTyped program → NamesProcedures program st.body
+  calls typed = all_at (λ (s : StmtTree). NamesProcedures program s.body) program.pieces i st typed.items (get_head i program.pieces ∙ ap head_of is)
+
   -- what a site finds is what the place finds
-  same_by : (outer : Bool) (first : Firsts) →
+  same_by : IsTyped program → (outer : Bool) (first : Firsts) →
       (if outer then [] else Turn (i + 1) ∷ body_code (scope_of_site (site_at program i)) (λ j. j) first st.body [])
       ≡ (if outer then [] else Turn (i + 1) ∷ body_code (scope_at program i) (λ j. j) first st.body [])
-  same_by true first = refl
-  same_by false first = ap (λ l. Turn (i + 1) ∷ l) (body_same program.names (λ p. 0) (entry_from program.pieces) (length program.pieces) (block_at program.pieces i) i (λ j. j) first st.body)
+  same_by typed true first = refl
+  same_by typed false first =
+      ap (λ l. Turn (i + 1) ∷ l)
+      (body_same program.names (λ p. 0) (entry_from program.pieces) (number_in program.names (numbers_from 0 program.names.blocks)) (procedure_number program.pieces) (length program.pieces)
+      (block_at program.pieces i) i (λ j. j) first st.body (calls_known program typed (block_at program.pieces i) i (λ j. j) st.body (calls typed)))
 
-  code_is : (d : Draft) → d.texts ≡ items_before row_texts program i → d.literals ≡ items_before row_literals program i → d.site ≡ site_at program i →
+  code_is : IsTyped program → (d : Draft) → d.texts ≡ items_before row_texts program i → d.literals ≡ items_before row_literals program i → d.site ≡ site_at program i →
       piece_code_in d st ≡ piece_code program (λ j. j) i st []
-  code_is d texts literals site =
+  code_is typed d texts literals site =
       ap (λ (s : Site). piece_code_in (record { code = []; texts = d.texts; literals = d.literals; site = s }) st) site
       ∙ ap (λ (t : List (List ℕ)). piece_code_in (record { code = []; texts = t; literals = d.literals; site = site_at program i }) st) texts
       ∙ ap (λ (l : List (List Bool)). piece_code_in (record { code = []; texts = items_before row_texts program i; literals = l; site = site_at program i }) st) literals
-      ∙ same_by (is_outer st.body) (firsts_at program i)
+      ∙ same_by typed (is_outer st.body) (firsts_at program i)
 
   code_more : (c c' all : List Instr) → c ++ From i ≡ all → c' ≡ c ++ piece_code program (λ j. j) i st [] → c' ++ From (i + 1) ≡ all
   code_more c c' all e more =
@@ -124,11 +135,11 @@ starts_more program i start starts s e = record {
 }
 
 module _ (program : Played) (i : ℕ) (d : Draft) (starts : List ℕ) (so_far : AreDrafted program i d starts) where
-  pub piece_more : (st : StmtTree) (is : drop i program.pieces ≡ st ∷ drop (i + 1) program.pieces) (d' : Draft) (start : ℕ) (starts' : List ℕ) →
+  pub piece_more : IsTyped program → (st : StmtTree) (is : drop i program.pieces ≡ st ∷ drop (i + 1) program.pieces) (d' : Draft) (start : ℕ) (starts' : List ℕ) →
       d'.code ≡ d.code ++ piece_code_in d st → d'.texts ≡ d.texts ++ body_texts st.body → d'.literals ≡ d.literals ++ body_literals st.body → d'.site ≡ site_behind d.site st.body →
       start ≡ (if is_outer st.body then nowhere else length d.code) → starts' ≡ starts ++ start ∷ [] → AreDrafted program (i + 1) d' starts'
-  piece_more st is d' start starts' code texts literals site at more = record {
-    code = code_more program i st is d.code d'.code _ so_far.code (code ∙ ap (λ l. d.code ++ l) (code_is program i st is d so_far.texts so_far.literals so_far.site));
+  piece_more typed st is d' start starts' code texts literals site at more = record {
+    code = code_more program i st is d.code d'.code _ so_far.code (code ∙ ap (λ l. d.code ++ l) (code_is program i st is typed d so_far.texts so_far.literals so_far.site));
     texts = items_more program i st is row_texts d.texts d'.texts so_far.texts texts;
     literals = items_more program i st is row_literals d.literals d'.literals so_far.literals literals;
     site = site_more program i st is d.site d'.site so_far.site site;
@@ -172,17 +183,23 @@ behind_items : {A : Type 0} (xs ys zs : List A) → zs ≡ xs ++ ys → past (le
 behind_items xs ys zs e = omega (arith, past_length (length xs) ys, ap length e, length-append xs ys)
 
 -- the code of an initial value where it stands
-preset_same : (program : Played) (d : Draft) (preset : Preset) → d.site ≡ site_at program 0 →
+preset_same : (program : Played) (d : Draft) (preset : Preset) → has_initial_value preset.body ≡ true → d.site ≡ site_at program 0 →
     preset_code_in d (Some preset) ≡ row_code (preset_scope program preset) (λ j. j) (firsts_in d) preset.body []
-preset_same program d preset site =
+preset_same program d preset starts site =
     ap (λ (s : Site). row_code (scope_of_site (preset_site s preset)) (λ j. j) (firsts_in d) preset.body []) site
-    ∙ row_same program.names (λ p. 0) (entry_from program.pieces) (length program.pieces) (Some preset.block) 0 (λ j. j) (firsts_in d) preset.body []
+    ∙ row_same program.names (λ p. 0) (entry_from program.pieces) (number_in program.names (numbers_from 0 program.names.blocks)) (procedure_number program.pieces) (length program.pieces)
+    (Some preset.block) 0 (λ j. j) (firsts_in d) preset.body (none_called preset.body starts) []
+  where
+    none_called : (b : BodyTree) → has_initial_value b ≡ true →
+        RowAlike program.names (λ p. 0) (entry_from program.pieces) (number_in program.names (numbers_from 0 program.names.blocks)) (procedure_number program.pieces) (length program.pieces) (Some preset.block) 0 (λ j. j) b
+    none_called (call name) e = absurd (true≢false (sym e))
+    none_called _ e = tt
 
 module _ (program : Played) (d d' : Draft) (more : List Preset) where
   -- a statement more, which has an initial value or none
-  pub preset_more : (o : Option Preset) → ArePresetsLeft program d (cons_option o more) → d'.code ≡ d.code ++ preset_code_in d o → d'.texts ≡ d.texts ++ preset_items row_texts o →
+  pub preset_more : (o : Option Preset) → IfSome o (λ (preset : Preset). has_initial_value preset.body ≡ true) → ArePresetsLeft program d (cons_option o more) → d'.code ≡ d.code ++ preset_code_in d o → d'.texts ≡ d.texts ++ preset_items row_texts o →
       d'.literals ≡ d.literals ++ preset_items row_literals o → d'.site ≡ d.site → ArePresetsLeft program d' more
-  preset_more None left code texts literals site =
+  preset_more None starts left code texts literals site =
       let same_texts = texts ∙ append-nil d.texts in
       let same_literals = literals ∙ append-nil d.literals in
       record {
@@ -194,14 +211,14 @@ module _ (program : Played) (d d' : Draft) (more : List Preset) where
         literals = ap (λ l. l ++ presets_items row_literals more) same_literals ∙ left.literals;
         site = site ∙ left.site;
       }
-  preset_more (Some preset) left code texts literals site =
+  preset_more (Some preset) starts left code texts literals site =
       let one : List Instr = row_code (preset_scope program preset) (λ j. j) (firsts_in d) preset.body [] in
       let others : Firsts → List Instr = λ first. presets_code program (λ j. j) first more [] in
       let next : Firsts = behind_row (firsts_in d) preset.body in
       let split : row_code (preset_scope program preset) (λ j. j) (firsts_in d) preset.body (others next) ≡ one ++ others next =
       row_append (preset_scope program preset) (λ j. j) (firsts_in d) preset.body [] (others next) in
       record {
-        code = ap (λ c. c ++ others (firsts_in d')) (code ∙ ap (λ c. d.code ++ c) (preset_same program d preset left.site))
+        code = ap (λ c. c ++ others (firsts_in d')) (code ∙ ap (λ c. d.code ++ c) (preset_same program d preset starts left.site))
             ∙ ap (λ n. (d.code ++ one) ++ others (record { text = n; literal = length d'.literals })) (sym (behind_items d.texts (row_texts preset.body) d'.texts texts))
             ∙ ap (λ n. (d.code ++ one) ++ others (record { text = next.text; literal = n })) (sym (behind_items d.literals (row_literals preset.body) d'.literals literals))
             ∙ append_assoc d.code one (others next)

@@ -1,5 +1,6 @@
 -- Steps of what is written for a statement.
-use Rattle.std.proofs.Common.{◌≡◌, ℕ, suc, ◌<◌, Bool, true, List, [], ◌∷◌, ◌++◌, length, take, drop, arith, append_assoc, refl, sym, ap, ◌∙◌}
+use Rattle.std.proofs.Common.{◌≡◌, ℕ, suc, ◌<◌, Bool, true, false, List, [], ◌∷◌, ◌++◌, length, take, drop, arith, append_assoc, refl, sym, ap, ◌∙◌}
+use Rattle.std.specs.Prelude.{if◌then◌else◌}
 use Rattle.std.proofs.lemmas.List.{append-nil, take_all}
 use Rattle.stapl_syntax.specs.Trees.{ExprTree, ArrayTree, BodyTree, if_then, PartTree, string, value, character}
 use Rattle.stapl_meaning.specs.declared.values.ValueKind.TheVariants as kinds
@@ -9,7 +10,7 @@ use Rattle.stapl_meaning.specs.Turns.{rows}
 use Rattle.stapl_meaning.specs.Operands.{a_range, array_operands, part_operands}
 use Rattle.stapl_code.specs.declared.instr.Source.{Source}
 use Rattle.stapl_code.specs.declared.instr.Instr.{Instr}
-use Rattle.stapl_code.specs.declared.instr.Instr.TheVariants.{JumpIfZero, CheckChar}
+use Rattle.stapl_code.specs.declared.instr.Instr.TheVariants.{Turn, JumpIfZero, CheckChar}
 use Rattle.stapl_code.specs.declared.instr.PrintPart.{PrintPart}
 use Rattle.stapl_codegen.specs.Emit.{operands_code, source_code, print_parts, part_texts, rows_items}
 use Rattle.stapl_codegen.specs.Drafts.{Draft, Site, scope_of_site, expr_code_in, operands_code_in, array_operands_in, source_in, part_operands_in, print_parts_in, body_code_in}
@@ -90,6 +91,24 @@ module _ (part : PartTree) (rest : List PartTree) where
 pub short_literal : (bits : List Bool) (n : ℕ) → n ≡ length bits → n < 32 → take n (drop 0 bits) ≡ take 32 bits
 short_literal bits n is below = take_all n bits (omega (arith, is)) ∙ sym (take_all 32 bits (omega (arith, is, below)))
 
+-- a statement has the code that it has in a draft that goes on in the same way
+same_body : (b : BodyTree) (start d : Draft) → d.texts ≡ start.texts → d.literals ≡ start.literals → d.site ≡ start.site → body_code_in d b ≡ body_code_in start b
+same_body b start d texts literals site =
+    ap (λ (s : Site). body_code_in (record { code = []; texts = d.texts; literals = d.literals; site = s }) b) site
+    ∙ ap (λ (t : List (List ℕ)). body_code_in (record { code = []; texts = t; literals = d.literals; site = start.site }) b) texts
+    ∙ ap (λ (l : List (List Bool)). body_code_in (record { code = []; texts = start.texts; literals = l; site = start.site }) b) literals
+
+-- the turn of a statement, and then what it does
+pub turn_written : (outer : Bool) (b : BodyTree) (start d done : Draft) → outer ≡ false →
+    d.code ≡ start.code ++ Turn start.site.piece ∷ [] → d.texts ≡ start.texts → d.literals ≡ start.literals → d.site ≡ start.site →
+    done.code ≡ d.code ++ body_code_in d b → done.code ≡ start.code ++ (if outer then [] else Turn start.site.piece ∷ body_code_in start b)
+turn_written outer b start d done inner code texts literals site more =
+    more
+    ∙ ap (λ c. d.code ++ c) (same_body b start d texts literals site)
+    ∙ ap (λ c. c ++ body_code_in start b) code
+    ∙ append_assoc start.code (Turn start.site.piece ∷ []) (body_code_in start b)
+    ∙ ap (λ (o : Bool). start.code ++ (if o then [] else Turn start.site.piece ∷ body_code_in start b)) (sym inner)
+
 -- an IF, and then its inner statement
 pub if_written : (e : ExprTree) (b : BodyTree) (start d done : Draft) →
     d.code ≡ start.code ++ (expr_code_in start kinds.Bit e ++ JumpIfZero start.site.piece ∷ []) → d.texts ≡ start.texts → d.literals ≡ start.literals → d.site ≡ start.site →
@@ -99,9 +118,7 @@ if_written e b start d done code texts literals site more =
     let jump : List Instr = JumpIfZero start.site.piece ∷ [] in
     let inner : List Instr = body_code_in start b in
     more
-    ∙ ap (λ (s : Site). d.code ++ body_code_in (record { code = []; texts = d.texts; literals = d.literals; site = s }) b) site
-    ∙ ap (λ (t : List (List ℕ)). d.code ++ body_code_in (record { code = []; texts = t; literals = d.literals; site = start.site }) b) texts
-    ∙ ap (λ (l : List (List Bool)). d.code ++ body_code_in (record { code = []; texts = start.texts; literals = l; site = start.site }) b) literals
+    ∙ ap (λ c. d.code ++ c) (same_body b start d texts literals site)
     ∙ ap (λ c. c ++ inner) code
     ∙ append_assoc start.code (test ++ jump) inner
     ∙ ap (λ c. start.code ++ c) (append_assoc test jump inner ∙ sym (expr_before (scope_of_site start.site).look kinds.Bit e (jump ++ inner)))

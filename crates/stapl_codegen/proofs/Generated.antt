@@ -5,17 +5,19 @@ use Rattle.std.specs.Option.{option_map}
 use Rattle.std.proofs.lemmas.Option.{slice_get-map}
 use Rattle.stapl_syntax.specs.declared.names.Declaration.{Declaration}
 use Rattle.stapl_syntax.specs.Names.{declaration}
-use Rattle.stapl_syntax.specs.Trees.{StmtTree}
+use Rattle.std.proofs.lemmas.List.Elements.{All-weaker}
+use Rattle.stapl_syntax.specs.Trees.{BodyTree, call, if_then, StmtTree}
 use Rattle.stapl_syntax.specs.Statements.{is_outer}
 use Rattle.stapl_syntax.specs.Programs.{piece_limit}
-use Rattle.stapl_meaning.specs.Scopes.{Played, scope_at}
-use Rattle.stapl_meaning.specs.Typed.{IsDeclared, IsTyped}
+use Rattle.stapl_meaning.specs.Scopes.{has_initial_value, Preset, Played, scope_at}
+use Rattle.stapl_meaning.specs.Typed.{IsDeclared, IsTypedPreset, NamesProcedures, IsTyped}
 use Rattle.stapl_code.specs.declared.instr.Instr.TheVariants.{Turn}
 use Rattle.stapl_code.specs.declared.raw.ProcDef.{ProcDef}
 use Rattle.stapl_code.specs.declared.raw.VarDef.{VarDef}
 use Rattle.stapl_code.specs.declared.instr.Instr.{Instr}
 use Rattle.stapl_code.specs.Ranges.{AreProcedures, IsInstr, IsInRange}
 use Rattle.stapl_codegen.specs.Emit.{body_code, at_first, firsts_at, literals_of, texts_of, presets_code, pieces_code, program_code, start_of, procedures_of}
+use Rattle.stapl_codegen.specs.Correct.{AllStart}
 use Rattle.stapl_codegen.specs.Accepted.{IsAccepted}
 use Rattle.stapl_codegen.specs.Generated.{lists_of, IsCodeOf}
 use Rattle.stapl_codegen.proofs.Heads.{head_of, get_head, drop_tail}
@@ -23,7 +25,7 @@ use Rattle.stapl_codegen.proofs.Texts.{texts_below, literals_below, presets_belo
 use Rattle.stapl_codegen.proofs.Lists.{presets_before}
 use Rattle.stapl_codegen.proofs.PrologueFine.{presets_range}
 use Rattle.stapl_codegen.proofs.Ordered.{closed}
-use Rattle.stapl_codegen.proofs.Ranges.{Each, each_all, InRange, body_range, variables_are, agrees_from}
+use Rattle.stapl_codegen.proofs.Ranges.{Each, each_all, InRange, CallsThere, body_range, variables_are, agrees_from}
 use Rattle.stapl_built.specs.Built.{IsBuilt}
 use Rattle.stapl_meaning.proofs.Resolved.{built_is_inner}
 use Rattle.stapl_meaning.proofs.Entries.{all_at}
@@ -32,7 +34,7 @@ use Rattle.stapl_codegen.specs.Generated.{kind_number, variable_def}
 use Rattle.stapl_codegen.proofs.Sizes.{code_length}
 use Rattle.stapl_codegen.proofs.Runs.{stands}
 use Rattle.stapl_codegen.proofs.Whole.{AreFine, procedures_fine}
-use Rattle.stapl_codegen.proofs.Defined.{procedures_are, actions_are}
+use Rattle.stapl_codegen.proofs.Defined.{count_same, procedures_are, actions_are}
 
 -- each instruction of the pieces from a place on is in its range
 module _ (program : Played) (built : All IsBuilt program.pieces) (typed : IsTyped program) where
@@ -40,7 +42,7 @@ module _ (program : Played) (built : All IsBuilt program.pieces) (typed : IsType
   defs = map variable_def program.names.variables
 
   pieces_range : (sts : List StmtTree) (i : ℕ) → drop i program.pieces ≡ sts → i + length sts ≤ piece_limit →
-      InRange defs (length (literals_of program)) (length (texts_of program)) (pieces_code program (start_of program) i sts)
+      InRange defs (length (literals_of program)) (length (texts_of program)) (length (procedures_of program)) (pieces_code program (start_of program) i sts)
   pieces_range [] i e few = tt
   pieces_range (st ∷ rest) i e few =
       by (is_outer st.body) refl (pieces_range rest (i + 1) (rw add-one (drop_tail i program.pieces ∙ ap (drop 1) e)) (omega (arith, few)))
@@ -51,19 +53,29 @@ module _ (program : Played) (built : All IsBuilt program.pieces) (typed : IsType
       defined block (Some d) is =
           slice_get-map variable_def program.names.variables ((scope_at program i).look.variable d.name) ∙ ap (option_map variable_def) is.entry
 
+      calls_there : (b : BodyTree) → NamesProcedures program b → CallsThere defs (length (literals_of program)) (length (texts_of program)) (length (procedures_of program)) (scope_at program i)
+          (agrees_from program.names (block_at program.pieces i)) (start_of program) b
+      calls_there (call name) is = omega (arith, is, count_same (start_of program) 0 program.pieces)
+      calls_there (if_then c b) is = calls_there b is
+      calls_there _ is = tt
+
       after : List Instr
       after = pieces_code program (start_of program) (i + 1) rest
 
-      by : (b : Bool) → is_outer st.body ≡ b → InRange defs (length (literals_of program)) (length (texts_of program)) after →
-          InRange defs (length (literals_of program)) (length (texts_of program)) (cond b after (Turn (i + 1) ∷ body_code (scope_at program i) (start_of program) (firsts_at program i) st.body after))
+      by : (b : Bool) → is_outer st.body ≡ b → InRange defs (length (literals_of program)) (length (texts_of program)) (length (procedures_of program)) after →
+          InRange defs (length (literals_of program)) (length (texts_of program)) (length (procedures_of program)) (cond b after (Turn (i + 1) ∷ body_code (scope_at program i) (start_of program) (firsts_at program i) st.body after))
       by true outer more = more
       by false inner more =
           let at = get_head i program.pieces ∙ ap head_of e in
           let t = typed.statements i st at inner in (
             (omega arith, omega (arith, few)),
-            body_range defs (length (literals_of program)) (length (texts_of program)) (scope_at program i) (agrees_from program.names (block_at program.pieces i)) (start_of program) (firsts_at program i) st.body after
+            body_range defs (length (literals_of program)) (length (texts_of program)) (length (procedures_of program)) (scope_at program i) (agrees_from program.names (block_at program.pieces i)) (start_of program) (firsts_at program i) st.body after
                 (built_is_inner st (all_at IsBuilt program.pieces i st built at) inner) t.suits (defined t.block (declaration st.body) t.declares) t.few_values
-                (record { few_texts = texts_below i program st rest e; few_literals = literals_below i program st rest e }) more,
+                (record {
+                  few_texts = texts_below i program st rest e;
+                  few_literals = literals_below i program st rest e;
+                  calls = calls_there st.body (all_at (λ (s : StmtTree). NamesProcedures program s.body) program.pieces i st typed.items at);
+                }) more,
           )
 
 -- there is a procedure, which begins at an instruction
@@ -97,11 +109,11 @@ module _ (program : Played) (accepted : IsAccepted program) where
       let below = begins_somewhere (length (program_code program)) (length prologue) (procedures_of program) procedures.some fine.begin in
       not_empty pieces (omega (arith, below, all, length-append prologue pieces))
 
-  instrs_range : InRange variables (length (literals_of program)) (length (texts_of program)) (program_code program)
+  instrs_range : InRange variables (length (literals_of program)) (length (texts_of program)) (length (procedures_of program)) (program_code program)
   instrs_range =
       let limit = accepted.typed.few in
       let few = presets_below program in
-      presets_range program (start_of program) (length (literals_of program)) (length (texts_of program)) at_first program.presets (pieces_code program (start_of program) 0 program.pieces)
+      presets_range program (start_of program) (length (literals_of program)) (length (texts_of program)) (length (procedures_of program)) at_first program.presets (pieces_code program (start_of program) 0 program.pieces)
       accepted.typed.presets accepted.presets_built (omega (arith, few.0)) (omega (arith, few.1))
       (pieces_range program accepted.built accepted.typed program.pieces 0 refl (omega (arith, limit)))
 
@@ -113,12 +125,15 @@ module _ (program : Played) (accepted : IsAccepted program) where
         texts = accepted.texts;
         procedures = procedures;
         actions = actions_are program accepted.typed accepted.named;
-        instrs = each_all (IsInstr variables (length (literals_of program)) (length (texts_of program))) (program_code program) instrs_range;
+        instrs = each_all (IsInstr variables (length (literals_of program)) (length (texts_of program)) (length (procedures_of program))) (program_code program) instrs_range;
         countable = omega (arith, size);
       }
+
+  starts : AllStart program.presets
+  starts = All-weaker (IsTypedPreset program) (λ (preset : Preset). has_initial_value preset.body ≡ true) (λ preset typed. typed.starts) program.presets accepted.typed.presets
 
   pub code : IsCodeOf program (lists_of program)
   code = record {
     lists = refl;
-    stands = stands program (closed false program.pieces accepted.typed.ordered) (omega (arith, size)) code_some;
+    stands = stands program (closed false program.pieces accepted.typed.ordered) (omega (arith, size)) starts code_some;
   }

@@ -5,6 +5,8 @@ pub mod Exprs
 pub mod Constants
 pub mod Prints
 pub mod Lists
+pub mod Placed
+pub mod Rows
 pub mod Bodies
 pub mod Texts
 pub mod Pieces

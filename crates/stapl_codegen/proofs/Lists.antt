@@ -1,7 +1,7 @@
 -- The code of expressions, operands, rows and pieces: what stands behind it, and its targets.
 use Rattle.std.proofs.Common.{◌≡◌, ℕ, zero, suc, ◌+◌, Bool, true, false, cond, List, [], ◌∷◌, ◌++◌, length, map, drop, arith, append_assoc, refl, sym, ap, ◌∙◌}
 use Rattle.std.specs.Prelude.{ℤ, pos, negsuc, Option, Some}
-use Rattle.stapl_syntax.specs.Trees.{ExprTree, number, scalar, element, unary, binary, abs, int, ArrayTree, literal, whole, range, of_int, BodyTree, end_procedure, boolean, boolean_array, integer, integer_array, assign, assign_element, assign_array, assign_range, goto, if_then, print, exit, StmtTree}
+use Rattle.stapl_syntax.specs.Trees.{ExprTree, number, scalar, element, unary, binary, abs, int, ArrayTree, literal, whole, range, of_int, BodyTree, end_procedure, boolean, boolean_array, integer, integer_array, assign, assign_element, assign_array, assign_range, call, goto, if_then, for_loop, next, push, pop, print, exported_value, exported_array, export, exit, StmtTree}
 use Rattle.stapl_syntax.specs.Statements.{is_outer}
 use Rattle.stapl_syntax.specs.Names.{Names}
 use Rattle.stapl_meaning.specs.declared.values.ValueKind.{ValueKind}
@@ -11,9 +11,10 @@ use Rattle.stapl_meaning.specs.Operands.{Test, Plain, Character, Index, Range, O
 use Rattle.stapl_meaning.specs.Scopes.{Scope, Preset, Played, scope_of, scope_at, preset_scope}
 use Rattle.stapl_meaning.specs.Turns.{operands, rows}
 use Rattle.stapl_code.specs.declared.instr.Instr.{Instr}
-use Rattle.stapl_code.specs.declared.instr.Instr.TheVariants.{Turn, LoadAt, Unary, Binary, ToInt}
+use Rattle.stapl_code.specs.declared.instr.Instr.TheVariants.{Turn, LoadAt, Unary, Binary, ToInt, Call}
 use Rattle.stapl_code.specs.declared.instr.Source.TheVariants as sources
-use Rattle.stapl_codegen.specs.Emit.{operator_number, sign_number, absolute_number, literal_code, test_code, expr_code, int_code, operands_code, Firsts, last, behind_row, row_code, rows_code, body_code, firsts_at, at_first, presets_code, piece_code, pieces_code, code_to, retarget}
+use Rattle.stapl_codegen.specs.Emit.{operator_number, sign_number, absolute_number, literal_code, test_code, expr_code, int_code, operands_code, Firsts, last, between, behind_row, row_code, rows_code, body_code, firsts_at, at_first, presets_code, piece_code, pieces_code, code_to, retarget}
+use Rattle.stapl_codegen.proofs.Rows.{IsRows, no_row, one_row, more_rows, rows_view}
 
 literal_retarget : (place : ℕ → ℕ) (kind : ValueKind) (z : ℤ) → retarget place (literal_code kind z) ≡ literal_code kind z
 literal_retarget place kinds.Int z = refl
@@ -102,8 +103,20 @@ module _ (look : Lookup) where
         ∙ ap (λ l. expr_code look o.kind o.expr (test_code o.test l)) (operands_retarget os c)
 
 module _ (scope : Scope) (place : ℕ → ℕ) where
+  between_append : (b : BodyTree) (c d : List Instr) → between scope b (c ++ d) ≡ between scope b c ++ d
+  between_append (pop (scalar name)) c d = refl
+  between_append (pop (element name index)) c d = refl
+  between_append _ c d = refl
+
+  between_retarget : (b : BodyTree) (c : List Instr) → map (retarget place) (between scope b c) ≡ between scope b (map (retarget place) c)
+  between_retarget (pop (scalar name)) c = refl
+  between_retarget (pop (element name index)) c = refl
+  between_retarget _ c = refl
+
   pub row_append : (first : Firsts) (b : BodyTree) (c d : List Instr) → row_code scope place first b (c ++ d) ≡ row_code scope place first b c ++ d
-  row_append first b c d = operands_append scope.look (operands scope b) (last scope place first b ∷ c) d
+  row_append first b c d =
+      ap (operands_code scope.look (operands scope b)) (between_append b (last scope place first b ∷ c) d)
+      ∙ operands_append scope.look (operands scope b) (between scope b (last scope place first b ∷ c)) d
 
   rows_append : (first : Firsts) (bs : List BodyTree) (c d : List Instr) → rows_code scope place first bs (c ++ d) ≡ rows_code scope place first bs c ++ d
   rows_append first [] c d = refl
@@ -128,16 +141,25 @@ module _ (scope : Scope) (place : ℕ → ℕ) where
   last_retarget first (assign_element name index e) = refl
   last_retarget first (assign_array name a) = refl
   last_retarget first (assign_range name high low a) = refl
+  last_retarget first (call name) = refl
   last_retarget first (goto name) = refl
   last_retarget first (if_then e b) = refl
+  last_retarget first (for_loop name from to step) = refl
+  last_retarget first (next name) = refl
+  last_retarget first (push e) = refl
+  last_retarget first (pop (scalar name)) = refl
+  last_retarget first (pop (element name index)) = refl
   last_retarget first (print list) = refl
+  last_retarget first (export key (exported_value e)) = refl
+  last_retarget first (export key (exported_array a)) = refl
   last_retarget first (exit e) = refl
   last_retarget first _ = refl
 
   pub row_retarget : (first : Firsts) (b : BodyTree) (c : List Instr) → map (retarget place) (row_code scope (λ i. i) first b c) ≡ row_code scope place first b (map (retarget place) c)
   row_retarget first b c =
-      operands_retarget scope.look place (operands scope b) (last scope (λ i. i) first b ∷ c)
-      ∙ ap (λ i. operands_code scope.look (operands scope b) (i ∷ map (retarget place) c)) (last_retarget first b)
+      operands_retarget scope.look place (operands scope b) (between scope b (last scope (λ i. i) first b ∷ c))
+      ∙ ap (operands_code scope.look (operands scope b)) (between_retarget b (last scope (λ i. i) first b ∷ c))
+      ∙ ap (λ i. operands_code scope.look (operands scope b) (between scope b (i ∷ map (retarget place) c))) (last_retarget first b)
 
   rows_retarget : (first : Firsts) (bs : List BodyTree) (c : List Instr) → map (retarget place) (rows_code scope (λ i. i) first bs c) ≡ rows_code scope place first bs (map (retarget place) c)
   rows_retarget first [] c = refl
@@ -147,41 +169,73 @@ module _ (scope : Scope) (place : ℕ → ℕ) where
   pub body_retarget : (first : Firsts) (b : BodyTree) (c : List Instr) → map (retarget place) (body_code scope (λ i. i) first b c) ≡ body_code scope place first b (map (retarget place) c)
   body_retarget first b c = rows_retarget first (rows b) c
 
--- the code of a statement does not ask where procedures begin
-module _ (names : Names) (entry entry' : ℕ → ℕ) (count : ℕ) (inside : Option (List ℕ)) (i : ℕ) (place : ℕ → ℕ) where
+-- The code of a statement does not ask where procedures begin, and of the numbers of procedures only for those that it
+-- calls.
+module _ (names : Names) (entry entry' : ℕ → ℕ) (number number' : List ℕ → ℕ) (count : ℕ) (inside : Option (List ℕ)) (i : ℕ) (place : ℕ → ℕ) where
   abbrev One : Scope
-  One = scope_of names entry count inside i
+  One = scope_of names entry number count inside i
 
   abbrev Other : Scope
-  Other = scope_of names entry' count inside i
+  Other = scope_of names entry' number' count inside i
+
+  -- what a row calls, and a statement, has the same number
+  abbrev pub RowAlike : BodyTree → Type 0
+  RowAlike (call name) = number name ≡ number' name
+  RowAlike _ = Unit {0}
+
+  abbrev pub CallsAlike : BodyTree → Type 0
+  CallsAlike (call name) = number name ≡ number' name
+  CallsAlike (if_then e b) = CallsAlike b
+  CallsAlike _ = Unit {0}
+
+  abbrev RowsAlike : List BodyTree → Type 0
+  RowsAlike [] = Unit {0}
+  RowsAlike (b ∷ bs) = RowAlike b × RowsAlike bs
+
+  own_alike : (b : BodyTree) → CallsAlike b → RowAlike b
+  own_alike (call name) alike = alike
+  own_alike _ alike = tt
+
+  rows_alike : (b : BodyTree) (bs : List BodyTree) → IsRows b bs → CallsAlike b → RowsAlike bs
+  rows_alike _ _ (no_row b) alike = tt
+  rows_alike _ _ (one_row b) alike = (own_alike b alike, tt)
+  rows_alike _ _ (more_rows e b bs rows) alike = (tt, rows_alike b bs rows alike)
 
   -- a line for each statement
-  last_same : (first : Firsts) (b : BodyTree) → last One place first b ≡ last Other place first b
-  last_same first end_procedure = refl
-  last_same first (boolean name (Some b)) = refl
-  last_same first (boolean_array name size (Some bits)) = refl
-  last_same first (integer name (Some z)) = refl
-  last_same first (integer_array name size (Some zs)) = refl
-  last_same first (assign name e) = refl
-  last_same first (assign_element name index e) = refl
-  last_same first (assign_array name a) = refl
-  last_same first (assign_range name high low a) = refl
-  last_same first (goto name) = refl
-  last_same first (if_then e b) = refl
-  last_same first (print list) = refl
-  last_same first (exit e) = refl
-  last_same first _ = refl
+  last_same : (first : Firsts) (b : BodyTree) → RowAlike b → last One place first b ≡ last Other place first b
+  last_same first (call name) alike = ap Call alike
+  last_same first end_procedure alike = refl
+  last_same first (boolean name (Some b)) alike = refl
+  last_same first (boolean_array name size (Some bits)) alike = refl
+  last_same first (integer name (Some z)) alike = refl
+  last_same first (integer_array name size (Some zs)) alike = refl
+  last_same first (assign name e) alike = refl
+  last_same first (assign_element name index e) alike = refl
+  last_same first (assign_array name a) alike = refl
+  last_same first (assign_range name high low a) alike = refl
+  last_same first (goto name) alike = refl
+  last_same first (if_then e b) alike = refl
+  last_same first (for_loop name from to step) alike = refl
+  last_same first (next name) alike = refl
+  last_same first (push e) alike = refl
+  last_same first (pop (scalar name)) alike = refl
+  last_same first (pop (element name index)) alike = refl
+  last_same first (print list) alike = refl
+  last_same first (export key (exported_value e)) alike = refl
+  last_same first (export key (exported_array a)) alike = refl
+  last_same first (exit e) alike = refl
+  last_same first _ alike = refl
 
-  pub row_same : (first : Firsts) (b : BodyTree) (c : List Instr) → row_code One place first b c ≡ row_code Other place first b c
-  row_same first b c = ap (λ i. operands_code One.look (operands One b) (i ∷ c)) (last_same first b)
+  pub row_same : (first : Firsts) (b : BodyTree) → RowAlike b → (c : List Instr) → row_code One place first b c ≡ row_code Other place first b c
+  row_same first b alike c = ap (λ i. operands_code One.look (operands One b) (between One b (i ∷ c))) (last_same first b alike)
 
-  rows_same : (first : Firsts) (bs : List BodyTree) → rows_code One place first bs [] ≡ rows_code Other place first bs []
-  rows_same first [] = refl
-  rows_same first (b ∷ bs) =
-      row_same first b (rows_code One place (behind_row first b) bs []) ∙ ap (row_code Other place first b) (rows_same (behind_row first b) bs)
+  rows_same : (first : Firsts) (bs : List BodyTree) → RowsAlike bs → rows_code One place first bs [] ≡ rows_code Other place first bs []
+  rows_same first [] alike = refl
+  rows_same first (b ∷ bs) alike =
+      row_same first b alike.0 (rows_code One place (behind_row first b) bs []) ∙ ap (row_code Other place first b) (rows_same (behind_row first b) bs alike.1)
 
-  pub body_same : (first : Firsts) (b : BodyTree) → body_code One place first b [] ≡ body_code Other place first b []
-  body_same first b = rows_same first (rows b)
+  pub body_same : (first : Firsts) (b : BodyTree) → CallsAlike b → body_code One place first b [] ≡ body_code Other place first b []
+  body_same first b alike = rows_same first (rows b) (rows_alike b (rows b) (rows_view b) alike)
 
 module _ (program : Played) (place : ℕ → ℕ) where
   presets_append : (first : Firsts) (presets : List Preset) (c d : List Instr) → presets_code program place first presets (c ++ d) ≡ presets_code program place first presets c ++ d

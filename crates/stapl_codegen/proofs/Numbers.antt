@@ -7,12 +7,14 @@ use Rattle.std.proofs.lemmas.List.{length-map, drop_more}
 use Rattle.std.proofs.lemmas.Option.{slice_get_within, get_or_from_slice_get}
 use Rattle.stapl_syntax.specs.declared.statement.Stmt.{Stmt}
 use Rattle.stapl_syntax.specs.declared.names.Block.{Block}
-use Rattle.stapl_syntax.specs.Trees.{BodyTree, procedure, StmtTree, trees}
+use Rattle.stapl_syntax.specs.Trees.{BodyTree, procedure, call, if_then, StmtTree, trees}
 use Rattle.stapl_syntax.specs.Names.{with_numbers, numbered_from, numbered}
-use Rattle.stapl_meaning.specs.Scopes.{Played, procedures_in, procedure_number}
-use Rattle.stapl_meaning.specs.Typed.{procedure_name, procedure_names, plain_blocks}
+use Rattle.stapl_meaning.specs.Scopes.{Played, procedures_in, procedure_number, entry_from}
+use Rattle.stapl_meaning.specs.Typed.{procedure_name, procedure_names, plain_blocks, IsProcedure, NamesProcedures, IsTyped}
 use Rattle.stapl_codegen.specs.declared.definitions.Numbers.{Numbers}
 use Rattle.stapl_codegen.specs.Numbers.{numbers_from, AreNumbers}
+use Rattle.stapl_codegen.specs.Drafts.{number_in}
+use Rattle.stapl_codegen.proofs.Lists.{CallsAlike}
 use Rattle.stapl_names.proofs.Keys.{name_same}
 use Rattle.stapl_names.proofs.Positions.{place_or_len}
 
@@ -106,15 +108,19 @@ number_at (e ∷ es) n d name apart below = by e.1.is_data (bytes_eq name e.0) r
         ∙ later
         ∙ omega (arith, ap (λ b. cond (not b) (1 + position_or_len (bytes_eq name) (plain_blocks es)) 0) is)
 
+-- where the number of a procedure stands among those at the blocks
+pub block_place : (name : List ℕ) (es : List (List ℕ × Block)) (block : Option ℕ) (count : ℕ) → block ≡ position (bytes_eq name) (keys_of es) → count ≡ length es →
+    unwrap_or block count ≡ position_or_len (bytes_eq name) (keys_of es)
+block_place name es block count at few =
+    ap (unwrap_or block) (few ∙ sym (length-map es (λ e. e.0))) ∙ place_or_len (bytes_eq name) (keys_of es) block at
+
 -- the number of the procedure of an item, from the numbers at the blocks
 pub item_number : (program : Played) (numbers : Numbers) (name : List ℕ) (block : Option ℕ) (count d : ℕ) → AreNumbers program numbers → procedure_number program.pieces name < procedures_in program.pieces →
     block ≡ position (bytes_eq name) (keys_of numbers.names.now.blocks) → count ≡ length numbers.names.now.blocks →
     get_or numbers.next.items (unwrap_or block count) d ≡ procedure_number program.pieces name
 item_number program numbers name block count d are there at few =
     let es : List (List ℕ × Block) = numbers.names.now.blocks in
-    let long : length (keys_of es) ≡ length es = length-map es (λ e. e.0) in
-    let place : unwrap_or block count ≡ position_or_len (bytes_eq name) (keys_of es) =
-    ap (unwrap_or block) (few ∙ sym long) ∙ place_or_len (bytes_eq name) (keys_of es) block at in
+    let place = block_place name es block count at few in
     let own : position_or_len (bytes_eq name) (plain_blocks es) ≡ procedure_number program.pieces name =
     ap (position_or_len (bytes_eq name)) are.procedures ∙ sym (number_is program.pieces name) in
     let below : position_or_len (bytes_eq name) (plain_blocks es) < length (plain_blocks es) =
@@ -123,6 +129,23 @@ item_number program numbers name block count d are there at few =
     ∙ ap (λ k. get_or (numbers_from 0 es) k d) place
     ∙ number_at es 0 d name are.apart below
     ∙ omega (arith, own)
+
+-- what a statement calls has the number that the numbers at the blocks tell
+number_known : (program : Played) → IsTyped program → (name : List ℕ) → IsProcedure program name →
+    number_in program.names (numbers_from 0 program.names.blocks) name ≡ procedure_number program.pieces name
+number_known program typed name there =
+    let es : List (List ℕ × Block) = program.names.blocks in
+    let own : position_or_len (bytes_eq name) (plain_blocks es) ≡ procedure_number program.pieces name =
+    ap (position_or_len (bytes_eq name)) typed.procedures_are ∙ sym (number_is program.pieces name) in
+    let below : position_or_len (bytes_eq name) (plain_blocks es) < length (plain_blocks es) =
+    omega (arith, own, there, count_is program.pieces, ap length typed.procedures_are) in
+    number_at es 0 0 name typed.blocks_apart below ∙ omega (arith, own)
+
+pub calls_known : (program : Played) → IsTyped program → (inside : Option (List ℕ)) (i : ℕ) (place : ℕ → ℕ) (b : BodyTree) → NamesProcedures program b →
+    CallsAlike program.names (λ p. 0) (entry_from program.pieces) (number_in program.names (numbers_from 0 program.names.blocks)) (procedure_number program.pieces) (length program.pieces) inside i place b
+calls_known program typed inside i place (call name) there = number_known program typed name there
+calls_known program typed inside i place (if_then e b) there = calls_known program typed inside i place b there
+calls_known program typed inside i place _ there = tt
 
 -- there is a number at each block and behind them
 pub numbers_count : (n : ℕ) (es : List (List ℕ × Block)) → length (numbers_from n es) ≡ length es + 1
@@ -143,8 +166,7 @@ pub item_below : (program : Played) (numbers : Numbers) (name : List ℕ) (block
 item_below program numbers name block count at many are is few own long =
     let es : List (List ℕ × Block) = numbers.names.now.blocks in
     let keys : length (keys_of es) ≡ length es = length-map es (λ e. e.0) in
-    let place : unwrap_or block count ≡ position_or_len (bytes_eq name) (keys_of es) =
-    ap (unwrap_or block) (few ∙ sym keys) ∙ place_or_len (bytes_eq name) (keys_of es) block is in
+    let place = block_place name es block count is few in
     omega (arith, own, place, long, keys, ap length are.next, numbers_count 0 es, place_within (bytes_eq name) (keys_of es))
 
 -- a block more

@@ -1,11 +1,12 @@
 -- The prologue of the code does what the initial values of DATA blocks do.
-use Rattle.std.proofs.Common.{◌≡◌, ℕ, List, [], ◌∷◌, refl, sym, ap, ◌∙◌}
+use Rattle.std.proofs.Common.{◌≡◌, ℕ, true, List, [], ◌∷◌, refl, sym, ap, ◌∙◌}
+use Rattle.std.proofs.lemmas.List.Elements.{All-head, All-tail}
 use Rattle.stapl_syntax.specs.Trees.{BodyTree, end_data}
 use Rattle.stapl_meaning.specs.declared.values.Value.{Value}
 use Rattle.stapl_meaning.specs.Values.{Got, Known, Faults, Stuck}
 use Rattle.stapl_meaning.specs.Operands.{values_of}
-use Rattle.stapl_meaning.specs.States.{State, Did, Falls, Jumps, Returns, Ends, Turned, Leads, Over, Broken, NoTurn, with_got, preceded, next_chosen, begun, led}
-use Rattle.stapl_meaning.specs.Scopes.{Preset, Scope, Played, entry_from, preset_scope}
+use Rattle.stapl_meaning.specs.States.{State, Did, Falls, Jumps, Resumes, Returns, Ends, Turned, Leads, Over, Broken, NoTurn, with_got, preceded, next_chosen, begun, led}
+use Rattle.stapl_meaning.specs.Scopes.{has_initial_value, Preset, Scope, Played, entry_from, preset_scope}
 use Rattle.stapl_meaning.specs.Turns.{operands, effect, target, carried}
 use Rattle.stapl_meaning.specs.Plays.{set_up, beginning}
 use Rattle.stapl_code.specs.declared.instr.Instr.{Instr}
@@ -13,6 +14,8 @@ use Rattle.stapl_code.specs.Machine.{Constants, entry_of, stretch}
 use Rattle.stapl_code.proofs.Preceded.{begun_preceded}
 use Rattle.stapl_codegen.specs.Emit.{Firsts, behind_row, row_texts, row_literals, presets_items, presets_code}
 use Rattle.stapl_codegen.proofs.Constants.{HasConstants, row_has, others_have}
+use Rattle.stapl_codegen.specs.Correct.{placed_state, AllStart}
+use Rattle.stapl_codegen.proofs.Rows.{starts_no_call}
 use Rattle.stapl_codegen.proofs.Bodies.{placed, preceded_placed, end_law, row_follows, row_tied}
 
 -- ---- where the last one leads is of no matter
@@ -32,6 +35,7 @@ module _ (entry : ℕ → ℕ) (scope : Scope) where
         begun entry (with_got did s (λ d. led scope.entry (target scope b) d go)) ≡ begun entry (with_got did s (λ d. led scope.entry (target scope b) d go'))
     led_alike b s (Known (Falls events t)) = begun_preceded entry events (go t) ∙ ap (preceded events) (alike t) ∙ sym (begun_preceded entry events (go' t))
     led_alike b s (Known (Jumps t)) = refl
+    led_alike b s (Known (Resumes i t)) = refl
     led_alike b s (Known (Returns t)) = refl
     led_alike b s (Known (Ends ending t)) = refl
     led_alike b s (Faults k) = refl
@@ -58,17 +62,19 @@ set_up_alike program place (preset ∷ presets) s =
 
 module _ (program : Played) (place : ℕ → ℕ) (entries : List ℕ) (constants : Constants) (total : ℕ) (entry_is : (p : ℕ) → entry_of entries p ≡ place (entry_from program.pieces p)) where
   prologue_follows : (first_place : ℕ) (first : Firsts) (presets : List Preset) (rest : List Instr) (s : State) →
-      HasConstants constants first (presets_items row_texts presets) (presets_items row_literals presets) →
+      HasConstants constants first (presets_items row_texts presets) (presets_items row_literals presets) → AllStart presets →
       ((t : State) → stretch entries constants total rest [] t ≡ Leads [] (place first_place) t) →
-      stretch entries constants total (presets_code program place first presets rest) [] s ≡ placed place (set_up_to program first_place presets s)
-  prologue_follows first_place first [] rest s has behind = behind s
-  prologue_follows first_place first (preset ∷ presets) rest s has behind =
+      stretch entries constants total (presets_code program place first presets rest) [] (placed_state place s) ≡ placed place (set_up_to program first_place presets s)
+  prologue_follows first_place first [] rest s has start behind = behind (placed_state place s)
+  prologue_follows first_place first (preset ∷ presets) rest s has start behind =
+      let Starts : Preset → Type 0 = λ (p : Preset). has_initial_value p.body ≡ true in
       let b : BodyTree = preset.body in
       let own = row_has constants first (row_texts b) (presets_items row_texts presets) (row_literals b) (presets_items row_literals presets) has in
       let others = others_have constants first (row_texts b) (presets_items row_texts presets) (row_literals b) (presets_items row_literals presets) has in
       row_follows place entries constants total (preset_scope program preset) s first b (presets_code program place (behind_row first b) presets rest)
-      (set_up_to program first_place presets) (row_tied place entries constants total (preset_scope program preset) first b own) entry_is
-      (λ t. prologue_follows first_place (behind_row first b) presets rest t others behind)
+      (set_up_to program first_place presets) (row_tied place entries constants total (preset_scope program preset) first b entry_is own)
+      (λ is. absurd (starts_no_call b (All-head Starts preset presets start) is))
+      (λ t. prologue_follows first_place (behind_row first b) presets rest t others (All-tail Starts preset presets start) behind)
 
   begun_placed : (t : Turned) → begun (entry_of entries) (placed place t) ≡ placed place (begun (entry_from program.pieces) t)
   begun_placed (Leads events i s) =
@@ -80,10 +86,10 @@ module _ (program : Played) (place : ℕ → ℕ) (entries : List ℕ) (constant
 
   -- the beginning of a play
   pub begins_alike : (first_place : ℕ) (first : Firsts) (rest : List Instr) (s : State) →
-      HasConstants constants first (presets_items row_texts program.presets) (presets_items row_literals program.presets) →
+      HasConstants constants first (presets_items row_texts program.presets) (presets_items row_literals program.presets) → AllStart program.presets →
       ((t : State) → stretch entries constants total rest [] t ≡ Leads [] (place first_place) t) →
-      begun (entry_of entries) (stretch entries constants total (presets_code program place first program.presets rest) [] s) ≡ placed place (beginning program s)
-  begins_alike first_place first rest s has behind =
-      ap (begun (entry_of entries)) (prologue_follows first_place first program.presets rest s has behind)
+      begun (entry_of entries) (stretch entries constants total (presets_code program place first program.presets rest) [] (placed_state place s)) ≡ placed place (beginning program s)
+  begins_alike first_place first rest s has start behind =
+      ap (begun (entry_of entries)) (prologue_follows first_place first program.presets rest s has start behind)
       ∙ begun_placed (set_up_to program first_place program.presets s)
       ∙ ap (placed place) (set_up_alike program first_place program.presets s)

@@ -8,7 +8,7 @@ use Rattle.std.proofs.lemmas.Option.{slice_get-map}
 use Rattle.stapl_syntax.specs.declared.names.Declaration.{Declaration}
 use Rattle.stapl_syntax.specs.Names.{declaration}
 use Rattle.stapl_syntax.specs.Kinds.{is_bit_array, operands_suit}
-use Rattle.stapl_syntax.specs.Trees.{BodyTree, boolean, boolean_array, integer, integer_array}
+use Rattle.stapl_syntax.specs.Trees.{BodyTree, boolean, boolean_array, integer, integer_array, call, if_then}
 use Rattle.stapl_built.specs.Built.{is_built_inner}
 use Rattle.stapl_meaning.specs.declared.values.ValueKind.{ValueKind}
 use Rattle.stapl_meaning.specs.declared.values.ValueKind.TheVariants as kinds
@@ -24,7 +24,7 @@ use Rattle.stapl_meaning.specs.Turns.{rows}
 use Rattle.stapl_codegen.specs.Emit.{Firsts, row_texts, row_literals, behind_row, rows_items, presets_items, row_code, rows_code, presets_code}
 use Rattle.stapl_codegen.specs.Generated.{kind_number, variable_def}
 use Rattle.stapl_codegen.proofs.Drafts.{past_length, one_row}
-use Rattle.stapl_codegen.proofs.Ranges.{InRange, AreThere, agrees_from, body_range}
+use Rattle.stapl_codegen.proofs.Ranges.{InRange, CallsThere, AreThere, agrees_from, body_range}
 use Rattle.stapl_codegen.proofs.Sides.{held_kind}
 use Rattle.stapl_codegen.proofs.WellKinded.{Agrees, scalar_agrees, bits_agree, integers_agree}
 use Rattle.stapl_codegen.proofs.WellPlaced.{store_finds, wanted}
@@ -102,7 +102,7 @@ module _ (program : Played) where
 
   -- ---- ranges
 
-  module _ (place : ℕ → ℕ) (literals texts : ℕ) where
+  module _ (place : ℕ → ℕ) (literals texts procedures : ℕ) where
     defined : (look : Lookup) (piece : ℕ) (block : List ℕ) (o : Option Declaration) → IfSome o (IsDeclared program look piece block) →
         IfSome o (λ (d : Declaration). slice_get defs (look.variable d.name) ≡ Some (record { kind = kind_number d.kind; size = nat_abs d.size }))
     defined look piece block None is = tt
@@ -117,10 +117,10 @@ module _ (program : Played) where
     preset_suits look _ starts = absurd (true≢false (sym starts))
 
     -- the numbers of the constants of the first and of the others
-    there : (first : Firsts) (preset : Preset) (presets : List Preset) → rows preset.body ≡ preset.body ∷ [] →
+    there : (first : Firsts) (preset : Preset) (presets : List Preset) → has_initial_value preset.body ≡ true → rows preset.body ≡ preset.body ∷ [] →
         first.text + length (presets_items row_texts (preset ∷ presets)) ≤ texts → first.literal + length (presets_items row_literals (preset ∷ presets)) ≤ literals →
-        AreThere defs literals texts (preset_scope program preset) (agrees_in preset) place first preset.body
-    there first preset presets one few_texts few_literals = record {
+        AreThere defs literals texts procedures (preset_scope program preset) (agrees_in preset) place first preset.body
+    there first preset presets starts one few_texts few_literals = record {
       few_texts = omega (
         arith,
         few_texts,
@@ -133,11 +133,17 @@ module _ (program : Played) where
         length-append (row_literals preset.body) (presets_items row_literals presets),
         ap length (ap (rows_items row_literals) one ∙ append-nil (row_literals preset.body)),
       );
+      calls = none_called preset.body starts;
     }
+      where
+        none_called : (b : BodyTree) → has_initial_value b ≡ true → CallsThere defs literals texts procedures (preset_scope program preset) (agrees_in preset) place b
+        none_called (call name) e = absurd (true≢false (sym e))
+        none_called (if_then c b) e = absurd (true≢false (sym e))
+        none_called _ e = tt
 
     pub presets_range : (first : Firsts) (presets : List Preset) (rest : List Instr) → All (IsTypedPreset program) presets → All (λ (preset : Preset). is_built_inner preset.body ≡ true) presets →
         first.text + length (presets_items row_texts presets) ≤ texts → first.literal + length (presets_items row_literals presets) ≤ literals →
-        InRange defs literals texts rest → InRange defs literals texts (presets_code program place first presets rest)
+        InRange defs literals texts procedures rest → InRange defs literals texts procedures (presets_code program place first presets rest)
     presets_range first [] rest typed built few_texts few_literals more = more
     presets_range first (preset ∷ presets) rest typed built few_texts few_literals more =
         let own = All-head (IsTypedPreset program) preset presets typed in
@@ -147,8 +153,8 @@ module _ (program : Played) where
         let others = presets_range next presets rest (All-tail (IsTypedPreset program) preset presets typed) (All-tail (λ (preset : Preset). is_built_inner preset.body ≡ true) preset presets built)
         (omega (arith, few_texts, past_length first.text (row_texts preset.body), length-append (row_texts preset.body) (presets_items row_texts presets)))
         (omega (arith, few_literals, past_length first.literal (row_literals preset.body), length-append (row_literals preset.body) (presets_items row_literals presets))) more in
-        subst (λ bs. InRange defs literals texts (rows_code scope place first bs (presets_code program place next presets rest))) one
-        (body_range defs literals texts scope (agrees_in preset) place first preset.body (presets_code program place next presets rest)
+        subst (λ bs. InRange defs literals texts procedures (rows_code scope place first bs (presets_code program place next presets rest))) one
+        (body_range defs literals texts procedures scope (agrees_in preset) place first preset.body (presets_code program place next presets rest)
         (All-head (λ (preset : Preset). is_built_inner preset.body ≡ true) preset presets built) (preset_suits scope.look preset.body own.starts)
         (defined scope.look own.piece preset.block (declaration preset.body) own.declares) own.few_values
-        (there first preset presets one few_texts few_literals) others)
+        (there first preset presets own.starts one few_texts few_literals) others)

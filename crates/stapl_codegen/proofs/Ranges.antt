@@ -17,10 +17,10 @@ use Rattle.stapl_syntax.specs.declared.names.Key.{Key}
 use Rattle.stapl_syntax.specs.declared.names.Variable.{Variable}
 use Rattle.stapl_syntax.specs.declared.names.VarKind.{VarKind}
 use Rattle.stapl_syntax.specs.declared.names.VarKind.TheVariants as variables
-use Rattle.stapl_syntax.specs.Kinds.{expr_kind, element_kind, is_array, is_int, is_bit, is_bit_array, suits, operands_suit}
+use Rattle.stapl_syntax.specs.Kinds.{expr_kind, element_kind, is_array, is_int, is_bit, is_bit_array, is_integer, wants_int, suits, if_given, operands_suit}
 use Rattle.stapl_syntax.specs.Names.{Names, declaration, found_from, kind_of_found}
 use Rattle.stapl_syntax.specs.Rules.{is_boolean, has_too_many_values}
-use Rattle.stapl_syntax.specs.Trees.{ExprTree, number, scalar, element, unary, binary, abs, int, ArrayTree, literal, whole, range, of_int, PartTree, string, value, character, BodyTree, boolean, boolean_array, integer, integer_array, assign, assign_element, assign_array, assign_range, goto, if_then, print, exit}
+use Rattle.stapl_syntax.specs.Trees.{ExprTree, number, scalar, element, unary, binary, abs, int, ArrayTree, literal, whole, range, of_int, PartTree, string, value, character, BodyTree, boolean, boolean_array, integer, integer_array, assign, assign_element, assign_array, assign_range, call, goto, if_then, for_loop, next, push, pop, print, exported_value, exported_array, export, exit}
 use Rattle.stapl_built.specs.Built.{is_built_simple, is_built_inner}
 use Rattle.stapl_meaning.specs.declared.values.ValueKind.{ValueKind}
 use Rattle.stapl_meaning.specs.declared.values.ValueKind.TheVariants as kinds
@@ -35,13 +35,13 @@ use Rattle.stapl_code.specs.declared.instr.Instr.TheVariants.{LoadAt, Unary, Bin
 use Rattle.stapl_code.specs.declared.raw.VarDef.{VarDef}
 use Rattle.stapl_code.specs.Operators.{operator_table, unary_kinds}
 use Rattle.stapl_code.specs.Kinds.{variable_kind, element_kind as element_kind_of, is_of_kind}
-use Rattle.stapl_code.specs.Ranges.{IsVariable, elements_of, AreVariables, IsPart, IsSource, size_of, IsInstr}
+use Rattle.stapl_code.specs.Ranges.{IsVariable, elements_of, AreVariables, IsPart, IsSource, IsExport, size_of, IsInstr}
 use Rattle.stapl_codegen.specs.Generated.{kind_number, variable_def}
-use Rattle.stapl_codegen.specs.Emit.{literal_code, expr_code, int_code, test_code, operands_code, source_code, shown_part, print_parts, part_texts, array_literals, Firsts, last, row_code, body_texts, body_literals, operator_number, sign_number, absolute_number, body_code}
+use Rattle.stapl_codegen.specs.Emit.{literal_code, expr_code, int_code, test_code, operands_code, source_code, shown_part, export_part, print_parts, part_texts, array_literals, Firsts, last, between, row_code, body_texts, body_literals, operator_number, sign_number, absolute_number, body_code}
 use Rattle.stapl_codegen.proofs.Views.{IsInner, an_end, a_bit, some_bits, an_integer, no_integers, some_integers, a_simple, inner_view}
 use Rattle.stapl_codegen.proofs.Sides.{fits, scalar_fits, element_fits, indexed_fits, unary_fits, integer_fits, operates}
-use Rattle.stapl_codegen.proofs.WellKinded.{Agrees, scalar_agrees, element_agrees, bits_agree, TestFits, AllTyped, one_typed, parts_typed, range_typed, array_typed, no_bit}
-use Rattle.stapl_codegen.proofs.WellPlaced.{given_fits, item_given, bit_fits, number_fits}
+use Rattle.stapl_codegen.proofs.WellKinded.{Agrees, scalar_agrees, element_agrees, bits_agree, integer_agrees, printed_fits, TestFits, AllTyped, one_typed, parts_typed, range_typed, array_typed, no_bit}
+use Rattle.stapl_codegen.proofs.WellPlaced.{given_fits, item_given, scalar_popped, item_popped, step_fits, bit_fits, number_fits}
 
 -- something is so of each element
 abbrev pub Each : {A : Type 0} → (A → Type 0) → List A → Type 0
@@ -178,9 +178,9 @@ sign_range signs.Negate = omega arith
 sign_range signs.Complement = omega arith
 sign_range signs.Not = omega arith
 
-module _ (defs : List VarDef) (literals texts : ℕ) where
+module _ (defs : List VarDef) (literals texts procedures : ℕ) where
   abbrev pub InRange : List Instr → Type 0
-  InRange code = Each (IsInstr defs literals texts) code
+  InRange code = Each (IsInstr defs literals texts procedures) code
 
   literal_range : (kind : ValueKind) (z : ℤ) (rest : List Instr) → fits kind (expr_kind (λ name. None) (number z)) ≡ true → InRange rest → InRange (literal_code kind z ∷ rest)
   literal_range kinds.Int z rest h more = (tt, more)
@@ -246,15 +246,36 @@ module _ (defs : List VarDef) (literals texts : ℕ) where
     source_range first (of_int e) h few = tt
 
   module _ (scope : Scope) (agrees : Agrees defs scope.look) (place : ℕ → ℕ) where
-    -- the constants of a statement are there
+    -- what a statement calls is there
+    abbrev pub CallsThere : BodyTree → Type 0
+    CallsThere (call name) = scope.procedure name < procedures
+    CallsThere (if_then e b) = CallsThere b
+    CallsThere _ = Unit {0}
+
+    -- and so are its constants
     pub record AreThere (first : Firsts) (b : BodyTree) : Type 0 where
       pub few_texts : first.text + length (body_texts b) ≤ texts
       pub few_literals : first.literal + length (body_literals b) ≤ literals
+      pub calls : CallsThere b
+
+    integer_there : (name : List ℕ) → is_integer (scope.look.kind name) ≡ true → scope.look.variable name < length defs
+    integer_there name h = kind_there defs 0 (scope.look.variable name) (integer_agrees defs scope.look agrees name h)
+
+    between_range : (b : BodyTree) (rest : List Instr) → InRange rest → InRange (between scope b rest)
+    between_range (pop (scalar name)) rest more = (tt, more)
+    between_range (pop (element name index)) rest more = (tt, more)
+    between_range _ rest more = more
 
     -- the one row of a statement has its operands typed, and its last instruction in range
-    one_range : (first : Firsts) (b : BodyTree) (rest : List Instr) → AllTyped defs scope.look [] (operands scope b) → IsInstr defs literals texts (last scope place first b) →
+    one_range : (first : Firsts) (b : BodyTree) (rest : List Instr) → AllTyped defs scope.look [] (operands scope b) → IsInstr defs literals texts procedures (last scope place first b) →
         InRange rest → InRange (row_code scope place first b rest)
-    one_range first b rest typed own more = operands_range scope.look agrees [] (operands scope b) (last scope place first b ∷ rest) typed (own, more)
+    one_range first b rest typed own more =
+        let last_one : List Instr = last scope place first b ∷ rest in
+        operands_range scope.look agrees [] (operands scope b) (between scope b last_one) typed (between_range b last_one (own, more))
+
+    value_range : (kind : ValueKind) → IsExport (length defs) literals (export_part kind)
+    value_range kinds.Int = tt
+    value_range kinds.Bit = tt
 
     simple_range : (first : Firsts) (b : BodyTree) (rest : List Instr) → is_built_simple b ≡ true → operands_suit scope.look.kind b ≡ true →
         AreThere first b → InRange rest → InRange (body_code scope place first b rest)
@@ -287,9 +308,37 @@ module _ (defs : List VarDef) (literals texts : ℕ) where
     simple_range first (goto name) rest built suit there more = (tt, more)
     simple_range first (if_then e b) rest built suit there more =
         let suits = and_parts (is_bit (expr_kind scope.look.kind e)) (operands_suit scope.look.kind b) suit in
-        let inner : AreThere first b = record { few_texts = there.few_texts; few_literals = there.few_literals } in
+        let inner : AreThere first b = record { few_texts = there.few_texts; few_literals = there.few_literals; calls = there.calls } in
         one_range first (if_then e b) (body_code scope place first b rest) (one_typed defs scope.look [] kinds.Bit e suits.0) tt
         (simple_range first b rest built suits.1 inner more)
+    simple_range first (call name) rest built suit there more = (there.calls, more)
+    simple_range first (for_loop name from to step) rest built suit there more =
+        let kind = scope.look.kind in
+        let t = and_parts (is_integer (kind name) && is_int (expr_kind kind from) && is_int (expr_kind kind to)) (if_given (wants_int kind) step) suit in
+        let u = and_parts (is_integer (kind name) && is_int (expr_kind kind from)) (is_int (expr_kind kind to)) t.0 in
+        let v = and_parts (is_integer (kind name)) (is_int (expr_kind kind from)) u.0 in
+        one_range first (for_loop name from to step) rest
+        (record { fits = v.1; test = tt }, (record { fits = u.1; test = tt }, (record { fits = step_fits kind step t.1; test = tt }, tt))) (integer_there name v.0) more
+    simple_range first (next name) rest built suit there more = (integer_there name suit, more)
+    simple_range first (push e) rest built suit there more =
+        let kind : ValueKind = printed_kind (expr_kind scope.look.kind e) in
+        one_range first (push e) rest (one_typed defs scope.look [] kind e (printed_fits defs scope.look (expr_kind scope.look.kind e) suit)) tt more
+    simple_range first (pop (scalar name)) rest built suit there more =
+        let kind : ValueKind = given_kind (scope.look.kind name) in
+        one_range first (pop (scalar name)) rest tt
+        (scalar_there defs (scope.look.variable name) kind (scalar_agrees defs scope.look agrees name kind (scalar_popped (scope.look.kind name) suit))) more
+    simple_range first (pop (element name index)) rest built suit there more =
+        let t = item_popped (scope.look.kind name) (expr_kind scope.look.kind index) suit in
+        let found = ap is_some (element_agrees defs scope.look agrees name (given_kind (scope.look.kind name)) t.1) in
+        one_range first (pop (element name index)) rest (record { fits = t.0; test = (refl, found) }, tt) (element_there defs (scope.look.variable name) found) more
+    simple_range first (export key (exported_value e)) rest built suit there more =
+        let kind : ValueKind = printed_kind (expr_kind scope.look.kind e) in
+        one_range first (export key (exported_value e)) rest (one_typed defs scope.look [] kind e (printed_fits defs scope.look (expr_kind scope.look.kind e) suit))
+        (omega (arith, there.few_texts), value_range kind) more
+    simple_range first (export key (exported_array a)) rest built suit there more =
+        let within : first.literal + length (array_literals a) ≤ literals = omega (arith, there.few_literals, ap length (append-nil (array_literals a))) in
+        one_range first (export key (exported_array a)) rest (array_typed defs scope.look agrees [] a suit)
+        (omega (arith, there.few_texts), source_range scope.look agrees first.literal a suit within) more
     simple_range first (print list) rest built suit there more =
         let some : 1 ≤ length (print_parts scope.look first.text list) = omega (arith, parts_count scope.look first.text list, ltb-true 0 (length list) built) in
         let within : first.text + length (part_texts list) ≤ texts = omega (arith, there.few_texts, ap length (append-nil (part_texts list))) in

@@ -1,8 +1,8 @@
 -- Whole runs: the code does what the program does.
-use Rattle.std.proofs.Common.{◌≡◌, ◌≢◌, ℕ, zero, suc, ◌+◌, ◌-◌, ◌≤◌, Bool, true, false, cond, List, [], ◌∷◌, length, drop, Some, None, refl, sym, ap, subst, ◌∙◌, add-one}
+use Rattle.std.proofs.Common.{◌≡◌, ◌≢◌, ℕ, zero, suc, ◌+◌, ◌-◌, ◌≤◌, Bool, true, false, cond, List, [], ◌∷◌, length, drop, Some, None, refl, sym, ap, subst, ◌∙◌, add-one, arith, length-append}
 use Rattle.std.specs.Prelude.{slice_get}
 use Rattle.std.proofs.lemmas.List.{drop_all}
-use Rattle.stapl_syntax.specs.Trees.{BodyTree, end_procedure, boolean, boolean_array, integer, integer_array, assign, assign_element, assign_array, assign_range, goto, if_then, print, exit, StmtTree}
+use Rattle.stapl_syntax.specs.Trees.{BodyTree, end_procedure, boolean, boolean_array, integer, integer_array, assign, assign_element, assign_array, assign_range, call, goto, if_then, for_loop, next, push, pop, print, export, exit, StmtTree}
 use Rattle.stapl_syntax.specs.Statements.{is_outer}
 use Rattle.stapl_meaning.specs.States.{State, Turned, Leads, Over, Broken, NoTurn, turn_of_piece}
 use Rattle.stapl_meaning.specs.Scopes.{Played, Scope, scope_at, zeros_of}
@@ -12,8 +12,9 @@ use Rattle.stapl_code.specs.declared.instr.Instr.{Instr}
 use Rattle.stapl_code.specs.declared.instr.Instr.TheVariants.{Turn}
 use Rattle.stapl_code.specs.Machine.{Constants, nowhere, stretch, begins, code_turn, code_run}
 use Rattle.stapl_codegen.specs.Emit.{body_code, at_first, firsts_at, constants_in, pieces_code, program_code, start_of, program_entries}
-use Rattle.stapl_codegen.specs.Correct.{GoesOn, IsClosed, placed_run, Stands}
+use Rattle.stapl_codegen.specs.Correct.{GoesOn, IsClosed, placed_state, placed_run, AllStart, Stands}
 use Rattle.stapl_codegen.proofs.Heads.{head_of, get_head, drop_tail}
+use Rattle.stapl_codegen.proofs.Lists.{body_before, code_split}
 use Rattle.stapl_codegen.proofs.Texts.{presets_known, constants_at}
 use Rattle.stapl_codegen.proofs.Bodies.{placed, piece_placed, Behind, body_follows}
 use Rattle.stapl_codegen.proofs.Prologue.{begins_alike}
@@ -34,9 +35,15 @@ outer_stays scope s (assign name x) e = absurd cc
 outer_stays scope s (assign_element name index x) e = absurd cc
 outer_stays scope s (assign_array name a) e = absurd cc
 outer_stays scope s (assign_range name high low a) e = absurd cc
+outer_stays scope s (call name) e = absurd cc
 outer_stays scope s (goto name) e = absurd cc
 outer_stays scope s (if_then x b) e = absurd cc
+outer_stays scope s (for_loop name from to step) e = absurd cc
+outer_stays scope s (next name) e = absurd cc
+outer_stays scope s (push x) e = absurd cc
+outer_stays scope s (pop cell) e = absurd cc
 outer_stays scope s (print list) e = absurd cc
+outer_stays scope s (export key x) e = absurd cc
 outer_stays scope s (exit x) e = absurd cc
 outer_stays scope s _ e = refl
 
@@ -92,24 +99,48 @@ module _ (program : Played) where
   abbrev From : ℕ → List StmtTree → List Instr
   From i sts = pieces_code program place i sts
 
-  behind_turn : (scope : Scope) (q : ℕ) (code : List Instr) → All - length (Turn q ∷ code) ≡ place scope.follow → Behind place Entries These All scope (Turn q ∷ code)
-  behind_turn scope q code e = record { falls_on = λ t. ap (λ n. Leads [] n t) e }
+  behind_turn : (scope : Scope) (q : ℕ) (code : List Instr) → suc (length (Turn q ∷ code)) ≤ All → All - length (Turn q ∷ code) ≡ place scope.follow →
+      Behind place Entries These All scope (Turn q ∷ code)
+  behind_turn scope q code within e =
+      let next : suc (All - suc (length (Turn q ∷ code))) ≡ All - length (Turn q ∷ code) = omega (arith, within) in
+      record { falls_on = λ t. ap (λ n. Leads [] n t) e; is_behind = next ∙ e }
 
   -- what follows a piece that is not the last of its procedure
-  behind_piece : (i : ℕ) (sts : List StmtTree) → drop (i + 1) program.pieces ≡ sts → GoesOn sts → Behind place Entries These All (scope_at program i) (From (i + 1) sts)
-  behind_piece i [] e go = absurd go
-  behind_piece i (st ∷ rest) e go =
+  behind_piece : (i : ℕ) (sts : List StmtTree) → drop (i + 1) program.pieces ≡ sts → suc (length (From (i + 1) sts)) ≤ All → GoesOn sts →
+      Behind place Entries These All (scope_at program i) (From (i + 1) sts)
+  behind_piece i [] e within go = absurd go
+  behind_piece i (st ∷ rest) e within go =
       let code = body_code (scope_at program (i + 1)) place (firsts_at program (i + 1)) st.body (From (i + 1 + 1) rest) in
       let is : From (i + 1) (st ∷ rest) ≡ Turn (i + 1 + 1) ∷ code = ap (λ b. cond b (From (i + 1 + 1) rest) (Turn (i + 1 + 1) ∷ code)) go in
       let at = start_is program (i + 1) st (get_head (i + 1) program.pieces ∙ ap head_of e) go in
       let at' : All - length (Turn (i + 1 + 1) ∷ code) ≡ place (i + 1) = sym (at ∙ ap (λ l. All - length (From (i + 1) l)) e ∙ ap (λ c. All - length c) is) in
-      subst (Behind place Entries These All (scope_at program i)) (sym is) (behind_turn (scope_at program i) (i + 1 + 1) code at')
+      subst (Behind place Entries These All (scope_at program i)) (sym is) (behind_turn (scope_at program i) (i + 1 + 1) code (omega (arith, within, ap length is)) at')
 
   module _ (closed : IsClosed program.pieces) (short : All ≤ nowhere) where
     none_there : (s : State) → code_turn Entries These Code nowhere s ≡ NoTurn []
     none_there s = ap (λ c. begins Entries These All c s) (drop_all nowhere Code short)
 
-    inner_follows : (i : ℕ) (s : State) (st : StmtTree) (rest : List StmtTree) → drop i program.pieces ≡ st ∷ rest → is_outer st.body ≡ false → code_turn Entries These Code (place i) s ≡ placed place (turn program i s)
+    -- the code behind a piece of a procedure is not all
+    not_all : (i : ℕ) (st : StmtTree) (rest : List StmtTree) → drop i program.pieces ≡ st ∷ rest → is_outer st.body ≡ false → suc (length (From (i + 1) rest)) ≤ All
+    not_all i st rest e inner =
+        let scope = scope_at program i in
+        let first = firsts_at program i in
+        let more : List Instr = From (i + 1) rest in
+        let own : List Instr = body_code scope place first st.body [] in
+        let split = code_split program place i in
+        let here : From i (drop i program.pieces) ≡ Turn (i + 1) ∷ body_code scope place first st.body more =
+        ap (From i) e ∙ ap (λ b. cond b more (Turn (i + 1) ∷ body_code scope place first st.body more)) inner in
+        omega (
+          arith,
+          ap length split.1,
+          length-append split.0 (From i (drop i program.pieces)),
+          ap length here,
+          ap length (body_before scope place first st.body more),
+          length-append own more,
+        )
+
+    inner_follows : (i : ℕ) (s : State) (st : StmtTree) (rest : List StmtTree) → drop i program.pieces ≡ st ∷ rest → is_outer st.body ≡ false →
+        code_turn Entries These Code (place i) (placed_state place s) ≡ placed place (turn program i s)
     inner_follows i s st rest e inner =
         let at : slice_get program.pieces i ≡ Some st = get_head i program.pieces ∙ ap head_of e in
         let next : drop (i + 1) program.pieces ≡ rest = rw add-one (drop_tail i program.pieces ∙ ap (drop 1) e) in
@@ -117,47 +148,50 @@ module _ (program : Played) where
         let scope = scope_at program i in
         let first = firsts_at program i in
         let body = body_code scope place first st.body (From (i + 1) rest) in
-        ap (λ d. begins Entries These All d s) (code_from program i st at inner ∙ ap (From i) e)
-        ∙ ap (λ b. begins Entries These All (cond b (From (i + 1) rest) (Turn (i + 1) ∷ body)) s) inner
+        ap (λ d. begins Entries These All d (placed_state place s)) (code_from program i st at inner ∙ ap (From i) e)
+        ∙ ap (λ b. begins Entries These All (cond b (From (i + 1) rest) (Turn (i + 1) ∷ body)) (placed_state place s)) inner
         ∙ ap (turn_of_piece (i + 1))
-        (body_follows place Entries These All scope s first st.body (From (i + 1) rest) (entry_is program) (λ f. behind_piece i rest next (c.0 inner f)) (constants_at i program st rest e))
+        (body_follows place Entries These All scope s first st.body (From (i + 1) rest) (entry_is program)
+        (λ f. behind_piece i rest next (not_all i st rest e inner) (c.0 inner f)) (constants_at i program st rest e))
         ∙ piece_placed place (i + 1) (done scope s st.body)
         ∙ ap (λ o. placed place (turn_of (scope_at program i) (i + 1) s o)) (sym at)
 
-    by_piece : (i : ℕ) (s : State) (sts : List StmtTree) → drop i program.pieces ≡ sts → code_turn Entries These Code (place i) s ≡ placed place (turn program i s)
+    by_piece : (i : ℕ) (s : State) (sts : List StmtTree) → drop i program.pieces ≡ sts →
+        code_turn Entries These Code (place i) (placed_state place s) ≡ placed place (turn program i s)
     by_piece i s [] e =
         let at : slice_get program.pieces i ≡ None = get_head i program.pieces ∙ ap head_of e in
-        ap (λ n. code_turn Entries These Code n s) (start_none program i at)
-        ∙ none_there s
+        ap (λ n. code_turn Entries These Code n (placed_state place s)) (start_none program i at)
+        ∙ none_there (placed_state place s)
         ∙ ap (λ o. placed place (turn_of (scope_at program i) (i + 1) s o)) (sym at)
     by_piece i s (st ∷ rest) e = by_outer (is_outer st.body) refl
       where
         at : slice_get program.pieces i ≡ Some st
         at = get_head i program.pieces ∙ ap head_of e
 
-        by_outer : (b : Bool) → is_outer st.body ≡ b → code_turn Entries These Code (place i) s ≡ placed place (turn program i s)
+        by_outer : (b : Bool) → is_outer st.body ≡ b → code_turn Entries These Code (place i) (placed_state place s) ≡ placed place (turn program i s)
         by_outer true h =
-            ap (λ n. code_turn Entries These Code n s) (start_head program i st at h)
-            ∙ none_there s
+            ap (λ n. code_turn Entries These Code n (placed_state place s)) (start_head program i st at h)
+            ∙ none_there (placed_state place s)
             ∙ ap (placed place) (sym (ap (turn_of (scope_at program i) (i + 1) s) at ∙ ap (turn_of_piece (i + 1)) (outer_stays (scope_at program i) s st.body h)))
         by_outer false h = inner_follows i s st rest e h
 
-    pub turn_follows : (i : ℕ) (s : State) → code_turn Entries These Code (place i) s ≡ placed place (turn program i s)
+    pub turn_follows : (i : ℕ) (s : State) → code_turn Entries These Code (place i) (placed_state place s) ≡ placed place (turn program i s)
     turn_follows i s = by_piece i s (drop i program.pieces) refl
 
-    goes_follows : (n : ℕ) → ((i : ℕ) (s : State) → code_run Entries These Code n (place i) s ≡ placed_run place (run program n i s)) → (t : Turned) (s : State) → goes_on (placed place t) s (code_run Entries These Code n) ≡ placed_run place (goes_on t s (run program n))
+    goes_follows : (n : ℕ) → ((i : ℕ) (s : State) → code_run Entries These Code n (place i) (placed_state place s) ≡ placed_run place (run program n i s)) → (t : Turned) (s : State) →
+        goes_on (placed place t) (placed_state place s) (code_run Entries These Code n) ≡ placed_run place (goes_on t s (run program n))
     goes_follows n rest (Leads events i t) s = ap (after events) (rest i t)
     goes_follows n rest (Over events e t) s = refl
     goes_follows n rest (Broken events k t) s = refl
     goes_follows n rest (NoTurn events) s = refl
 
-    run_follows : (n : ℕ) (i : ℕ) (s : State) → code_run Entries These Code n (place i) s ≡ placed_run place (run program n i s)
+    run_follows : (n : ℕ) (i : ℕ) (s : State) → code_run Entries These Code n (place i) (placed_state place s) ≡ placed_run place (run program n i s)
     run_follows zero i s = refl
     run_follows (suc n) i s =
-        ap (λ t. goes_on t s (code_run Entries These Code n)) (turn_follows i s)
+        ap (λ t. goes_on t (placed_state place s) (code_run Entries These Code n)) (turn_follows i s)
         ∙ goes_follows n (run_follows n) (turn program i s) s
 
-    module _ (some : From 0 program.pieces ≢ []) where
+    module _ (start_all : AllStart program.presets) (some : From 0 program.pieces ≢ []) where
       first_turn : BeginsWithTurn program (From 0 program.pieces)
       first_turn = pieces_begin program 0 program.pieces refl some
 
@@ -171,5 +205,5 @@ module _ (program : Played) where
       stands chosen n =
           let s : State = start chosen (zeros_of program) in
           ap (λ t. goes_on t s (code_run Entries These Code n))
-          (begins_alike program place Entries These All (entry_is program) first_turn.first at_first (From 0 program.pieces) s (presets_known program) turn_behind)
+          (begins_alike program place Entries These All (entry_is program) first_turn.first at_first (From 0 program.pieces) s (presets_known program) start_all turn_behind)
           ∙ goes_follows n (run_follows n) (beginning program s) s

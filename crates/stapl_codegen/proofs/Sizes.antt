@@ -1,6 +1,6 @@
 -- How many instructions a program has: no more than the symbols of its statements and of its DATA blocks, and one for
 -- each piece.
-use Rattle.std.proofs.Common.{◌≡◌, ℕ, ◌+◌, ◌≤◌, Bool, true, false, cond, List, [], ◌∷◌, ◌++◌, None, Some, length, arith, refl, sym}
+use Rattle.std.proofs.Common.{◌≡◌, ℕ, ◌+◌, ◌≤◌, Bool, true, false, cond, List, [], ◌∷◌, ◌++◌, Option, None, Some, length, arith, refl, sym}
 use Rattle.std.specs.Prelude.{All}
 use Rattle.std.specs.List.{sum_by}
 use Rattle.std.proofs.lemmas.Bool.{true≢false}
@@ -8,21 +8,21 @@ use Rattle.std.proofs.lemmas.List.Elements.{All-head, All-tail}
 use Rattle.std.proofs.lemmas.List.Sums.{sum_by-cons}
 use Rattle.stapl_syntax.specs.Kinds.{expr_kind}
 use Rattle.stapl_syntax.specs.Statements.{is_outer}
-use Rattle.stapl_syntax.specs.Trees.{ExprTree, number, scalar, element, unary, binary, abs, int, ArrayTree, literal, whole, range, of_int, PartTree, string, value, character, BodyTree, boolean, boolean_array, integer, integer_array, assign, assign_element, assign_array, assign_range, goto, if_then, print, exit, StmtTree}
+use Rattle.stapl_syntax.specs.Trees.{ExprTree, number, scalar, element, unary, binary, abs, int, ArrayTree, literal, whole, range, of_int, PartTree, string, value, character, BodyTree, boolean, boolean_array, integer, integer_array, assign, assign_element, assign_array, assign_range, call, goto, if_then, for_loop, next, push, pop, print, exported_value, exported_array, export, exit, StmtTree}
 use Rattle.stapl_built.specs.Built.{is_built_simple, IsBuilt}
-use Rattle.stapl_built.specs.Sizes.{expr_size, array_size, part_size, body_size, statements_size}
+use Rattle.stapl_built.specs.Sizes.{expr_size, array_size, part_size, step_size, body_size, statements_size}
 use Rattle.stapl_meaning.specs.declared.values.ValueKind.{ValueKind}
 use Rattle.stapl_meaning.specs.declared.values.ValueKind.TheVariants as kinds
 use Rattle.stapl_meaning.specs.Values.{Lookup, unary_side, sides}
-use Rattle.stapl_meaning.specs.Operands.{Operand, a_range, array_operands, bit_number, given_kind, printed_kind, part_operands}
+use Rattle.stapl_meaning.specs.Operands.{Operand, a_range, array_operands, bit_number, given_kind, printed_kind, step_or_one, part_operands}
 use Rattle.stapl_meaning.specs.Scopes.{has_initial_value, Preset, Scope, Played, scope_at, preset_scope}
 use Rattle.stapl_meaning.specs.Typed.{IsTypedPreset}
 use Rattle.stapl_meaning.proofs.Resolved.{built_is_inner}
 use Rattle.stapl_code.specs.declared.instr.Instr.{Instr}
-use Rattle.stapl_code.specs.declared.instr.Instr.TheVariants.{Turn, LoadAt, CheckIndex, CheckRange, Unary, Binary, ToInt, Store, StoreAt, JumpIfZero, Print, CheckChar, Exit}
+use Rattle.stapl_code.specs.declared.instr.Instr.TheVariants.{Turn, LoadAt, CheckIndex, CheckRange, Unary, Binary, ToInt, Store, StoreAt, For, PushRecord, PopRecord, JumpIfZero, Print, Export, CheckChar, Exit}
 use Rattle.stapl_code.specs.declared.instr.Source.TheVariants as sources
 use Rattle.stapl_codegen.proofs.Views.{IsInner, an_end, a_bit, some_bits, an_integer, no_integers, some_integers, a_simple, inner_view}
-use Rattle.stapl_codegen.specs.Emit.{operator_number, sign_number, absolute_number, expr_code, int_code, operands_code, print_parts, Firsts, last, behind_row, row_code, body_code, at_first, firsts_at, presets_code, piece_code, pieces_code, code_to}
+use Rattle.stapl_codegen.specs.Emit.{operator_number, sign_number, absolute_number, expr_code, int_code, operands_code, print_parts, export_part, Firsts, last, behind_row, row_code, body_code, at_first, firsts_at, presets_code, piece_code, pieces_code, code_to}
 use Rattle.stapl_codegen.specs.Accepted.{IsAccepted}
 
 module _ (look : Lookup) where
@@ -99,6 +99,34 @@ module _ (scope : Scope) (place : ℕ → ℕ) where
       let one = expr_length scope.look kinds.Bit e (JumpIfZero (place scope.follow) ∷ body_code scope place first b rest) in
       let more = simple_length first b rest built in
       omega (arith, one, more)
+  simple_length first (call name) rest built = omega arith
+  simple_length first (for_loop name from to step) rest built =
+      let begin : List Instr = For (scope.look.variable name) (place scope.follow) ∷ rest in
+      let by : List Instr = expr_code scope.look kinds.Int (step_or_one step) begin in
+      let three = expr_length scope.look kinds.Int from (expr_code scope.look kinds.Int to by) in
+      let two = expr_length scope.look kinds.Int to by in
+      let one = expr_length scope.look kinds.Int (step_or_one step) begin in
+      omega (arith, one, two, three, one_step step)
+    where
+      one_step : (step : Option ExprTree) → expr_size (step_or_one step) ≤ step_size step + 1
+      one_step None = omega arith
+      one_step (Some e) = omega arith
+  simple_length first (next name) rest built = omega arith
+  simple_length first (push e) rest built =
+      let kind : ValueKind = printed_kind (expr_kind scope.look.kind e) in
+      let one = expr_length scope.look kind e (PushRecord kind ∷ rest) in
+      omega (arith, one)
+  simple_length first (pop (scalar name)) rest built = omega arith
+  simple_length first (pop (element name index)) rest built =
+      let n : ℕ = scope.look.variable name in
+      let one = expr_length scope.look kinds.Int index (CheckIndex n ∷ PopRecord (given_kind (scope.look.kind name)) ∷ StoreAt n ∷ rest) in
+      omega (arith, one)
+  simple_length first (export key (exported_value e)) rest built =
+      let kind : ValueKind = printed_kind (expr_kind scope.look.kind e) in
+      let one = expr_length scope.look kind e (Export first.text (export_part kind) ∷ rest) in
+      omega (arith, one)
+  simple_length first (export key (exported_array a)) rest built =
+      let one = array_length scope.look a (last scope place first (export key (exported_array a)) ∷ rest) in omega (arith, one)
   simple_length first (print list) rest built = let one = parts_length scope.look list (Print (print_parts scope.look first.text list) ∷ rest) in omega (arith, one)
   simple_length first (exit e) rest built = let one = expr_length scope.look kinds.Int e (Exit ∷ rest) in omega (arith, one)
   simple_length first _ rest built = absurd cc

@@ -5,12 +5,12 @@ use Rattle.std.specs.Option.{option_map}
 use Rattle.bit_list.specs.Integers.{int_of}
 use Rattle.std.specs.List.{list_all}
 use Rattle.std.proofs.lemmas.Bool.{and_parts, eq-eqb, leb-true}
-use Rattle.stapl_syntax.specs.Kinds.{expr_kind, is_array, is_bit_array, part_suits, is_int, is_bit, number_kind}
+use Rattle.stapl_syntax.specs.Kinds.{expr_kind, is_array, is_bit_array, is_integer, part_suits, is_int, is_bit, number_kind}
 use Rattle.stapl_syntax.specs.declared.names.VarKind.{VarKind}
 use Rattle.stapl_syntax.specs.declared.names.VarKind.TheVariants as declared
 use Rattle.stapl_syntax.specs.declared.names.Kind.{Kind}
 use Rattle.stapl_syntax.specs.declared.names.Kind.TheVariants.{Int, Bool as Bit, Either}
-use Rattle.stapl_syntax.specs.Trees.{ExprTree, number, scalar, element, unary, binary, abs, int, ArrayTree, literal, whole, range, of_int, PartTree, string, value, character, BodyTree}
+use Rattle.stapl_syntax.specs.Trees.{ExprTree, number, scalar, element, unary, binary, abs, int, ArrayTree, literal, whole, range, of_int, PartTree, string, value, character, BodyTree, pop}
 use Rattle.stapl_meaning.specs.declared.values.ValueKind.{ValueKind}
 use Rattle.stapl_meaning.specs.declared.values.ValueKind.TheVariants as kinds
 use Rattle.stapl_meaning.specs.Values.{Lookup, unary_side, sides}
@@ -18,15 +18,15 @@ use Rattle.stapl_meaning.specs.Operands.{Test, Plain, Character, Index, Range, O
 use Rattle.stapl_meaning.specs.Scopes.{Scope}
 use Rattle.stapl_meaning.specs.Turns.{operands}
 use Rattle.stapl_code.specs.declared.instr.Instr.{Instr}
-use Rattle.stapl_code.specs.declared.instr.Instr.TheVariants.{Push, PushBit, Load, LoadAt, CheckIndex, CheckRange, Unary, Binary, ToInt, CheckChar}
+use Rattle.stapl_code.specs.declared.instr.Instr.TheVariants.{Push, PushBit, Load, LoadAt, CheckIndex, CheckRange, Unary, Binary, ToInt, PopRecord, CheckChar}
 use Rattle.stapl_code.specs.declared.instr.Source.TheVariants as sources
 use Rattle.stapl_code.specs.declared.instr.PrintPart.{PrintPart}
 use Rattle.stapl_code.specs.declared.raw.VarDef.{VarDef}
-use Rattle.stapl_code.specs.Machine.{AnArray, OfBits, OfInts, part_slots}
+use Rattle.stapl_code.specs.Machine.{AnInteger, AnArray, OfBits, OfInts, part_slots}
 use Rattle.stapl_code.specs.Kinds.{then_kinds, put_on, taken_off, variable_kind, is_met, all_off, kinds_behind}
 use Rattle.stapl_code.specs.Kinds as code
 use Rattle.stapl_code.specs.Valid.{is_last, stands_well, departs, judged, rest_break}
-use Rattle.stapl_codegen.specs.Emit.{literal_code, expr_code, int_code, test_code, operands_code, shown_part, print_parts, operator_number, sign_number, absolute_number, Firsts, last, behind_row, row_code, rows_code}
+use Rattle.stapl_codegen.specs.Emit.{literal_code, expr_code, int_code, test_code, operands_code, shown_part, print_parts, operator_number, sign_number, absolute_number, Firsts, last, between, behind_row, row_code, rows_code}
 use Rattle.stapl_codegen.specs.Generated.{kind_number}
 use Rattle.stapl_codegen.proofs.Sides.{fits, held_kind, scalar_fits, item_kind, element_fits, indexed_fits, unary_fits, integer_fits, unary_behind, operates}
 
@@ -68,10 +68,17 @@ module _ (look : Lookup) where
   operands_last [] rest some = some
   operands_last (o ∷ os) rest some = expr_last o.kind o.expr (test_code o.test (operands_code look os rest))
 
+-- what stands between operands and the last instruction is not the last one, either
+between_last : (scope : Scope) (b : BodyTree) (x : Instr) (rest : List Instr) → is_last (between scope b (x ∷ rest)) ≡ false
+between_last scope (pop (scalar name)) x rest = refl
+between_last scope (pop (element name index)) x rest = refl
+between_last scope _ x rest = refl
+
 pub rows_last : (scope : Scope) (place : ℕ → ℕ) (first : Firsts) (bs : List BodyTree) (rest : List Instr) → is_last rest ≡ false → is_last (rows_code scope place first bs rest) ≡ false
 rows_last scope place first [] rest some = some
 rows_last scope place first (b ∷ bs) rest some =
-    operands_last scope.look (operands scope b) (last scope place first b ∷ rows_code scope place (behind_row first b) bs rest) refl
+    let more : List Instr = rows_code scope place (behind_row first b) bs rest in
+    operands_last scope.look (operands scope b) (between scope b (last scope place first b ∷ more)) (between_last scope b (last scope place first b) more)
 
 -- ---- typed operands
 
@@ -97,7 +104,7 @@ module _ (variables : List VarDef) (look : Lookup) where
   one_typed ks kind e h = (record { fits = h; test = tt }, tt)
 
   -- what has a kind fits that by which it is printed
-  printed_fits : (k : Option Kind) → is_some k ≡ true → fits (printed_kind k) k ≡ true
+  pub printed_fits : (k : Option Kind) → is_some k ≡ true → fits (printed_kind k) k ≡ true
   printed_fits (Some Int) h = refl
   printed_fits (Some Bit) h = refl
   printed_fits (Some Either) h = refl
@@ -197,6 +204,16 @@ module _ (variables : List VarDef) (look : Lookup) (agrees : Agrees variables lo
       by (Some declared.IntegerArray) e h = absurd cc
       by (Some declared.Integer) e h = absurd cc
       by (Some declared.Boolean) e h = absurd cc
+      by None e h = absurd cc
+
+  pub integer_agrees : (name : List ℕ) → is_integer (look.kind name) ≡ true → is_met variables (AnInteger (look.variable name)) ≡ true
+  integer_agrees name h = by (look.kind name) refl h
+    where
+      by : (v : Option VarKind) → look.kind name ≡ v → is_integer v ≡ true → code.is_of_kind 0 (Def name) ≡ true
+      by (Some declared.Integer) e h = kind_is (Def name) 0 (agrees name declared.Integer e)
+      by (Some declared.IntegerArray) e h = absurd cc
+      by (Some declared.Boolean) e h = absurd cc
+      by (Some declared.BooleanArray) e h = absurd cc
       by None e h = absurd cc
 
   pub integers_agree : (name : List ℕ) → look.kind name ≡ Some declared.IntegerArray → is_met variables (OfInts (look.variable name)) ≡ true
@@ -350,8 +367,26 @@ module _ (variables : List VarDef) (entry : ℕ) (code : List Instr) where
     pub finds : kinds_behind variables (last scope place first b) (kinds_onto (operands scope b) []) ≡ Some []
     pub stands : stands_well entry code false (last scope place first b) false ≡ true
 
-  pub row_fine : (scope : Scope) (place : ℕ → ℕ) (first : Firsts) (b : BodyTree) (rest : List Instr) → Agrees variables scope.look → IsGood scope place first b →
+  pub row_fine : (scope : Scope) (place : ℕ → ℕ) (first : Firsts) (b : BodyTree) (rest : List Instr) → Agrees variables scope.look →
+      ((l : List Instr) → between scope b l ≡ l) → IsGood scope place first b →
       is_last rest ≡ false → Fine (departs (last scope place first b)) [] rest → Fine false [] (row_code scope place first b rest)
-  row_fine scope place first b rest agrees good some more =
-      operands_fine scope.look agrees (operands scope b) [] (last scope place first b ∷ rest) good.typed refl
-      (fine_step false (last scope place first b) (kinds_onto (operands scope b) []) [] rest good.finds (ap (stands_well entry code false (last scope place first b)) some ∙ good.stands) more)
+  row_fine scope place first b rest agrees alone good some more =
+      let own : List Instr = last scope place first b ∷ rest in
+      operands_fine scope.look agrees (operands scope b) [] (between scope b own) good.typed (between_last scope b (last scope place first b) rest)
+      (subst (Fine false (kinds_onto (operands scope b) [])) (sym (alone own))
+      (fine_step false (last scope place first b) (kinds_onto (operands scope b) []) [] rest good.finds (ap (stands_well entry code false (last scope place first b)) some ∙ good.stands) more))
+
+  -- a POP, whose last instruction finds the value of a record above the operands
+  pub pop_fine : (scope : Scope) (place : ℕ → ℕ) (first : Firsts) (cell : ExprTree) (kind : ValueKind) (rest : List Instr) → Agrees variables scope.look →
+      ((l : List Instr) → between scope (pop cell) l ≡ PopRecord kind ∷ l) → AllTyped variables scope.look [] (operands scope (pop cell)) →
+      kinds_behind variables (last scope place first (pop cell)) (kind ∷ kinds_onto (operands scope (pop cell)) []) ≡ Some [] →
+      stands_well entry code false (last scope place first (pop cell)) false ≡ true → is_last rest ≡ false → Fine (departs (last scope place first (pop cell))) [] rest →
+      Fine false [] (row_code scope place first (pop cell) rest)
+  pop_fine scope place first cell kind rest agrees taken typed finds stands some more =
+      let x : Instr = last scope place first (pop cell) in
+      let own : List Instr = x ∷ rest in
+      let ks : List ValueKind = kinds_onto (operands scope (pop cell)) [] in
+      operands_fine scope.look agrees (operands scope (pop cell)) [] (between scope (pop cell) own) typed (between_last scope (pop cell) x rest)
+      (subst (Fine false ks) (sym (taken own))
+      (fine_put (PopRecord kind) ks (kind ∷ ks) own refl refl refl refl
+      (fine_step false x (kind ∷ ks) [] rest finds (ap (stands_well entry code false x) some ∙ stands) more)))

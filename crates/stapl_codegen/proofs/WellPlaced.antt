@@ -8,27 +8,27 @@ use Rattle.stapl_syntax.specs.declared.names.Kind.{Kind}
 use Rattle.stapl_syntax.specs.declared.names.Kind.TheVariants.{Int, Either}
 use Rattle.stapl_syntax.specs.declared.names.VarKind.{VarKind}
 use Rattle.stapl_syntax.specs.declared.names.VarKind.TheVariants as variables
-use Rattle.stapl_syntax.specs.Kinds.{expr_kind, is_array, is_int, is_bit, is_bit_array, number_kind, scalar_kind, element_kind, suits, operands_suit}
+use Rattle.stapl_syntax.specs.Kinds.{expr_kind, is_array, is_int, is_bit, is_bit_array, is_integer, number_kind, scalar_kind, element_kind, indexed_kind, VarKinds, wants_int, suits, if_given, operands_suit}
 use Rattle.stapl_syntax.specs.Mentions.{labels_named}
 use Rattle.stapl_syntax.specs.Names.{declaration}
 use Rattle.stapl_syntax.specs.Statements.{ends_procedure}
-use Rattle.stapl_syntax.specs.Trees.{ExprTree, number, ArrayTree, literal, whole, range, of_int, BodyTree, boolean, boolean_array, integer, integer_array, assign, assign_element, assign_array, assign_range, goto, if_then, print, exit}
+use Rattle.stapl_syntax.specs.Trees.{ExprTree, number, ArrayTree, literal, whole, range, of_int, BodyTree, boolean, boolean_array, integer, integer_array, assign, assign_element, assign_array, assign_range, call, goto, if_then, for_loop, next, push, scalar, element, pop, print, exported_value, exported_array, export, exit}
 use Rattle.stapl_built.specs.Built.{is_built_simple, is_built_inner}
 use Rattle.stapl_meaning.specs.declared.values.ValueKind.{ValueKind}
 use Rattle.stapl_meaning.specs.declared.values.ValueKind.TheVariants as kinds
-use Rattle.stapl_meaning.specs.Operands.{array_operands, given_kind, bit_number}
+use Rattle.stapl_meaning.specs.Operands.{array_operands, given_kind, printed_kind, step_or_one, bit_number}
 use Rattle.stapl_meaning.specs.Scopes.{Scope}
 use Rattle.stapl_meaning.specs.Turns.{rows}
 use Rattle.stapl_code.specs.declared.instr.Instr.{Instr}
-use Rattle.stapl_code.specs.declared.instr.Instr.TheVariants.{Turn, Store, StoreAt, SetBits, SetInts, Jump, JumpIfZero}
+use Rattle.stapl_code.specs.declared.instr.Instr.TheVariants.{Turn, Store, StoreAt, SetBits, SetInts, For, Next, PushRecord, Jump, JumpIfZero, Export}
 use Rattle.stapl_code.specs.declared.raw.VarDef.{VarDef}
 use Rattle.stapl_code.specs.Machine.{source_slots, source_wants, wants}
 use Rattle.stapl_code.specs.Kinds.{off, then_kinds, taken_off, variable_kind, element_kind as element_kind_of, is_met, all_off, kinds_moved, kinds_behind}
 use Rattle.stapl_code.specs.Valid.{is_last, is_target, stands_well}
-use Rattle.stapl_codegen.specs.Emit.{source_code, Firsts, last, body_code}
+use Rattle.stapl_codegen.specs.Emit.{export_part, source_code, Firsts, last, body_code}
 use Rattle.stapl_codegen.proofs.Views.{IsInner, an_end, a_bit, some_bits, an_integer, no_integers, some_integers, a_simple, inner_view}
 use Rattle.stapl_codegen.proofs.Sides.{fits, held_kind, item_kind}
-use Rattle.stapl_codegen.proofs.WellKinded.{kinds_onto, Agrees, scalar_agrees, element_agrees, bits_agree, integers_agree, one_typed, parts_typed, range_typed, array_typed, parts_off, Fine, Follows, IsGood, row_fine, rows_last}
+use Rattle.stapl_codegen.proofs.WellKinded.{kinds_onto, Agrees, scalar_agrees, element_agrees, bits_agree, integer_agrees, integers_agree, printed_fits, one_typed, parts_typed, range_typed, array_typed, parts_off, Fine, Follows, IsGood, row_fine, pop_fine, rows_last}
 
 -- what is given to a scalar fits the kind that the scalar holds
 pub given_fits : (v : Option VarKind) (k : Option Kind) → suits (scalar_kind v) k ≡ true → (fits (given_kind v) k ≡ true) × (held_kind v ≡ Some (given_kind v))
@@ -58,6 +58,30 @@ number_fits z = by (int_le (pos 0) z && int_le z (pos 1))
     by true = refl
     by false = refl
 
+-- what a POP gives a scalar or an element is of the kind that this holds
+pub scalar_popped : (v : Option VarKind) → is_some (scalar_kind v) ≡ true → held_kind v ≡ Some (given_kind v)
+scalar_popped (Some variables.Integer) h = refl
+scalar_popped (Some variables.Boolean) h = refl
+scalar_popped (Some variables.IntegerArray) h = absurd cc
+scalar_popped (Some variables.BooleanArray) h = absurd cc
+scalar_popped None h = absurd cc
+
+pub item_popped : (v : Option VarKind) (index : Option Kind) → is_some (indexed_kind v index) ≡ true → (is_int index ≡ true) × (item_kind v ≡ Some (given_kind v))
+item_popped v index h = by (is_int index) v h
+  where
+    by : (b : Bool) (v : Option VarKind) → is_some (if b then element_kind v else None) ≡ true → (b ≡ true) × (item_kind v ≡ Some (given_kind v))
+    by true (Some variables.IntegerArray) h = (refl, refl)
+    by true (Some variables.BooleanArray) h = (refl, refl)
+    by true (Some variables.Integer) h = absurd cc
+    by true (Some variables.Boolean) h = absurd cc
+    by true None h = absurd cc
+    by false v h = absurd cc
+
+-- the step of a FOR is an integer, also if none is written
+pub step_fits : (kind : VarKinds) (step : Option ExprTree) → if_given (wants_int kind) step ≡ true → fits kinds.Int (expr_kind kind (step_or_one step)) ≡ true
+step_fits kind None h = refl
+step_fits kind (Some e) h = h
+
 off_same : (kind : ValueKind) (ks : List ValueKind) → off kind (kind ∷ ks) ≡ Some ks
 off_same kinds.Int ks = refl
 off_same kinds.Bit ks = refl
@@ -67,12 +91,22 @@ module _ (variables : List VarDef) where
   pub store_finds : (n : ℕ) (kind : ValueKind) → variable_kind (slice_get variables n) ≡ Some kind → kinds_behind variables (Store n) (kind ∷ []) ≡ Some []
   store_finds n kind found = ap (λ k. then_kinds (taken_off k (kind ∷ [])) Some) found ∙ ap (λ o. then_kinds o Some) (off_same kind [])
 
+  push_finds : (kind : ValueKind) → kinds_behind variables (PushRecord kind) (kind ∷ []) ≡ Some []
+  push_finds kind = ap (λ o. then_kinds o Some) (off_same kind [])
+
+  export_finds : (key : ℕ) (kind : ValueKind) → kinds_behind variables (Export key (export_part kind)) (kind ∷ []) ≡ Some []
+  export_finds key kinds.Int = refl
+  export_finds key kinds.Bit = refl
+
   pub wanted : (x : Instr) (ks after : List ValueKind) → list_all (is_met variables) (wants x) ≡ true → kinds_moved variables x ks ≡ Some after → kinds_behind variables x ks ≡ Some after
   wanted x ks after met moved = ap (λ b. if b then kinds_moved variables x ks else None) met ∙ moved
 
 module _ (variables : List VarDef) (entry : ℕ) (code : List Instr) where
   jump_stands : (to : ℕ) → is_target entry code to ≡ true → stands_well entry code false (Jump to) false ≡ true
   jump_stands to leads = rw leads refl
+
+  loop_stands : (n to : ℕ) → is_target entry code to ≡ true → stands_well entry code false (For n to) false ≡ true
+  loop_stands n to leads = rw leads refl
 
   branch_stands : (to : ℕ) → is_target entry code to ≡ true → stands_well entry code false (JumpIfZero to) false ≡ true
   branch_stands to leads = rw leads refl
@@ -81,7 +115,7 @@ module _ (variables : List VarDef) (entry : ℕ) (code : List Instr) where
   turn_stands true piece last some = rw some refl
   turn_stands false piece last some = rw some refl
 
-  module _ (Leads : List ℕ → Type 0) (scope : Scope) (place : ℕ → ℕ) (agrees : Agrees variables scope.look) (target : (name : List ℕ) → Leads name → is_target entry code (place (scope.label name)) ≡ true) (next : is_target entry code (place scope.follow) ≡ true) where
+  module _ (Leads : List ℕ → Type 0) (scope : Scope) (place : ℕ → ℕ) (agrees : Agrees variables scope.look) (target : (name : List ℕ) → Leads name → is_target entry code (place (scope.label name)) ≡ true) (onward : is_target entry code (place scope.follow) ≡ true) where
     pub body_last : (first : Firsts) (b : BodyTree) (rest : List Instr) → is_last rest ≡ false → is_last (body_code scope place first b rest) ≡ false
     body_last first b rest some = rows_last scope place first (rows b) rest some
 
@@ -141,6 +175,30 @@ module _ (variables : List VarDef) (entry : ℕ) (code : List Instr) where
           stands = refl;
         }
 
+    loop_good : (first : Firsts) (name : List ℕ) (from to : ExprTree) (step : Option ExprTree) → operands_suit scope.look.kind (for_loop name from to step) ≡ true →
+        Good first (for_loop name from to step)
+    loop_good first name from to step suit =
+        let kind = scope.look.kind in
+        let t = and_parts (is_integer (kind name) && is_int (expr_kind kind from) && is_int (expr_kind kind to)) (if_given (wants_int kind) step) suit in
+        let u = and_parts (is_integer (kind name) && is_int (expr_kind kind from)) (is_int (expr_kind kind to)) t.0 in
+        let v = and_parts (is_integer (kind name)) (is_int (expr_kind kind from)) u.0 in
+        let begin : Instr = For (scope.look.variable name) (place scope.follow) in
+        let met = ap (λ b. b && true) (integer_agrees variables scope.look agrees name v.0) in
+        record {
+          typed = (record { fits = v.1; test = tt }, (record { fits = u.1; test = tt }, (record { fits = step_fits kind step t.1; test = tt }, tt)));
+          finds = wanted variables begin (kinds.Int ∷ kinds.Int ∷ kinds.Int ∷ []) [] met refl;
+          stands = loop_stands (scope.look.variable name) (place scope.follow) onward;
+        }
+
+    export_good : (first : Firsts) (key : List ℕ) (a : ArrayTree) → is_array scope.look.kind a ≡ true → Good first (export key (exported_array a))
+    export_good first key a suit =
+        let x : Instr = last scope place first (export key (exported_array a)) in
+        record {
+          typed = array_typed variables scope.look agrees [] a suit;
+          finds = wanted variables x (kinds_onto (array_operands scope.look a) []) [] (source_met first.literal a suit) (ap (λ o. then_kinds o Some) (source_off first.literal a []));
+          stands = refl;
+        }
+
     -- a statement that may stand after THEN
     simple_fine : (first : Firsts) (b : BodyTree) (rest : List Instr) → is_built_simple b ≡ true → operands_suit scope.look.kind b ≡ true → AllByRecursion Leads (labels_named b) →
         Follows variables entry code rest → Fine variables entry code false [] (body_code scope place first b rest)
@@ -152,7 +210,7 @@ module _ (variables : List VarDef) (entry : ℕ) (code : List Instr) where
           finds = store_finds variables (scope.look.variable name) kind (scalar_agrees variables scope.look agrees name kind t.1);
           stands = refl;
         } in
-        row_fine variables entry code scope place first (assign name e) rest agrees good follows.some (follows.fine false)
+        row_fine variables entry code scope place first (assign name e) rest agrees (λ l. refl) good follows.some (follows.fine false)
     simple_fine first (assign_element name index e) rest built suit leads follows =
         let are = and_parts (is_int (expr_kind scope.look.kind index)) (suits (element_kind (scope.look.kind name)) (expr_kind scope.look.kind e)) suit in
         let t = item_given (scope.look.kind name) (expr_kind scope.look.kind e) are.1 in
@@ -163,29 +221,67 @@ module _ (variables : List VarDef) (entry : ℕ) (code : List Instr) where
           finds = store_at_finds (scope.look.variable name) kind found;
           stands = refl;
         } in
-        row_fine variables entry code scope place first (assign_element name index e) rest agrees good follows.some (follows.fine false)
+        row_fine variables entry code scope place first (assign_element name index e) rest agrees (λ l. refl) good follows.some (follows.fine false)
     simple_fine first (assign_array name a) rest built suit leads follows =
-        row_fine variables entry code scope place first (assign_array name a) rest agrees (array_good first name a suit) follows.some (follows.fine false)
+        row_fine variables entry code scope place first (assign_array name a) rest agrees (λ l. refl) (array_good first name a suit) follows.some (follows.fine false)
     simple_fine first (assign_range name high low a) rest built suit leads follows =
-        row_fine variables entry code scope place first (assign_range name high low a) rest agrees (range_good first name high low a suit) follows.some (follows.fine false)
+        row_fine variables entry code scope place first (assign_range name high low a) rest agrees (λ l. refl) (range_good first name high low a suit) follows.some (follows.fine false)
     simple_fine first (goto name) rest built suit leads follows =
         let good : Good first (goto name) = record { typed = tt; finds = refl; stands = jump_stands (place (scope.label name)) (target name leads.0) } in
-        row_fine variables entry code scope place first (goto name) rest agrees good follows.some (follows.fine true)
+        row_fine variables entry code scope place first (goto name) rest agrees (λ l. refl) good follows.some (follows.fine true)
     simple_fine first (if_then e b) rest built suit leads follows =
         let suits = and_parts (is_bit (expr_kind scope.look.kind e)) (operands_suit scope.look.kind b) suit in
-        let good : Good first (if_then e b) = record { typed = one_typed variables scope.look [] kinds.Bit e suits.0; finds = refl; stands = branch_stands (place scope.follow) next } in
-        row_fine variables entry code scope place first (if_then e b) (body_code scope place first b rest) agrees good
+        let good : Good first (if_then e b) = record { typed = one_typed variables scope.look [] kinds.Bit e suits.0; finds = refl; stands = branch_stands (place scope.follow) onward } in
+        row_fine variables entry code scope place first (if_then e b) (body_code scope place first b rest) agrees (λ l. refl) good
         (body_last first b rest follows.some) (simple_fine first b rest built suits.1 leads follows)
+    simple_fine first (call name) rest built suit leads follows =
+        let good : Good first (call name) = record { typed = tt; finds = refl; stands = refl } in
+        row_fine variables entry code scope place first (call name) rest agrees (λ l. refl) good follows.some (follows.fine true)
+    simple_fine first (for_loop name from to step) rest built suit leads follows =
+        row_fine variables entry code scope place first (for_loop name from to step) rest agrees (λ l. refl) (loop_good first name from to step suit) follows.some (follows.fine true)
+    simple_fine first (next name) rest built suit leads follows =
+        let met = ap (λ b. b && true) (integer_agrees variables scope.look agrees name suit) in
+        let good : Good first (next name) = record { typed = tt; finds = wanted variables (Next (scope.look.variable name)) [] [] met refl; stands = refl } in
+        row_fine variables entry code scope place first (next name) rest agrees (λ l. refl) good follows.some (follows.fine true)
+    simple_fine first (push e) rest built suit leads follows =
+        let kind : ValueKind = printed_kind (expr_kind scope.look.kind e) in
+        let good : Good first (push e) = record {
+          typed = one_typed variables scope.look [] kind e (printed_fits variables scope.look (expr_kind scope.look.kind e) suit);
+          finds = push_finds variables kind;
+          stands = refl;
+        } in
+        row_fine variables entry code scope place first (push e) rest agrees (λ l. refl) good follows.some (follows.fine false)
+    simple_fine first (pop (scalar name)) rest built suit leads follows =
+        let kind : ValueKind = given_kind (scope.look.kind name) in
+        let found = scalar_agrees variables scope.look agrees name kind (scalar_popped (scope.look.kind name) suit) in
+        pop_fine variables entry code scope place first (scalar name) kind rest agrees (λ l. refl) tt (store_finds variables (scope.look.variable name) kind found) refl
+        follows.some (follows.fine false)
+    simple_fine first (pop (element name index)) rest built suit leads follows =
+        let kind : ValueKind = given_kind (scope.look.kind name) in
+        let t = item_popped (scope.look.kind name) (expr_kind scope.look.kind index) suit in
+        let found = element_agrees variables scope.look agrees name kind t.1 in
+        pop_fine variables entry code scope place first (element name index) kind rest agrees (λ l. refl) (record { fits = t.0; test = (refl, ap is_some found) }, tt)
+        (store_at_finds (scope.look.variable name) kind found) refl follows.some (follows.fine false)
+    simple_fine first (export key (exported_value e)) rest built suit leads follows =
+        let kind : ValueKind = printed_kind (expr_kind scope.look.kind e) in
+        let good : Good first (export key (exported_value e)) = record {
+          typed = one_typed variables scope.look [] kind e (printed_fits variables scope.look (expr_kind scope.look.kind e) suit);
+          finds = export_finds variables first.text kind;
+          stands = refl;
+        } in
+        row_fine variables entry code scope place first (export key (exported_value e)) rest agrees (λ l. refl) good follows.some (follows.fine false)
+    simple_fine first (export key (exported_array a)) rest built suit leads follows =
+        row_fine variables entry code scope place first (export key (exported_array a)) rest agrees (λ l. refl) (export_good first key a suit) follows.some (follows.fine false)
     simple_fine first (print list) rest built suit leads follows =
         let good : Good first (print list) = record {
           typed = parts_typed variables scope.look [] list suit;
           finds = ap (λ o. then_kinds o (λ below. then_kinds (Some below) Some)) (parts_off variables scope.look list first.text []);
           stands = refl;
         } in
-        row_fine variables entry code scope place first (print list) rest agrees good follows.some (follows.fine false)
+        row_fine variables entry code scope place first (print list) rest agrees (λ l. refl) good follows.some (follows.fine false)
     simple_fine first (exit e) rest built suit leads follows =
         let good : Good first (exit e) = record { typed = one_typed variables scope.look [] kinds.Int e suit; finds = refl; stands = refl } in
-        row_fine variables entry code scope place first (exit e) rest agrees good follows.some (follows.fine true)
+        row_fine variables entry code scope place first (exit e) rest agrees (λ l. refl) good follows.some (follows.fine true)
     simple_fine first _ rest built suit leads follows = absurd cc
 
     -- a statement other than ENDPROC
@@ -199,13 +295,13 @@ module _ (variables : List VarDef) (entry : ℕ) (code : List Instr) where
           finds = store_finds variables (scope.look.variable name) kinds.Bit (scalar_agrees variables scope.look agrees name kinds.Bit (ap held_kind is));
           stands = refl;
         } in
-        row_fine variables entry code scope place first (boolean name (Some b)) rest agrees good follows.some (follows.fine false)
+        row_fine variables entry code scope place first (boolean name (Some b)) rest agrees (λ l. refl) good follows.some (follows.fine false)
     inner_fine first _ (some_bits name size None) rest suit leads is between follows = follows.fine false
     inner_fine first _ (some_bits name size (Some bits)) rest suit leads is between follows =
         let set : Instr = SetBits (scope.look.variable name) first.literal in
         let met = ap (λ b. b && true) (bits_agree variables scope.look agrees name (ap is_bit_array is)) in
         let good : Good first (boolean_array name size (Some bits)) = record { typed = tt; finds = wanted variables set [] [] met refl; stands = refl } in
-        row_fine variables entry code scope place first (boolean_array name size (Some bits)) rest agrees good follows.some (follows.fine false)
+        row_fine variables entry code scope place first (boolean_array name size (Some bits)) rest agrees (λ l. refl) good follows.some (follows.fine false)
     inner_fine first _ (an_integer name None) rest suit leads is between follows = follows.fine false
     inner_fine first _ (an_integer name (Some z)) rest suit leads is between follows =
         let good : Good first (integer name (Some z)) = record {
@@ -213,13 +309,13 @@ module _ (variables : List VarDef) (entry : ℕ) (code : List Instr) where
           finds = store_finds variables (scope.look.variable name) kinds.Int (scalar_agrees variables scope.look agrees name kinds.Int (ap held_kind is));
           stands = refl;
         } in
-        row_fine variables entry code scope place first (integer name (Some z)) rest agrees good follows.some (follows.fine false)
+        row_fine variables entry code scope place first (integer name (Some z)) rest agrees (λ l. refl) good follows.some (follows.fine false)
     inner_fine first _ (no_integers name size) rest suit leads is between follows = follows.fine false
     inner_fine first _ (some_integers name size zs some) rest suit leads is between follows =
         let set : Instr = SetInts (scope.look.variable name) zs in
         let met = ap (λ b. b && true) (integers_agree variables scope.look agrees name is) in
         let good : Good first (integer_array name size (Some zs)) = record { typed = tt; finds = wanted variables set [] [] met refl; stands = refl } in
-        row_fine variables entry code scope place first (integer_array name size (Some zs)) rest agrees good follows.some (follows.fine false)
+        row_fine variables entry code scope place first (integer_array name size (Some zs)) rest agrees (λ l. refl) good follows.some (follows.fine false)
     inner_fine first _ (a_simple b built) rest suit leads is between follows = simple_fine first b rest built suit leads follows
 
     pub body_fine : (first : Firsts) (b : BodyTree) (rest : List Instr) → is_built_inner b ≡ true → operands_suit scope.look.kind b ≡ true → AllByRecursion Leads (labels_named b) → IsDeclared b → ends_procedure b ≡ false →

@@ -1,13 +1,15 @@
 -- That a code does what a program does.
-use Rattle.std.specs.Prelude.{◌≡◌, ◌≢◌, ℕ, ◌≤◌, Bool, true, false, List, [], ◌∷◌, length}
+use Rattle.std.specs.Prelude.{◌≡◌, ◌≢◌, ℕ, ◌≤◌, Bool, true, false, List, [], ◌∷◌, length, map, All}
 use Rattle.stapl_syntax.specs.Trees.{BodyTree, end_procedure, StmtTree}
 use Rattle.stapl_syntax.specs.Statements.{is_outer}
 use Rattle.stapl_meaning.specs.declared.values.Held.{Held}
+use Rattle.stapl_meaning.specs.declared.records.Record.{Record}
+use Rattle.stapl_meaning.specs.declared.records.Record.TheVariants.{Pushed, Called, Looped}
 use Rattle.stapl_meaning.specs.States.{State}
 use Rattle.stapl_meaning.specs.Plays.{Outcome, Ended, Going, Stopped, Run, play}
 use Rattle.stapl_code.specs.declared.instr.Instr.{Instr}
 use Rattle.stapl_code.specs.Machine.{Constants, code_play, nowhere}
-use Rattle.stapl_meaning.specs.Scopes.{Played, zeros_of}
+use Rattle.stapl_meaning.specs.Scopes.{has_initial_value, Preset, Played, zeros_of}
 use Rattle.stapl_codegen.specs.Emit.{constants_in, pieces_code, start_of, program_code, program_entries}
 
 -- the statement may lead to the piece behind it
@@ -29,9 +31,15 @@ IsClosed (st ∷ rest) =
 
 -- A run of the program, with the places of the code in the place of its own: that of the outcome, and those in the state.
 
--- no statement that is built keeps a place in the state
+abbrev pub placed_record : (ℕ → ℕ) → Record → Record
+placed_record place (Pushed z) = Pushed z
+placed_record place (Called i) = Called (place i)
+placed_record place (Looped l) =
+    Looped (record { variable = l.variable; limit = l.limit; step = l.step; place = place l.place })
+
+-- the places that records keep
 abbrev pub placed_state : (ℕ → ℕ) → State → State
-placed_state place s = s
+placed_state place s = record s { records = map (placed_record place) s.records }
 
 abbrev pub placed_outcome : (ℕ → ℕ) → Outcome → Outcome
 placed_outcome place (Ended ending) = Ended ending
@@ -48,7 +56,11 @@ abbrev pub Stands : Played → (ℕ → ℕ) → List ℕ → Constants → List
 Stands program place entries constants code variables =
     (chosen : List ℕ) (n : ℕ) → code_play entries constants code chosen variables n ≡ placed_run place (play program chosen n)
 
+-- each declaration of a DATA block that is set has an initial value
+abbrev pub AllStart : List Preset → Type 0
+AllStart presets = All (λ (preset : Preset). has_initial_value preset.body ≡ true) presets
+
 -- the code of a program stands for it
 abbrev pub CodeStands : Type 0
-CodeStands = (program : Played) → IsClosed program.pieces → pieces_code program (start_of program) 0 program.pieces ≢ [] → length (program_code program) ≤ nowhere →
+CodeStands = (program : Played) → IsClosed program.pieces → AllStart program.presets → pieces_code program (start_of program) 0 program.pieces ≢ [] → length (program_code program) ≤ nowhere →
     Stands program (start_of program) (program_entries program) (constants_in program) (program_code program) (zeros_of program)

@@ -1,5 +1,8 @@
 -- What is written so far of the code of a program, and where its pieces begin.
 use Rattle.std.specs.Prelude.{◌≡◌, ℕ, ◌+◌, ◌<◌, Bool, List, [], ◌∷◌, ◌++◌, length, slice_index, Option, None, Some, if◌then◌else◌}
+use Rattle.std.specs.List.{position_or_len}
+use Rattle.std.specs.Map.{keys_of}
+use Rattle.std.specs.Str.{bytes_eq}
 use Rattle.stapl_syntax.specs.Trees.{ExprTree, ArrayTree, PartTree, BodyTree, StmtTree}
 use Rattle.stapl_syntax.specs.Statements.{is_outer}
 use Rattle.stapl_syntax.specs.Names.{Names, inside_behind}
@@ -10,12 +13,15 @@ use Rattle.stapl_code.specs.declared.instr.PrintPart.{PrintPart}
 use Rattle.stapl_code.specs.declared.instr.Source.{Source}
 use Rattle.stapl_code.specs.declared.instr.Instr.{Instr}
 use Rattle.stapl_code.specs.declared.instr.Instr.TheVariants.{Turn}
+use Rattle.stapl_codegen.specs.Numbers.{numbers_from}
 use Rattle.stapl_codegen.specs.Emit.{expr_code, int_code, operands_code, source_code, print_parts, Firsts, row_texts, row_literals, presets_items, at_first, row_code, body_code, presets_code, texts_of, literals_of, code_to, start_of}
 
--- Where a piece stands: the names of its program, how many pieces that has, the block that is open before the piece,
--- and the number of the piece, which is also the place behind it.
+-- Where a piece stands: the names of its program, at each of its blocks and behind them the number of the next procedure,
+-- how many pieces the program has, the block that is open before the piece, and the number of the piece, which is also
+-- the place behind it.
 pub record Site : Type 0 where
   pub names : Names
+  pub next : List ℕ
   pub count : ℕ
   pub inside : Option (List ℕ)
   pub piece : ℕ
@@ -27,24 +33,34 @@ pub record Draft : Type 0 where
   pub literals : List (List Bool)
   pub site : Site
 
+-- the number of a procedure by its name, from those at the blocks
+abbrev pub number_in : Names → List ℕ → List ℕ → ℕ
+number_in names next name = slice_index next (position_or_len (bytes_eq name) (keys_of names.blocks))
+
 -- what a statement finds there; its code does not ask where procedures begin
 abbrev pub scope_of_site : Site → Scope
 scope_of_site site = record {
   look = lookup_from site.names site.inside;
   label = label_from site.names site.count site.inside;
   entry = λ p. 0;
+  procedure = number_in site.names site.next;
   follow = site.piece;
 }
 
 -- where the piece at a place of a program stands
 abbrev pub site_at : Played → ℕ → Site
 site_at program i =
-    record { names = program.names; count = length program.pieces; inside = block_at program.pieces i; piece = i + 1 }
+    record {
+      names = program.names;
+      next = numbers_from 0 program.names.blocks;
+      count = length program.pieces;
+      inside = block_at program.pieces i;
+      piece = i + 1;
+    }
 
 -- where the piece behind this statement stands
 abbrev pub site_behind : Site → BodyTree → Site
-site_behind site b =
-    record { names = site.names; count = site.count; inside = inside_behind site.inside b; piece = site.piece + 1 }
+site_behind site b = record site { inside = inside_behind site.inside b; piece = site.piece + 1 }
 
 -- the numbers of the next text and of the next literal
 abbrev pub firsts_in : Draft → Firsts

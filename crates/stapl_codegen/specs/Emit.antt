@@ -3,7 +3,7 @@ use Rattle.std.specs.Prelude.{ℕ, zero, suc, ℤ, pos, ◌+◌, ◌-◌, Bool, 
 use Rattle.bit_list.specs.Integers.{int_of}
 use Rattle.stapl_lexer.specs.declared.terminal.BinOp.{BinOp}
 use Rattle.stapl_lexer.specs.declared.terminal.BinOp.TheVariants as operators
-use Rattle.stapl_syntax.specs.Trees.{ExprTree, number, scalar, element, unary, binary, abs, int, ArrayTree, literal, whole, range, of_int, PartTree, string, value, character, ItemTree, BodyTree, action, procedure, end_procedure, boolean, boolean_array, integer, integer_array, assign, assign_element, assign_array, assign_range, goto, if_then, print, exit, StmtTree}
+use Rattle.stapl_syntax.specs.Trees.{ExprTree, number, scalar, element, unary, binary, abs, int, ArrayTree, literal, whole, range, of_int, PartTree, string, value, character, ItemTree, BodyTree, action, procedure, end_procedure, boolean, boolean_array, integer, integer_array, assign, assign_element, assign_array, assign_range, call, goto, if_then, for_loop, next, push, pop, print, exported_value, exported_array, export, exit, StmtTree}
 use Rattle.stapl_syntax.specs.declared.signs.UnOp.{UnOp}
 use Rattle.stapl_syntax.specs.declared.signs.UnOp.TheVariants as signs
 use Rattle.stapl_syntax.specs.Kinds.{expr_kind}
@@ -11,16 +11,18 @@ use Rattle.stapl_syntax.specs.Statements.{is_outer}
 use Rattle.stapl_meaning.specs.declared.values.ValueKind.{ValueKind}
 use Rattle.stapl_meaning.specs.declared.values.ValueKind.TheVariants as kinds
 use Rattle.stapl_meaning.specs.Values.{Lookup, unary_side, sides}
-use Rattle.stapl_meaning.specs.Operands.{Test, Plain, Character, Index, Range, Operand, printed_kind}
+use Rattle.stapl_meaning.specs.Operands.{Test, Plain, Character, Index, Range, Operand, printed_kind, given_kind}
 use Rattle.stapl_meaning.specs.Scopes.{Scope, Preset, Played, scope_at, preset_scope, procedure_number}
 use Rattle.stapl_meaning.specs.Turns.{operands, rows}
 use Rattle.stapl_code.specs.declared.instr.PrintPart.{PrintPart}
 use Rattle.stapl_code.specs.declared.instr.PrintPart.TheVariants as parts
+use Rattle.stapl_code.specs.declared.instr.ExportPart.{ExportPart}
+use Rattle.stapl_code.specs.declared.instr.ExportPart.TheVariants as exports
 use Rattle.stapl_code.specs.declared.instr.Source.{Source}
 use Rattle.stapl_code.specs.declared.instr.Source.TheVariants as sources
 use Rattle.stapl_code.specs.declared.instr.Dest.TheVariants as dests
 use Rattle.stapl_code.specs.declared.instr.Instr.{Instr}
-use Rattle.stapl_code.specs.declared.instr.Instr.TheVariants.{Turn, Push, PushBit, Load, LoadAt, CheckIndex, CheckRange, Store, StoreAt, Unary, Binary, ToInt, CopyBits, SetBits, SetInts, Jump, JumpIfZero, EndProc, Print, CheckChar, Exit}
+use Rattle.stapl_code.specs.declared.instr.Instr.TheVariants.{Turn, Push, PushBit, Load, LoadAt, CheckIndex, CheckRange, Store, StoreAt, Unary, Binary, ToInt, CopyBits, SetBits, SetInts, For, Next, PushRecord, PopRecord, Call, Jump, JumpIfZero, EndProc, Print, Export, CheckChar, Exit}
 use Rattle.stapl_code.specs.declared.raw.ProcDef.{ProcDef}
 use Rattle.stapl_code.specs.declared.raw.ItemDef.{ItemDef}
 use Rattle.stapl_code.specs.declared.raw.ActionDef.{ActionDef}
@@ -83,6 +85,11 @@ abbrev pub shown_part : ValueKind → PrintPart
 shown_part kinds.Int = parts.Int
 shown_part kinds.Bit = parts.Bit
 
+-- how a value of a kind is exported
+abbrev pub export_part : ValueKind → ExportPart
+export_part kinds.Int = exports.Int
+export_part kinds.Bit = exports.Bit
+
 module _ (look : Lookup) where
   abbrev mutual
     -- the code of an expression where a value of a kind is wanted, before the rest
@@ -135,8 +142,8 @@ abbrev pub array_literals : ArrayTree → List (List Bool)
 array_literals (literal bits) = bits ∷ []
 array_literals _ = []
 
--- The table of statements, for the compiler: the last instruction of a row, behind its operands, its texts, and its
--- literals. Its first text and its first literal have numbers; place says where the code of a piece begins. A statement
+-- The table of statements, for the compiler: the last instruction of a row, behind its operands, what stands between
+-- both, its texts, and its literals. Its first text and its first literal have numbers; place says where the code of a piece begins. A statement
 -- that is not built is never carried out.
 
 pub record Firsts : Type 0 where
@@ -155,20 +162,37 @@ last scope place first (assign_array name a) =
     CopyBits (dests.Whole (scope.look.variable name)) (source_code scope.look first.literal a)
 last scope place first (assign_range name high low a) =
     CopyBits (dests.Range (scope.look.variable name)) (source_code scope.look first.literal a)
+last scope place first (call name) = Call (scope.procedure name)
 last scope place first (goto name) = Jump (place (scope.label name))
 last scope place first (if_then e body) = JumpIfZero (place scope.follow)
+last scope place first (for_loop name from to step) = For (scope.look.variable name) (place scope.follow)
+last scope place first (next name) = Next (scope.look.variable name)
+last scope place first (push e) = PushRecord (printed_kind (expr_kind scope.look.kind e))
+last scope place first (pop (scalar name)) = Store (scope.look.variable name)
+last scope place first (pop (element name index)) = StoreAt (scope.look.variable name)
 last scope place first (print list) = Print (print_parts scope.look first.text list)
+last scope place first (export key (exported_value e)) = Export first.text (export_part (printed_kind (expr_kind scope.look.kind e)))
+last scope place first (export key (exported_array a)) =
+    Export first.text (exports.Array (source_code scope.look first.literal a))
 last scope place first (exit e) = Exit
 last scope place first _ = Binary no_operator
 
+-- what stands between the operands of a row and its last instruction: a POP takes its record off behind its index
+abbrev pub between : Scope → BodyTree → List Instr → List Instr
+between scope (pop (scalar name)) rest = PopRecord (given_kind (scope.look.kind name)) ∷ rest
+between scope (pop (element name index)) rest = PopRecord (given_kind (scope.look.kind name)) ∷ rest
+between scope _ rest = rest
+
 abbrev pub row_texts : BodyTree → List (List ℕ)
 row_texts (print list) = part_texts list
+row_texts (export key x) = key ∷ []
 row_texts _ = []
 
 abbrev pub row_literals : BodyTree → List (List Bool)
 row_literals (boolean_array name size (Some bits)) = bits ∷ []
 row_literals (assign_array name a) = array_literals a
 row_literals (assign_range name high low a) = array_literals a
+row_literals (export key (exported_array a)) = array_literals a
 row_literals _ = []
 
 -- the number behind these items
@@ -182,7 +206,8 @@ behind_row first b = record { text = past first.text (row_texts b); literal = pa
 
 -- the code of a row, of rows one after the other, and of a statement, before the rest
 abbrev pub row_code : Scope → (ℕ → ℕ) → Firsts → BodyTree → List Instr → List Instr
-row_code scope place first b rest = operands_code scope.look (operands scope b) (last scope place first b ∷ rest)
+row_code scope place first b rest =
+    operands_code scope.look (operands scope b) (between scope b (last scope place first b ∷ rest))
 
 abbrev pub rows_code : Scope → (ℕ → ℕ) → Firsts → List BodyTree → List Instr → List Instr
 rows_code scope place first [] rest = rest
@@ -312,4 +337,5 @@ actions_of program = actions_from program program.pieces
 abbrev pub retarget : (ℕ → ℕ) → Instr → Instr
 retarget place (Jump to) = Jump (place to)
 retarget place (JumpIfZero to) = JumpIfZero (place to)
+retarget place (For n body) = For n (place body)
 retarget place i = i

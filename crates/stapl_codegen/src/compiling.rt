@@ -49,14 +49,14 @@ fn program_lists(alloc: Global, program: &[Stmt]) -> Result<CodeLists, AllocErro
     ensures { IfOk result (λ lists. lists ≡ lists_of (as_played (trees program.now))) }
 {
     let names = names_of_program(alloc, program)?;
-    let written = write_program(alloc, program, &names)?;
-    let variables = variables(alloc, &names)?;
-    let procedures = procedures(alloc, program, &written.starts)?;
     let next = procedure_numbers(alloc, &names)?;
     let numbers = Numbers {
         names: &names,
         next,
     };
+    let written = write_program(alloc, program, &numbers)?;
+    let variables = variables(alloc, &names)?;
+    let procedures = procedures(alloc, program, &written.starts)?;
     let actions = actions(alloc, program, &numbers)?;
     Ok(CodeLists {
         variables: ItemList::of(variables),

@@ -7,14 +7,15 @@ ghost use Rattle.stapl_code.specs.Machine.{nowhere};
 ghost use Rattle.stapl_codegen.specs.Emit.{row_texts, row_literals, body_texts, body_literals, texts_of, literals_of, program_code, start_of, retarget};
 ghost use Rattle.stapl_codegen.specs.Drafts.{site_behind, piece_code_in, preset_code_in, preset_items, ArePresetsLeft, AreStarts, IsDraft};
 ghost use Rattle.stapl_codegen.specs.Accepted.{IsAccepted};
+ghost use Rattle.stapl_codegen.specs.Numbers.{numbers_from};
 
 use crate::blocks::{data_behind, has_initial_value, plays};
+use crate::definitions::Numbers;
 use crate::emit::Emitter;
 use bit_list::Bits;
 use stapl_code::Instr;
 use stapl_lexer::Name;
 use stapl_meaning::Text;
-use stapl_names::Names;
 use stapl_syntax::{Body, Stmt};
 use std::alloc::{AllocError, Global};
 
@@ -93,13 +94,14 @@ fn draft_presets(emitter: &mut Emitter, program: &[Stmt]) -> Result<(), AllocErr
 }
 
 // Writes a program with targets that are places of it.
-fn draft_program(alloc: Global, program: &[Stmt], names: &Names) -> Result<Written, AllocError>
-    requires names { names.now ≡ program_names (trees program.now) }
+fn draft_program(alloc: Global, program: &[Stmt], numbers: &Numbers) -> Result<Written, AllocError>
+    requires names { numbers.now.names.now ≡ program_names (trees program.now) }
+    requires next { numbers.now.next.items ≡ numbers_from 0 numbers.now.names.now.blocks }
     requires accepted { IsAccepted (as_played (trees program.now)) }
     ensures { IfOk result (λ w.
         IsDraft (as_played (trees program.now)) w.code.items w.texts.items w.literals.items w.starts.items) }
 {
-    let mut emitter = Emitter::new(alloc, names, program.len() as u32);
+    let mut emitter = Emitter::new(alloc, numbers, program.len() as u32);
     draft_presets(&mut emitter, program)?;
     let mut starts = Vec::new(alloc);
     let mut block = None;
@@ -137,6 +139,7 @@ fn retargeted(program: &[Stmt], starts: &[u32], instr: Instr) -> Instr
     match instr {
         Instr::Jump(to) => Instr::Jump(start_of_place(program, starts, to)),
         Instr::JumpIfZero(to) => Instr::JumpIfZero(start_of_place(program, starts, to)),
+        Instr::For(n, body) => Instr::For(n, start_of_place(program, starts, body)),
         other => other,
     }
 }
@@ -162,16 +165,17 @@ fn retarget_all(
 pub(crate) fn write_program(
     alloc: Global,
     program: &[Stmt],
-    names: &Names,
+    numbers: &Numbers,
 ) -> Result<Written, AllocError>
-    requires names { names.now ≡ program_names (trees program.now) }
+    requires names { numbers.now.names.now ≡ program_names (trees program.now) }
+    requires next { numbers.now.next.items ≡ numbers_from 0 numbers.now.names.now.blocks }
     requires accepted { IsAccepted (as_played (trees program.now)) }
     ensures code { IfOk result (λ w. w.code.items ≡ program_code (as_played (trees program.now))) }
     ensures texts { IfOk result (λ w. w.texts.items ≡ texts_of (as_played (trees program.now))) }
     ensures literals { IfOk result (λ w. w.literals.items ≡ literals_of (as_played (trees program.now))) }
     ensures starts { IfOk result (λ w. AreStarts (as_played (trees program.now)) w.starts.items) }
 {
-    let draft = draft_program(alloc, program, names)?;
+    let draft = draft_program(alloc, program, numbers)?;
     let Written {
         code,
         texts,

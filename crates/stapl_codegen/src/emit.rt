@@ -1,185 +1,28 @@
 //! The instructions of statements. Their targets are places of the program.
-ghost use Rattle.std.specs.Prelude.{◌≡◌, [], ◌∷◌, ◌++◌, ◌<◌, ◌^◌, ◌-◌, true, length, map, option_map, slice_get, take, OnOk, IfOk};
-ghost use Rattle.bit_list.specs.Integers.{int_of};
+ghost use Rattle.std.specs.Prelude.{◌≡◌, [], ◌∷◌, ◌++◌, ◌<◌, ◌^◌, ◌-◌, true, length, map, OnOk, IfOk};
 ghost use Rattle.stapl_syntax.specs.Trees.{assign_element, assign_array, assign_range, print, end_data, expr_tree, array_tree, part_tree, body_tree, stmt_tree};
-ghost use Rattle.stapl_meaning.specs.Values.{alike, side, sides, unary_side};
-ghost use Rattle.stapl_meaning.specs.Operands.{a_character, a_range, bit_number, given_kind, printed_kind};
+ghost use Rattle.stapl_meaning.specs.Values.{sides};
+ghost use Rattle.stapl_meaning.specs.Operands.{a_character, an_index, a_range};
 ghost use Rattle.stapl_code.specs.declared.instr.Instr.TheVariants.{Store, SetBits, SetInts, JumpIfZero};
-ghost use Rattle.stapl_codegen.specs.Emit.{by_kind, operator_number, sign_number, literal_code, shown_part, part_texts, array_literals, row_texts, row_literals, body_texts, body_literals};
+ghost use Rattle.stapl_codegen.specs.Emit.{part_texts, array_literals, row_texts, row_literals, body_texts, body_literals};
 ghost use Rattle.stapl_meaning.specs.Scopes.{has_initial_value};
 ghost use Rattle.stapl_codegen.specs.Drafts.{scope_of_site, site_behind};
 ghost use Rattle.stapl_codegen.specs.Drafts.{expr_code_in, int_code_in, operands_code_in, array_operands_in, source_in, part_operands_in, print_parts_in, body_code_in, piece_code_in, preset_code_in};
 
+use crate::definitions::Numbers;
+use crate::tables::{
+    ABSOLUTE, NO_OPERATOR, bit_number, given_kind, kind_at, literal, literal_integer, number_at,
+    operator_number, printed_kind, shown_part, side, sign_number, unary_side,
+};
 use base::ItemList;
 use bit_list::Bits;
 use stapl_code::{Dest, Instr, Source};
 use stapl_lexer::{BinOp, Name};
 use stapl_meaning::{Text, ValueKind};
-use stapl_names::{Names, VariableKinds, expr_kind, inside_behind, is_bit_alone};
-use stapl_syntax::{ArrayExpr, Body, Expr, Found, Kind, PrintPart, Stmt, UnOp, VarKind};
+use stapl_names::{Names, VariableKinds, expr_kind, inside_behind};
+use stapl_syntax::{ArrayExpr, Body, Expr, Found, PrintPart, Stmt, VarKind};
 use std::alloc::{AllocError, Global};
 use std::marker::Model;
-
-/// The number of no operator. No machine carries out a Binary with it, so it stands for what is not built.
-const NO_OPERATOR: u8 = 255;
-
-// One of two numbers, by the kind of the sides of an operator.
-fn by_kind(side: ValueKind, integers: u8, booleans: u8) -> u8
-    ensures { result ≡ by_kind side integers booleans }
-{
-    match side {
-        ValueKind::Int => integers,
-        ValueKind::Bit => booleans,
-    }
-}
-
-// The number of an operator whose sides are of a kind.
-fn operator_number(op: BinOp, side: ValueKind) -> u8
-    ensures { result ≡ operator_number op side }
-{
-    match op {
-        BinOp::Add => 0,
-        BinOp::Subtract => 1,
-        BinOp::Multiply => 2,
-        BinOp::Divide => 3,
-        BinOp::Remainder => 4,
-        BinOp::BitAnd => by_kind(side, 5, 16),
-        BinOp::BitOr => by_kind(side, 6, 17),
-        BinOp::BitXor => by_kind(side, 7, 18),
-        BinOp::ShiftLeft => 8,
-        BinOp::ShiftRight => 9,
-        BinOp::Equal => by_kind(side, 10, 21),
-        BinOp::NotEqual => by_kind(side, 11, 22),
-        BinOp::Less => 12,
-        BinOp::AtMost => 13,
-        BinOp::Greater => 14,
-        BinOp::AtLeast => 15,
-        BinOp::And => 19,
-        BinOp::Or => 20,
-    }
-}
-
-/// The number of ABS among the operators before a value.
-const ABSOLUTE: u8 = 2;
-
-fn sign_number(op: UnOp) -> u8
-    ensures { result ≡ sign_number op }
-{
-    match op {
-        UnOp::Negate => 0,
-        UnOp::Complement => 1,
-        UnOp::Not => 3,
-    }
-}
-
-// The kind of what an operator before a value wants.
-fn unary_side(op: UnOp) -> ValueKind
-    ensures { result ≡ unary_side op }
-{
-    match op {
-        UnOp::Not => ValueKind::Bit,
-        UnOp::Negate | UnOp::Complement => ValueKind::Int,
-    }
-}
-
-// Booleans if one of two expressions of these kinds is a Boolean, else integers.
-fn alike(left: Option<Kind>, right: Option<Kind>) -> ValueKind
-    ensures { result ≡ alike left right }
-{
-    if is_bit_alone(left) || is_bit_alone(right) {
-        ValueKind::Bit
-    } else {
-        ValueKind::Int
-    }
-}
-
-// The kind of both sides of an operator, by the kinds of the expressions.
-fn side(op: BinOp, left: Option<Kind>, right: Option<Kind>) -> ValueKind
-    ensures { result ≡ side op left right }
-{
-    match op {
-        BinOp::And | BinOp::Or => ValueKind::Bit,
-        BinOp::Equal | BinOp::NotEqual | BinOp::BitAnd | BinOp::BitXor | BinOp::BitOr => {
-            alike(left, right)
-        }
-        _ => ValueKind::Int,
-    }
-}
-
-// The kind of what is printed of an expression of this kind.
-fn printed_kind(kind: Option<Kind>) -> ValueKind
-    ensures { result ≡ printed_kind kind }
-{
-    if is_bit_alone(kind) {
-        ValueKind::Bit
-    } else {
-        ValueKind::Int
-    }
-}
-
-// The kind of what a variable without brackets is given, or an element.
-fn given_kind(kind: Option<VarKind>) -> ValueKind
-    ensures { result ≡ given_kind kind }
-{
-    match kind {
-        Some(VarKind::Boolean | VarKind::BooleanArray) => ValueKind::Bit,
-        _ => ValueKind::Int,
-    }
-}
-
-// A number where a value of a kind is wanted.
-fn literal(kind: ValueKind, n: i32) -> Instr
-    ensures { result ≡ literal_code kind n }
-{
-    match kind {
-        ValueKind::Int => Instr::Push(n),
-        ValueKind::Bit => match n {
-            0 => Instr::PushBit(0),
-            1 => Instr::PushBit(1),
-            _ => Instr::Binary(NO_OPERATOR),
-        },
-    }
-}
-
-// The number of a bit.
-fn bit_number(bit: bool) -> i32
-    ensures { result ≡ bit_number bit }
-{
-    if bit { 1 } else { 0 }
-}
-
-// The integer whose lowest bits are those of a literal.
-#[tactic(auto, using(crate::proofs::Emits::short_literal))]
-fn literal_integer(bits: &Bits) -> i32
-    ensures { result ≡ int_of (take 32 bits.now) }
-{
-    if bits.len() < 32 {
-        bits.to_int(0, bits.len())
-    } else {
-        bits.to_int(0, 32)
-    }
-}
-
-// How a value of a kind is printed.
-fn shown_part(kind: ValueKind) -> stapl_code::PrintPart
-    ensures { result ≡ shown_part kind }
-{
-    match kind {
-        ValueKind::Int => stapl_code::PrintPart::Int,
-        ValueKind::Bit => stapl_code::PrintPart::Bit,
-    }
-}
-
-// The kind of the variable of a number, if there is one.
-#[tactic(auto, using(std::proofs::lemmas::Option::slice_get_past))]
-fn kind_at(names: &Names, number: u32) -> Option<VarKind>
-    ensures { result ≡ option_map (λ e. e.1.kind) (slice_get names.now.variables number) }
-{
-    if number >= names.variables() {
-        return None;
-    }
-    Some(names.variable(number).kind)
-}
 
 /// What is written so far of the code of a program, and where the next piece stands.
 #[derive(Drop)]
@@ -189,12 +32,14 @@ pub(crate) struct Emitter<'a> {
     texts: Vec<Text>,
     literals: Vec<Bits>,
     names: &'a Names,
+    /// At each block and behind them, the number of the next procedure.
+    next: &'a [u32],
     /// How many pieces the program has: the place of a label that there is not.
     count: u32,
     /// The block that is open before the piece.
     inside: Option<Name>,
     /// The number of the piece, counted from 1: the place behind it.
-    piece: u32,
+    pub(crate) piece: u32,
 }
 
 impl<'a> Model for Emitter<'a> {
@@ -206,7 +51,7 @@ impl<'a> Model for Emitter<'a> {
       code = e.code.items;
       texts = e.texts.items;
       literals = e.literals.items;
-      site = record { names = e.names.now; count = e.count; inside = e.inside; piece = e.piece };
+      site = record { names = e.names.now; next = e.next.now; count = e.count; inside = e.inside; piece = e.piece };
     } };
 }
 
@@ -224,26 +69,33 @@ impl<'a> VariableKinds for Emitter<'a> {
 
 impl<'a> Emitter<'a> {
     /// Nothing is written yet, and the first of so many pieces follows.
-    pub(crate) fn new(alloc: Global, names: &'a Names, count: u32) -> Emitter<'a>
+    pub(crate) fn new(alloc: Global, numbers: &'a Numbers<'a>, count: u32) -> Emitter<'a>
         ensures code { result.code ≡ [] }
         ensures texts { result.texts ≡ [] }
         ensures literals { result.literals ≡ [] }
-        ensures site { result.site ≡ record { names = names.now; count = count; inside = None; piece = 1 } }
+        ensures site { result.site ≡ record {
+          names = numbers.now.names.now;
+          next = numbers.now.next.items;
+          count = count;
+          inside = None;
+          piece = 1;
+        } }
     {
         Emitter {
             alloc,
             code: Vec::new(alloc),
             texts: Vec::new(alloc),
             literals: Vec::new(alloc),
-            names,
+            names: numbers.names,
+            next: &numbers.next,
             count,
             inside: None,
             piece: 1,
         }
     }
 
-    // The number of the variable that a name stands for.
-    fn variable(&self, name: &Name) -> u32
+    /// The number of the variable that a name stands for.
+    pub(crate) fn variable(&self, name: &Name) -> u32
         ensures { result ≡ (scope_of_site self.now.site).look.variable name.now }
     {
         let names = self.names;
@@ -267,6 +119,16 @@ impl<'a> Emitter<'a> {
         }
     }
 
+    // The number of a procedure, by its name.
+    #[tactic(auto, using(crate::proofs::Numbers::block_place))]
+    fn procedure(&self, name: &Name) -> u32
+        ensures { result ≡ (scope_of_site self.now.site).procedure name.now }
+    {
+        let names = self.names;
+        let block = names.block(name).unwrap_or(names.blocks());
+        number_at(self.next, block)
+    }
+
     // The kind of both sides of an operator between two expressions.
     fn sides(&self, op: BinOp, a: &Expr, b: &Expr) -> ValueKind
         ensures { result ≡ sides (scope_of_site self.now.site).look op (expr_tree a.now) (expr_tree b.now) }
@@ -276,8 +138,8 @@ impl<'a> Emitter<'a> {
         side(op, left, right)
     }
 
-    // An instruction more.
-    fn put(&mut self, instr: Instr) -> Result<(), AllocError>
+    /// An instruction more.
+    pub(crate) fn put(&mut self, instr: Instr) -> Result<(), AllocError>
         ensures code { OnOk result (self.new.code ≡ self.old.code ++ instr ∷ []) }
         ensures texts { self.new.texts ≡ self.old.texts }
         ensures literals { self.new.literals ≡ self.old.literals }
@@ -287,10 +149,10 @@ impl<'a> Emitter<'a> {
         Ok(())
     }
 
-    // An expression more, where a value of a kind is wanted.
+    /// An expression more, where a value of a kind is wanted.
     #[cycle(expressions)]
     #[tactic(auto, using(crate::proofs::Lists::expr_before, std::proofs::Common::append_assoc))]
-    fn expr(&mut self, kind: ValueKind, e: &Expr) -> Result<(), AllocError>
+    pub(crate) fn expr(&mut self, kind: ValueKind, e: &Expr) -> Result<(), AllocError>
         ensures code { OnOk result (self.new.code ≡ self.old.code ++ expr_code_in self.old kind (expr_tree e.now)) }
         ensures texts { self.new.texts ≡ self.old.texts }
         ensures literals { self.new.literals ≡ self.old.literals }
@@ -373,8 +235,8 @@ impl<'a> Emitter<'a> {
         Ok(())
     }
 
-    // A text more, and its number.
-    fn text(&mut self, bytes: &[u8]) -> Result<u32, AllocError>
+    /// A text more, and its number.
+    pub(crate) fn text(&mut self, bytes: &[u8]) -> Result<u32, AllocError>
         ensures number { IfOk result (λ number. number ≡ length self.old.texts) }
         ensures code { self.new.code ≡ self.old.code }
         ensures texts { OnOk result (self.new.texts ≡ self.old.texts ++ bytes.now ∷ []) }
@@ -474,6 +336,20 @@ impl<'a> Emitter<'a> {
         Ok(number)
     }
 
+    /// The index of an array more, with its test.
+    #[tactic(auto, using(crate::proofs::Lists::expr_before, std::proofs::Common::append_assoc))]
+    pub(crate) fn index(&mut self, number: u32, index: &Expr) -> Result<(), AllocError>
+        ensures code { OnOk result (self.new.code ≡ self.old.code
+            ++ operands_code_in self.old (an_index number (expr_tree index.now) ∷ [])) }
+        ensures texts { self.new.texts ≡ self.old.texts }
+        ensures literals { self.new.literals ≡ self.old.literals }
+        ensures site { self.new.site ≡ self.old.site }
+    {
+        self.expr(ValueKind::Int, index)?;
+        self.put(Instr::CheckIndex(number))?;
+        Ok(())
+    }
+
     // The indexes of a range of an array more, with their test.
     #[tactic(auto, using(crate::proofs::Lists::expr_before, std::proofs::Common::append_assoc))]
     fn range(&mut self, number: u32, high: &Expr, low: &Expr) -> Result<(), AllocError>
@@ -489,8 +365,8 @@ impl<'a> Emitter<'a> {
         Ok(())
     }
 
-    // The operands of an array more, and where its bits come from.
-    fn source(&mut self, a: &ArrayExpr) -> Result<Source, AllocError>
+    /// The operands of an array more, and where its bits come from.
+    pub(crate) fn source(&mut self, a: &ArrayExpr) -> Result<Source, AllocError>
         ensures code { OnOk result
             (self.new.code ≡ self.old.code ++ operands_code_in self.old (array_operands_in self.old (array_tree a.now))) }
         ensures texts { self.new.texts ≡ self.old.texts }
@@ -569,8 +445,7 @@ impl<'a> Emitter<'a> {
     {
         let kind = given_kind(self.kind(name));
         let number = self.variable(name);
-        self.expr(ValueKind::Int, index)?;
-        self.put(Instr::CheckIndex(number))?;
+        self.index(number, index)?;
         self.expr(kind, value)?;
         self.put(Instr::StoreAt(number))?;
         Ok(())
@@ -655,6 +530,30 @@ impl<'a> Emitter<'a> {
             }
             Body::AssignRange(name, high, low, a) => {
                 self.assign_range(name, high, low, a)?;
+                Ok(())
+            }
+            Body::Call(name) => {
+                let number = self.procedure(name);
+                self.put(Instr::Call(number))
+            }
+            Body::For(name, from, to, step) => {
+                self.begin_loop(name, from, to, step)?;
+                Ok(())
+            }
+            Body::Next(name) => {
+                let number = self.variable(name);
+                self.put(Instr::Next(number))
+            }
+            Body::Push(e) => {
+                self.push(e)?;
+                Ok(())
+            }
+            Body::Pop(cell) => {
+                self.pop(cell)?;
+                Ok(())
+            }
+            Body::Export(key, x) => {
+                self.export(key.as_slice(), x)?;
                 Ok(())
             }
             Body::Goto(name) => {

@@ -7,5 +7,7 @@ mod definitions;
 mod draft;
 mod emit;
 pub mod laws;
+mod recording;
+mod tables;
 
 pub use compiling::generate;

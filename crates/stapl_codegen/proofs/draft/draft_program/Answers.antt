@@ -1,4 +1,4 @@
-use Rattle.std.proofs.Common.{◌≡◌, ℕ, ◌+◌, ◌++◌, refl, ◌∙◌, ap, sym, subst, arith, drop, length, None}
+use Rattle.std.proofs.Common.{◌≡◌, ℕ, List, ◌+◌, ◌++◌, refl, ◌∙◌, ap, sym, subst, arith, drop, length, None}
 use Rattle.std.proofs.lemmas.List.{length-map}
 use Rattle.std.specs.Prelude.{if◌then◌else◌}
 use Rattle.stapl_syntax.specs.Trees.{end_data, body_tree, stmt_tree, trees}
@@ -8,6 +8,7 @@ use Rattle.stapl_meaning.specs.Scopes.{plays, idle, program_names, as_played}
 use Rattle.stapl_meaning.proofs.Blocks.{body_of, same_count}
 use Rattle.stapl_code.specs.Machine.{nowhere}
 use Rattle.stapl_codegen.specs.Emit.{body_texts, body_literals}
+use Rattle.stapl_codegen.specs.Numbers.{numbers_from}
 use Rattle.stapl_codegen.specs.Drafts.{IsDraft, site_behind, piece_code_in}
 use Rattle.stapl_codegen.proofs.Heads.{mapped_more}
 use Rattle.stapl_codegen.proofs.Places.{at_start, piece, piece_first, next}
@@ -27,8 +28,9 @@ draft_presets-requires c =
     let count : given ≡ length (as_played sts).pieces = omega (arith, same_count None sts, length-map c.args.program.now stmt_tree) in
     none_written (as_played sts) c.new-emitter.result e.code e.texts e.literals
     (e.site
-    ∙ ap (λ (n : Names). record { names = n; count = given; inside = None; piece = 1 }) c.requires.names
-    ∙ ap (λ (n : ℕ). record { names = program_names sts; count = n; inside = None; piece = 1 }) count)
+    ∙ ap (λ (l : List ℕ). record { names = c.args.numbers.now.names.now; next = l; count = given; inside = None; piece = 1 }) c.requires.next
+    ∙ ap (λ (n : Names). record { names = n; next = numbers_from 0 n.blocks; count = given; inside = None; piece = 1 }) c.requires.names
+    ∙ ap (λ (n : ℕ). record { names = program_names sts; next = numbers_from 0 (program_names sts).blocks; count = n; inside = None; piece = 1 }) count)
 
 pub loop-st-init : goal.loop-st-init
 loop-st-init c =
@@ -58,7 +60,7 @@ loop-st-preserved c =
     let body = body_of (plays block (body_tree st.body)) (stmt_tree st) in
     let ensures = c.in_ok-draft_piece.ensures in
     record {
-      drafted = piece_more program i before c.loop-st.starts.items c.loop-st.invariant.drafted own (piece_first sts i block (stmt_tree st) (drop (i + 1) sts) is at)
+      drafted = piece_more program i before c.loop-st.starts.items c.loop-st.invariant.drafted c.requires.accepted.typed own (piece_first sts i block (stmt_tree st) (drop (i + 1) sts) is at)
           c.draft_piece.new.emitter c.start_at.result c.push.new.self.items
           (ensures.code ∙ ap (λ b. before.code ++ piece_code_in before (if b then stmt_tree st else idle)) playing)
           (ensures.texts ∙ ap (λ b. before.texts ++ body_texts (if b then stmt_tree st else idle).body) playing)
