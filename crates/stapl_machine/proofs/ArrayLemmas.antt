@@ -19,7 +19,8 @@ use Rattle.stapl_meaning.specs.declared.values.Held.TheVariants as held
 use Rattle.stapl_meaning.specs.Values.{Got, Known, Stuck, then_get, passed, bits_held, source_bits, asked, Whole, Range, OfInt}
 use Rattle.stapl_meaning.specs.Values as values
 use Rattle.stapl_meaning.specs.States.{State, Did}
-use Rattle.stapl_meaning.specs.Plays.{start}
+use Rattle.stapl_meaning.specs.declared.records.Record.{Record}
+use Rattle.stapl_machine.specs.Acts.{state_with}
 use Rattle.stapl_meaning.specs.Effects.{with_element, element_written, replaced, copied, span_written}
 use Rattle.stapl_code.specs.declared.instr.Dest.{Dest}
 use Rattle.stapl_code.specs.declared.instr.Dest.TheVariants as dests
@@ -141,12 +142,12 @@ part_inside None span h = absurd h
 part_inside (Some array) span h = h.inside
 
 -- what an instruction that copies does
-module _ (dest : Dest) (vs : List Value) (part : Part) (chosen : List ℕ) (variables : List Held) (found : IsFound variables (array_of dest) (dest_span dest vs) part) where
+module _ (dest : Dest) (vs : List Value) (part : Part) (chosen : List ℕ) (records : List Record) (variables : List Held) (found : IsFound variables (array_of dest) (dest_span dest vs) part) where
   pub copied_integer : (v : Value) → behind_dest dest vs ≡ v ∷ [] →
-      copied (target_of dest) OfInt vs (start chosen variables) ≡ bits_put variables part (start chosen variables) (integer_asked part v)
+      copied (target_of dest) OfInt vs (state_with chosen records variables) ≡ bits_put variables part (state_with chosen records variables) (integer_asked part v)
   copied_integer (Int z) e =
-      copied_at dest OfInt vs (Int z ∷ []) part (start chosen variables) found e ∙ ap (bits_put variables part (start chosen variables)) (asked_integer part.span.count z)
-  copied_integer (Bit b) e = copied_at dest OfInt vs (Bit b ∷ []) part (start chosen variables) found e
+      copied_at dest OfInt vs (Int z ∷ []) part (state_with chosen records variables) found e ∙ ap (bits_put variables part (state_with chosen records variables)) (asked_integer part.span.count z)
+  copied_integer (Bit b) e = copied_at dest OfInt vs (Bit b ∷ []) part (state_with chosen records variables) found e
 
   -- the bits of a part of an array
   module _ (n : ℕ) (spans : ℕ → Got values.Span) (from : Part) (is : IsFound variables n spans from) where
@@ -164,19 +165,19 @@ module _ (dest : Dest) (vs : List Value) (part : Part) (chosen : List ℕ) (vari
         (part_inside (slice_get variables from.array) from.span is.is_part.has)
 
   pub copied_whole : (n : ℕ) (from : Part) → IsFound variables n whole_span from → behind_dest dest vs ≡ [] →
-      copied (target_of dest) (Whole n) vs (start chosen variables) ≡ bits_put variables part (start chosen variables) (part_asked variables part from)
+      copied (target_of dest) (Whole n) vs (state_with chosen records variables) ≡ bits_put variables part (state_with chosen records variables) (part_asked variables part from)
   copied_whole n from is e =
-      copied_at dest (Whole n) vs [] part (start chosen variables) found e
-      ∙ ap (λ g. then_get g (λ bits. bits_put variables part (start chosen variables) (asked (Whole n) part.span.count bits))) (whole_bits variables n ∙ known_bits n whole_span from is)
-      ∙ ap (bits_put variables part (start chosen variables)) (asked_there n whole_span from is)
+      copied_at dest (Whole n) vs [] part (state_with chosen records variables) found e
+      ∙ ap (λ g. then_get g (λ bits. bits_put variables part (state_with chosen records variables) (asked (Whole n) part.span.count bits))) (whole_bits variables n ∙ known_bits n whole_span from is)
+      ∙ ap (bits_put variables part (state_with chosen records variables)) (asked_there n whole_span from is)
 
   pub copied_range : (n : ℕ) (high low : Value) (from : Part) → IsFound variables n (range_span high low) from → behind_dest dest vs ≡ high ∷ low ∷ [] →
-      copied (target_of dest) (Range n) vs (start chosen variables) ≡ bits_put variables part (start chosen variables) (part_asked variables part from)
+      copied (target_of dest) (Range n) vs (state_with chosen records variables) ≡ bits_put variables part (state_with chosen records variables) (part_asked variables part from)
   copied_range n high low from is e =
-      copied_at dest (Range n) vs (high ∷ low ∷ []) part (start chosen variables) found e
-      ∙ ap (λ g. then_get g (λ bits. bits_put variables part (start chosen variables) (asked (Range n) part.span.count bits)))
+      copied_at dest (Range n) vs (high ∷ low ∷ []) part (state_with chosen records variables) found e
+      ∙ ap (λ g. then_get g (λ bits. bits_put variables part (state_with chosen records variables) (asked (Range n) part.span.count bits)))
       (range_bits variables n high low ∙ known_bits n (range_span high low) from is)
-      ∙ ap (bits_put variables part (start chosen variables)) (asked_there n (range_span high low) from is)
+      ∙ ap (bits_put variables part (state_with chosen records variables)) (asked_there n (range_span high low) from is)
 
 -- a variable that was taken out is put back, with bits of another one
 pub other_put : (variables : List Held) (part : Part) (from low : ℕ) (taken_out old new there : Held) → part.array < length variables → from < length variables → part.array ≢ from →

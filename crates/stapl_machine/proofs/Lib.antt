@@ -1,6 +1,9 @@
 pub mod Wraps
 pub mod Bitwise
 pub mod PrintLemmas
+pub mod RecordLemmas
+pub mod DigitLemmas
+pub mod ExportLemmas
 pub mod Slices
 pub mod MoveLemmas
 pub mod TurnLemmas

@@ -7,7 +7,7 @@ use Rattle.stapl_meaning.specs.declared.values.Value.{Value}
 use Rattle.stapl_code.specs.Machine.{Constants, parts_text, does}
 use Rattle.stapl_meaning.specs.States.{State}
 use Rattle.stapl_meaning.specs.Effects.{printed}
-use Rattle.stapl_machine.specs.Acts.{IsMade}
+use Rattle.stapl_machine.specs.Acts.{IsMade, Told}
 use Rattle.stapl_meaning.specs.Values.{Got, Known, Faults, Stuck, then_get}
 use Rattle.stapl_machine.specs.declared.operate.Stop.{Stop}
 use Rattle.stapl_machine.specs.declared.operate.Stop.TheVariants.{Fault, Wrong, Memory}
@@ -40,10 +40,10 @@ put_stops Wrong front part whole e h = sym e ∙ ap (with_front front) h
 put_stops Memory front part whole e h = tt
 
 -- and then there is no Print
-pub print_stops : (stop : Stop) (text : List ℕ) (s : State) (g : Got (List ℕ)) → IsStopped stop g → IsMade (Err stop) text s s (does (printed g s))
-print_stops (Fault k) text s g h = (ap (λ g. does (printed g s)) h, refl)
-print_stops Wrong text s g h = ap (λ g. does (printed g s)) h
-print_stops Memory text s g h = tt
+pub print_stops : (stop : Stop) (told : Told) (s : State) (g : Got (List ℕ)) → IsStopped stop g → IsMade (Err stop) told s s (does (printed g s))
+print_stops (Fault k) told s g h = (ap (λ g. does (printed g s)) h, refl)
+print_stops Wrong told s g h = ap (λ g. does (printed g s)) h
+print_stops Memory told s g h = tt
 
 -- values behind the last part
 pub left_over : (entries : List ℕ) (constants : Constants) (front : List ℕ) (vs : List Value) → 0 < length vs →

@@ -6,10 +6,10 @@ use Rattle.tool_io.specs.declared.lines.Lines.{Lines}
 use Rattle.tool_io.proofs.PutLemmas.{put_then, puts_nothing, front_with, put_then_front}
 use Rattle.stapl_meaning.specs.declared.events.Event.{Event}
 use Rattle.stapl_meaning.specs.declared.events.Ending.{Ending}
-use Rattle.stapl_meaning.specs.declared.values.Held.{Held}
+use Rattle.stapl_meaning.specs.declared.records.Record.{Record}
 use Rattle.stapl_meaning.specs.declared.values.Value.{Value}
 use Rattle.stapl_meaning.specs.States.{State, Turned, Leads, Over, Broken, NoTurn, preceded, turn_of_piece, next_chosen, begun}
-use Rattle.stapl_meaning.specs.Plays.{Run, after, goes_on, ending_of}
+use Rattle.stapl_meaning.specs.Plays.{Run, after, goes_on, ending_of, start}
 use Rattle.stapl_meaning.specs.Texts.{event_line}
 use Rattle.stapl_code.specs.Machine.{Constants, entry_of, stretch}
 use Rattle.stapl_code.proofs.Preceded.{begun_preceded}
@@ -19,10 +19,10 @@ use Rattle.stapl_code.specs.declared.raw.CodeLists.{CodeLists}
 use Rattle.stapl_machine.specs.declared.act.Workspace.{Workspace}
 use Rattle.stapl_machine.specs.declared.moves.Went.{Went}
 use Rattle.stapl_machine.specs.declared.moves.Went.TheVariants as went
-use Rattle.stapl_machine.specs.Acts.{state_of, operands_of}
+use Rattle.stapl_machine.specs.Acts.{state_with, state_of, operands_of}
 use Rattle.stapl_machine.specs.Moves.{led_to}
 use Rattle.stapl_machine.specs.Turns.{rest_of, ticks_from, turn_at, ticks_at, Does, DoesFront}
-use Rattle.stapl_machine.specs.Runs.{run_of, run_ticks_of, chosen_run, chosen_ticks, begun_run, begun_ticks, play_from, play_ticks_from, Runs, RunsTo, RunsFront, LeavesVariables}
+use Rattle.stapl_machine.specs.Runs.{run_of, run_ticks_of, chosen_run, chosen_ticks, begun_run, begun_ticks, play_from, play_ticks_from, Runs, RunsTo, RunsFront, LeavesState}
 
 -- events in front of a turn are events in front of its run
 pub goes_after : (seen : List Event) (t : Turned) (s : State) (go : ℕ → State → Run) → goes_on (preceded seen t) s go ≡ after seen (goes_on t s go)
@@ -59,9 +59,9 @@ module _ {K : Type 0} {written : K → Option (List ℕ)} where
         ∙ after_twice first.events second.events (goes_on rest s go);
   }
 
-  -- the variables behind the run
-  pub runs_variables : {whole rest : Run} {a b : Lines K} → Runs written whole a rest b → whole.state.store.variables ≡ rest.state.store.variables
-  runs_variables r = ap (λ (q : Run). q.state.store.variables) r.runs
+  -- the state behind the run
+  pub runs_state : {whole rest : Run} {a b : Lines K} → Runs written whole a rest b → whole.state ≡ rest.state
+  runs_state r = ap (λ (q : Run). q.state) r.runs
 
   -- a turn that was broken off
   pub runs_front : {whole : Run} {a b c : Lines K} (turn : Turned) (s : State) (go : ℕ → State → Run) →
@@ -126,9 +126,9 @@ ticked_end first before now turn left more all e f g h = omega arith
 pub ticked_most : (first before now turn left more all : ℕ) → now ≤ before + turn → before + left ≡ first + all → left ≡ turn + more → now ≤ first + all
 ticked_most first before now turn left more all e f g = omega arith
 
--- the variables behind a run, by another name
-pub leaves_same : {a b : Run} (ending : Option Ending) (variables : List Held) → a ≡ b → LeavesVariables a ending variables → LeavesVariables b ending variables
-leaves_same ending variables e l = subst (λ (r : Run). LeavesVariables r ending variables) e l
+-- the state behind a run, by another name
+pub leaves_same : {a b : Run} (ending : Option Ending) (s : State) → a ≡ b → LeavesState a ending s → LeavesState b ending s
+leaves_same ending s e l = subst (λ (r : Run). LeavesState r ending s) e l
 
 -- the first chosen procedure begins, or none is left
 module _ (code : CodeLists) (n : ℕ) (s u : State) where
@@ -162,7 +162,7 @@ module _ (u before : State) (go : ℕ → State → Run) where
   over_ends (Some ending) = refl
   over_ends None = refl
 
-  pub over_leaves : (ending : Option Ending) → LeavesVariables (over ending) ending u.store.variables
+  pub over_leaves : (ending : Option Ending) → LeavesState (over ending) ending u
   over_leaves (Some ending) = refl
   over_leaves None = tt
 
@@ -195,10 +195,10 @@ module _ {K : Type 0} {written : K → Option (List ℕ)} where
       let all : whole.events ≡ first.events ++ rest.events = ap (λ (q : Run). q.events) first.runs in
       record { front = rw (all, flat_map-append event_line first.events rest.events) (put_then_front first.put second.front) }
 
-  pub runs_then_leaves : {whole rest : Run} {a b : Lines K} (ending : Option Ending) (variables : List Held) → Runs written whole a rest b → LeavesVariables rest ending variables →
-      LeavesVariables whole ending variables
-  runs_then_leaves None variables first l = tt
-  runs_then_leaves (Some ending) variables first l = runs_variables first ∙ l
+  pub runs_then_leaves : {whole rest : Run} {a b : Lines K} (ending : Option Ending) (s : State) → Runs written whole a rest b → LeavesState rest ending s →
+      LeavesState whole ending s
+  runs_then_leaves None s first l = tt
+  runs_then_leaves (Some ending) s first l = runs_state first ∙ l
 
   -- the prologue was played
   pub play_does : {whole rest : Turned} {a b : Lines K} (code : CodeLists) (n : ℕ) (s : State) → Does written whole a rest b →
@@ -229,27 +229,38 @@ begun_piece entries constants piece (Over events ending s) = refl
 begun_piece entries constants piece (Broken events k s) = refl
 begun_piece entries constants piece (NoTurn events) = refl
 
--- a play from registers with no operand, where no chosen procedure has begun
-module _ (code : CodeLists) (chosen : List ℕ) (work : Workspace) (n : ℕ) (none : work.operands.items ≡ []) where
+-- a play from registers with neither operand nor record, where no chosen procedure has begun
+module _ (code : CodeLists) (chosen : List ℕ) (work : Workspace) (n : ℕ) (none : work.operands.items ≡ []) (no_record : work.memory.records.items ≡ []) where
   abbrev pub at_first : Workspace
   at_first = record work { next = 0 }
 
-  abbrev prologue : List Value → Turned
-  prologue ops = stretch (entries_of code.procedures) (constants_of code) (length code.instrs) code.instrs ops (state_of chosen at_first)
+  -- the state in which it starts
+  abbrev pub started : State
+  started = start chosen work.memory.variables.items
 
-  first_begun : begun (entry_of (entries_of code.procedures)) (rest_of code 0 chosen at_first) ≡ begun (entry_of (entries_of code.procedures)) (prologue [])
+  pub starts : state_of chosen at_first ≡ started
+  starts = ap (λ (l : List Record). state_with chosen (reverse l) work.memory.variables.items) no_record
+
+  abbrev prologue : List Value → State → Turned
+  prologue ops s = stretch (entries_of code.procedures) (constants_of code) (length code.instrs) code.instrs ops s
+
+  abbrev prologue_ticks : List Value → State → ℕ
+  prologue_ticks ops s = ticks (entries_of code.procedures) (constants_of code) (length code.instrs) code.instrs ops s
+
+  first_begun : begun (entry_of (entries_of code.procedures)) (rest_of code 0 chosen at_first) ≡ begun (entry_of (entries_of code.procedures)) (prologue [] started)
   first_begun =
-      begun_piece (entries_of code.procedures) (constants_of code) work.piece (prologue (operands_of work))
-      ∙ ap (λ (ops : List Value). begun (entry_of (entries_of code.procedures)) (prologue (reverse ops))) none
+      begun_piece (entries_of code.procedures) (constants_of code) work.piece (prologue (operands_of work) (state_of chosen at_first))
+      ∙ ap (λ (ops : List Value). begun (entry_of (entries_of code.procedures)) (prologue (reverse ops) (state_of chosen at_first))) none
+      ∙ ap (λ (s : State). begun (entry_of (entries_of code.procedures)) (prologue [] s)) starts
 
-  pub play_is : begun_run code n (rest_of code 0 chosen at_first) (state_of chosen at_first) ≡ play_from code chosen work.variables.items n
-  play_is = ap (λ (t : Turned). goes_on t (state_of chosen at_first) (run_of code n)) first_begun
+  pub play_is : begun_run code n (rest_of code 0 chosen at_first) started ≡ play_from code chosen work.memory.variables.items n
+  play_is = ap (λ (t : Turned). goes_on t started (run_of code n)) first_begun
 
-  pub play_ticks_is : ticks_from code 0 chosen at_first + begun_ticks code n (rest_of code 0 chosen at_first) ≡ play_ticks_from code chosen work.variables.items n
+  pub play_ticks_is : ticks_from code 0 chosen at_first + begun_ticks code n (rest_of code 0 chosen at_first) ≡ play_ticks_from code chosen work.memory.variables.items n
   play_ticks_is =
-      ap (λ (ops : List Value). ticks (entries_of code.procedures) (constants_of code) (length code.instrs) code.instrs (reverse ops) (state_of chosen at_first)
-      + begun_ticks code n (rest_of code 0 chosen at_first)) none
-      ∙ ap (λ (t : Turned). ticks (entries_of code.procedures) (constants_of code) (length code.instrs) code.instrs [] (state_of chosen at_first) + ticks_then t (run_ticks_of code n)) first_begun
+      ap (λ (ops : List Value). prologue_ticks (reverse ops) (state_of chosen at_first) + begun_ticks code n (rest_of code 0 chosen at_first)) none
+      ∙ ap (λ (s : State). prologue_ticks [] s + begun_ticks code n (rest_of code 0 chosen at_first)) starts
+      ∙ ap (λ (t : Turned). prologue_ticks [] started + ticks_then t (run_ticks_of code n)) first_begun
 
 pub play_ticks_does : (code : CodeLists) (n : ℕ) (whole rest : Turned) (events : List Event) → whole ≡ preceded events rest → begun_ticks code n whole ≡ begun_ticks code n rest
 play_ticks_does code n whole rest events e =

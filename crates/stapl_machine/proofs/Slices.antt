@@ -4,7 +4,7 @@ use Rattle.std.proofs.lemmas.List.{append-nil, reverse-append, length-reverse, l
 use Rattle.std.specs.Prelude.{Ok, Err}
 use Rattle.stapl_meaning.specs.declared.values.Value.{Value}
 use Rattle.stapl_meaning.specs.Values.{Got}
-use Rattle.stapl_meaning.specs.States.{State, Over, jumps_to, next_chosen}
+use Rattle.stapl_meaning.specs.States.{State, Leads, Over, jumps_to, next_chosen}
 use Rattle.stapl_meaning.specs.declared.events.Event.TheVariants.{Print}
 use Rattle.stapl_code.specs.declared.instr.Instr.{Instr}
 use Rattle.stapl_code.specs.declared.raw.CodeLists.{CodeLists}
@@ -16,7 +16,8 @@ use Rattle.stapl_machine.specs.declared.operate.Stop.TheVariants as stops
 use Rattle.stapl_machine.specs.declared.effects.Made.{Made}
 use Rattle.stapl_machine.specs.declared.effects.Made.TheVariants as mades
 use Rattle.stapl_machine.specs.declared.act.Workspace.{Workspace}
-use Rattle.stapl_machine.specs.Acts.{IsMade, IsActed, operands_of, state_of, step_of, stepped}
+use Rattle.stapl_machine.specs.Exports.{export_event}
+use Rattle.stapl_machine.specs.Acts.{IsMade, IsActed, told_by, operands_of, state_of, step_of, stepped}
 
 -- these values put on one after another
 abbrev onto : List Value → List Value → List Value
@@ -58,8 +59,8 @@ short (suc n) done (v ∷ ops) h = short n (v ∷ done) ops (omega (arith, h))
 module _ (code : CodeLists) (i : Instr) (old : Workspace) (chosen : List ℕ) (here n len : ℕ) (takes_is : n ≡ length (takes i)) (len_is : len ≡ length old.operands.items) where
   abbrev pub acted : List Value → List Value → Step
   acted vs below =
-      on_made (entries_of code.procedures) (lands here i) below (state_of chosen old)
-      (made (entries_of code.procedures) (constants_of code) i vs (state_of chosen old))
+      on_made (entries_of code.procedures) (lands (entries_of code.procedures) here i) below (state_of chosen old)
+      (made (entries_of code.procedures) (constants_of code) here i vs (state_of chosen old))
 
   pub none_there : len < n → step_of code here i chosen old ≡ Wrong
   none_there h =
@@ -81,27 +82,31 @@ module _ (code : CodeLists) (to : Option ℕ) (chosen : List ℕ) (old : State) 
   from_made g = on_made (entries_of code.procedures) to below old g
 
   abbrev Above : Made → Type 0
-  Above m = IsMade (Ok m) new.text.items old (state_of chosen new) g → from_made g ≡ stepped code to chosen m new
+  Above m = IsMade (Ok m) (told_by code new.memory) old (state_of chosen new) g → from_made g ≡ stepped code to chosen m new
 
   above : below ≡ operands_of new → (m : Made) → Above m
   above e (mades.Put v) h =
       ap from_made h.0 ∙ ap (λ b. Falls (v ∷ b) old) e ∙ ap (λ s. Falls (v ∷ operands_of new) s) (sym h.1)
   above e (mades.PutTwo v w) h =
       ap from_made h.0 ∙ ap (λ b. Falls (w ∷ v ∷ b) old) e ∙ ap (λ s. Falls (w ∷ v ∷ operands_of new) s) (sym h.1)
+  above e (mades.Popped v) h = ap from_made h ∙ ap (λ b. Falls (v ∷ b) (state_of chosen new)) e
   above e mades.On h = ap from_made h ∙ ap (λ b. Falls b (state_of chosen new)) e
-  above e mades.Printed h = ap from_made h ∙ ap (λ b. Emits (Print new.text.items ∷ []) b (state_of chosen new)) e
+  above e mades.Printed h = ap from_made h ∙ ap (λ b. Emits (Print new.memory.text.items ∷ []) b (state_of chosen new)) e
+  above e (mades.Exported x) h =
+      ap from_made h ∙ ap (λ b. Emits (export_event (constants_of code) new.memory.variables.items x ∷ []) b (state_of chosen new)) e
   above e mades.Jump h = ap from_made h ∙ ap (λ b. Stops b (jumps_to to (state_of chosen new))) e
+  above e (mades.Resume place) h = ap from_made h ∙ ap (λ b. Stops b (Leads [] place (state_of chosen new))) e
   above e mades.Returned h =
       ap from_made h ∙ ap (λ b. Stops b (next_chosen (entry_of (entries_of code.procedures)) (state_of chosen new) (drop new.next chosen))) e
   above e (mades.Over ending) h = ap from_made h ∙ ap (λ b. Stops b (Over [] ending (state_of chosen new))) e
 
-  stopped : (stop : Stop) → IsMade (Err stop) new.text.items old (state_of chosen new) g → IsActed (Err stop) code to chosen new (from_made g)
+  stopped : (stop : Stop) → IsMade (Err stop) (told_by code new.memory) old (state_of chosen new) g → IsActed (Err stop) code to chosen new (from_made g)
   stopped (stops.Fault k) h = ap from_made h.0 ∙ ap (Faulted k) (sym h.1)
   stopped stops.Wrong h = ap from_made h
   stopped stops.Memory h = tt
 
-  pub acts : (m : Made) → below ≡ operands_of new → st ≡ from_made g → IsMade (Ok m) new.text.items old (state_of chosen new) g → st ≡ stepped code to chosen m new
+  pub acts : (m : Made) → below ≡ operands_of new → st ≡ from_made g → IsMade (Ok m) (told_by code new.memory) old (state_of chosen new) g → st ≡ stepped code to chosen m new
   acts m e same h = same ∙ above e m h
 
-  pub acts_not : (stop : Stop) → st ≡ from_made g → IsMade (Err stop) new.text.items old (state_of chosen new) g → IsActed (Err stop) code to chosen new st
+  pub acts_not : (stop : Stop) → st ≡ from_made g → IsMade (Err stop) (told_by code new.memory) old (state_of chosen new) g → IsActed (Err stop) code to chosen new st
   acts_not stop same h = subst (λ s. IsActed (Err stop) code to chosen new s) (sym same) (stopped stop h)

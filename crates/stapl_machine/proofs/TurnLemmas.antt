@@ -5,7 +5,7 @@ use Rattle.std.proofs.lemmas.Grind.{flat_map-append}
 use Rattle.tool_io.specs.declared.lines.Lines.{Lines}
 use Rattle.tool_io.specs.Lines.{gathered, Puts, PutsFront}
 use Rattle.tool_io.proofs.PutLemmas.{put_then, put_then_front, puts_nothing}
-use Rattle.stapl_meaning.specs.declared.events.Event.TheVariants.{Print}
+use Rattle.stapl_meaning.specs.declared.events.Event.{Event}
 use Rattle.stapl_meaning.specs.declared.values.Value.{Value}
 use Rattle.stapl_meaning.specs.States.{State, Turned, NoTurn, preceded, turn_of_piece}
 use Rattle.stapl_meaning.specs.Texts.{event_line}
@@ -30,13 +30,13 @@ module _ {K : Type 0} {written : K → Option (List ℕ)} where
   does_nothing {rest = rest} lines e = record { events = []; put = puts_nothing written lines; does = e ∙ preceded_nothing rest }
 
   -- one line is put
-  pub does_print : {whole rest : Turned} {old new : Lines K} (text : List ℕ) → Puts written old (event_line (Print text)) new →
-      whole ≡ preceded (Print text ∷ []) rest → Does written whole old rest new
-  does_print text put e = record { events = Print text ∷ []; put = rw (append-nil (event_line (Print text))) put; does = e }
+  pub does_event : {whole rest : Turned} {old new : Lines K} (event : Event) → Puts written old (event_line event) new →
+      whole ≡ preceded (event ∷ []) rest → Does written whole old rest new
+  does_event event put e = record { events = event ∷ []; put = rw (append-nil (event_line event)) put; does = e }
 
-  pub does_print_front : {whole : Turned} {old new : Lines K} (text : List ℕ) (rest : Turned) → PutsFront written old (event_line (Print text)) new →
-      whole ≡ preceded (Print text ∷ []) rest → DoesFront written whole old new
-  does_print_front text rest front e = record { events = Print text ∷ []; front = rw (append-nil (event_line (Print text))) front; rest = rest; does = e }
+  pub does_event_front : {whole : Turned} {old new : Lines K} (event : Event) (rest : Turned) → PutsFront written old (event_line event) new →
+      whole ≡ preceded (event ∷ []) rest → DoesFront written whole old new
+  does_event_front event rest front e = record { events = event ∷ []; front = rw (append-nil (event_line event)) front; rest = rest; does = e }
 
   pub does_same : {whole rest other : Turned} {old new : Lines K} → rest ≡ other → Does written whole old rest new → Does written whole old other new
   does_same e d = record { events = d.events; put = d.put; does = d.does ∙ ap (preceded d.events) e }
@@ -95,9 +95,9 @@ module _ (code : CodeLists) (i : ℕ) where
 
     -- where the instruction leads
     module _ (new : Workspace) (m n : Moved) (same : m ≡ n) where
-      pub goes : ((go : List Value → State → Turned) → turn_of_piece work.piece (continues (step_of code i x chosen work) go) ≡ moved_to m chosen new go) →
-          rest_of code i chosen work ≡ moved_to n chosen new behind
-      goes leads = one_more ∙ leads behind ∙ ap (λ (k : Moved). moved_to k chosen new behind) same
+      pub goes : ((go : List Value → State → Turned) → turn_of_piece work.piece (continues (step_of code i x chosen work) go) ≡ moved_to code m chosen new go) →
+          rest_of code i chosen work ≡ moved_to code n chosen new behind
+      goes leads = one_more ∙ leads behind ∙ ap (λ (k : Moved). moved_to code k chosen new behind) same
 
       pub counts : ((go : List Value → State → ℕ) → ticks_behind (step_of code i x chosen work) go ≡ moved_ticks m chosen new go) →
           (before now : ℕ) → now ≡ before + tick_of x → now + moved_ticks n chosen new ticks_after ≡ before + ticks_from code i chosen work

@@ -1,38 +1,62 @@
 -- What the machine does at an instruction.
 use Rattle.std.specs.Prelude.{◌≡◌, ℕ, List, [], ◌∷◌, drop, reverse, Option, Result, Ok, Err}
 use Rattle.stapl_meaning.specs.declared.events.Event.TheVariants.{Print}
+use Rattle.stapl_meaning.specs.declared.records.Record.{Record}
 use Rattle.stapl_meaning.specs.declared.values.Value.{Value}
+use Rattle.stapl_meaning.specs.declared.values.Held.{Held}
 use Rattle.stapl_meaning.specs.Values.{Got, Known, Faults, Stuck}
-use Rattle.stapl_meaning.specs.States.{State, Over, next_chosen, jumps_to}
+use Rattle.stapl_meaning.specs.States.{State, Leads, Over, next_chosen, jumps_to}
 use Rattle.stapl_meaning.specs.States as did
-use Rattle.stapl_meaning.specs.Plays.{start}
 use Rattle.stapl_code.specs.declared.instr.Instr.{Instr}
 use Rattle.stapl_code.specs.declared.raw.CodeLists.{CodeLists}
-use Rattle.stapl_code.specs.Machine.{Puts, PutsTwo, Does, Step, Falls, Emits, Stops, Faulted, Wrong, entry_of, step}
+use Rattle.stapl_code.specs.Machine.{Constants, Puts, PutsFrom, PutsTwo, Does, Step, Falls, Emits, Stops, Faulted, Wrong, entry_of, step}
 use Rattle.stapl_code.specs.Machine as machine
 use Rattle.stapl_code.specs.Safe.{entries_of, constants_of}
 use Rattle.stapl_machine.specs.declared.operate.Stop.{Stop}
 use Rattle.stapl_machine.specs.declared.operate.Stop.TheVariants as stop
 use Rattle.stapl_machine.specs.declared.effects.Made.{Made}
 use Rattle.stapl_machine.specs.declared.effects.Made.TheVariants as made
+use Rattle.stapl_machine.specs.declared.memory.Memory.{Memory}
 use Rattle.stapl_machine.specs.declared.act.Workspace.{Workspace}
+use Rattle.stapl_machine.specs.Exports.{export_event}
 
--- What was made, with this text printed, from one state to another. Values and a fault leave the state as it is.
-abbrev pub IsMade : Result Made Stop → List ℕ → State → State → Got machine.Made → Type 0
-IsMade (Ok (made.Put v)) text old new g = (g ≡ Known (Puts v)) × (new ≡ old)
-IsMade (Ok (made.PutTwo v w)) text old new g = (g ≡ Known (PutsTwo v w)) × (new ≡ old)
-IsMade (Ok made.On) text old new g = g ≡ Known (Does (did.Falls [] new))
-IsMade (Ok made.Printed) text old new g = g ≡ Known (Does (did.Falls (Print text ∷ []) new))
-IsMade (Ok made.Jump) text old new g = g ≡ Known (Does (did.Jumps new))
-IsMade (Ok made.Returned) text old new g = g ≡ Known (Does (did.Returns new))
-IsMade (Ok (made.Over ending)) text old new g = g ≡ Known (Does (did.Ends ending new))
-IsMade (Err (stop.Fault k)) text old new g = (g ≡ Faults k) × (new ≡ old)
-IsMade (Err stop.Wrong) text old new g = g ≡ Stuck
-IsMade (Err stop.Memory) text old new g = Unit {0}
+-- the state with these procedures still to run, these records, the topmost first, and these variables
+abbrev pub state_with : List ℕ → List Record → List Held → State
+state_with chosen records variables = record { chosen = chosen; records = records; store = record { variables = variables } }
+
+-- the same of what a memory holds
+abbrev pub state_in : List ℕ → Memory → State
+state_in chosen memory = state_with chosen (reverse memory.records.items) memory.variables.items
+
+-- what tells the events: the text of the last Print, and what instructions name by number
+pub record Told : Type 0 where
+  pub text : List ℕ
+  pub constants : Constants
+
+abbrev pub told_by : CodeLists → Memory → Told
+told_by code memory = record { text = memory.text.items; constants = constants_of code }
+
+-- What was made, from one state to another. Values, other than one that was taken off the records, and a fault leave the
+-- state as it is.
+abbrev pub IsMade : Result Made Stop → Told → State → State → Got machine.Made → Type 0
+IsMade (Ok (made.Put v)) told old new g = (g ≡ Known (Puts v)) × (new ≡ old)
+IsMade (Ok (made.PutTwo v w)) told old new g = (g ≡ Known (PutsTwo v w)) × (new ≡ old)
+IsMade (Ok (made.Popped v)) told old new g = g ≡ Known (PutsFrom v new)
+IsMade (Ok made.On) told old new g = g ≡ Known (Does (did.Falls [] new))
+IsMade (Ok made.Printed) told old new g = g ≡ Known (Does (did.Falls (Print told.text ∷ []) new))
+IsMade (Ok (made.Exported e)) told old new g =
+    g ≡ Known (Does (did.Falls (export_event told.constants new.store.variables e ∷ []) new))
+IsMade (Ok made.Jump) told old new g = g ≡ Known (Does (did.Jumps new))
+IsMade (Ok (made.Resume place)) told old new g = g ≡ Known (Does (did.Resumes place new))
+IsMade (Ok made.Returned) told old new g = g ≡ Known (Does (did.Returns new))
+IsMade (Ok (made.Over ending)) told old new g = g ≡ Known (Does (did.Ends ending new))
+IsMade (Err (stop.Fault k)) told old new g = (g ≡ Faults k) × (new ≡ old)
+IsMade (Err stop.Wrong) told old new g = g ≡ Stuck
+IsMade (Err stop.Memory) told old new g = Unit {0}
 
 -- the state of these registers, where these procedures were chosen
 abbrev pub state_of : List ℕ → Workspace → State
-state_of chosen work = start (drop work.next chosen) work.variables.items
+state_of chosen work = state_in (drop work.next chosen) work.memory
 
 -- the operands, the topmost first
 abbrev pub operands_of : Workspace → List Value
@@ -47,9 +71,13 @@ step_of code here instr chosen work =
 abbrev pub stepped : CodeLists → Option ℕ → List ℕ → Made → Workspace → Step
 stepped code to chosen (made.Put v) work = Falls (v ∷ operands_of work) (state_of chosen work)
 stepped code to chosen (made.PutTwo v w) work = Falls (w ∷ v ∷ operands_of work) (state_of chosen work)
+stepped code to chosen (made.Popped v) work = Falls (v ∷ operands_of work) (state_of chosen work)
 stepped code to chosen made.On work = Falls (operands_of work) (state_of chosen work)
-stepped code to chosen made.Printed work = Emits (Print work.text.items ∷ []) (operands_of work) (state_of chosen work)
+stepped code to chosen made.Printed work = Emits (Print work.memory.text.items ∷ []) (operands_of work) (state_of chosen work)
+stepped code to chosen (made.Exported e) work =
+    Emits (export_event (constants_of code) work.memory.variables.items e ∷ []) (operands_of work) (state_of chosen work)
 stepped code to chosen made.Jump work = Stops (operands_of work) (jumps_to to (state_of chosen work))
+stepped code to chosen (made.Resume place) work = Stops (operands_of work) (Leads [] place (state_of chosen work))
 stepped code to chosen made.Returned work =
     Stops (operands_of work) (next_chosen (entry_of (entries_of code.procedures)) (state_of chosen work) (drop work.next chosen))
 stepped code to chosen (made.Over ending) work = Stops (operands_of work) (Over [] ending (state_of chosen work))

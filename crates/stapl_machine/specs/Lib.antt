@@ -1,5 +1,7 @@
 pub mod Found
 pub mod Prints
+pub mod Exports
+pub mod Records
 pub mod Acts
 pub mod Tries
 pub mod Arrays

@@ -1,5 +1,6 @@
 -- The machine, and what a code does from zeros.
-use Rattle.std.specs.Prelude.{◌≡◌, ℕ, List, []}
+use Rattle.std.specs.Prelude.{◌≡◌, ℕ, List, [], reverse}
+use Rattle.stapl_meaning.specs.declared.records.Record.{Record}
 use Rattle.stapl_meaning.specs.declared.values.Held.{Held}
 use Rattle.stapl_meaning.specs.Plays.{Run}
 use Rattle.stapl_code.specs.declared.raw.CodeLists.{CodeLists}
@@ -16,9 +17,14 @@ play_ticks_of code chosen n = play_ticks_from code chosen (zeros_of_code code) n
 
 -- what the variables of a machine hold
 abbrev pub variables_in : Machine → List Held
-variables_in machine = machine.work.variables.items
+variables_in machine = machine.work.memory.variables.items
+
+-- the records of a machine, the topmost first
+abbrev pub records_in : Machine → List Record
+records_in machine = reverse machine.work.memory.records.items
 
 -- the machine is ready for a run of this code
 pub record IsPrepared (code : CodeLists) (machine : Machine) : Type 0 where
   pub variables_are : variables_in machine ≡ zeros_of_code code
   pub none : machine.work.operands.items ≡ []
+  pub no_record : machine.work.memory.records.items ≡ []

@@ -64,7 +64,7 @@ abbrev pub IsRun : {K : Type 0} → (K → Option (List ℕ)) → Run → Lines 
 IsRun written whole old (Ok ending) new = RunsTo written whole old ending new
 IsRun written whole old (Err e) new = RunsFront written whole old new
 
--- the variables are those behind the run, where it has an ending
-abbrev pub LeavesVariables : Run → Option Ending → List Held → Type 0
-LeavesVariables whole None variables = Unit {0}
-LeavesVariables whole (Some ending) variables = whole.state.store.variables ≡ variables
+-- the state is that behind the run, where it has an ending
+abbrev pub LeavesState : Run → Option Ending → State → Type 0
+LeavesState whole None s = Unit {0}
+LeavesState whole (Some ending) s = whole.state ≡ s

@@ -1,74 +1,93 @@
 //! What the machine does at an instruction.
-ghost use Rattle.std.specs.Prelude.{◌≡◌, ◌≤◌, ◌+◌, List, ℕ, Option, length, drop};
-ghost use Rattle.stapl_meaning.specs.Plays.{start};
-ghost use Rattle.stapl_code.specs.Machine.{made, takes, lands, Slot, source_slots, dest_slots};
+ghost use Rattle.std.specs.Prelude.{◌≡◌, ◌<◌, ◌≤◌, ◌+◌, ◌^◌, List, ℕ, Option, length, drop};
+ghost use Rattle.stapl_code.specs.Machine.{made, takes, lands, Slot, source_slots, dest_slots, export_slots};
 ghost use Rattle.stapl_code.specs.declared.raw.CodeLists.{CodeLists};
-ghost use Rattle.stapl_code.specs.Safe.{constants_of};
-ghost use Rattle.stapl_machine.specs.Acts.{IsMade, IsActed, step_of};
+ghost use Rattle.stapl_code.specs.Safe.{entries_of, constants_of};
+ghost use Rattle.stapl_machine.specs.Acts.{IsMade, IsActed, told_by, state_in, step_of};
 
 use crate::arrays::{assign_at, check_index, load_at, set_integers};
 use crate::copying::{copy, integer};
 use crate::effects::{
-    Made, assign, bit, check_character, end_procedure, exit, jump, load, operate_one, operate_two,
-    part_ways,
+    Made, assign, bit, check_character, exit, jump, load, operate_one, operate_two, part_ways,
 };
+use crate::exporting::export;
+use crate::loops::{begin_loop, repeat};
+use crate::memory::Memory;
 use crate::operate::Stop;
 use crate::parts::check_range;
 use crate::printing::{count_operands, print};
-use stapl_code::{CodeLists, Dest, Instr, Source, operator_of, unary_kind};
-use stapl_meaning::{Held, Value};
+use crate::records::{call, end_procedure, pop_value, push_value};
+use stapl_code::{CodeLists, Dest, ExportPart, Instr, Source, operator_of, unary_kind};
+use stapl_meaning::Value;
 
-/// What a run keeps: the variables, the operands in the order in which they were put on, the text of the last Print,
-/// how many of the chosen procedures have begun, and the piece of the turn.
+/// What a run keeps: the memory, the operands in the order in which they were put on, how many of the chosen procedures
+/// have begun, and the piece of the turn.
 #[derive(Drop)]
 pub struct Workspace {
-    pub variables: Vec<Held>,
+    pub memory: Memory,
     pub operands: Vec<Value>,
-    pub text: Vec<u8>,
     pub next: usize,
     pub piece: u32,
 }
 
-// What an instruction makes of its operands.
+// What an instruction that stands here makes of its operands.
 fn make(
     code: &CodeLists,
+    here: u32,
     instr: &Instr,
     values: &[Value],
-    variables: &mut Vec<Held>,
-    text: &mut Vec<u8>,
+    memory: &mut Memory,
 ) -> Result<Made, Stop>
-    ensures { (entries chosen : List ℕ) →
-        IsMade result text.new.items (start chosen variables.old.items) (start chosen variables.new.items)
-        (made entries (constants_of code.now) instr.now values.now (start chosen variables.old.items)) }
+    requires { here + 1 < 2 ^ 32 }
+    ensures { (entries chosen : List ℕ) → IsMade result (told_by code.now memory.new)
+        (state_in chosen memory.old) (state_in chosen memory.new)
+        (made entries (constants_of code.now) here instr.now values.now (state_in chosen memory.old)) }
 {
     match instr {
         Instr::Turn(_) | Instr::Jump(_) => jump(values),
         Instr::Push(value) => Ok(Made::Put(Value::Int(*value))),
         Instr::PushBit(value) => Ok(Made::Put(bit(*value)?)),
-        Instr::Load(n) => Ok(Made::Put(load(variables, *n)?)),
-        Instr::LoadAt(n) => load_at(variables, *n, values),
-        Instr::CheckIndex(n) => check_index(variables, *n, values),
-        Instr::CheckRange(n) => check_range(variables, *n, values),
-        Instr::Store(n) => assign(variables, *n, values),
-        Instr::StoreAt(n) => assign_at(variables, *n, values),
+        Instr::Load(n) => Ok(Made::Put(load(&memory.variables, *n)?)),
+        Instr::LoadAt(n) => load_at(&memory.variables, *n, values),
+        Instr::CheckIndex(n) => check_index(&memory.variables, *n, values),
+        Instr::CheckRange(n) => check_range(&memory.variables, *n, values),
+        Instr::Store(n) => assign(&mut memory.variables, *n, values),
+        Instr::StoreAt(n) => assign_at(&mut memory.variables, *n, values),
         Instr::Unary(number) => operate_one(*number, values),
         Instr::Binary(number) => operate_two(*number, values),
-        Instr::ToInt(source) => integer(code.literals.as_slice(), *source, values, variables),
+        Instr::ToInt(source) => integer(
+            code.literals.as_slice(),
+            *source,
+            values,
+            &memory.variables,
+        ),
         Instr::CopyBits(dest, source) => copy(
             code.literals.as_slice(),
             *dest,
             *source,
             values,
-            variables,
+            &mut memory.variables,
         ),
         Instr::SetBits(n, literal) => {
             let (dest, source) = (Dest::Whole(*n), Source::Literal(*literal));
-            copy(code.literals.as_slice(), dest, source, values, variables)
+            copy(
+                code.literals.as_slice(),
+                dest,
+                source,
+                values,
+                &mut memory.variables,
+            )
         }
-        Instr::SetInts(n, list) => set_integers(variables, *n, list.as_slice(), values),
+        Instr::SetInts(n, list) => set_integers(&mut memory.variables, *n, list.as_slice(), values),
+        Instr::For(n, body) => begin_loop(memory, *n, *body, values),
+        Instr::Next(n) => repeat(memory, *n, values),
+        Instr::PushRecord(_) => push_value(&mut memory.records, values),
+        Instr::PopRecord(kind) => pop_value(&mut memory.records, *kind),
+        Instr::Call(_) => call(&mut memory.records, here + 1, values),
         Instr::JumpIfZero(_) => part_ways(values),
-        Instr::EndProc => end_procedure(values),
-        Instr::Print(list) => print(code, list.as_slice(), values, text),
+        Instr::EndProc => end_procedure(&mut memory.records, values),
+        Instr::Print(list) => print(code, list.as_slice(), values, &mut memory.text),
+        Instr::Export(key, part) => export(code, *key, *part, values, &memory.variables),
         Instr::CheckChar => check_character(values),
         Instr::Exit => exit(values),
     }
@@ -97,6 +116,16 @@ fn dest_takes(dest: Dest) -> usize
     }
 }
 
+// How many operands an Export takes.
+fn export_takes(part: ExportPart) -> usize
+    ensures { result ≡ length (export_slots part) }
+{
+    match part {
+        ExportPart::Int | ExportPart::Bit => 1,
+        ExportPart::Array(source) => source_takes(source),
+    }
+}
+
 // How many operands an instruction takes.
 fn takes(instr: &Instr) -> usize
     ensures { result ≡ length (takes instr.now) }
@@ -108,15 +137,20 @@ fn takes(instr: &Instr) -> usize
         | Instr::Load(_)
         | Instr::SetBits(_, _)
         | Instr::SetInts(_, _)
+        | Instr::Next(_)
+        | Instr::PopRecord(_)
+        | Instr::Call(_)
         | Instr::Jump(_)
         | Instr::EndProc => 0,
         Instr::LoadAt(_)
         | Instr::CheckIndex(_)
         | Instr::Store(_)
+        | Instr::PushRecord(_)
         | Instr::JumpIfZero(_)
         | Instr::CheckChar
         | Instr::Exit => 1,
         Instr::CheckRange(_) | Instr::StoreAt(_) => 2,
+        Instr::For(_, _) => 3,
         Instr::ToInt(source) => source_takes(*source),
         Instr::CopyBits(dest, source) => dest_takes(*dest) + source_takes(*source),
         Instr::Unary(number) => match unary_kind(*number) {
@@ -128,6 +162,7 @@ fn takes(instr: &Instr) -> usize
             None => 0,
         },
         Instr::Print(list) => count_operands(list.as_slice()),
+        Instr::Export(_, part) => export_takes(*part),
     }
 }
 
@@ -139,10 +174,11 @@ fn behind(items: &[Value], at: usize) -> &[Value]
     &items[at..]
 }
 
-/// Takes the operands of an instruction off, and does what it does with them.
-pub fn act(code: &CodeLists, instr: &Instr, work: &mut Workspace) -> Result<Made, Stop>
-    ensures acts { (here : ℕ) (chosen : List ℕ) →
-        IsActed result code.now (lands here instr.now) chosen work.new
+/// Takes the operands of an instruction that stands here off, and does what it does with them.
+pub fn act(code: &CodeLists, here: u32, instr: &Instr, work: &mut Workspace) -> Result<Made, Stop>
+    requires { here + 1 < 2 ^ 32 }
+    ensures acts { (chosen : List ℕ) →
+        IsActed result code.now (lands (entries_of code.now.procedures) here instr.now) chosen work.new
         (step_of code.now here instr.now chosen work.old) }
     ensures piece { work.new.piece ≡ work.old.piece }
 {
@@ -153,7 +189,7 @@ pub fn act(code: &CodeLists, instr: &Instr, work: &mut Workspace) -> Result<Made
     }
     let below = len - count;
     let values = behind(&work.operands, below);
-    match make(code, instr, values, &mut work.variables, &mut work.text) {
+    match make(code, here, instr, values, &mut work.memory) {
         Ok(made) => {
             work.operands.truncate(below);
             Ok(made)

@@ -4,11 +4,11 @@ ghost use Rattle.stapl_meaning.specs.declared.values.Value.TheVariants.{Int, Bit
 ghost use Rattle.stapl_meaning.specs.declared.events.RunFault.TheVariants.{IndexOutOfRange};
 ghost use Rattle.stapl_meaning.specs.Values.{Known, is_index, passed, item_at, element_of, index_held, padded};
 ghost use Rattle.stapl_meaning.specs.States.{State};
-ghost use Rattle.stapl_meaning.specs.Plays.{start};
+ghost use Rattle.stapl_meaning.specs.declared.records.Record.{Record};
 ghost use Rattle.stapl_meaning.specs.Effects.{with_element, element_written, element_assigned, with_integers, integers_set, replaced};
 ghost use Rattle.stapl_code.specs.Machine.{one, does};
 ghost use Rattle.stapl_machine.specs.Found.{IsValue, IsSure, if_written};
-ghost use Rattle.stapl_machine.specs.Acts.{IsMade};
+ghost use Rattle.stapl_machine.specs.Acts.{IsMade, Told, state_with};
 ghost use Rattle.stapl_machine.specs.Arrays.{place_in};
 
 use crate::effects::Made;
@@ -59,8 +59,8 @@ pub fn element(variables: &[Held], n: u32, index: i32) -> Result<Value, Stop>
 
 /// The element of an array at an index that is taken.
 pub fn load_at(variables: &[Held], n: u32, values: &[Value]) -> Result<Made, Stop>
-    ensures made { (text : List ℕ) (s : State) →
-        IsMade result text s s (one values.now (element_of (slice_get variables.now n))) }
+    ensures made { (told : Told) (s : State) →
+        IsMade result told s s (one values.now (element_of (slice_get variables.now n))) }
     ensures sure { IfErr result (λ stop. stop ≢ Stop.Memory) }
 {
     match values {
@@ -92,8 +92,8 @@ pub fn index_of(variables: &[Held], n: u32, index: i32) -> Result<Value, Stop>
 
 /// The test of an index.
 pub fn check_index(variables: &[Held], n: u32, values: &[Value]) -> Result<Made, Stop>
-    ensures made { (text : List ℕ) (s : State) →
-        IsMade result text s s (one values.now (index_held (slice_get variables.now n))) }
+    ensures made { (told : Told) (s : State) →
+        IsMade result told s s (one values.now (index_held (slice_get variables.now n))) }
     ensures sure { IfErr result (λ stop. stop ≢ Stop.Memory) }
 {
     match values {
@@ -192,9 +192,9 @@ pub fn store_at(variables: &mut Vec<Held>, n: u32, index: i32, value: Value) -> 
 
 /// A value goes into the element of an array at an index.
 pub fn assign_at(variables: &mut Vec<Held>, n: u32, values: &[Value]) -> Result<Made, Stop>
-    ensures made { (text chosen : List ℕ) →
-        IsMade result text (start chosen variables.old.items) (start chosen variables.new.items)
-        (does (element_assigned n values.now (start chosen variables.old.items))) }
+    ensures made { (told : Told) (chosen : List ℕ) (records : List Record) →
+        IsMade result told (state_with chosen records variables.old.items) (state_with chosen records variables.new.items)
+        (does (element_assigned n values.now (state_with chosen records variables.old.items))) }
     ensures sure { IfErr result (λ stop. stop ≢ Stop.Memory) }
 {
     match values {
@@ -251,9 +251,9 @@ pub fn set_integers(
     list: &[i32],
     values: &[Value],
 ) -> Result<Made, Stop>
-    ensures made { (text chosen : List ℕ) →
-        IsMade result text (start chosen variables.old.items) (start chosen variables.new.items)
-        (does (integers_set n list.now values.now (start chosen variables.old.items))) }
+    ensures made { (told : Told) (chosen : List ℕ) (records : List Record) →
+        IsMade result told (state_with chosen records variables.old.items) (state_with chosen records variables.new.items)
+        (does (integers_set n list.now values.now (state_with chosen records variables.old.items))) }
     ensures sure { IfErr result (λ stop. stop ≢ Stop.Memory) }
 {
     match values {

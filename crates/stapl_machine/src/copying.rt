@@ -5,11 +5,11 @@ ghost use Rattle.bit_list.specs.Integers.{bits_of_int, int_of};
 ghost use Rattle.bit_list.specs.Ranges.{taken};
 ghost use Rattle.stapl_meaning.specs.Values.{These, Whole, Range, OfInt, padded, then_get, integer_from, source_integer};
 ghost use Rattle.stapl_meaning.specs.States.{State};
-ghost use Rattle.stapl_meaning.specs.Plays.{start};
+ghost use Rattle.stapl_meaning.specs.declared.records.Record.{Record};
 ghost use Rattle.stapl_meaning.specs.Effects.{copied};
 ghost use Rattle.stapl_code.specs.Machine.{puts, does, known_source, target_of};
 ghost use Rattle.stapl_machine.specs.Found.{IsValue};
-ghost use Rattle.stapl_machine.specs.Acts.{IsMade};
+ghost use Rattle.stapl_machine.specs.Acts.{IsMade, Told, state_with};
 ghost use Rattle.stapl_machine.specs.Arrays.{bits_of, bits_in, HasSpan, IsPart, with_bits, with_part, bits_put, part_asked, integer_asked};
 
 use crate::effects::Made;
@@ -116,9 +116,9 @@ fn put_part(variables: &mut Vec<Held>, part: Part, from: Part)
 fn copy_part(variables: &mut Vec<Held>, part: Part, from: Part) -> Result<Made, Stop>
     requires is_part { IsPart variables.old.items part }
     requires source { IsPart variables.old.items from }
-    ensures made { (text chosen : List ℕ) →
-        IsMade result text (start chosen variables.old.items) (start chosen variables.new.items)
-        (does (bits_put variables.old.items part (start chosen variables.old.items)
+    ensures made { (told : Told) (chosen : List ℕ) (records : List Record) →
+        IsMade result told (state_with chosen records variables.old.items) (state_with chosen records variables.new.items)
+        (does (bits_put variables.old.items part (state_with chosen records variables.old.items)
         (part_asked variables.old.items part from))) }
     ensures sure { IfErr result (λ stop. stop ≢ Stop.Memory) }
 {
@@ -135,9 +135,9 @@ fn copy_literal(
     values: &[Value],
     variables: &mut Vec<Held>,
 ) -> Result<Made, Stop>
-    ensures made { (text chosen : List ℕ) →
-        IsMade result text (start chosen variables.old.items) (start chosen variables.new.items)
-        (does (copied (target_of dest) (These literal.now) values.now (start chosen variables.old.items))) }
+    ensures made { (told : Told) (chosen : List ℕ) (records : List Record) →
+        IsMade result told (state_with chosen records variables.old.items) (state_with chosen records variables.new.items)
+        (does (copied (target_of dest) (These literal.now) values.now (state_with chosen records variables.old.items))) }
     ensures sure { IfErr result (λ stop. stop ≢ Stop.Memory) }
 {
     let part = place(variables, dest, values)?;
@@ -156,9 +156,9 @@ fn copy_whole(
     values: &[Value],
     variables: &mut Vec<Held>,
 ) -> Result<Made, Stop>
-    ensures made { (text chosen : List ℕ) →
-        IsMade result text (start chosen variables.old.items) (start chosen variables.new.items)
-        (does (copied (target_of dest) (Whole from) values.now (start chosen variables.old.items))) }
+    ensures made { (told : Told) (chosen : List ℕ) (records : List Record) →
+        IsMade result told (state_with chosen records variables.old.items) (state_with chosen records variables.new.items)
+        (does (copied (target_of dest) (Whole from) values.now (state_with chosen records variables.old.items))) }
     ensures sure { IfErr result (λ stop. stop ≢ Stop.Memory) }
 {
     let part = place(variables, dest, values)?;
@@ -177,9 +177,9 @@ fn copy_range(
     values: &[Value],
     variables: &mut Vec<Held>,
 ) -> Result<Made, Stop>
-    ensures made { (text chosen : List ℕ) →
-        IsMade result text (start chosen variables.old.items) (start chosen variables.new.items)
-        (does (copied (target_of dest) (Range from) values.now (start chosen variables.old.items))) }
+    ensures made { (told : Told) (chosen : List ℕ) (records : List Record) →
+        IsMade result told (state_with chosen records variables.old.items) (state_with chosen records variables.new.items)
+        (does (copied (target_of dest) (Range from) values.now (state_with chosen records variables.old.items))) }
     ensures sure { IfErr result (λ stop. stop ≢ Stop.Memory) }
 {
     let part = place(variables, dest, values)?;
@@ -195,9 +195,9 @@ fn copy_range(
 // As many bits of an integer as a part of an array has go there.
 fn fill_integer(variables: &mut Vec<Held>, part: Part, value: Value) -> Result<Made, Stop>
     requires is_part { IsPart variables.old.items part }
-    ensures made { (text chosen : List ℕ) →
-        IsMade result text (start chosen variables.old.items) (start chosen variables.new.items)
-        (does (bits_put variables.old.items part (start chosen variables.old.items) (integer_asked part value))) }
+    ensures made { (told : Told) (chosen : List ℕ) (records : List Record) →
+        IsMade result told (state_with chosen records variables.old.items) (state_with chosen records variables.new.items)
+        (does (bits_put variables.old.items part (state_with chosen records variables.old.items) (integer_asked part value))) }
     ensures sure { IfErr result (λ stop. stop ≢ Stop.Memory) }
 {
     match value {
@@ -213,9 +213,9 @@ fn fill_integer(variables: &mut Vec<Held>, part: Part, value: Value) -> Result<M
 }
 
 fn copy_integer(dest: Dest, values: &[Value], variables: &mut Vec<Held>) -> Result<Made, Stop>
-    ensures made { (text chosen : List ℕ) →
-        IsMade result text (start chosen variables.old.items) (start chosen variables.new.items)
-        (does (copied (target_of dest) OfInt values.now (start chosen variables.old.items))) }
+    ensures made { (told : Told) (chosen : List ℕ) (records : List Record) →
+        IsMade result told (state_with chosen records variables.old.items) (state_with chosen records variables.new.items)
+        (does (copied (target_of dest) OfInt values.now (state_with chosen records variables.old.items))) }
     ensures sure { IfErr result (λ stop. stop ≢ Stop.Memory) }
 {
     let part = place(variables, dest, values)?;
@@ -233,10 +233,10 @@ pub fn copy(
     values: &[Value],
     variables: &mut Vec<Held>,
 ) -> Result<Made, Stop>
-    ensures made { (text chosen : List ℕ) →
-        IsMade result text (start chosen variables.old.items) (start chosen variables.new.items)
+    ensures made { (told : Told) (chosen : List ℕ) (records : List Record) →
+        IsMade result told (state_with chosen records variables.old.items) (state_with chosen records variables.new.items)
         (does (then_get (known_source literals.now source)
-        (λ from. copied (target_of dest) from values.now (start chosen variables.old.items)))) }
+        (λ from. copied (target_of dest) from values.now (state_with chosen records variables.old.items)))) }
     ensures sure { IfErr result (λ stop. stop ≢ Stop.Memory) }
 {
     match source {
@@ -354,7 +354,7 @@ pub fn integer(
     values: &[Value],
     variables: &[Held],
 ) -> Result<Made, Stop>
-    ensures made { (text : List ℕ) (s : State) → IsMade result text s s (puts
+    ensures made { (told : Told) (s : State) → IsMade result told s s (puts
         (then_get (known_source literals.now source) (λ from. source_integer variables.now from values.now))) }
     ensures sure { IfErr result (λ stop. stop ≢ Stop.Memory) }
 {

@@ -3,17 +3,45 @@ ghost use Rattle.std.specs.Prelude.{◌≡◌, ◌≢◌, IfErr, List, ℕ, slic
 ghost use Rattle.stapl_meaning.specs.Values.{scalar_of};
 ghost use Rattle.stapl_meaning.specs.Operands.{character_of};
 ghost use Rattle.stapl_meaning.specs.States.{State};
-ghost use Rattle.stapl_meaning.specs.Plays.{start};
-ghost use Rattle.stapl_meaning.specs.Effects.{with_scalar, scalar_written, assigned, jumped, parted, returned, exited};
+ghost use Rattle.stapl_meaning.specs.declared.records.Record.{Record};
+ghost use Rattle.stapl_meaning.specs.Effects.{with_scalar, scalar_written, assigned, jumped, parted, exited};
 ghost use Rattle.stapl_code.specs.Machine.{bit_of, operated, signed_by, one, two, puts, does};
 ghost use Rattle.stapl_code.specs.Operators.{unary_results};
 ghost use Rattle.stapl_machine.specs.Found.{IsValue, if_written};
-ghost use Rattle.stapl_machine.specs.Acts.{IsMade};
+ghost use Rattle.stapl_machine.specs.Acts.{IsMade, Told, state_with};
 
 use crate::operate::{Stop, absolute, combine, sign};
+use crate::parts::Part;
 use stapl_code::operator_of;
 use stapl_meaning::{Ending, Held, RunFault, Value};
 use stapl_syntax::UnOp;
+
+/// Where bits lie.
+#[derive(Clone, Copy, Debug, PartialEq, Eq)]
+pub enum BitsAt {
+    /// In the literal of a number.
+    Literal(u32),
+    /// In a part of an array.
+    Part(Part),
+    /// In an integer, which has 32.
+    Integer(i32),
+}
+
+/// What is exported.
+#[derive(Clone, Copy, Debug, PartialEq, Eq)]
+pub enum Exported {
+    /// A value.
+    Value(Value),
+    /// The bits that lie somewhere.
+    Bits(BitsAt),
+}
+
+/// An export under the text of a number, which is written from where its bits lie.
+#[derive(Clone, Copy, Debug, PartialEq, Eq)]
+pub struct Export {
+    pub key: u32,
+    pub value: Exported,
+}
 
 /// What an instruction made.
 #[derive(Clone, Copy, Debug, PartialEq, Eq)]
@@ -22,12 +50,18 @@ pub enum Made {
     Put(Value),
     /// Two values, which go on top of the operands, the second topmost.
     PutTwo(Value, Value),
+    /// A value that was taken off the records, which goes on top of the operands.
+    Popped(Value),
     /// It goes on to the next instruction.
     On,
     /// It goes on, with a text to be written.
     Printed,
+    /// It goes on, with an export to be written.
+    Exported(Export),
     /// It goes to its target.
     Jump,
+    /// It goes to the place that a record kept.
+    Resume(u32),
     /// The procedure is over.
     Returned,
     /// The play is over.
@@ -79,9 +113,9 @@ pub fn store(variables: &mut Vec<Held>, n: u32, value: Value) -> bool
 
 /// A value goes into a scalar variable.
 pub fn assign(variables: &mut Vec<Held>, n: u32, values: &[Value]) -> Result<Made, Stop>
-    ensures made { (text chosen : List ℕ) →
-        IsMade result text (start chosen variables.old.items) (start chosen variables.new.items)
-        (does (assigned n values.now (start chosen variables.old.items))) }
+    ensures made { (told : Told) (chosen : List ℕ) (records : List Record) →
+        IsMade result told (state_with chosen records variables.old.items) (state_with chosen records variables.new.items)
+        (does (assigned n values.now (state_with chosen records variables.old.items))) }
     ensures sure { IfErr result (λ stop. stop ≢ Stop.Memory) }
 {
     match values {
@@ -132,8 +166,8 @@ pub fn operate_before(number: u8, value: Value) -> Result<Value, Stop>
 
 /// What the operator of a number makes of one value.
 pub fn operate_one(number: u8, values: &[Value]) -> Result<Made, Stop>
-    ensures made { (text : List ℕ) (s : State) →
-        IsMade result text s s (one values.now (signed_by (slice_get unary_results number))) }
+    ensures made { (told : Told) (s : State) →
+        IsMade result told s s (one values.now (signed_by (slice_get unary_results number))) }
     ensures sure { IfErr result (λ stop. stop ≢ Stop.Memory) }
 {
     match values {
@@ -147,7 +181,7 @@ pub fn operate_one(number: u8, values: &[Value]) -> Result<Made, Stop>
 
 /// What the operator of a number makes of two values.
 pub fn operate_two(number: u8, values: &[Value]) -> Result<Made, Stop>
-    ensures made { (text : List ℕ) (s : State) → IsMade result text s s (two values.now (operated number)) }
+    ensures made { (told : Told) (s : State) → IsMade result told s s (two values.now (operated number)) }
     ensures sure { IfErr result (λ stop. stop ≢ Stop.Memory) }
 {
     match values {
@@ -176,7 +210,7 @@ pub fn character(value: Value) -> Result<Value, Stop>
 
 /// The test of a character.
 pub fn check_character(values: &[Value]) -> Result<Made, Stop>
-    ensures made { (text : List ℕ) (s : State) → IsMade result text s s (one values.now character_of) }
+    ensures made { (told : Told) (s : State) → IsMade result told s s (one values.now character_of) }
     ensures sure { IfErr result (λ stop. stop ≢ Stop.Memory) }
 {
     match values {
@@ -190,7 +224,7 @@ pub fn check_character(values: &[Value]) -> Result<Made, Stop>
 
 /// To the target.
 pub fn jump(values: &[Value]) -> Result<Made, Stop>
-    ensures made { (text : List ℕ) (s : State) → IsMade result text s s (does (jumped values.now s)) }
+    ensures made { (told : Told) (s : State) → IsMade result told s s (does (jumped values.now s)) }
     ensures sure { IfErr result (λ stop. stop ≢ Stop.Memory) }
 {
     match values {
@@ -201,7 +235,7 @@ pub fn jump(values: &[Value]) -> Result<Made, Stop>
 
 /// On where a Boolean is 1, else to the target.
 pub fn part_ways(values: &[Value]) -> Result<Made, Stop>
-    ensures made { (text : List ℕ) (s : State) → IsMade result text s s (does (parted values.now s)) }
+    ensures made { (told : Told) (s : State) → IsMade result told s s (does (parted values.now s)) }
     ensures sure { IfErr result (λ stop. stop ≢ Stop.Memory) }
 {
     match values {
@@ -211,20 +245,9 @@ pub fn part_ways(values: &[Value]) -> Result<Made, Stop>
     }
 }
 
-/// The procedure is over.
-pub fn end_procedure(values: &[Value]) -> Result<Made, Stop>
-    ensures made { (text : List ℕ) (s : State) → IsMade result text s s (does (returned values.now s)) }
-    ensures sure { IfErr result (λ stop. stop ≢ Stop.Memory) }
-{
-    match values {
-        [] => Ok(Made::Returned),
-        _ => Err(Stop::Wrong),
-    }
-}
-
 /// The play is over.
 pub fn exit(values: &[Value]) -> Result<Made, Stop>
-    ensures made { (text : List ℕ) (s : State) → IsMade result text s s (does (exited values.now s)) }
+    ensures made { (told : Told) (s : State) → IsMade result told s s (does (exited values.now s)) }
     ensures sure { IfErr result (λ stop. stop ≢ Stop.Memory) }
 {
     match values {

@@ -1,17 +1,17 @@
 //! Where the machine goes behind an instruction.
-ghost use Rattle.std.specs.Prelude.{◌≡◌, ◌∷◌, List, ℕ, drop, reverse, OnOk, IfOk};
+ghost use Rattle.std.specs.Prelude.{◌≡◌, ◌<◌, ◌+◌, ◌^◌, ◌∷◌, List, ℕ, drop, reverse, OnOk, IfOk};
+ghost use Rattle.stapl_meaning.specs.declared.records.Record.{Record};
 ghost use Rattle.stapl_meaning.specs.declared.values.Held.{Held};
 ghost use Rattle.stapl_meaning.specs.declared.values.Value.{Value};
 ghost use Rattle.stapl_meaning.specs.States.{State, Turned, next_chosen, jumps_to, turn_of_piece};
-ghost use Rattle.stapl_meaning.specs.Plays.{start};
 ghost use Rattle.stapl_code.specs.Machine.{lands, entry_of, at_end, continues};
 ghost use Rattle.stapl_code.specs.Ticks.{ticks_behind};
 ghost use Rattle.stapl_code.specs.Safe.{entries_of};
-ghost use Rattle.stapl_machine.specs.Acts.{step_of, stepped};
+ghost use Rattle.stapl_machine.specs.Acts.{state_with, step_of, stepped};
 ghost use Rattle.stapl_machine.specs.Moves.{led_to, IsClean, moved_to, moved_ticks, IsCleanMove};
 
 use crate::act::{Workspace, act};
-use crate::effects::Made;
+use crate::effects::{Export, Made};
 use crate::operate::Stop;
 use stapl_code::{CodeLists, Instr, ProcDef};
 use stapl_meaning::{Ending, Value};
@@ -33,6 +33,8 @@ pub enum Moved {
     On,
     /// On to the next one, with a text to be written.
     Printed,
+    /// On to the next one, with an export to be written.
+    Exported(Export),
     /// To the end of the turn.
     Ends(Went),
 }
@@ -54,17 +56,6 @@ fn push_two(operands: &mut Vec<Value>, first: Value, second: Value) -> Result<()
     Ok(())
 }
 
-// Where a jump of an instruction leads, which stands here.
-fn target(here: u32, instr: &Instr) -> Option<u32>
-    ensures { result ≡ lands here instr.now }
-{
-    match instr {
-        Instr::Turn(_) => Some(here),
-        Instr::Jump(to) | Instr::JumpIfZero(to) => Some(*to),
-        _ => None,
-    }
-}
-
 fn jump_to(to: Option<u32>) -> Went
     ensures { (s : State) → jumps_to to s ≡ led_to result s }
 {
@@ -83,11 +74,24 @@ fn entry(procedures: &[ProcDef], procedure: u32) -> u32
     }
 }
 
+// Where a jump or a call of an instruction leads, which stands here.
+fn target(code: &CodeLists, here: u32, instr: &Instr) -> Option<u32>
+    ensures { result ≡ lands (entries_of code.now.procedures) here instr.now }
+{
+    match instr {
+        Instr::Turn(_) => Some(here),
+        Instr::Call(procedure) => Some(entry(code.procedures.as_slice(), *procedure)),
+        Instr::Jump(to) | Instr::JumpIfZero(to) => Some(*to),
+        _ => None,
+    }
+}
+
 /// Begins the next chosen procedure. Where there is none, the run ends with code 0.
 pub fn begin_next(code: &CodeLists, chosen: &[u32], next: &mut usize) -> Went
-    ensures { (variables : List Held) →
-        next_chosen (entry_of (entries_of code.now.procedures)) (start (drop next.old chosen.now) variables)
-        (drop next.old chosen.now) ≡ led_to result (start (drop next.new chosen.now) variables) }
+    ensures { (records : List Record) (variables : List Held) →
+        next_chosen (entry_of (entries_of code.now.procedures))
+        (state_with (drop next.old chosen.now) records variables) (drop next.old chosen.now)
+        ≡ led_to result (state_with (drop next.new chosen.now) records variables) }
 {
     if *next >= chosen.len() {
         return Went::Over(Some(Ending::Exit(0)));
@@ -120,10 +124,10 @@ fn lead(
 ) -> Result<Moved, AllocError>
     ensures leads { IfOk result (λ moved. (go : List Value → State → Turned) →
         turn_of_piece work.old.piece
-        (continues (stepped code.now (lands here instr.now) chosen.now made work.old) go)
-        ≡ moved_to moved chosen.now work.new go) }
+        (continues (stepped code.now (lands (entries_of code.now.procedures) here instr.now) chosen.now made work.old) go)
+        ≡ moved_to code.now moved chosen.now work.new go) }
     ensures ticks { IfOk result (λ moved. (go : List Value → State → ℕ) →
-        ticks_behind (stepped code.now (lands here instr.now) chosen.now made work.old) go
+        ticks_behind (stepped code.now (lands (entries_of code.now.procedures) here instr.now) chosen.now made work.old) go
         ≡ moved_ticks moved chosen.now work.new go) }
     ensures clean { IfOk result (λ moved. IsCleanMove moved work.new) }
 {
@@ -136,12 +140,18 @@ fn lead(
             Ok(()) => Ok(Moved::On),
             Err(error) => Err(error),
         },
+        Made::Popped(value) => match push(&mut work.operands, value) {
+            Ok(()) => Ok(Moved::On),
+            Err(error) => Err(error),
+        },
         Made::On => Ok(Moved::On),
         Made::Printed => Ok(Moved::Printed),
+        Made::Exported(export) => Ok(Moved::Exported(export)),
         Made::Jump => {
-            let went = jump_to(target(here, instr));
+            let went = jump_to(target(code, here, instr));
             Ok(Moved::Ends(end_turn(&work.operands, went)))
         }
+        Made::Resume(place) => Ok(Moved::Ends(end_turn(&work.operands, Went::On(place)))),
         Made::Returned => {
             let went = begin_next(code, chosen, &mut work.next);
             Ok(Moved::Ends(end_turn(&work.operands, went)))
@@ -163,15 +173,16 @@ pub fn advance(
     instr: &Instr,
     work: &mut Workspace,
 ) -> Result<Moved, AllocError>
+    requires { here + 1 < 2 ^ 32 }
     ensures leads { IfOk result (λ moved. (go : List Value → State → Turned) →
         turn_of_piece work.old.piece (continues (step_of code.now here instr.now chosen.now work.old) go)
-        ≡ moved_to moved chosen.now work.new go) }
+        ≡ moved_to code.now moved chosen.now work.new go) }
     ensures ticks { IfOk result (λ moved. (go : List Value → State → ℕ) →
         ticks_behind (step_of code.now here instr.now chosen.now work.old) go
         ≡ moved_ticks moved chosen.now work.new go) }
     ensures clean { IfOk result (λ moved. IsCleanMove moved work.new) }
 {
-    match act(code, instr, work) {
+    match act(code, here, instr, work) {
         Ok(made) => lead(code, chosen, here, instr, made, work),
         Err(Stop::Fault(fault)) => {
             let ending = Ending::Fault(fault, work.piece);

@@ -5,7 +5,7 @@ ghost use Rattle.stapl_meaning.specs.Values.{Known};
 ghost use Rattle.stapl_meaning.specs.States.{State};
 ghost use Rattle.stapl_code.specs.Machine.{kept};
 ghost use Rattle.stapl_machine.specs.Found.{IsSure};
-ghost use Rattle.stapl_machine.specs.Acts.{IsMade};
+ghost use Rattle.stapl_machine.specs.Acts.{IsMade, Told};
 ghost use Rattle.stapl_machine.specs.Arrays.{span_in, whole_span, range_span, IsPartOf, array_of, dest_span, behind_dest};
 
 use crate::effects::Made;
@@ -92,8 +92,8 @@ pub fn range(variables: &[Held], n: u32, high: Value, low: Value) -> Result<Part
 
 /// The test of a range.
 pub fn check_range(variables: &[Held], n: u32, values: &[Value]) -> Result<Made, Stop>
-    ensures made { (text : List ℕ) (s : State) →
-        IsMade result text s s (kept values.now (range_held (slice_get variables.now n))) }
+    ensures made { (told : Told) (s : State) →
+        IsMade result told s s (kept values.now (range_held (slice_get variables.now n))) }
     ensures sure { IfErr result (λ stop. stop ≢ Stop.Memory) }
 {
     match values {

@@ -70,8 +70,8 @@ fn put_text(texts: &[Text], n: u32, text: &mut Vec<u8>) -> Result<(), Stop>
     }
 }
 
-// A Boolean as a digit.
-fn digit_of(bit: bool) -> u8
+/// A Boolean as a digit.
+pub fn digit_of(bit: bool) -> u8
     ensures { result ≡ digit_of bit }
 {
     if bit { b'1' } else { b'0' }
@@ -186,7 +186,8 @@ pub fn print(
     values: &[Value],
     text: &mut Vec<u8>,
 ) -> Result<Made, Stop>
-    ensures { (entries : List ℕ) (s : State) → IsMade result text.new.items s s
+    ensures { (entries : List ℕ) (s : State) →
+        IsMade result (record { text = text.new.items; constants = constants_of code.now }) s s
         (does (printed (parts_text entries (constants_of code.now) parts.now values.now) s)) }
 {
     match join(code, parts, values, text) {

@@ -7,9 +7,11 @@ ghost use Rattle.stapl_meaning.specs.Plays.{ending_of};
 ghost use Rattle.stapl_meaning.specs.Texts.{event_line};
 ghost use Rattle.stapl_code.specs.Safe.{AllBelow};
 ghost use Rattle.stapl_machine.specs.Turns.{IfFault, IfMemory};
-ghost use Rattle.stapl_machine.specs.Machines.{play_of, play_ticks_of, IsPrepared, variables_in};
+ghost use Rattle.stapl_machine.specs.Machines.{play_of, play_ticks_of, IsPrepared, variables_in, records_in};
 
 use crate::act::Workspace;
+use crate::memory::Memory;
+use crate::records::RECORD_LIMIT;
 use crate::runs::play;
 use crate::turns::Trouble;
 use crate::zeros::zeros;
@@ -28,8 +30,8 @@ pub struct Machine {
 }
 
 impl Machine {
-    /// A machine for one run of this code: its variables are 0, and no operand is held. It takes the memory of the variables
-    /// and of as many operands as the code holds at once.
+    /// A machine for one run of this code: its variables are 0, and neither operand nor record is held. It takes the memory
+    /// of the variables, of as many operands as the code holds at once, and of the most records that there may be.
     ///
     /// `AllocError` comes only for want of memory.
     pub fn prepare(alloc: Global, code: &Code) -> Result<Machine, AllocError>
@@ -39,9 +41,12 @@ impl Machine {
         let variables = zeros(alloc, lists.variables.as_slice())?;
         Ok(Machine {
             work: Workspace {
-                variables,
+                memory: Memory {
+                    variables,
+                    records: Vec::with_capacity(alloc, RECORD_LIMIT)?,
+                    text: Vec::new(alloc),
+                },
                 operands: Vec::with_capacity(alloc, code.depth() as usize)?,
-                text: Vec::new(alloc),
                 next: 0,
                 piece: 0,
             },
@@ -72,6 +77,7 @@ impl Machine {
             (play_of code.now chosen.now turns).events) out.new) }
         ensures variables { OnOk result
             ((play_of code.now chosen.now turns).state.store.variables ≡ variables_in self.new) }
+        ensures records { OnOk result ((play_of code.now chosen.now turns).state.records ≡ records_in self.new) }
         ensures front { OnErr result (PutsFront K.written out.old (flat_map event_line
             (play_of code.now chosen.now turns).events) out.new) }
         ensures ticks { OnOk result (steps.new ≡ steps.old + play_ticks_of code.now chosen.now turns) }

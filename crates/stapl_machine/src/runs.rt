@@ -6,7 +6,7 @@ ghost use Rattle.stapl_meaning.specs.States.{State};
 ghost use Rattle.stapl_machine.specs.Acts.{state_of};
 ghost use Rattle.stapl_machine.specs.Moves.{led_to, IsClean};
 ghost use Rattle.stapl_machine.specs.Turns.{IsCounted, Keeps};
-ghost use Rattle.stapl_machine.specs.Runs.{run_of, run_ticks_of, chosen_run, chosen_ticks, begun_run, begun_ticks, play_from, play_ticks_from, IsRun, LeavesVariables};
+ghost use Rattle.stapl_machine.specs.Runs.{run_of, run_ticks_of, chosen_run, chosen_ticks, begun_run, begun_ticks, play_from, play_ticks_from, IsRun, LeavesState};
 
 use crate::act::Workspace;
 use crate::moves::{Went, begin_next};
@@ -33,8 +33,8 @@ fn run_turns<K: Sink, L: Ledger>(
     requires none { work.old.operands.items ≡ [] }
     requires whole { IsWhole out.old }
     ensures runs { IsRun K.written (run_of code.now turns start (state_of chosen.now work.old)) out.old result out.new }
-    ensures variables { IfOk result (λ ending.
-        LeavesVariables (run_of code.now turns start (state_of chosen.now work.old)) ending work.new.variables.items) }
+    ensures state { IfOk result (λ ending.
+        LeavesState (run_of code.now turns start (state_of chosen.now work.old)) ending (state_of chosen.now work.new)) }
     ensures ticks { IsCounted result steps.old steps.new
         (run_ticks_of code.now turns start (state_of chosen.now work.old)) }
     ensures sink { Keeps K.faults K.is_last out.old out.new result }
@@ -64,8 +64,8 @@ fn run_chosen<K: Sink, L: Ledger>(
     requires whole { IsWhole out.old }
     ensures runs { (s : State) →
         IsRun K.written (chosen_run code.now turns (state_of chosen.now work.old) s) out.old result out.new }
-    ensures variables { IfOk result (λ ending. (s : State) →
-        LeavesVariables (chosen_run code.now turns (state_of chosen.now work.old) s) ending work.new.variables.items) }
+    ensures state { IfOk result (λ ending. (s : State) →
+        LeavesState (chosen_run code.now turns (state_of chosen.now work.old) s) ending (state_of chosen.now work.new)) }
     ensures ticks { IsCounted result steps.old steps.new
         (chosen_ticks code.now turns (state_of chosen.now work.old)) }
     ensures sink { Keeps K.faults K.is_last out.old out.new result }
@@ -94,9 +94,9 @@ fn run_behind<K: Sink, L: Ledger>(
     requires whole { IsWhole out.old }
     ensures runs { (s : State) → IsRun K.written
         (begun_run code.now turns (led_to went (state_of chosen.now work.old)) s) out.old result out.new }
-    ensures variables { IfOk result (λ ending. (s : State) →
-        LeavesVariables (begun_run code.now turns
-        (led_to went (state_of chosen.now work.old)) s) ending work.new.variables.items) }
+    ensures state { IfOk result (λ ending. (s : State) →
+        LeavesState (begun_run code.now turns
+        (led_to went (state_of chosen.now work.old)) s) ending (state_of chosen.now work.new)) }
     ensures ticks { IsCounted result steps.old steps.new
         (begun_ticks code.now turns (led_to went (state_of chosen.now work.old))) }
     ensures sink { Keeps K.faults K.is_last out.old out.new result }
@@ -122,14 +122,15 @@ pub fn play<K: Sink, L: Ledger>(
 ) -> Result<Option<Ending>, Trouble>
     requires countable { length code.now.instrs < 2 ^ 32 }
     requires none { work.old.operands.items ≡ [] }
+    requires no_record { work.old.memory.records.items ≡ [] }
     requires whole { IsWhole out.old }
     ensures runs { IsRun K.written
-        (play_from code.now chosen.now work.old.variables.items turns) out.old result out.new }
-    ensures variables { IfOk result (λ ending.
-        LeavesVariables
-        (play_from code.now chosen.now work.old.variables.items turns) ending work.new.variables.items) }
+        (play_from code.now chosen.now work.old.memory.variables.items turns) out.old result out.new }
+    ensures state { IfOk result (λ ending.
+        LeavesState
+        (play_from code.now chosen.now work.old.memory.variables.items turns) ending (state_of chosen.now work.new)) }
     ensures ticks { IsCounted result steps.old steps.new
-        (play_ticks_from code.now chosen.now work.old.variables.items turns) }
+        (play_ticks_from code.now chosen.now work.old.memory.variables.items turns) }
     ensures sink { Keeps K.faults K.is_last out.old out.new result }
 {
     work.next = 0;

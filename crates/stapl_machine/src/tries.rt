@@ -66,7 +66,7 @@ fn try_load(n: u32, work: &mut Workspace) -> Tried
         IsTried result chosen work.old work.new (step_of code here (Load n) chosen work.old) }
     ensures piece { work.new.piece ≡ work.old.piece }
 {
-    match load(&work.variables, n) {
+    match load(&work.memory.variables, n) {
         Ok(value) => put(value, work),
         Err(_) => Tried::Not,
     }
@@ -80,7 +80,7 @@ fn try_store(n: u32, work: &mut Workspace) -> Tried
 {
     match top(&work.operands) {
         Some(value) => {
-            if !store(&mut work.variables, n, value) {
+            if !store(&mut work.memory.variables, n, value) {
                 return Tried::Not;
             }
             leave(&mut work.operands);
@@ -196,7 +196,7 @@ fn try_load_at(n: u32, work: &mut Workspace) -> Tried
     ensures piece { work.new.piece ≡ work.old.piece }
 {
     match top(&work.operands) {
-        Some(index) => match element_there(&work.variables, n, index) {
+        Some(index) => match element_there(&work.memory.variables, n, index) {
             Some(value) => {
                 replace(&mut work.operands, value);
                 Tried::On
@@ -225,7 +225,7 @@ fn try_index(n: u32, work: &mut Workspace) -> Tried
     ensures piece { work.new.piece ≡ work.old.piece }
 {
     match top(&work.operands) {
-        Some(index) => match index_there(&work.variables, n, index) {
+        Some(index) => match index_there(&work.memory.variables, n, index) {
             Some(_) => Tried::On,
             None => Tried::Not,
         },
@@ -253,7 +253,7 @@ fn try_store_at(n: u32, work: &mut Workspace) -> Tried
 {
     match top_two(&work.operands) {
         Some((index, value)) => {
-            if !put_element(&mut work.variables, n, index, value) {
+            if !put_element(&mut work.memory.variables, n, index, value) {
                 return Tried::Not;
             }
             leave(&mut work.operands);
@@ -270,7 +270,7 @@ fn try_range(n: u32, work: &Workspace) -> Tried
         IsTried result chosen work.now work.now (step_of code here (CheckRange n) chosen work.now) }
 {
     match top_two(&work.operands) {
-        Some((high, low)) => match range(&work.variables, n, high, low) {
+        Some((high, low)) => match range(&work.memory.variables, n, high, low) {
             Ok(_) => Tried::On,
             Err(_) => Tried::Not,
         },
@@ -285,7 +285,7 @@ fn try_integer(n: u32, work: &mut Workspace) -> Tried
     ensures piece { work.new.piece ≡ work.old.piece }
 {
     match top_two(&work.operands) {
-        Some((high, low)) => match range_integer(&work.variables, n, &[high, low]) {
+        Some((high, low)) => match range_integer(&work.memory.variables, n, &[high, low]) {
             Ok(value) => {
                 leave(&mut work.operands);
                 replace(&mut work.operands, value);

@@ -5,17 +5,21 @@ ghost use Rattle.tool_io.specs.Lines.{IsWhole, IsOverSame, SinkNeverFalls, sink_
 ghost use Rattle.stapl_meaning.specs.Texts.{event_line};
 ghost use Rattle.stapl_meaning.specs.declared.events.Event.TheVariants.{Print};
 ghost use Rattle.stapl_code.specs.Ticks.{tick_of};
+ghost use Rattle.stapl_code.specs.Safe.{constants_of};
+ghost use Rattle.stapl_machine.specs.Exports.{export_event};
 ghost use Rattle.stapl_machine.specs.Acts.{state_of};
 ghost use Rattle.stapl_machine.specs.Moves.{led_to, IsClean};
 ghost use Rattle.stapl_machine.specs.Reaches.{behind_try, ticks_behind_try, IsCleanTry, behind_reached, ticks_behind_reached, IsReached};
 ghost use Rattle.stapl_machine.specs.Turns.{rest_of, ticks_from, behind_it, ticks_behind_it, IsCleanBehind, piece_of, turn_at, ticks_at, IsDone, IsCounted, Keeps};
 
 use crate::act::Workspace;
+use crate::effects::Export;
 use crate::moves::{Moved, Went, advance};
 use crate::tries::{Tried, try_step};
-use crate::writing::put_print;
+use crate::writing::{put_export, put_print};
 use base::Steps;
 use stapl_code::{CodeLists, Instr};
+use stapl_meaning::Held;
 use std::sync::ledger::Ledger;
 use thiserror::Error;
 use tool_io::{Lines, Sink};
@@ -53,6 +57,26 @@ fn tell<K: Sink>(out: &mut Lines<K>, text: &[u8]) -> Result<(), Trouble>
     }
 }
 
+// Writes the line of an EXPORT.
+fn tell_export<K: Sink>(
+    out: &mut Lines<K>,
+    code: &CodeLists,
+    variables: &[Held],
+    export: Export,
+) -> Result<(), Trouble>
+    requires { IsWhole out.old }
+    ensures ok { OnOk result (Puts K.written out.old (event_line
+        (export_event (constants_of code.now) variables.now export)) out.new) }
+    ensures front { OnErr result (PutsFront K.written out.old (event_line
+        (export_event (constants_of code.now) variables.now export)) out.new) }
+    ensures sink { Keeps K.faults K.is_last out.old out.new result }
+{
+    match put_export(out, code, variables, export) {
+        Ok(()) => Ok(()),
+        Err(_) => Err(Trouble::WriteFault),
+    }
+}
+
 // Carries out instruction i of a turn by the general machine, and answers where the turn led if it ended.
 #[inline(never)]
 fn carry_out<K: Sink, L: Ledger>(
@@ -79,10 +103,16 @@ fn carry_out<K: Sink, L: Ledger>(
     count(instr, steps);
     match advance(code, chosen, i as u32, instr, work) {
         Ok(Moved::On) => Ok(None),
-        Ok(Moved::Printed) => match tell(out, &work.text) {
+        Ok(Moved::Printed) => match tell(out, &work.memory.text) {
             Ok(()) => Ok(None),
             Err(trouble) => Err(trouble),
         },
+        Ok(Moved::Exported(export)) => {
+            match tell_export(out, code, &work.memory.variables, export) {
+                Ok(()) => Ok(None),
+                Err(trouble) => Err(trouble),
+            }
+        }
         Ok(Moved::Ends(went)) => Ok(Some(went)),
         Err(_) => Err(Trouble::Memory),
     }

@@ -1,10 +1,24 @@
 //! The written text of an event.
-ghost use Rattle.std.specs.Prelude.{◌≡◌, ◌<◌, ◌/◌, ◌%◌, ◌++◌, [], OnOk, OnErr};
+ghost use Rattle.std.specs.Prelude.{◌≡◌, ◌<◌, ◌≤◌, ◌+◌, ◌*◌, ◌/◌, ◌%◌, ◌^◌, ◌++◌, [], OnOk, OnErr, length, slice_get};
 ghost use Rattle.std.specs.List.{flat_map};
 ghost use Rattle.tool_io.specs.Lines.{IsWhole, IsOverSame, HasSinkCause, Puts, PutsFront};
-ghost use Rattle.stapl_meaning.specs.Texts.{hex_digit, is_plain, escaped_byte, escaped, event_line};
+ghost use Rattle.base.specs.Bits.{low_bits, number_of};
+ghost use Rattle.bit_list.specs.Integers.{bits_of_int};
+ghost use Rattle.bit_list.specs.Ranges.{taken};
+ghost use Rattle.stapl_meaning.specs.Effects.{export_of};
+ghost use Rattle.stapl_meaning.specs.Texts.{hex_digit, hex_digits, is_plain, escaped_byte, escaped, export_text, event_line};
 ghost use Rattle.stapl_meaning.specs.declared.events.Event.TheVariants.{Print};
+ghost use Rattle.stapl_meaning.specs.declared.events.Event.TheVariants as events;
+ghost use Rattle.stapl_code.specs.Safe.{constants_of};
+ghost use Rattle.stapl_machine.specs.Arrays.{bits_in};
+ghost use Rattle.stapl_machine.specs.Exports.{text_in, literal_in, bits_at, value_exported, export_event, hex_text};
 
+use crate::effects::{BitsAt, Export, Exported};
+use crate::parts::{Part, Span};
+use crate::printing::digit_of;
+use bit_list::Bits;
+use stapl_code::CodeLists;
+use stapl_meaning::{Held, Text, Value};
 use tool_io::{Failed, Lines, Sink};
 
 /// An upper-case hexadecimal digit.
@@ -69,4 +83,285 @@ pub fn put_print<K: Sink>(out: &mut Lines<K>, bytes: &[u8]) -> Result<(), Failed
     put_escaped(out, bytes)?;
     out.put(b"\n")?;
     Ok(())
+}
+
+// The number of the bits of a part from index 4 * k on, of which it has some, and of which four are taken.
+fn number_at(bits: &Bits, span: Span, k: u32) -> u32
+    requires some { 4 * k < span.count }
+    requires inside { span.low + span.count ≤ length bits.now }
+    requires few { span.low + span.count + 3 < 2 ^ 32 }
+    ensures value { result ≡ number_of (taken (4 * k) 4 (taken span.low span.count bits.now)) }
+    ensures small { result < 16 }
+{
+    let left = span.count - 4 * k;
+    bits.to_int(span.low + 4 * k, left.min(4)).cast_unsigned()
+}
+
+// The digit that stands for those bits.
+fn digit_at(bits: &Bits, span: Span, k: u32) -> u8
+    requires some { 4 * k < span.count }
+    requires inside { span.low + span.count ≤ length bits.now }
+    requires few { span.low + span.count + 3 < 2 ^ 32 }
+    ensures { result ≡ hex_digit (number_of (taken (4 * k) 4 (taken span.low span.count bits.now))) }
+{
+    hex_byte(number_at(bits, span, k) as u8)
+}
+
+// Puts the lowest n digits of a part of a list of bits, the highest first.
+fn put_digits<K: Sink>(out: &mut Lines<K>, bits: &Bits, span: Span, n: u32) -> Result<(), Failed>
+    requires whole { IsWhole out.old }
+    requires some { 4 * n < span.count + 4 }
+    requires inside { span.low + span.count ≤ length bits.now }
+    requires few { span.low + span.count + 3 < 2 ^ 32 }
+    ensures same_sink { IsOverSame out.old out.new }
+    ensures whole { OnOk result (IsWhole out.new) }
+    ensures ok { OnOk result (Puts K.written out.old (hex_digits n (taken span.low span.count bits.now)) out.new) }
+    ensures front { OnErr result (PutsFront K.written out.old
+        (hex_digits n (taken span.low span.count bits.now)) out.new) }
+    ensures cause { HasSinkCause K.faults K.is_last out.old out.new result }
+{
+    let mut left = n;
+    'down: while left > 0 {
+        left -= 1;
+        out.put(&[digit_at(bits, span, left)])?;
+    }
+    Ok(())
+}
+
+// Puts the text of a part of a list of bits.
+fn put_inside<K: Sink>(out: &mut Lines<K>, bits: &Bits, span: Span) -> Result<(), Failed>
+    requires whole { IsWhole out.old }
+    requires inside { span.low + span.count ≤ length bits.now }
+    requires few { span.low + span.count + 3 < 2 ^ 32 }
+    ensures same_sink { IsOverSame out.old out.new }
+    ensures whole { OnOk result (IsWhole out.new) }
+    ensures ok { OnOk result (Puts K.written out.old (hex_text (taken span.low span.count bits.now)) out.new) }
+    ensures front { OnErr result (PutsFront K.written out.old
+        (hex_text (taken span.low span.count bits.now)) out.new) }
+    ensures cause { HasSinkCause K.faults K.is_last out.old out.new result }
+{
+    out.put(b"$")?;
+    put_digits(out, bits, span, (span.count + 3) / 4)?;
+    Ok(())
+}
+
+// As much of a part as lies in a list of bits.
+fn inside(span: Span, bits: &Bits) -> Span
+    ensures inside { result.low + result.count ≤ length bits.now }
+    ensures few { result.low + result.count + 3 < 2 ^ 32 }
+    ensures same { taken span.low span.count bits.now ≡ taken result.low result.count bits.now }
+{
+    let len = bits.len();
+    let low = span.low.min(len);
+    let count = span.count.min(len - low);
+    Span { low, count }
+}
+
+// Puts the text of as much of a part as lies in a list of bits.
+fn put_part<K: Sink>(out: &mut Lines<K>, bits: &Bits, span: Span) -> Result<(), Failed>
+    requires { IsWhole out.old }
+    ensures same_sink { IsOverSame out.old out.new }
+    ensures whole { OnOk result (IsWhole out.new) }
+    ensures ok { OnOk result (Puts K.written out.old (hex_text (taken span.low span.count bits.now)) out.new) }
+    ensures front { OnErr result (PutsFront K.written out.old
+        (hex_text (taken span.low span.count bits.now)) out.new) }
+    ensures cause { HasSinkCause K.faults K.is_last out.old out.new result }
+{
+    let there = inside(span, bits);
+    put_inside(out, bits, there)
+}
+
+// The whole of a list of bits.
+fn whole_span(bits: &Bits) -> Span
+    ensures { taken result.low result.count bits.now ≡ bits.now }
+{
+    Span {
+        low: 0,
+        count: bits.len(),
+    }
+}
+
+fn put_literal<K: Sink>(out: &mut Lines<K>, literals: &[Bits], n: u32) -> Result<(), Failed>
+    requires { IsWhole out.old }
+    ensures same_sink { IsOverSame out.old out.new }
+    ensures whole { OnOk result (IsWhole out.new) }
+    ensures ok { OnOk result (Puts K.written out.old (hex_text (literal_in (slice_get literals.now n))) out.new) }
+    ensures front { OnErr result (PutsFront K.written out.old
+        (hex_text (literal_in (slice_get literals.now n))) out.new) }
+    ensures cause { HasSinkCause K.faults K.is_last out.old out.new result }
+{
+    match literals.get(n as usize) {
+        Some(literal) => put_part(out, literal, whole_span(literal)),
+        None => out.put(b"$"),
+    }
+}
+
+fn put_variable<K: Sink>(out: &mut Lines<K>, variables: &[Held], part: Part) -> Result<(), Failed>
+    requires { IsWhole out.old }
+    ensures same_sink { IsOverSame out.old out.new }
+    ensures whole { OnOk result (IsWhole out.new) }
+    ensures ok { OnOk result (Puts K.written out.old
+        (hex_text (taken part.span.low part.span.count (bits_in (slice_get variables.now part.array)))) out.new) }
+    ensures front { OnErr result (PutsFront K.written out.old
+        (hex_text (taken part.span.low part.span.count (bits_in (slice_get variables.now part.array)))) out.new) }
+    ensures cause { HasSinkCause K.faults K.is_last out.old out.new result }
+{
+    match variables.get(part.array as usize) {
+        Some(Held::Bits(bits)) => put_part(out, bits, part.span),
+        _ => out.put(b"$"),
+    }
+}
+
+// Digit k of a number, from the lowest.
+fn digit_of_number(number: u32, k: u32) -> u8
+    requires { k < 8 }
+    ensures { result ≡ hex_digit (number_of (taken (4 * k) 4 (low_bits 32 number))) }
+{
+    hex_byte(((number >> (4 * k)) % 16) as u8)
+}
+
+// The digits of an integer, the highest first, behind a dollar sign.
+fn digits_of(z: i32) -> [u8; 9]
+    ensures { result ≡ hex_text (bits_of_int z) }
+{
+    let n = z.cast_unsigned();
+    [
+        b'$',
+        digit_of_number(n, 7),
+        digit_of_number(n, 6),
+        digit_of_number(n, 5),
+        digit_of_number(n, 4),
+        digit_of_number(n, 3),
+        digit_of_number(n, 2),
+        digit_of_number(n, 1),
+        digit_of_number(n, 0),
+    ]
+}
+
+fn put_integer<K: Sink>(out: &mut Lines<K>, z: i32) -> Result<(), Failed>
+    requires { IsWhole out.old }
+    ensures same_sink { IsOverSame out.old out.new }
+    ensures whole { OnOk result (IsWhole out.new) }
+    ensures ok { OnOk result (Puts K.written out.old (hex_text (bits_of_int z)) out.new) }
+    ensures front { OnErr result (PutsFront K.written out.old (hex_text (bits_of_int z)) out.new) }
+    ensures cause { HasSinkCause K.faults K.is_last out.old out.new result }
+{
+    let digits = digits_of(z);
+    out.put(&digits)
+}
+
+// Puts the text of the bits that lie somewhere.
+fn put_bits<K: Sink>(
+    out: &mut Lines<K>,
+    literals: &[Bits],
+    variables: &[Held],
+    at: BitsAt,
+) -> Result<(), Failed>
+    requires { IsWhole out.old }
+    ensures same_sink { IsOverSame out.old out.new }
+    ensures whole { OnOk result (IsWhole out.new) }
+    ensures ok { OnOk result (Puts K.written out.old (hex_text (bits_at literals.now variables.now at)) out.new) }
+    ensures front { OnErr result (PutsFront K.written out.old
+        (hex_text (bits_at literals.now variables.now at)) out.new) }
+    ensures cause { HasSinkCause K.faults K.is_last out.old out.new result }
+{
+    match at {
+        BitsAt::Literal(n) => put_literal(out, literals, n),
+        BitsAt::Part(part) => put_variable(out, variables, part),
+        BitsAt::Integer(z) => put_integer(out, z),
+    }
+}
+
+// Puts a value as it is exported.
+fn put_value<K: Sink>(out: &mut Lines<K>, value: Value) -> Result<(), Failed>
+    requires { IsWhole out.old }
+    ensures same_sink { IsOverSame out.old out.new }
+    ensures whole { OnOk result (IsWhole out.new) }
+    ensures ok { OnOk result (Puts K.written out.old (export_text (export_of value)) out.new) }
+    ensures front { OnErr result (PutsFront K.written out.old (export_text (export_of value)) out.new) }
+    ensures cause { HasSinkCause K.faults K.is_last out.old out.new result }
+{
+    match value {
+        Value::Int(z) => out.put_int(i64::from(z)),
+        Value::Bit(b) => out.put(&[digit_of(b)]),
+    }
+}
+
+// Puts what is exported.
+fn put_exported<K: Sink>(
+    out: &mut Lines<K>,
+    literals: &[Bits],
+    variables: &[Held],
+    value: Exported,
+) -> Result<(), Failed>
+    requires { IsWhole out.old }
+    ensures same_sink { IsOverSame out.old out.new }
+    ensures whole { OnOk result (IsWhole out.new) }
+    ensures ok { OnOk result (Puts K.written out.old
+        (export_text (value_exported literals.now variables.now value)) out.new) }
+    ensures front { OnErr result (PutsFront K.written out.old
+        (export_text (value_exported literals.now variables.now value)) out.new) }
+    ensures cause { HasSinkCause K.faults K.is_last out.old out.new result }
+{
+    match value {
+        Exported::Value(value) => put_value(out, value),
+        Exported::Bits(at) => put_bits(out, literals, variables, at),
+    }
+}
+
+// The text of a number, or nothing where there is none.
+fn text_at(texts: &[Text], n: u32) -> &[u8]
+    ensures { result.now ≡ text_in (slice_get texts.now n) }
+{
+    match texts.get(n as usize) {
+        Some(text) => text.as_slice(),
+        None => &[],
+    }
+}
+
+// Puts the line of an EXPORT with this key.
+fn put_line<K: Sink>(
+    out: &mut Lines<K>,
+    key: &[u8],
+    literals: &[Bits],
+    variables: &[Held],
+    value: Exported,
+) -> Result<(), Failed>
+    requires { IsWhole out.old }
+    ensures same_sink { IsOverSame out.old out.new }
+    ensures whole { OnOk result (IsWhole out.new) }
+    ensures ok { OnOk result (Puts K.written out.old
+        (event_line (events.Export key.now (value_exported literals.now variables.now value))) out.new) }
+    ensures front { OnErr result (PutsFront K.written out.old
+        (event_line (events.Export key.now (value_exported literals.now variables.now value))) out.new) }
+    ensures cause { HasSinkCause K.faults K.is_last out.old out.new result }
+{
+    out.put(b"X ")?;
+    put_escaped(out, key)?;
+    out.put(b" = ")?;
+    put_exported(out, literals, variables, value)?;
+    out.put(b"\n")?;
+    Ok(())
+}
+
+/// Puts the line of an EXPORT.
+///
+/// `Failed` as of the sink.
+pub fn put_export<K: Sink>(
+    out: &mut Lines<K>,
+    code: &CodeLists,
+    variables: &[Held],
+    export: Export,
+) -> Result<(), Failed>
+    requires { IsWhole out.old }
+    ensures same_sink { IsOverSame out.old out.new }
+    ensures whole { OnOk result (IsWhole out.new) }
+    ensures ok { OnOk result (Puts K.written out.old
+        (event_line (export_event (constants_of code.now) variables.now export)) out.new) }
+    ensures front { OnErr result (PutsFront K.written out.old
+        (event_line (export_event (constants_of code.now) variables.now export)) out.new) }
+    ensures cause { HasSinkCause K.faults K.is_last out.old out.new result }
+{
+    let key = text_at(code.texts.as_slice(), export.key);
+    put_line(out, key, code.literals.as_slice(), variables, export.value)
 }

@@ -1,22 +1,21 @@
 use Rattle.std.proofs.Common.{get_or, List, sym, subst, ◌∙◌}
 use Rattle.stapl_meaning.specs.States.{Did}
 use Rattle.stapl_meaning.specs.Values.{Got}
-use Rattle.stapl_meaning.specs.Plays.{start}
 use Rattle.stapl_meaning.specs.declared.values.Held.{Held}
 use Rattle.std.specs.Prelude.{pos}
 use Rattle.stapl_code.specs.Machine.{does}
-use Rattle.stapl_machine.specs.Acts.{IsMade}
+use Rattle.stapl_machine.specs.Acts.{IsMade, state_with}
 use Rattle.stapl_machine.specs.Arrays.{IsFound, array_of, dest_span}
 use Rattle.stapl_meaning.specs.declared.values.Value.TheVariants.{Int}
 use Rattle.stapl_machine.proofs.ArrayLemmas.{copied_integer, one_item}
 use Rattle.stapl_machine.proofs.copying.copy_integer.Goals as goal
 
 pub returns-in-len1-clause-made : goal.returns-in-len1-clause-made
-returns-in-len1-clause-made c = λ text chosen.
+returns-in-len1-clause-made c = λ told chosen records.
     let vars = c.args.variables.now.items in let dest = c.args.dest in let vs = c.args.values.now in
     let found : IsFound vars (array_of dest) (dest_span dest vs) c.in_ok-part.part = subst (λ (l : List Held). IsFound l (array_of dest) (dest_span dest vs) c.in_ok-part.part) c.deref.ensures.value c.in_ok-part.ensures in
     let value = get_or c.behind.result.now 0 (Int (pos 0)) in
     let is = one_item c.behind.result.now (Int (pos 0)) c.in-len1.len_at_least c.in-len1.len_below in
-    subst (λ (d : Got Did). IsMade c.fill_integer.result text (start chosen vars) (start chosen c.fill_integer.new.variables.items) (does d))
-    (sym (copied_integer dest vs c.in_ok-part.part chosen vars found value (sym c.behind.ensures ∙ is)))
-    (c.fill_integer.ensures.made text chosen)
+    subst (λ (d : Got Did). IsMade c.fill_integer.result told (state_with chosen records vars) (state_with chosen records c.fill_integer.new.variables.items) (does d))
+    (sym (copied_integer dest vs c.in_ok-part.part chosen records vars found value (sym c.behind.ensures ∙ is)))
+    (c.fill_integer.ensures.made told chosen records)

@@ -46,15 +46,15 @@ returns-in-Ok-Over-clause-runs g c =
     let ending = c.in-Ok-Over.ending in
     runs_then (run_over code left more place s u ending e c.loop-turn.invariant.runs d) (over_to u s (run_of code more) ending c.turn.new.out)
 
-pub returns-in-Ok-Over-clause-variables : goal.returns-in-Ok-Over-clause-variables
-returns-in-Ok-Over-clause-variables g c =
+pub returns-in-Ok-Over-clause-state : goal.returns-in-Ok-Over-clause-state
+returns-in-Ok-Over-clause-state g c =
     let code = c.args.code.now in let chosen = c.args.chosen.now in let place = c.loop-turn.place in
     let s = state_of chosen c.loop-turn.work in let u = state_of chosen c.turn.new.work in
     let left = c.args.turns - c.loop-turn._turn in let more = c.args.turns - (c.loop-turn._turn + 1) in
     let e : left ≡ suc more = one_left c.args.turns c.loop-turn._turn c.loop-turn-test.true in
     let d = does_same (ap (λ w. led_to w u) c.in-Ok-Over.field-0-is) c.in-Ok-Over.ensures.does in
     let ending = c.in-Ok-Over.ending in
-    runs_then_leaves ending u.store.variables (run_over code left more place s u ending e c.loop-turn.invariant.runs d) (over_leaves u s (run_of code more) ending)
+    runs_then_leaves ending u (run_over code left more place s u ending e c.loop-turn.invariant.runs d) (over_leaves u s (run_of code more) ending)
 
 pub returns-in-Ok-Over-clause-ticks : goal.returns-in-Ok-Over-clause-ticks
 returns-in-Ok-Over-clause-ticks g c =

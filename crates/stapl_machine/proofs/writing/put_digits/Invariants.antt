@@ -1,0 +1,18 @@
+use Rattle.std.proofs.Common.{◌≤◌}
+use Rattle.bit_list.specs.Ranges.{taken}
+use Rattle.stapl_meaning.specs.Texts.{hex_digits}
+use Rattle.tool_io.specs.Lines.{IsWhole, IsOverSame, SinkNeverFalls}
+use Rattle.stapl_machine.specs.Exports.{PutsDigits}
+use Rattle.stapl_machine.proofs.writing.put_digits.Given as goal
+
+abbrev pub invariant-down : goal.invariant-down
+invariant-down g l = record {
+  same_sink : IsOverSame l.fn.out l.out;
+  whole : IsWhole l.out;
+  below : l.left ≤ l.n;
+  puts : PutsDigits g.K.Sink.written (taken l.span.low l.span.count l.bits) (hex_digits l.n (taken l.span.low l.span.count l.bits)) l.fn.out l.left l.out;
+  kept : SinkNeverFalls g.K.Sink.faults g.K.Sink.is_last l.fn.out l.out;
+}
+
+abbrev pub decreases-down : goal.decreases-down
+decreases-down g l = l.left

@@ -1,0 +1,164 @@
+//! What an Export exports.
+ghost use Rattle.std.specs.Prelude.{◌≡◌, ◌≢◌, ◌∷◌, [], IfErr, List, ℕ, slice_get};
+ghost use Rattle.stapl_meaning.specs.declared.events.Event.TheVariants as events;
+ghost use Rattle.stapl_meaning.specs.declared.records.Record.{Record};
+ghost use Rattle.stapl_meaning.specs.Values.{Known, Whole, Range, OfInt, then_get, source_bits};
+ghost use Rattle.stapl_meaning.specs.States.{State, Falls};
+ghost use Rattle.stapl_meaning.specs.Effects.{exported, bits_exported};
+ghost use Rattle.stapl_code.specs.Machine.{known_text, known_literal, known_source, part_exported, does};
+ghost use Rattle.stapl_code.specs.Safe.{constants_of};
+ghost use Rattle.stapl_machine.specs.Found.{IsSure};
+ghost use Rattle.stapl_machine.specs.Exports.{bits_at, value_exported};
+ghost use Rattle.stapl_machine.specs.Acts.{IsMade, state_with};
+
+use crate::effects::{BitsAt, Export, Exported, Made};
+use crate::operate::Stop;
+use crate::parts::{range, whole};
+use bit_list::Bits;
+use stapl_code::{CodeLists, ExportPart, Source};
+use stapl_meaning::{Held, Value};
+
+fn literal_bits(
+    literals: &[Bits],
+    n: u32,
+    values: &[Value],
+    variables: &[Held],
+) -> Result<BitsAt, Stop>
+    ensures { IsSure (λ at g. g ≡ Known (bits_at literals.now variables.now at)) result
+        (then_get (known_literal (slice_get literals.now n)) (λ from. source_bits variables.now from values.now)) }
+{
+    match literals.get(n as usize) {
+        Some(_) => match values {
+            [] => Ok(BitsAt::Literal(n)),
+            _ => Err(Stop::Wrong),
+        },
+        None => Err(Stop::Wrong),
+    }
+}
+
+fn whole_bits(
+    literals: &[Bits],
+    n: u32,
+    values: &[Value],
+    variables: &[Held],
+) -> Result<BitsAt, Stop>
+    ensures { IsSure (λ at g. g ≡ Known (bits_at literals.now variables.now at)) result
+        (source_bits variables.now (Whole n) values.now) }
+{
+    match values {
+        [] => Ok(BitsAt::Part(whole(variables, n)?)),
+        _ => Err(Stop::Wrong),
+    }
+}
+
+fn range_bits(
+    literals: &[Bits],
+    n: u32,
+    values: &[Value],
+    variables: &[Held],
+) -> Result<BitsAt, Stop>
+    ensures { IsSure (λ at g. g ≡ Known (bits_at literals.now variables.now at)) result
+        (source_bits variables.now (Range n) values.now) }
+{
+    match values {
+        [high, low] => Ok(BitsAt::Part(range(variables, n, *high, *low)?)),
+        _ => Err(Stop::Wrong),
+    }
+}
+
+fn integer_bits(literals: &[Bits], values: &[Value], variables: &[Held]) -> Result<BitsAt, Stop>
+    ensures { IsSure (λ at g. g ≡ Known (bits_at literals.now variables.now at)) result
+        (source_bits variables.now OfInt values.now) }
+{
+    match values {
+        [Value::Int(z)] => Ok(BitsAt::Integer(*z)),
+        _ => Err(Stop::Wrong),
+    }
+}
+
+// Where the bits of a source lie.
+fn find_bits(
+    literals: &[Bits],
+    source: Source,
+    values: &[Value],
+    variables: &[Held],
+) -> Result<BitsAt, Stop>
+    ensures { IsSure (λ at g. g ≡ Known (bits_at literals.now variables.now at)) result
+        (then_get (known_source literals.now source) (λ from. source_bits variables.now from values.now)) }
+{
+    match source {
+        Source::Literal(n) => literal_bits(literals, n, values, variables),
+        Source::Whole(n) => whole_bits(literals, n, values, variables),
+        Source::Range(n) => range_bits(literals, n, values, variables),
+        Source::FromInt => integer_bits(literals, values, variables),
+    }
+}
+
+fn one_value(literals: &[Bits], values: &[Value], variables: &[Held]) -> Result<Exported, Stop>
+    ensures is { (key : List ℕ) (s : State) → IsSure
+        (λ value g. g ≡ Known (Falls (events.Export key (value_exported literals.now variables.now value) ∷ []) s)) result
+        (exported key values.now s) }
+    ensures sure { IfErr result (λ stop. stop ≢ Stop.Memory) }
+{
+    match values {
+        [value] => Ok(Exported::Value(*value)),
+        _ => Err(Stop::Wrong),
+    }
+}
+
+fn array_value(
+    literals: &[Bits],
+    source: Source,
+    values: &[Value],
+    variables: &[Held],
+) -> Result<Exported, Stop>
+    ensures is { (key chosen : List ℕ) (records : List Record) → IsSure
+        (λ value g. g ≡ Known (Falls (events.Export key (value_exported literals.now variables.now value) ∷ [])
+        (state_with chosen records variables.now))) result
+        (then_get (known_source literals.now source)
+        (λ from. bits_exported key from values.now (state_with chosen records variables.now))) }
+    ensures sure { IfErr result (λ stop. stop ≢ Stop.Memory) }
+{
+    Ok(Exported::Bits(find_bits(literals, source, values, variables)?))
+}
+
+// What a part exports.
+fn exported(
+    literals: &[Bits],
+    part: ExportPart,
+    values: &[Value],
+    variables: &[Held],
+) -> Result<Exported, Stop>
+    ensures is { (key chosen : List ℕ) (records : List Record) → IsSure
+        (λ value g. g ≡ Known (Falls (events.Export key (value_exported literals.now variables.now value) ∷ [])
+        (state_with chosen records variables.now))) result
+        (part_exported literals.now part key values.now (state_with chosen records variables.now)) }
+    ensures sure { IfErr result (λ stop. stop ≢ Stop.Memory) }
+{
+    match part {
+        ExportPart::Int | ExportPart::Bit => one_value(literals, values, variables),
+        ExportPart::Array(source) => array_value(literals, source, values, variables),
+    }
+}
+
+/// What an Export exports.
+pub fn export(
+    code: &CodeLists,
+    key: u32,
+    part: ExportPart,
+    values: &[Value],
+    variables: &[Held],
+) -> Result<Made, Stop>
+    ensures made { (text chosen : List ℕ) (records : List Record) →
+        IsMade result (record { text = text; constants = constants_of code.now })
+        (state_with chosen records variables.now) (state_with chosen records variables.now)
+        (does (then_get (known_text (slice_get code.now.texts key))
+        (λ bytes. part_exported code.now.literals part bytes values.now (state_with chosen records variables.now)))) }
+    ensures sure { IfErr result (λ stop. stop ≢ Stop.Memory) }
+{
+    if key as usize >= code.texts.len() {
+        return Err(Stop::Wrong);
+    }
+    let value = exported(code.literals.as_slice(), part, values, variables)?;
+    Ok(Made::Exported(Export { key, value }))
+}

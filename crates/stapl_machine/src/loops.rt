@@ -1,0 +1,147 @@
+//! What instructions make of loops, which lie on the record stack.
+ghost use Rattle.std.specs.Prelude.{◌≡◌, ◌≢◌, ◌<◌, IfErr, List, [], ℕ, length, reverse, take, slice_get, Some};
+ghost use Rattle.stapl_meaning.specs.declared.records.Record.TheVariants.{Looped};
+ghost use Rattle.stapl_meaning.specs.Values.{Known};
+ghost use Rattle.stapl_meaning.specs.Effects.{looped, is_over, integer_held, went_round, repeated};
+ghost use Rattle.stapl_code.specs.Machine.{does};
+ghost use Rattle.stapl_machine.specs.Found.{IsSure};
+ghost use Rattle.stapl_machine.specs.Acts.{IsMade, Told, state_in};
+ghost use Rattle.stapl_machine.specs.Records.{begun_loop, IsSearched};
+
+use crate::effects::{Made, store};
+use crate::memory::Memory;
+use crate::operate::{Stop, sum};
+use crate::records::{is_full, put};
+use stapl_meaning::{Held, Loop, Record, RunFault, Value};
+
+// A loop is put on top of the records, and its variable is set.
+fn begin(memory: &mut Memory, turn: Loop, first: i32) -> Result<Made, Stop>
+    ensures { (told : Told) (chosen : List ℕ) →
+        IsMade result told (state_in chosen memory.old) (state_in chosen memory.new)
+        (does (begun_loop turn first (state_in chosen memory.old))) }
+{
+    if turn.step == 0 {
+        return Err(Stop::Fault(RunFault::ZeroStep));
+    }
+    if is_full(&memory.records) {
+        return Err(Stop::Fault(RunFault::RecordsFull));
+    }
+    if !store(&mut memory.variables, turn.variable, Value::Int(first)) {
+        return Err(Stop::Wrong);
+    }
+    put(&mut memory.records, Record::Looped(turn))?;
+    Ok(Made::On)
+}
+
+/// The loop of the variable of number n begins, from a first value, a limit and a step.
+pub fn begin_loop(memory: &mut Memory, n: u32, body: u32, values: &[Value]) -> Result<Made, Stop>
+    ensures { (told : Told) (chosen : List ℕ) →
+        IsMade result told (state_in chosen memory.old) (state_in chosen memory.new)
+        (does (looped n body values.now (state_in chosen memory.old))) }
+{
+    match values {
+        [Value::Int(first), Value::Int(limit), Value::Int(step)] => {
+            let turn = Loop {
+                variable: n,
+                limit: *limit,
+                step: *step,
+                place: body,
+            };
+            begin(memory, turn, *first)
+        }
+        _ => Err(Stop::Wrong),
+    }
+}
+
+/// The nearest loop of a variable, and the place of its record.
+#[derive(Clone, Copy, Debug, PartialEq, Eq)]
+pub struct Nearest {
+    pub at: usize,
+    pub turn: Loop,
+}
+
+// Finds the topmost loop of the variable of number n, if loops of other variables alone stand above it.
+fn find_loop(records: &[Record], n: u32) -> Option<Nearest>
+    ensures { IsSearched records.now n result }
+{
+    let mut at = records.len();
+    'down: while at > 0 {
+        at -= 1;
+        match records[at] {
+            Record::Looped(turn) => {
+                if turn.variable == n {
+                    return Some(Nearest { at, turn });
+                }
+            }
+            _ => return None,
+        }
+    }
+    None
+}
+
+// Whether a loop is over if its variable holds this integer.
+fn is_over(turn: Loop, z: i32) -> bool
+    ensures { result ≡ is_over turn z }
+{
+    (0 < turn.step && turn.limit <= z) || (turn.step < 0 && z <= turn.limit)
+}
+
+// The integer that a scalar holds.
+fn integer_held(variables: &[Held], n: u32) -> Result<i32, Stop>
+    ensures { IsSure (λ z g. g ≡ Known z) result (integer_held (slice_get variables.now n)) }
+{
+    match variables.get(n as usize) {
+        Some(Held::Int(z)) => Ok(*z),
+        _ => Err(Stop::Wrong),
+    }
+}
+
+// The loop of a record, whose variable holds this integer, goes round, or it is over.
+fn go_round(memory: &mut Memory, found: Nearest, z: i32) -> Result<Made, Stop>
+    requires there { found.at < length memory.old.records.items }
+    requires is { slice_get memory.old.records.items found.at ≡ Some (Looped found.turn) }
+    ensures made { (told : Told) (chosen : List ℕ) →
+        IsMade result told (state_in chosen memory.old) (state_in chosen memory.new)
+        (does (went_round found.turn (reverse (take found.at memory.old.records.items)) z (state_in chosen memory.old))) }
+    ensures sure { IfErr result (λ stop. stop ≢ Stop.Memory) }
+{
+    if is_over(found.turn, z) {
+        memory.records.truncate(found.at);
+        return Ok(Made::On);
+    }
+    let next = sum(z, found.turn.step);
+    if !store(&mut memory.variables, found.turn.variable, Value::Int(next)) {
+        return Err(Stop::Wrong);
+    }
+    memory.records.truncate(found.at + 1);
+    Ok(Made::Resume(found.turn.place))
+}
+
+// The nearest loop of the variable of number n goes round, or it is over.
+fn repeat_nearest(memory: &mut Memory, n: u32) -> Result<Made, Stop>
+    ensures made { (told : Told) (chosen : List ℕ) →
+        IsMade result told (state_in chosen memory.old) (state_in chosen memory.new)
+        (does (repeated n [] (state_in chosen memory.old))) }
+    ensures sure { IfErr result (λ stop. stop ≢ Stop.Memory) }
+{
+    match find_loop(&memory.records, n) {
+        Some(found) => {
+            let z = integer_held(&memory.variables, n)?;
+            go_round(memory, found, z)
+        }
+        None => Err(Stop::Fault(RunFault::NoRecord)),
+    }
+}
+
+/// The loop of the variable of number n goes round, or it is over.
+pub fn repeat(memory: &mut Memory, n: u32, values: &[Value]) -> Result<Made, Stop>
+    ensures made { (told : Told) (chosen : List ℕ) →
+        IsMade result told (state_in chosen memory.old) (state_in chosen memory.new)
+        (does (repeated n values.now (state_in chosen memory.old))) }
+    ensures sure { IfErr result (λ stop. stop ≢ Stop.Memory) }
+{
+    match values {
+        [] => repeat_nearest(memory, n),
+        _ => Err(Stop::Wrong),
+    }
+}
