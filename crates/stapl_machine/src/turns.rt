@@ -71,10 +71,10 @@ fn tell_export<K: Sink>(
         (export_event (constants_of code.now) variables.now export)) out.new) }
     ensures sink { Keeps K.faults K.is_last out.old out.new result }
 {
-    match put_export(out, code, variables, export) {
-        Ok(()) => Ok(()),
-        Err(_) => Err(Trouble::WriteFault),
+    if put_export(out, code, variables, export).is_err() {
+        return Err(Trouble::WriteFault);
     }
+    Ok(())
 }
 
 // Carries out instruction i of a turn by the general machine, and answers where the turn led if it ended.
