@@ -13,7 +13,6 @@ use Rattle.stapl_meaning.specs.declared.values.Value.TheVariants.{Int}
 use Rattle.stapl_meaning.specs.Values.{Got, Known, then_get}
 use Rattle.stapl_meaning.specs.States.{State, Did, Falls, Resumes}
 use Rattle.stapl_meaning.specs.Effects.{nearest_loop, is_over, scalar_written, went_round, with_loop, with_variables, with_records}
-use Rattle.stapl_code.specs.Machine.{Does, does}
 use Rattle.stapl_machine.specs.Records.{IsNearest}
 use Rattle.stapl_machine.proofs.PrintLemmas.{item_at}
 
@@ -55,12 +54,12 @@ turn_known g h l rest z go e f =
 -- a loop goes round
 pub round_more : (l : Loop) (records : List Record) (z next : ℤ) (s : State) (variables : List Held) → is_over l z ≡ false → next ≡ int_wrap w32 (z +ℤ l.step) →
     scalar_written s.store.variables l.variable (slice_get s.store.variables l.variable) (Int next) ≡ Known variables →
-    does (went_round l records z s) ≡ Known (Does (Resumes l.place (with_variables (with_records s (Looped l ∷ records)) variables)))
+    went_round l records z s ≡ Known (Resumes l.place (with_variables (with_records s (Looped l ∷ records)) variables))
 round_more l records z next s variables over e w =
-    ap (λ (b : Bool). does (if b then Known (Falls [] (with_records s records))
-    else then_get (with_loop l records (int_wrap w32 (z +ℤ l.step)) s) (λ t. Known (Resumes l.place t)))) over
-    ∙ ap (λ (x : ℤ). does (then_get (with_loop l records x s) (λ t. Known (Resumes l.place t)))) (sym e)
-    ∙ ap (λ (g : Got (List Held)). does (then_get (then_get g (λ vs. Known (with_variables (with_records s (Looped l ∷ records)) vs))) (λ t. Known (Resumes l.place t)))) w
+    ap (λ (b : Bool). if b then Known (Falls [] (with_records s records))
+    else then_get (with_loop l records (int_wrap w32 (z +ℤ l.step)) s) (λ t. Known (Resumes l.place t))) over
+    ∙ ap (λ (x : ℤ). then_get (with_loop l records x s) (λ t. Known (Resumes l.place t))) (sym e)
+    ∙ ap (λ (g : Got (List Held)). then_get (then_get g (λ vs. Known (with_variables (with_records s (Looped l ∷ records)) vs))) (λ t. Known (Resumes l.place t))) w
 
 -- lists of three items
 pub three_items : {A : Type 0} (xs : List A) (d : A) → 3 ≤ length xs → length xs < 4 → xs ≡ get_or xs 0 d ∷ get_or xs 1 d ∷ get_or xs 2 d ∷ []

@@ -79,15 +79,17 @@ fn find_loop(records: &[Record], n: u32) -> Option<Nearest>
     None
 }
 
-// Whether a loop is over if its variable holds this integer.
-fn is_over(turn: Loop, z: i32) -> bool
+/// Whether a loop is over if its variable holds this integer.
+#[inline(always)]
+pub fn is_over(turn: Loop, z: i32) -> bool
     ensures { result ≡ is_over turn z }
 {
     (0 < turn.step && turn.limit <= z) || (turn.step < 0 && z <= turn.limit)
 }
 
-// The integer that a scalar holds.
-fn integer_held(variables: &[Held], n: u32) -> Result<i32, Stop>
+/// The integer that a scalar holds.
+#[inline(always)]
+pub fn integer_held(variables: &[Held], n: u32) -> Result<i32, Stop>
     ensures { IsSure (λ z g. g ≡ Known z) result (integer_held (slice_get variables.now n)) }
 {
     match variables.get(n as usize) {

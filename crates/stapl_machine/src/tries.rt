@@ -1,19 +1,23 @@
 //! The instructions that most turns are made of, done at once where nothing stands in their way.
-ghost use Rattle.std.specs.Prelude.{◌≡◌, ◌∷◌, [], List, ℕ, IfSome, slice_get};
+ghost use Rattle.std.specs.Prelude.{◌≡◌, ◌∷◌, [], List, ℕ, IfSome, drop, reverse, slice_get};
 ghost use Rattle.stapl_meaning.specs.declared.values.Value.TheVariants.{Int, Bit};
 ghost use Rattle.stapl_meaning.specs.Values.{Known, element_of, index_held};
 ghost use Rattle.stapl_code.specs.Machine.{Falls, Stops, operated};
+ghost use Rattle.stapl_meaning.specs.declared.records.Record.TheVariants.{Looped};
 ghost use Rattle.stapl_meaning.specs.States.{Leads};
-ghost use Rattle.stapl_code.specs.declared.instr.Instr.TheVariants.{PushBit, Load, LoadAt, CheckIndex, CheckRange, Store, StoreAt, Unary, Binary, ToInt, JumpIfZero};
+ghost use Rattle.stapl_meaning.specs.Effects.{repeated};
+ghost use Rattle.stapl_code.specs.declared.instr.Instr.TheVariants.{PushBit, Load, LoadAt, CheckIndex, CheckRange, Store, StoreAt, Unary, Binary, ToInt, Next, JumpIfZero};
 ghost use Rattle.stapl_code.specs.declared.instr.Source.TheVariants.{Range};
 ghost use Rattle.stapl_code.specs.declared.raw.CodeLists.{CodeLists};
-ghost use Rattle.stapl_machine.specs.Acts.{operands_of, state_of, step_of};
-ghost use Rattle.stapl_machine.specs.Tries.{IsTried, IsWritten, element_put};
+ghost use Rattle.stapl_machine.specs.Acts.{operands_of, state_in, state_of, step_of};
+ghost use Rattle.stapl_machine.specs.Tries.{IsTried, IsRound, IsWritten, element_put};
 
 use crate::act::Workspace;
 use crate::arrays::{element, index_of, store_at};
 use crate::copying::range_integer;
 use crate::effects::{bit, load, operate_before, store};
+use crate::loops::{integer_held, is_over};
+use crate::memory::Memory;
 use crate::operands::{leave, replace, top, top_two};
 use crate::operate::{
     common_bits, difference, different_bits, divide, joint_bits, product, remainder, shift_left,
@@ -21,7 +25,7 @@ use crate::operate::{
 };
 use crate::parts::range;
 use stapl_code::{Instr, Source};
-use stapl_meaning::{Held, Value};
+use stapl_meaning::{Held, Loop, Record, Value};
 
 /// What came of an instruction that was tried.
 #[derive(Clone, Copy, PartialEq, Eq, Debug)]
@@ -319,6 +323,69 @@ fn try_if(to: u32, work: &mut Workspace) -> Tried
     }
 }
 
+// The topmost record.
+#[inline(always)]
+fn top_record(records: &Vec<Record>) -> Option<Record>
+    ensures { IfSome result (λ top. reverse records.now.items ≡ top ∷ drop 1 (reverse records.now.items)) }
+{
+    match records.as_slice() {
+        [.., top] => Some(*top),
+        _ => None,
+    }
+}
+
+// The topmost loop goes round, or it is over.
+#[inline(always)]
+fn try_round(turn: Loop, memory: &mut Memory) -> Tried
+    requires { reverse memory.old.records.items ≡ Looped turn ∷ drop 1 (reverse memory.old.records.items) }
+    ensures { (chosen : List ℕ) → IsRound result chosen memory.old memory.new
+        (repeated turn.variable [] (state_in chosen memory.old)) }
+{
+    match integer_held(&memory.variables, turn.variable) {
+        Ok(z) => {
+            if is_over(turn, z) {
+                let _ = memory.records.pop();
+                return Tried::On;
+            }
+            let next = sum(z, turn.step);
+            if !store(&mut memory.variables, turn.variable, Value::Int(next)) {
+                return Tried::Not;
+            }
+            Tried::To(turn.place)
+        }
+        Err(_) => Tried::Not,
+    }
+}
+
+// The topmost loop goes round, or it is over, if it is one of the variable of number n.
+#[inline(always)]
+fn try_loop(n: u32, memory: &mut Memory) -> Tried
+    ensures { (chosen : List ℕ) → IsRound result chosen memory.old memory.new
+        (repeated n [] (state_in chosen memory.old)) }
+{
+    match top_record(&memory.records) {
+        Some(Record::Looped(turn)) => {
+            if turn.variable != n {
+                return Tried::Not;
+            }
+            try_round(turn, memory)
+        }
+        _ => Tried::Not,
+    }
+}
+
+#[inline(always)]
+fn try_next(n: u32, work: &mut Workspace) -> Tried
+    ensures tried { (code : CodeLists) (here : ℕ) (chosen : List ℕ) →
+        IsTried result chosen work.old work.new (step_of code here (Next n) chosen work.old) }
+    ensures piece { work.new.piece ≡ work.old.piece }
+{
+    if work.operands.len() != 0 {
+        return Tried::Not;
+    }
+    try_loop(n, &mut work.memory)
+}
+
 // Goes to a place, if no operand is left.
 #[inline(always)]
 fn go(to: u32, work: &Workspace) -> Tried
@@ -348,6 +415,7 @@ pub fn try_step(here: u32, instr: &Instr, work: &mut Workspace) -> Tried
         Instr::Store(n) => try_store(*n, work),
         Instr::Binary(number) => try_binary(*number, work),
         Instr::JumpIfZero(to) => try_if(*to, work),
+        Instr::Next(n) => try_next(*n, work),
         Instr::LoadAt(n) => try_load_at(*n, work),
         Instr::StoreAt(n) => try_store_at(*n, work),
         Instr::CheckIndex(n) => try_index(*n, work),

@@ -8,7 +8,7 @@ use Rattle.stapl_meaning.specs.declared.values.Value.TheVariants.{Int}
 use Rattle.stapl_meaning.specs.Values.{Got, Known}
 use Rattle.stapl_meaning.specs.States.{Resumes}
 use Rattle.stapl_meaning.specs.Effects.{is_over, scalar_written}
-use Rattle.stapl_code.specs.Machine.{Made, Does}
+use Rattle.stapl_code.specs.Machine.{Made, Does, does}
 use Rattle.stapl_machine.specs.Acts.{state_in, state_with}
 use Rattle.stapl_machine.proofs.RecordLemmas.{top_taken_at, round_more}
 use Rattle.stapl_machine.proofs.loops.go_round.Goals as goal
@@ -25,5 +25,5 @@ returns-clause-made c = λ told chosen.
     let written : scalar_written old.variables.items l.variable (slice_get old.variables.items l.variable) (Int c.sum-next.result) ≡ Known c.store.new.variables.items = search rules in
     let top : reverse c.truncate-2.new.self.items ≡ Looped l ∷ reverse (take c.args.found.at records) =
     ap reverse c.truncate-2.ensures.items ∙ top_taken_at records c.args.found.at (Looped l) c.requires.there c.requires.is in
-    round_more l (reverse (take c.args.found.at records)) z c.sum-next.result (state_in chosen old) c.store.new.variables.items over next written
+    ap does (round_more l (reverse (take c.args.found.at records)) z c.sum-next.result (state_in chosen old) c.store.new.variables.items over next written)
     ∙ ap (λ (r : List Record). let g : Got Made = Known (Does (Resumes l.place (state_with chosen r c.store.new.variables.items))) in g) (sym top)

@@ -11,3 +11,6 @@ returns-in-Binary-clause-tried c = λ code chosen. rw c.in-Binary.is (c.try_bina
 
 pub returns-in-Unary-clause-tried : goal.returns-in-Unary-clause-tried
 returns-in-Unary-clause-tried c = λ code chosen. rw c.in-Unary.is (c.try_unary.ensures.tried code c.args.here chosen)
+
+pub returns-in-Next-clause-tried : goal.returns-in-Next-clause-tried
+returns-in-Next-clause-tried c = λ code chosen. rw c.in-Next.is (c.try_next.ensures.tried code c.args.here chosen)
