@@ -1,7 +1,6 @@
 -- Which statements are built: those that the compiler takes. Which these are is this profile's, and grows.
 use Rattle.std.specs.Prelude.{◌≡◌, nat_lt, length, Bool, true, false, ◌||◌, None, Some}
-use Rattle.std.specs.List.{list_all}
-use Rattle.stapl_syntax.specs.Trees.{ItemTree, BodyTree, note, action, procedure, data_block, end_data, crc, end_procedure, boolean, boolean_array, integer, integer_array, assign, assign_element, assign_array, assign_range, call, goto, if_then, for_loop, next, push, scalar, element, pop, print, export, exit, StmtTree}
+use Rattle.stapl_syntax.specs.Trees.{BodyTree, note, action, procedure, data_block, end_data, crc, end_procedure, boolean, boolean_array, integer, integer_array, assign, assign_element, assign_array, assign_range, call, goto, if_then, for_loop, next, push, scalar, element, pop, print, export, exit, StmtTree}
 
 -- a statement that may stand after THEN; each PRINT of a program has a part, and each POP a cell
 abbrev pub is_built_simple : BodyTree → Bool
@@ -33,15 +32,10 @@ is_built_inner (integer_array name size None) = true
 is_built_inner (integer_array name size (Some zs)) = nat_lt 0 (length zs)
 is_built_inner body = is_built_simple body
 
--- a procedure that always runs
-abbrev pub is_built_item : ItemTree → Bool
-is_built_item (run, None) = true
-is_built_item (run, Some choice) = false
-
--- a statement outside procedures: a procedure that runs by choice is not built
+-- a statement outside procedures
 abbrev pub is_built_outer : BodyTree → Bool
 is_built_outer (note key text) = true
-is_built_outer (action name text items) = list_all is_built_item items
+is_built_outer (action name text items) = true
 is_built_outer (procedure name uses) = true
 is_built_outer (data_block name) = true
 is_built_outer end_data = true

@@ -1,10 +1,9 @@
 //! Which statements are built.
 ghost use Rattle.std.specs.Prelude.{◌≡◌, map};
-ghost use Rattle.std.specs.List.{list_all};
-ghost use Rattle.stapl_syntax.specs.Trees.{pop, print, expr_tree, item_tree, part_tree, body_tree, stmt_tree};
-ghost use Rattle.stapl_built.specs.Built.{is_built_simple, is_built_inner, is_built_item, is_built_outer, is_built};
+ghost use Rattle.stapl_syntax.specs.Trees.{pop, print, expr_tree, part_tree, body_tree, stmt_tree};
+ghost use Rattle.stapl_built.specs.Built.{is_built_simple, is_built_inner, is_built_outer, is_built};
 
-use stapl_syntax::{Body, Expr, Item, PrintPart, Stmt};
+use stapl_syntax::{Body, Expr, PrintPart, Stmt};
 
 // Each PRINT of a program has a part.
 #[tactic(auto, using(crate::proofs::BuiltLemmas::some_mapped))]
@@ -59,28 +58,17 @@ fn is_inner(body: &Body) -> bool
     }
 }
 
-// A procedure that always runs.
-fn is_built_item(item: &Item) -> bool
-    ensures { result ≡ is_built_item (item_tree item.now) }
-{
-    item.choice.is_none()
-}
-
-fn all_items_are_built(items: &[Item]) -> bool
-    ensures { result ≡ list_all (λ item. is_built_item (item_tree item)) items.now }
-{
-    items.iter().all(|item| is_built_item(item))
-}
-
 // A statement outside procedures.
-#[tactic(auto, using(stapl_syntax::proofs::MappedLists::mapped_lists))]
 fn is_built_outer(body: &Body) -> bool
     ensures { result ≡ is_built_outer (body_tree body.now) }
 {
     match body {
-        Body::Note(_, _) | Body::Procedure(_, _) | Body::Data(_) | Body::EndData | Body::Crc(_) =>
-            true,
-        Body::Action(_, _, items) => all_items_are_built(items.as_slice()),
+        Body::Note(_, _)
+        | Body::Action(_, _, _)
+        | Body::Procedure(_, _)
+        | Body::Data(_)
+        | Body::EndData
+        | Body::Crc(_) => true,
         _ => false,
     }
 }
