@@ -3,6 +3,7 @@ pub mod Operands
 pub mod States
 pub mod Effects
 pub mod Scopes
+pub mod Choices
 pub mod Turns
 pub mod Typed
 pub mod Plays

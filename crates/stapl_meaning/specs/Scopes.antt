@@ -11,7 +11,7 @@ use Rattle.stapl_syntax.specs.declared.names.Key.{Key}
 use Rattle.stapl_syntax.specs.declared.names.VarKind.{VarKind}
 use Rattle.stapl_syntax.specs.declared.names.VarKind.TheVariants as kinds
 use Rattle.stapl_syntax.specs.declared.names.Variable.{Variable}
-use Rattle.stapl_syntax.specs.Trees.{ItemTree, BodyTree, procedure, data_block, end_data, action, boolean, boolean_array, integer, integer_array, StmtTree}
+use Rattle.stapl_syntax.specs.Trees.{BodyTree, procedure, data_block, end_data, boolean, boolean_array, integer, integer_array, StmtTree}
 use Rattle.stapl_syntax.specs.Statements.{begins_procedure}
 use Rattle.stapl_syntax.specs.Names.{Names, numbered, names_of, inside_after, key_in, key_eq, found_from, kind_of_found}
 use Rattle.stapl_meaning.specs.declared.values.Held.{Held}
@@ -166,20 +166,3 @@ zero_of v = zero_by v.1.kind (nat_abs v.1.size)
 
 abbrev pub zeros_of : Played → List Held
 zeros_of program = map zero_of program.names.variables
-
--- the procedure that an item of an action names, by number
-abbrev pub item_procedure : Played → ItemTree → ℕ
-item_procedure program item = procedure_number program.pieces item.0
-
--- the procedures of the action of this name, by number: of this statement, or of others
-abbrev pub chosen_before : Played → BodyTree → List ℕ → Option (List ℕ) → Option (List ℕ)
-chosen_before program (action a text items) name others =
-    if bytes_eq name a then Some (map (item_procedure program) items) else others
-chosen_before program _ name others = others
-
-abbrev pub chosen_from : Played → List StmtTree → List ℕ → Option (List ℕ)
-chosen_from program [] name = None
-chosen_from program (st ∷ rest) name = chosen_before program st.body name (chosen_from program rest name)
-
-abbrev pub chosen_of : Played → List ℕ → Option (List ℕ)
-chosen_of program name = chosen_from program program.pieces name
