@@ -1,17 +1,19 @@
 -- The procedures and actions of the code of an accepted program are in their ranges.
-use Rattle.std.proofs.Common.{◌≡◌, ◌≢◌, ℕ, zero, suc, ◌+◌, ◌<◌, ◌≤◌, List, [], ◌∷◌, length, map, get_or, arith, refl, sym, ap, subst, ◌∙◌}
+use Rattle.std.proofs.Common.{◌≡◌, ◌≢◌, ℕ, zero, suc, ◌+◌, ◌<◌, ◌≤◌, List, [], ◌∷◌, length, map, get_or, arith, refl, sym, ap, subst, ◌∙◌, Option, None, Some}
 use Rattle.std.specs.Prelude.{All}
 use Rattle.std.specs.List.{AllPairs}
 use Rattle.std.proofs.lemmas.List.{length-map, get_or-map}
 use Rattle.std.proofs.lemmas.List.Elements.{All-nil, All-cons, All-head, All-tail}
 use Rattle.stapl_syntax.specs.Trees.{ItemTree, BodyTree, action, procedure, StmtTree}
+use Rattle.stapl_syntax.specs.declared.statement.ItemChoice.{ItemChoice}
+use Rattle.stapl_syntax.specs.declared.statement.ItemChoice.TheVariants as choices
 use Rattle.stapl_syntax.specs.Contents.{IsFreeName, IsWellNamed}
 use Rattle.stapl_meaning.specs.Scopes.{Played, procedures_in}
 use Rattle.stapl_meaning.specs.Typed.{procedure_name, procedure_names, action_name, action_names, NamesProcedure, NamesProcedures, IsTyped}
 use Rattle.stapl_code.specs.declared.raw.ProcDef.{ProcDef}
 use Rattle.stapl_code.specs.declared.raw.ActionDef.{ActionDef}
 use Rattle.stapl_code.specs.Ranges.{AreProcedures, IsItem, IsAction, AreActions}
-use Rattle.stapl_codegen.specs.Emit.{start_of, procedure_def, procedures_from, procedures_of, item_def, action_def, actions_from, actions_of}
+use Rattle.stapl_codegen.specs.Emit.{start_of, procedure_def, procedures_from, procedures_of, choice_flag, item_def, action_def, actions_from, actions_of}
 use Rattle.stapl_codegen.proofs.Ranges.{Each}
 use Rattle.stapl_codegen.proofs.Whole.{Rising}
 
@@ -76,11 +78,16 @@ action_names_same program (st ∷ rest) = by st.body (action_names_same program 
     by (action name text items) more = ap (λ l. name ∷ l) more
     by _ more = more
 
+flag_in_range : (choice : Option ItemChoice) → choice_flag choice ≤ 2
+flag_in_range None = omega arith
+flag_in_range (Some choices.Optional) = omega arith
+flag_in_range (Some choices.Recommended) = omega arith
+
 items_in_range : (program : Played) (items : List ItemTree) → All (NamesProcedure program) items → All (IsItem (procedures_in program.pieces)) (map (item_def program) items)
 items_in_range program [] there = All-nil (IsItem (procedures_in program.pieces))
 items_in_range program (item ∷ items) there =
     All-cons (IsItem (procedures_in program.pieces)) (item_def program item) (map (item_def program) items)
-    (record { there = All-head (NamesProcedure program) item items there; flag = omega arith })
+    (record { there = All-head (NamesProcedure program) item items there; flag = flag_in_range item.1 })
     (items_in_range program items (All-tail (NamesProcedure program) item items there))
 
 actions_each : (program : Played) (sts : List StmtTree) → All (λ (st : StmtTree). IsWellNamed st.body) sts → All (λ (st : StmtTree). NamesProcedures program st.body) sts →

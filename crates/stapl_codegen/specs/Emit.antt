@@ -4,6 +4,8 @@ use Rattle.bit_list.specs.Integers.{int_of}
 use Rattle.stapl_lexer.specs.declared.terminal.BinOp.{BinOp}
 use Rattle.stapl_lexer.specs.declared.terminal.BinOp.TheVariants as operators
 use Rattle.stapl_syntax.specs.Trees.{ExprTree, number, scalar, element, unary, binary, abs, int, ArrayTree, literal, whole, range, of_int, PartTree, string, value, character, ItemTree, BodyTree, action, procedure, end_procedure, boolean, boolean_array, integer, integer_array, assign, assign_element, assign_array, assign_range, call, goto, if_then, for_loop, next, push, pop, print, exported_value, exported_array, export, exit, StmtTree}
+use Rattle.stapl_syntax.specs.declared.statement.ItemChoice.{ItemChoice}
+use Rattle.stapl_syntax.specs.declared.statement.ItemChoice.TheVariants as choices
 use Rattle.stapl_syntax.specs.declared.signs.UnOp.{UnOp}
 use Rattle.stapl_syntax.specs.declared.signs.UnOp.TheVariants as signs
 use Rattle.stapl_syntax.specs.Kinds.{expr_kind}
@@ -316,9 +318,15 @@ procedures_of program = procedures_from (start_of program) 0 program.pieces
 abbrev pub program_entries : Played → List ℕ
 program_entries program = entries_of (procedures_of program)
 
--- an item of an action, which always runs
+-- the flag of an item: it always runs, it runs only if it is asked for, or it runs unless it is left out
+abbrev pub choice_flag : Option ItemChoice → ℕ
+choice_flag None = 0
+choice_flag (Some choices.Optional) = 1
+choice_flag (Some choices.Recommended) = 2
+
+-- an item of an action
 abbrev pub item_def : Played → ItemTree → ItemDef
-item_def program item = record { procedure = procedure_number program.pieces item.0; flag = 0 }
+item_def program item = record { procedure = procedure_number program.pieces item.0; flag = choice_flag item.1 }
 
 -- the action that a statement is, and then others
 abbrev pub action_def : Played → BodyTree → List ActionDef → List ActionDef

@@ -3,7 +3,7 @@ ghost use Rattle.std.specs.Prelude.{◌≡◌, [], ◌∷◌, ◌++◌, ◌<◌,
 ghost use Rattle.stapl_syntax.specs.Trees.{StmtTree, end_data, item_tree, body_tree, stmt_tree, trees};
 ghost use Rattle.stapl_meaning.specs.Scopes.{as_played};
 ghost use Rattle.stapl_meaning.specs.Typed.{NamesProcedure, NamesProcedures};
-ghost use Rattle.stapl_codegen.specs.Emit.{start_of, procedure_def, procedures_from, procedures_of, item_def, action_def, actions_from, actions_of};
+ghost use Rattle.stapl_codegen.specs.Emit.{start_of, procedure_def, procedures_from, procedures_of, choice_flag, item_def, action_def, actions_from, actions_of};
 ghost use Rattle.stapl_codegen.specs.Drafts.{AreStarts};
 ghost use Rattle.stapl_codegen.specs.Generated.{kind_number, variable_def};
 ghost use Rattle.stapl_codegen.specs.Numbers.{numbers_from, AreNumbers};
@@ -13,7 +13,7 @@ use crate::draft::start_of_place;
 use base::ItemList;
 use stapl_code::{ActionDef, ItemDef, ProcDef, VarDef};
 use stapl_names::Names;
-use stapl_syntax::{Block, Body, Item, Key, Stmt, VarKind, Variable};
+use stapl_syntax::{Block, Body, Item, ItemChoice, Key, Stmt, VarKind, Variable};
 use std::alloc::{AllocError, Global};
 
 // The number of a kind of variables.
@@ -118,7 +118,18 @@ pub(crate) fn procedure_numbers(alloc: Global, names: &Names) -> Result<Vec<u32>
     Ok(numbers)
 }
 
-// An item of an action: the number of its procedure.
+// The flag of an item.
+fn choice_flag(choice: Option<ItemChoice>) -> u8
+    ensures { result ≡ choice_flag choice }
+{
+    match choice {
+        None => 0,
+        Some(ItemChoice::Optional) => 1,
+        Some(ItemChoice::Recommended) => 2,
+    }
+}
+
+// An item of an action: the number of its procedure, and whether it runs by choice.
 fn item_def(program: &[Stmt], numbers: &Numbers, item: &Item) -> ItemDef
     requires known { AreNumbers (as_played (trees program.now)) numbers.now }
     requires there { NamesProcedure (as_played (trees program.now)) (item_tree item.now) }
@@ -129,7 +140,7 @@ fn item_def(program: &[Stmt], numbers: &Numbers, item: &Item) -> ItemDef
     let block = names.block(&item.procedure).unwrap_or(names.blocks());
     ItemDef {
         procedure: numbers.next[block as usize],
-        flag: 0,
+        flag: choice_flag(item.choice),
     }
 }
 

@@ -14,4 +14,6 @@ pub returns : goal.returns
 returns c =
     let number = item_number (as_played (trees c.args.program.now)) c.args.numbers.now c.args.item.now.procedure c.block.result c.blocks-2.result c.index.result.now c.requires.known c.requires.there
     c.block.ensures.number c.blocks-2.ensures in
-    ap (λ n. record { procedure = n; flag = 0 }) (c.index.ensures ∙ ap (λ k. get_or c.args.numbers.now.next.items k c.index.result.now) c.unwrap_or-block.ensures ∙ number)
+    let flag = c.choice_flag.ensures in
+    let procedure = c.index.ensures ∙ ap (λ k. get_or c.args.numbers.now.next.items k c.index.result.now) c.unwrap_or-block.ensures ∙ number in
+    λ j. record { procedure = procedure j; flag = flag j }
