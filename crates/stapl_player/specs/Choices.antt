@@ -1,9 +1,10 @@
--- Which procedures of an action run. Source: JESD71, ACTION: an OPTIONAL procedure runs only if it is asked for, and a
+-- Which procedures of an action of a code run. Source: JESD71, ACTION: an OPTIONAL procedure runs only if it is asked for, and a
 -- RECOMMENDED one unless it is left out. That a name has to be that of such a procedure is this profile's rule.
 use Rattle.std.specs.Prelude.{ℕ, ◌==◌, ◌&&◌, ◌||◌, not, Bool, false, List, map, Option, None, Some, slice_get, if◌then◌else◌}
 use Rattle.std.specs.List.{find, filter, list_any, list_all}
 use Rattle.std.specs.Option.{option_map_or}
 use Rattle.std.specs.Str.{bytes_eq}
+use Rattle.stapl_meaning.specs.Choices.{Choice, no_action, bad_choice, chosen}
 use Rattle.stapl_code.specs.declared.raw.ProcDef.{ProcDef}
 use Rattle.stapl_code.specs.declared.raw.ItemDef.{ItemDef}
 use Rattle.stapl_code.specs.declared.raw.ActionDef.{ActionDef}
@@ -39,12 +40,6 @@ abbrev pub are_offered : List ProcDef → ℕ → List ItemDef → List (List �
 are_offered procedures flag items names =
     list_all (λ name. list_any (λ item. (item.flag == flag) && bears procedures name item) items) names
 
--- What a choice comes to: there is no such action, a name cannot be chosen, or these procedures run.
-pub data Choice : Type 0 where
-  no_action : Choice
-  bad_choice : Choice
-  chosen : List ℕ → Choice
-
 -- the choice of an action that is found, or not
 abbrev pub choice_in : List ProcDef → Option ActionDef → List (List ℕ) → List (List ℕ) → Choice
 choice_in procedures None asked skipped = no_action
@@ -52,6 +47,6 @@ choice_in procedures (Some action) asked skipped =
     if are_offered procedures optional action.items asked && are_offered procedures recommended action.items skipped
     then chosen (running procedures asked skipped action.items) else bad_choice
 
--- the choice of the action of this name
-abbrev pub choice_of : CodeLists → List ℕ → List (List ℕ) → List (List ℕ) → Choice
-choice_of code name asked skipped = choice_in code.procedures (find (λ (a : ActionDef). bytes_eq name a.name) code.actions) asked skipped
+-- the choice of the action of this name in a code
+abbrev pub code_choice : CodeLists → List ℕ → List (List ℕ) → List (List ℕ) → Choice
+code_choice code name asked skipped = choice_in code.procedures (find (λ (a : ActionDef). bytes_eq name a.name) code.actions) asked skipped

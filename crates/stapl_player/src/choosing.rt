@@ -3,9 +3,10 @@ ghost use Rattle.std.specs.Prelude.{◌≡◌, ◌==◌, ◌&&◌, length, Some,
 ghost use Rattle.std.specs.Option.{option_map};
 ghost use Rattle.std.specs.List.{find, list_any};
 ghost use Rattle.std.specs.Str.{bytes_eq};
+ghost use Rattle.stapl_meaning.specs.Choices.{no_action, bad_choice, chosen};
 ghost use Rattle.stapl_code.specs.Safe.{AllBelow};
 ghost use Rattle.stapl_player.specs.declared.choosing.ChoiceRefused.TheVariants.{Memory};
-ghost use Rattle.stapl_player.specs.Choices.{bears, bears_one, runs, running, are_offered, no_action, bad_choice, chosen, choice_of};
+ghost use Rattle.stapl_player.specs.Choices.{bears, bears_one, runs, running, are_offered, code_choice};
 
 use stapl_code::{ActionDef, Code, ItemDef, ProcDef};
 use stapl_lexer::Name;
@@ -119,12 +120,12 @@ pub fn choose(
     asked: &[Name],
     skipped: &[Name],
 ) -> Result<Vec<u32>, ChoiceRefused>
-    ensures ok { IfOk result (λ procedures. choice_of code.now action.now asked.now skipped.now ≡ chosen procedures.items) }
+    ensures ok { IfOk result (λ procedures. code_choice code.now action.now asked.now skipped.now ≡ chosen procedures.items) }
     ensures below { IfOk result (λ procedures. AllBelow (length code.now.procedures) procedures.items) }
     ensures action { IsErrOf result ChoiceRefused.NoAction →
-        choice_of code.now action.now asked.now skipped.now ≡ no_action }
+        code_choice code.now action.now asked.now skipped.now ≡ no_action }
     ensures choice { IsErrOf result ChoiceRefused.BadChoice →
-        choice_of code.now action.now asked.now skipped.now ≡ bad_choice }
+        code_choice code.now action.now asked.now skipped.now ≡ bad_choice }
 {
     let lists = code.raw().lists();
     let procedures = lists.procedures.as_slice();
