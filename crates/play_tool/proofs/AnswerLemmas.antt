@@ -13,7 +13,6 @@ use Rattle.stapl_syntax.specs.Trees.{StmtTree}
 use Rattle.stapl_syntax.specs.Programs.{IsProgram, FirstFault, is_too_long}
 use Rattle.stapl_built.specs.Unbuilt.{IsUnbuiltAt, IsBuiltProgram}
 use Rattle.stapl_checker.proofs.UniqueLemmas.{one_program, no_fault}
-use Rattle.stapl_meaning.specs.Scopes.{as_played}
 use Rattle.play_tool.specs.declared.mode.Mode.{Mode}
 use Rattle.play_tool.specs.declared.mode.Mode.TheVariants as modes
 use Rattle.play_tool.specs.declared.words.Request.{Request}
@@ -24,7 +23,7 @@ use Rattle.play_tool.specs.declared.mode.WordKey.{WordKey}
 use Rattle.play_tool.specs.declared.mode.WordKey.TheVariants.{Program, Action}
 use Rattle.play_tool.specs.Words.{needs, has_key, HasNeeded, IsUsage}
 use Rattle.play_tool.specs.Written.{Wrote, WroteFront}
-use Rattle.play_tool.specs.Answers.{Plays, PlaysText, unbuilt, built, Work, TextAnswer, refused, accepted, FileAnswer, NamesFile, Answer, usage, asked, SomeTextAnswer, SomeFilesAnswer}
+use Rattle.play_tool.specs.Answers.{PlaysAction, PlaysText, unbuilt, built, Work, TextAnswer, refused, accepted, FileAnswer, NamesFile, Answer, usage, asked, SomeTextAnswer, SomeFilesAnswer}
 use Rattle.play_tool.proofs.OneRequest.{one_request, no_usage}
 use Rattle.play_tool.proofs.WrittenLemmas.{IsWithin, wrote_text, wrote_front}
 
@@ -59,7 +58,7 @@ has_program request has none =
 -- The play that is asked of a program that is built is that of the action that is named.
 
 pub plays_asked : (request : Request) (bytes : List ℕ) (program : List StmtTree) {action : List ℕ} → request.action ≡ Some action → IsBuiltProgram bytes program →
-    IsWithin (Plays (as_played program) action request.turns) (PlaysText request bytes program)
+    IsWithin (PlaysAction program action request) (PlaysText request bytes program)
 plays_asked request bytes program {action = action} a is = record {
   to = λ text status p. built text status is (record { action = action; asked = a; plays = p });
 }
@@ -69,13 +68,13 @@ pub not_both : {bytes : List ℕ} {program : List StmtTree} {piece line : ℕ} �
 not_both is at = none-some at.index (sym is.built ∙ at.is_first)
 
 asked_play : {request : Request} {bytes : List ℕ} {program : List StmtTree} {action text : List ℕ} {status : Status} → request.action ≡ Some action → IsBuiltProgram bytes program →
-    PlaysText request bytes program text status → Plays (as_played program) action request.turns text status
+    PlaysText request bytes program text status → PlaysAction program action request text status
 asked_play a is (unbuilt piece line at) = absurd (not_both is at)
 asked_play {request = request} {program = program} {action = action} a is (built text status own p) =
-    subst (λ (z : List ℕ). Plays (as_played program) z request.turns text status) (same_Some p.action action (sym p.asked ∙ a)) p.plays
+    subst (λ (z : List ℕ). PlaysAction program z request text status) (same_Some p.action action (sym p.asked ∙ a)) p.plays
 
 pub asked_plays : (request : Request) (bytes : List ℕ) (program : List StmtTree) {action : List ℕ} → request.action ≡ Some action → IsBuiltProgram bytes program →
-    IsWithin (PlaysText request bytes program) (Plays (as_played program) action request.turns)
+    IsWithin (PlaysText request bytes program) (PlaysAction program action request)
 asked_plays request bytes program a is = record { to = λ text status p. asked_play a is p }
 
 -- A piece is not built.

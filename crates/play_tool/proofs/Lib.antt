@@ -2,6 +2,7 @@ pub mod NumberLemmas
 pub mod WordLemmas
 pub mod OneRequest
 pub mod WrittenLemmas
+pub mod ChoiceLemmas
 pub mod PlayLemmas
 pub mod CheckLemmas
 pub mod ListLemmas

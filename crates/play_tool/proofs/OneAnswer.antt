@@ -1,6 +1,6 @@
 -- The words and the files have at most one answer.
-use Rattle.std.proofs.Common.{◌≡◌, ◌+◌, ℕ, pos, List, refl, sym, ap, ◌∙◌, subst, Option, None, Some, codes}
-use Rattle.std.proofs.lemmas.Option.{same_Some, none-some}
+use Rattle.std.proofs.Common.{◌≡◌, ◌+◌, ℕ, pos, List, refl, sym, ap, ◌∙◌, subst, Option, Some, codes}
+use Rattle.std.proofs.lemmas.Option.{same_Some}
 use Rattle.stapl_lexer.specs.declared.reason.Reason.TheVariants as reasons
 use Rattle.stapl_lexer.proofs.PieceLemmas.{cut_one_way}
 use Rattle.stapl_syntax.specs.Programs.{line_of_index}
@@ -9,7 +9,9 @@ use Rattle.stapl_lexer.specs.declared.reason.Reason.{Reason}
 use Rattle.stapl_syntax.specs.Trees.{StmtTree}
 use Rattle.stapl_checker.proofs.UniqueLemmas.{one_first_fault, one_program, no_fault}
 use Rattle.stapl_meaning.specs.declared.events.Ending.{Ending}
-use Rattle.stapl_meaning.specs.Scopes.{chosen_of, Played, as_played}
+use Rattle.stapl_meaning.specs.Choices.{Choice}
+use Rattle.stapl_meaning.specs.Choices as choices
+use Rattle.stapl_meaning.specs.Scopes.{Played}
 use Rattle.stapl_meaning.specs.Plays.{play, ending_of}
 use Rattle.stapl_meaning.specs.Texts.{text_of}
 use Rattle.play_tool.specs.declared.checking.CheckWords.{CheckWords}
@@ -21,7 +23,7 @@ use Rattle.play_tool.specs.declared.status.Status.TheVariants.{Done, Refused, Us
 use Rattle.play_tool.specs.Checks.{check_text, Checks, checked}
 use Rattle.play_tool.specs.Listings.{Lists, listed}
 use Rattle.play_tool.specs.Texts.{number_line, refusal_line}
-use Rattle.play_tool.specs.Answers.{PlaysText, unbuilt, built, done_with, Plays, no_action, played, PlaysAsked, Work, TextAnswer, refused, accepted, FileAnswer, Answer, usage, asked}
+use Rattle.play_tool.specs.Answers.{PlaysText, unbuilt, built, done_with, Plays, no_action, bad_choice, played, PlaysAction, PlaysAsked, Work, TextAnswer, refused, accepted, FileAnswer, Answer, usage, asked}
 use Rattle.play_tool.proofs.AnswerLemmas.{words_file, not_both}
 use Rattle.play_tool.proofs.CheckLemmas.{one_word}
 use Rattle.play_tool.proofs.OneRequest.{one_usage, no_usage}
@@ -34,9 +36,6 @@ pub record Said : Type 0 where
 abbrev said : List ℕ → Status → Said
 said text status = record { text = text; status = status }
 
-no_action_played : (program : Played) (action chosen : List ℕ) → chosen_of program action ≡ None → chosen_of program action ≡ Some chosen → ⊥
-no_action_played program action chosen e f = none-some chosen (sym e ∙ f)
-
 -- what a play says that ends so
 abbrev said_of : Played → ℕ → List ℕ → Ending → Said
 said_of program turns chosen ending = said (text_of (play program chosen turns).events ending) (done_with ending)
@@ -48,21 +47,39 @@ one_ending : (program : Played) (turns : ℕ) (a b : List ℕ) (e f : Ending) �
     ending_of (play program b turns).outcome ≡ Some f → e ≡ f
 one_ending program turns a b e f p x y = same_Some e f (sym x ∙ ap (λ (z : List ℕ). ending_of (play program z turns).outcome) p ∙ y)
 
--- an accepted program gives one answer
-one_play : {program : Played} {action xs ys : List ℕ} {turns : ℕ} {s t : Status} → Plays program action turns xs s →
-    Plays program action turns ys t → said xs s ≡ said ys t
+-- a choice comes to one thing
+none_or_bad : {choice : Choice} → choice ≡ choices.no_action → choice ≡ choices.bad_choice → ⊥
+none_or_bad e f = cc
+
+none_or_chosen : {choice : Choice} {procedures : List ℕ} → choice ≡ choices.no_action → choice ≡ choices.chosen procedures → ⊥
+none_or_chosen e f = cc
+
+bad_or_chosen : {choice : Choice} {procedures : List ℕ} → choice ≡ choices.bad_choice → choice ≡ choices.chosen procedures → ⊥
+bad_or_chosen e f = cc
+
+one_choice : {choice : Choice} (a b : List ℕ) → choice ≡ choices.chosen a → choice ≡ choices.chosen b → a ≡ b
+one_choice a b e f = cc
+
+-- and so a play gives one answer
+one_play : {program : Played} {choice : Choice} {xs ys : List ℕ} {turns : ℕ} {s t : Status} → Plays program choice turns xs s →
+    Plays program choice turns ys t → said xs s ≡ said ys t
 one_play (no_action e) (no_action f) = refl
-one_play {program = program} {action = action} (no_action e) (played chosen ending f g) = absurd (no_action_played program action chosen e f)
-one_play {program = program} {action = action} (played chosen ending f g) (no_action e) = absurd (no_action_played program action chosen e f)
+one_play (no_action e) (bad_choice f) = absurd (none_or_bad e f)
+one_play (no_action e) (played chosen ending f g) = absurd (none_or_chosen e f)
+one_play (bad_choice e) (no_action f) = absurd (none_or_bad f e)
+one_play (bad_choice e) (bad_choice f) = refl
+one_play (bad_choice e) (played chosen ending f g) = absurd (bad_or_chosen e f)
+one_play (played chosen ending f g) (no_action e) = absurd (none_or_chosen e f)
+one_play (played chosen ending f g) (bad_choice e) = absurd (bad_or_chosen e f)
 one_play {program = program} {turns = turns} (played chosen a f g) (played other b h k) =
-    let same = same_Some chosen other (sym f ∙ h) in
+    let same = one_choice chosen other f h in
     same_play program turns chosen other a b same (one_ending program turns chosen other a b same g k)
 
 -- a request names one action at most
 one_asked : {program : List StmtTree} {request : Request} {xs ys : List ℕ} {s t : Status} → PlaysAsked program request xs s → PlaysAsked program request ys t →
     said xs s ≡ said ys t
 one_asked {program = program} {request = request} {ys = ys} {t = t} a b =
-    one_play a.plays (subst (λ (z : List ℕ). Plays (as_played program) z request.turns ys t) (same_Some b.action a.action (sym b.asked ∙ a.asked)) b.plays)
+    one_play a.plays (subst (λ (z : List ℕ). PlaysAction program z request ys t) (same_Some b.action a.action (sym b.asked ∙ a.asked)) b.plays)
 
 -- the first piece that is not built is one
 same_unbuilt : (p l q m : ℕ) → p ≡ q → l ≡ m → said (refusal_line p l reasons.NotYetBuilt) (Refused p reasons.NotYetBuilt) ≡ said (refusal_line q m reasons.NotYetBuilt) (Refused q reasons.NotYetBuilt)

@@ -6,10 +6,10 @@ use Rattle.std.specs.Option.{option_map}
 use Rattle.play_tool.specs.declared.mode.Mode.{Mode}
 use Rattle.play_tool.specs.declared.mode.Mode.TheVariants as modes
 use Rattle.play_tool.specs.declared.mode.WordKey.{WordKey}
-use Rattle.play_tool.specs.declared.mode.WordKey.TheVariants.{Program, Action, Turns}
+use Rattle.play_tool.specs.declared.mode.WordKey.TheVariants.{Program, Action, Do, Skip, Turns}
 use Rattle.play_tool.specs.declared.words.Request.{Request}
-use Rattle.play_tool.specs.Words.{HasMode, needs, Part, ProgramIn, ActionNamed, TurnsAtMost, key_of, IsGiven, GiveOf, IsKeyGiven, AskTurns, turns_given, turns_usual, AreRead, IsRequest, Lack, lack_mode, lack_key, IsUsage, is_unread, is_missing}
-use Rattle.play_tool.proofs.WordLemmas.{one_mode, one_given}
+use Rattle.play_tool.specs.Words.{HasMode, needs, Part, ProgramIn, ActionNamed, NamesAsked, NamesSkipped, TurnsAtMost, key_of, IsGiven, GiveOf, IsKeyGiven, AskNames, names_given, names_missing, AskTurns, turns_given, turns_usual, AreRead, IsRequest, Lack, lack_mode, lack_key, IsUsage, is_unread, is_missing}
+use Rattle.play_tool.proofs.WordLemmas.{one_mode, one_given, not_needed}
 
 one_of : (words : List (List ℕ)) (key : WordKey) (a b : Option Part) → AreRead words → GiveOf words (length words) key a → GiveOf words (length words) key b → a ≡ b
 one_of words key None None read x y = refl
@@ -39,15 +39,31 @@ one_number read (turns_given a x) (turns_usual none) = absurd (none a x)
 one_number read (turns_usual none) (turns_given b y) = absurd (none b y)
 one_number read (turns_usual none) (turns_usual other) = refl
 
-same_parts : {m k : Mode} {p q n o : Option (List ℕ)} {t u : ℕ} → m ≡ k → p ≡ q → n ≡ o → t ≡ u →
-    ◌≡◌ {A = Request} (record { mode = m; program = p; action = n; turns = t }) (record { mode = k; program = q; action = o; turns = u })
-same_parts e f g h = cc
+-- a part with a list of names, in which a list is known by its part
+one_list : {words : List (List ℕ)} {part : List (List ℕ) → Part} {a b : List (List ℕ)} → ((x y : List (List ℕ)) → part x ≡ part y → x ≡ y) →
+    ((x y : List (List ℕ)) → key_of (part x) ≡ key_of (part y)) → AreRead words → AskNames words part a → AskNames words part b → a ≡ b
+one_list {words = words} {part = part} same key read (names_given a x) (names_given b y) = same a b (one_given words (length words) (part a) (part b) read (key a b) x y)
+one_list same key read (names_given a x) (names_missing none) = absurd (none a x)
+one_list same key read (names_missing none) (names_given b y) = absurd (none b y)
+one_list same key read (names_missing none) (names_missing other) = refl
+
+same_asked : (x y : List (List ℕ)) → NamesAsked x ≡ NamesAsked y → x ≡ y
+same_asked x y e = cc
+
+same_skipped : (x y : List (List ℕ)) → NamesSkipped x ≡ NamesSkipped y → x ≡ y
+same_skipped x y e = cc
+
+same_parts : {m k : Mode} {p q n o : Option (List ℕ)} {d e s r : List (List ℕ)} {t u : ℕ} → m ≡ k → p ≡ q → n ≡ o → d ≡ e → s ≡ r → t ≡ u →
+    ◌≡◌ {A = Request} (record { mode = m; program = p; action = n; todo = d; skip = s; turns = t }) (record { mode = k; program = q; action = o; todo = e; skip = r; turns = u })
+same_parts e f g h i j = cc
 
 pub one_request : {words : List (List ℕ)} {a b : Request} → IsRequest words a → IsRequest words b → a ≡ b
 one_request {words = words} {a = a} {b = b} x y =
     same_parts (one_mode words a.mode b.mode x.mode y.mode)
     (same_program a.program b.program (one_of words Program _ _ x.read x.program y.program))
     (same_action a.action b.action (one_of words Action _ _ x.read x.action_named y.action_named))
+    (one_list same_asked (λ p q. refl) x.read x.todo_asked y.todo_asked)
+    (one_list same_skipped (λ p q. refl) x.read x.skip_asked y.skip_asked)
     (one_number x.read x.turns_asked y.turns_asked)
 
 pub one_usage : {words : List (List ℕ)} {n m : ℕ} → IsUsage words n → IsUsage words m → n ≡ m
@@ -74,15 +90,12 @@ some_mapped : {A B : Type 0} (f : A → B) (found : Option A) → is_some found 
 some_mapped f None e = e
 some_mapped f (Some x) e = refl
 
-turns_not_needed : (mode : Mode) → needs mode Turns ≡ true → ⊥
-turns_not_needed modes.Play e = cc
-turns_not_needed modes.Check e = cc
-turns_not_needed modes.List e = cc
-
 needed_given : (words : List (List ℕ)) (request : Request) (key : WordKey) → IsRequest words request → needs request.mode key ≡ true → IsKeyGiven words key
 needed_given words request Program r e = key_given words Program (option_map ProgramIn request.program) r.program (some_mapped ProgramIn request.program (r.needed.has Program e))
 needed_given words request Action r e = key_given words Action (option_map ActionNamed request.action) r.action_named (some_mapped ActionNamed request.action (r.needed.has Action e))
-needed_given words request Turns r e = absurd (turns_not_needed request.mode e)
+needed_given words request Do r e = let none = (not_needed request.mode).0 in absurd cc
+needed_given words request Skip r e = let none = (not_needed request.mode).1 in absurd cc
+needed_given words request Turns r e = let none = (not_needed request.mode).2 in absurd cc
 
 no_lack : {words : List (List ℕ)} {request : Request} → IsRequest words request → Lack words → ⊥
 no_lack {request = request} r (lack_mode e) = let none = subst (λ (ws : List (List ℕ)). HasMode ws request.mode) e r.mode in no_word request.mode none

@@ -3,17 +3,19 @@ use Rattle.std.proofs.Common.{◌≡◌, ◌≢◌, ◌<◌, ◌≤◌, ◌+◌,
 use Rattle.std.proofs.lemmas.Bool.{and_parts}
 use Rattle.std.proofs.lemmas.List.{get_or-map}
 use Rattle.std.proofs.lemmas.Bool.{cases_lt}
+use Rattle.std.specs.List.{list_all, filter_map}
 use Rattle.std.specs.Option.{option_map}
 use Rattle.std.specs.Str.{str_to_ascii_uppercase}
 use Rattle.std.specs.Str.Parse.{digits_value}
 use Rattle.std.specs.Prelude.{is_some}
+use Rattle.stapl_lexer.specs.ReservedWords.{is_free_name}
 use Rattle.play_tool.specs.declared.mode.Mode.{Mode}
 use Rattle.play_tool.specs.declared.mode.Mode.TheVariants as modes
 use Rattle.play_tool.specs.declared.mode.WordKey.{WordKey}
-use Rattle.play_tool.specs.declared.mode.WordKey.TheVariants.{Program, Action, Turns}
+use Rattle.play_tool.specs.declared.mode.WordKey.TheVariants.{Program, Action, Do, Skip, Turns}
 use Rattle.play_tool.specs.declared.words.Request.{Request}
-use Rattle.play_tool.specs.Words.{mode_word, takes, needs, Part, ProgramIn, ActionNamed, TurnsAtMost, key_of, NamesProgram, NamesAction, NamesTurns, GivesPart, word_at, HasMode, IsGivenBefore, GivesNew, IsRead, AreReadBefore, IsKeyGiven, GiveOf, AskTurns, turns_given, turns_usual, has_key, IsRequest, lack_mode, lack_key, IsFirstUnread, IsUsage, is_unread, is_missing}
-use Rattle.play_tool.specs.GivenParts.{Values, given_of, with_part, Adds, Refuses, not_taken, given_already, AddsWord, AddsNothing, one_if_some, count_of, AreReadUpTo, lacks, is_complete, turns_or_usual, HasValues}
+use Rattle.play_tool.specs.Words.{mode_word, takes, needs, Part, ProgramIn, ActionNamed, NamesAsked, NamesSkipped, TurnsAtMost, key_of, parts_between_commas, NamesProgram, NamesAction, SpellsNames, AsksFor, LeavesOut, NamesTurns, GivesPart, word_at, HasMode, IsGivenBefore, GivesNew, IsRead, AreReadBefore, IsKeyGiven, GiveOf, AskNames, names_given, names_missing, AskTurns, turns_given, turns_usual, has_key, IsRequest, lack_mode, lack_key, IsFirstUnread, IsUsage, is_unread, is_missing}
+use Rattle.play_tool.specs.GivenParts.{name_spelled, names_in, Values, given_of, with_part, Adds, Refuses, not_taken, given_already, AddsWord, AddsNothing, one_if_some, count_of, AreReadUpTo, lacks, is_complete, names_or_none, turns_or_usual, HasValues}
 
 -- A word gives at most one part.
 
@@ -39,28 +41,55 @@ one_number word a b x y =
     let same = same_rest (codes "turns=") x.spelling y.spelling (sym x.key ∙ y.key) in
     (x.number).value ∙ ap (λ (z : List ℕ). digits_value 10 z) same ∙ sym (y.number).value
 
-program_or_action : (word a b : List ℕ) → NamesProgram word a → NamesAction word b → ⊥
-unfolding first_byte
-program_or_action word a b x y = let e : ◌≡◌ {A = ℕ} 112 97 = ap first_byte (sym x.0 ∙ y.key) in omega arith
+same_names : {a b : List ℕ} {xs ys : List (List ℕ)} → SpellsNames a xs → SpellsNames b ys → a ≡ b → xs ≡ ys
+same_names x y e = x.upper ∙ ap (λ (z : List ℕ). map str_to_ascii_uppercase (parts_between_commas z)) e ∙ sym y.upper
 
-program_or_turns : (word a : List ℕ) (n : ℕ) → NamesProgram word a → NamesTurns word n → ⊥
-unfolding first_byte
-program_or_turns word a n x y = let e : ◌≡◌ {A = ℕ} 112 116 = ap first_byte (sym x.0 ∙ y.key) in omega arith
+one_asked : (word : List ℕ) (a b : List (List ℕ)) → AsksFor word a → AsksFor word b → a ≡ b
+one_asked word a b x y = same_names x.spells y.spells (same_rest (codes "do=") x.spelling y.spelling (sym x.key ∙ y.key))
 
-action_or_turns : (word a : List ℕ) (n : ℕ) → NamesAction word a → NamesTurns word n → ⊥
+one_left_out : (word : List ℕ) (a b : List (List ℕ)) → LeavesOut word a → LeavesOut word b → a ≡ b
+one_left_out word a b x y = same_names x.spells y.spells (same_rest (codes "skip=") x.spelling y.spelling (sym x.key ∙ y.key))
+
+-- the first letter of a key tells it apart
+abbrev letter : WordKey → ℕ
+letter Program = 112
+letter Action = 97
+letter Do = 100
+letter Skip = 115
+letter Turns = 116
+
+has_letter : (word : List ℕ) (part : Part) → GivesPart word part → first_byte word ≡ letter (key_of part)
 unfolding first_byte
-action_or_turns word a n x y = let e : ◌≡◌ {A = ℕ} 97 116 = ap first_byte (sym x.key ∙ y.key) in omega arith
+has_letter word (ProgramIn path) x = ap first_byte x.0
+has_letter word (ActionNamed name) x = ap first_byte x.key
+has_letter word (NamesAsked names) x = ap first_byte x.key
+has_letter word (NamesSkipped names) x = ap first_byte x.key
+has_letter word (TurnsAtMost n) x = ap first_byte x.key
 
 one_part : (word : List ℕ) (a b : Part) → GivesPart word a → GivesPart word b → a ≡ b
 one_part word (ProgramIn p) (ProgramIn q) x y = ap ProgramIn (one_path word p q x y)
-one_part word (ProgramIn p) (ActionNamed q) x y = absurd (program_or_action word p q x y)
-one_part word (ProgramIn p) (TurnsAtMost q) x y = absurd (program_or_turns word p q x y)
-one_part word (ActionNamed p) (ProgramIn q) x y = absurd (program_or_action word q p y x)
 one_part word (ActionNamed p) (ActionNamed q) x y = ap ActionNamed (one_name word p q x y)
-one_part word (ActionNamed p) (TurnsAtMost q) x y = absurd (action_or_turns word p q x y)
-one_part word (TurnsAtMost p) (ProgramIn q) x y = absurd (program_or_turns word q p y x)
-one_part word (TurnsAtMost p) (ActionNamed q) x y = absurd (action_or_turns word q p y x)
+one_part word (NamesAsked p) (NamesAsked q) x y = ap NamesAsked (one_asked word p q x y)
+one_part word (NamesSkipped p) (NamesSkipped q) x y = ap NamesSkipped (one_left_out word p q x y)
 one_part word (TurnsAtMost p) (TurnsAtMost q) x y = ap TurnsAtMost (one_number word p q x y)
+one_part word a b x y = let e = has_letter word a x in let f = has_letter word b y in absurd (omega arith)
+
+-- Names that are spelled between commas are those that are read.
+
+names_are : (parts : List (List ℕ)) → list_all is_free_name parts ≡ true → filter_map name_spelled parts ≡ map str_to_ascii_uppercase parts
+names_are [] all = refl
+names_are (part ∷ rest) all =
+    let both = and_parts (is_free_name part) (list_all is_free_name rest) all in
+    rw both.0 (ap (λ (l : List (List ℕ)). str_to_ascii_uppercase part ∷ l) (names_are rest both.1))
+
+spelled_so : (spelling : List ℕ) → list_all is_free_name (parts_between_commas spelling) ≡ true → SpellsNames spelling (names_in spelling)
+spelled_so spelling all = record { spelled = all; upper = names_are (parts_between_commas spelling) all }
+
+pub asks_for : (word spelling : List ℕ) → word ≡ codes "do=" ++ spelling → list_all is_free_name (parts_between_commas spelling) ≡ true → AsksFor word (names_in spelling)
+asks_for word spelling key all = record { spelling = spelling; key = key; spells = spelled_so spelling all }
+
+pub leaves_out : (word spelling : List ℕ) → word ≡ codes "skip=" ++ spelling → list_all is_free_name (parts_between_commas spelling) ≡ true → LeavesOut word (names_in spelling)
+leaves_out word spelling key all = record { spelling = spelling; key = key; spells = spelled_so spelling all }
 
 -- What a word adds.
 
@@ -72,14 +101,18 @@ adds_refused {word = word} {values = values} part gives r =
     record { refused = λ other given. subst (Refuses values) (one_part word part other gives given) r }
 
 no_part : (word : List ℕ) (values : Values) → ((path : List ℕ) → NamesProgram word path → ⊥) → ((name : List ℕ) → NamesAction word name → ⊥) →
+    ((names : List (List ℕ)) → AsksFor word names → ⊥) → ((names : List (List ℕ)) → LeavesOut word names → ⊥) →
     ((n : ℕ) → NamesTurns word n → ⊥) → (part : Part) → GivesPart word part → Refuses values part
-no_part word values p a t (ProgramIn path) g = absurd (p path g)
-no_part word values p a t (ActionNamed name) g = absurd (a name g)
-no_part word values p a t (TurnsAtMost n) g = absurd (t n g)
+no_part word values p a d s t (ProgramIn path) g = absurd (p path g)
+no_part word values p a d s t (ActionNamed name) g = absurd (a name g)
+no_part word values p a d s t (NamesAsked names) g = absurd (d names g)
+no_part word values p a d s t (NamesSkipped names) g = absurd (s names g)
+no_part word values p a d s t (TurnsAtMost n) g = absurd (t n g)
 
 pub adds_no_part : {word : List ℕ} {values : Values} → ((path : List ℕ) → NamesProgram word path → ⊥) → ((name : List ℕ) → NamesAction word name → ⊥) →
+    ((names : List (List ℕ)) → AsksFor word names → ⊥) → ((names : List (List ℕ)) → LeavesOut word names → ⊥) →
     ((n : ℕ) → NamesTurns word n → ⊥) → AddsNothing values word
-adds_no_part {word = word} {values = values} p a t = record { refused = no_part word values p a t }
+adds_no_part {word = word} {values = values} p a d s t = record { refused = no_part word values p a d s t }
 
 -- The first word is that of at most one mode.
 
@@ -128,9 +161,9 @@ one_given words n p q read same x y =
 
 -- One word more is read.
 
-pub nothing_read : (words : List (List ℕ)) (values : Values) → HasMode words values.mode → values.program ≡ None → values.action ≡ None → values.turns ≡ None →
-    AreReadUpTo words 1 values
-nothing_read words values mode p a t = record {
+pub nothing_read : (words : List (List ℕ)) (values : Values) → HasMode words values.mode → values.program ≡ None → values.action ≡ None → values.todo ≡ None →
+    values.skip ≡ None → values.turns ≡ None → AreReadUpTo words 1 values
+nothing_read words values mode p a d s t = record {
   mode = mode;
   read = first_is;
   give = none_given;
@@ -147,6 +180,8 @@ nothing_read words values mode p a t = record {
     none_given : (key : WordKey) → GiveOf words 1 key (given_of values key)
     none_given Program = rw p (λ part e g. not_given part g)
     none_given Action = rw a (λ part e g. not_given part g)
+    none_given Do = rw d (λ part e g. not_given part g)
+    none_given Skip = rw s (λ part e g. not_given part g)
     none_given Turns = rw t (λ part e g. not_given part g)
 
 -- what is known of a key where another part is read
@@ -168,14 +203,11 @@ gives_key : (words : List (List ℕ)) (n : ℕ) (values : Values) (part : Part) 
     ((key : WordKey) → key_of part ≢ key → GiveOf words (n + 1) key (given_of values key)) →
     (key : WordKey) → GiveOf words (n + 1) key (given_of (with_part values part) key)
 gives_key words n values (ProgramIn path) here keep Program = (refl, here)
-gives_key words n values (ProgramIn path) here keep Action = keep Action (λ e. cc)
-gives_key words n values (ProgramIn path) here keep Turns = keep Turns (λ e. cc)
-gives_key words n values (ActionNamed name) here keep Program = keep Program (λ e. cc)
 gives_key words n values (ActionNamed name) here keep Action = (refl, here)
-gives_key words n values (ActionNamed name) here keep Turns = keep Turns (λ e. cc)
-gives_key words n values (TurnsAtMost k) here keep Program = keep Program (λ e. cc)
-gives_key words n values (TurnsAtMost k) here keep Action = keep Action (λ e. cc)
+gives_key words n values (NamesAsked names) here keep Do = (refl, here)
+gives_key words n values (NamesSkipped names) here keep Skip = (refl, here)
 gives_key words n values (TurnsAtMost k) here keep Turns = (refl, here)
+gives_key words n values part here keep key = keep key (λ e. cc)
 
 none_back : {A B : Type 0} (f : A → B) (found : Option A) → option_map f found ≡ None → one_if_some found ≡ 0
 none_back f None e = refl
@@ -184,6 +216,8 @@ none_back f (Some x) e = absurd cc
 counted : (values : Values) (part : Part) → given_of values (key_of part) ≡ None → count_of (with_part values part) ≡ count_of values + 1
 counted values (ProgramIn path) e = let none = none_back ProgramIn values.program e in omega arith
 counted values (ActionNamed name) e = let none = none_back ActionNamed values.action e in omega arith
+counted values (NamesAsked names) e = let none = none_back NamesAsked values.todo e in omega arith
+counted values (NamesSkipped names) e = let none = none_back NamesSkipped values.skip e in omega arith
 counted values (TurnsAtMost n) e = let none = none_back TurnsAtMost values.turns e in omega arith
 
 read_new : (words : List (List ℕ)) (mode : Mode) (place : ℕ) → 0 < place → HasMode words mode → GivesNew mode words place → IsRead words place
@@ -206,6 +240,8 @@ new_part words n part values give free taken gives =
 same_mode : (values : Values) (part : Part) → (with_part values part).mode ≡ values.mode
 same_mode values (ProgramIn path) = refl
 same_mode values (ActionNamed name) = refl
+same_mode values (NamesAsked names) = refl
+same_mode values (NamesSkipped names) = refl
 same_mode values (TurnsAtMost n) = refl
 
 one_part_more : (words : List (List ℕ)) (n : ℕ) (part : Part) (old new : Values) → 0 < n → AreReadUpTo words n old → GivesPart (word_at words n) part → Adds old part new →
@@ -227,12 +263,14 @@ pub one_word_more : (words : List (List ℕ)) (n : ℕ) (old new : Values) → 0
     AreReadUpTo words (n + 1) new
 one_word_more words n old new behind r adds = one_part_more words n adds.part old new behind r adds.gives adds.adds
 
--- at most three values are given
-pub few_read : {words : List (List ℕ)} {n : ℕ} {values : Values} → AreReadUpTo words n values → n ≤ 4
+-- at most five values are given
+pub few_read : {words : List (List ℕ)} {n : ℕ} {values : Values} → AreReadUpTo words n values → n ≤ 6
 few_read {values = values} r =
     let f = r.few in
     let p = at_most_one values.program in
     let a = at_most_one values.action in
+    let d = at_most_one values.todo in
+    let s = at_most_one values.skip in
     let t = at_most_one values.turns in
     omega arith
   where
@@ -270,6 +308,11 @@ turns_read : (words : List (List ℕ)) (turns : Option ℕ) → GiveOf words (le
 turns_read words None none = turns_usual (λ n g. none (TurnsAtMost n) refl g)
 turns_read words (Some n) give = turns_given n give.1
 
+names_read : (words : List (List ℕ)) (part : List (List ℕ) → Part) (key : WordKey) (names : Option (List (List ℕ))) → ((list : List (List ℕ)) → key_of (part list) ≡ key) →
+    GiveOf words (length words) key (option_map part names) → AskNames words part (names_or_none names)
+names_read words part key None of_key none = names_missing (λ list g. none (part list) (of_key list) g)
+names_read words part key (Some list) of_key give = names_given list give.1
+
 key_missing : (words : List (List ℕ)) (key : WordKey) (found : Option Part) → GiveOf words (length words) key found → is_some found ≡ false → IsKeyGiven words key → ⊥
 key_missing words key None give e g = give g.part g.of_key g.given
 key_missing words key (Some part) give e g = cc
@@ -283,20 +326,26 @@ not_lacking true true h e = refl
 not_lacking true false h e = absurd cc
 not_lacking false some h e = absurd cc
 
+-- no mode needs any of these keys
+pub not_needed : (mode : Mode) → (needs mode Do ≡ false) × (needs mode Skip ≡ false) × (needs mode Turns ≡ false)
+not_needed modes.Play = (refl, refl, refl)
+not_needed modes.Check = (refl, refl, refl)
+not_needed modes.List = (refl, refl, refl)
+
 -- if no needed key is missing, each needed key is given
 is_there : (values : Values) (key : WordKey) → is_complete values ≡ true → needs values.mode key ≡ true → is_some (given_of values key) ≡ true
-is_there values Program h e =
-    let two = (and_parts (not (lacks values Program) && not (lacks values Action)) _ h).0 in
-    not_lacking _ _ (and_parts (not (lacks values Program)) _ two).0 e
-is_there values Action h e =
-    let two = (and_parts (not (lacks values Program) && not (lacks values Action)) _ h).0 in
-    not_lacking _ _ (and_parts (not (lacks values Program)) _ two).1 e
-is_there values Turns h e = not_lacking _ _ (and_parts (not (lacks values Program) && not (lacks values Action)) _ h).1 e
+is_there values Program h e = not_lacking _ _ (and_parts (not (lacks values Program)) _ h).0 e
+is_there values Action h e = not_lacking _ _ (and_parts (not (lacks values Program)) _ h).1 e
+is_there values Do h e = let none = (not_needed values.mode).0 in absurd cc
+is_there values Skip h e = let none = (not_needed values.mode).1 in absurd cc
+is_there values Turns h e = let none = (not_needed values.mode).2 in absurd cc
 
 -- and so the request has it
 request_has : (values : Values) (request : Request) (key : WordKey) → HasValues values request → is_some (given_of values key) ≡ true → has_key request key ≡ true
 request_has values request Program h e = ap (λ (p : Option (List ℕ)). is_some p) h.program ∙ mapped_some ProgramIn values.program e
 request_has values request Action h e = ap (λ (p : Option (List ℕ)). is_some p) h.action_named ∙ mapped_some ActionNamed values.action e
+request_has values request Do h e = refl
+request_has values request Skip h e = refl
 request_has values request Turns h e = refl
 
 pub request_read : {words : List (List ℕ)} {request : Request} (values : Values) → AreReadUpTo words (length words) values → is_complete values ≡ true →
@@ -309,6 +358,8 @@ request_read {words = words} {request = request} values r complete h = record {
   };
   program = subst (λ (p : Option (List ℕ)). GiveOf words (length words) Program (option_map ProgramIn p)) (sym h.program) (r.give Program);
   action_named = subst (λ (p : Option (List ℕ)). GiveOf words (length words) Action (option_map ActionNamed p)) (sym h.action_named) (r.give Action);
+  todo_asked = subst (AskNames words NamesAsked) (sym h.todo_are) (names_read words NamesAsked Do values.todo (λ list. refl) (r.give Do));
+  skip_asked = subst (AskNames words NamesSkipped) (sym h.skip_are) (names_read words NamesSkipped Skip values.skip (λ list. refl) (r.give Skip));
   turns_asked = subst (AskTurns words) (sym h.turns_are) (turns_read words values.turns (r.give Turns));
 }
 
@@ -328,16 +379,14 @@ lack_of values key h =
     let l = is_lacking (needs values.mode key) (is_some (given_of values key)) h in
     record { key = key; needed = l.0; absent = l.1 }
 
-one_lacks : (values : Values) (a b c : Bool) → lacks values Program ≡ a → lacks values Action ≡ b → lacks values Turns ≡ c →
-    (not a && not b && not c) ≡ false → LackKey values
-one_lacks values true b c p q r h = lack_of values Program p
-one_lacks values false true c p q r h = lack_of values Action q
-one_lacks values false false true p q r h = lack_of values Turns r
-one_lacks values false false false p q r h = absurd cc
+one_lacks : (values : Values) (a b : Bool) → lacks values Program ≡ a → lacks values Action ≡ b → (not a && not b) ≡ false → LackKey values
+one_lacks values true b p q h = lack_of values Program p
+one_lacks values false true p q h = lack_of values Action q
+one_lacks values false false p q h = absurd cc
 
 pub key_lacks : {words : List (List ℕ)} (values : Values) → AreReadUpTo words (length words) values → is_complete values ≡ false → IsUsage words (length words + 1)
 key_lacks {words = words} values r h =
-    let l = one_lacks values (lacks values Program) (lacks values Action) (lacks values Turns) refl refl refl h in
+    let l = one_lacks values (lacks values Program) (lacks values Action) refl refl h in
     is_missing r.read (lack_key values.mode l.key r.mode l.needed (key_missing words l.key (given_of values l.key) (r.give l.key) l.absent))
 
 -- Words that do not begin with a mode.

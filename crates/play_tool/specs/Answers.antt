@@ -1,6 +1,6 @@
 -- What the tool answers: a text and a status, by the words and the files. It is defined where the file that the words
 -- name is held.
-use Rattle.std.specs.Prelude.{◌≡◌, ℕ, pos, List, codes, Option, None, Some}
+use Rattle.std.specs.Prelude.{◌≡◌, ℕ, pos, List, codes, Option, Some}
 use Rattle.tool_io.specs.Files.{file_of}
 use Rattle.stapl_lexer.specs.declared.reason.Reason.{Reason}
 use Rattle.stapl_lexer.specs.declared.reason.Reason.TheVariants as reasons
@@ -9,14 +9,16 @@ use Rattle.stapl_syntax.specs.Programs.{IsProgram, FirstFault}
 use Rattle.stapl_built.specs.Unbuilt.{IsUnbuiltAt, IsBuiltProgram}
 use Rattle.stapl_meaning.specs.declared.events.Ending.{Ending}
 use Rattle.stapl_meaning.specs.declared.events.Ending.TheVariants as endings
-use Rattle.stapl_meaning.specs.Scopes.{Played, as_played, chosen_of}
+use Rattle.stapl_meaning.specs.Choices.{Choice, choice_of}
+use Rattle.stapl_meaning.specs.Choices as choices
+use Rattle.stapl_meaning.specs.Scopes.{Played, as_played}
 use Rattle.stapl_meaning.specs.Plays.{play, ending_of}
 use Rattle.stapl_meaning.specs.Texts.{text_of}
 use Rattle.play_tool.specs.declared.mode.Mode.{Mode}
 use Rattle.play_tool.specs.declared.mode.Mode.TheVariants as modes
 use Rattle.play_tool.specs.declared.words.Request.{Request}
 use Rattle.play_tool.specs.declared.status.Status.{Status}
-use Rattle.play_tool.specs.declared.status.Status.TheVariants.{Done, Fault, Spent, Refused, NoAction, Usage, ReadFault, WriteFault, Memory}
+use Rattle.play_tool.specs.declared.status.Status.TheVariants.{Done, Fault, Spent, Refused, NoAction, BadChoice, Usage, ReadFault, WriteFault, Memory}
 use Rattle.play_tool.specs.Checks.{Checks}
 use Rattle.play_tool.specs.Listings.{Lists}
 use Rattle.play_tool.specs.Texts.{number_line, refusal_line}
@@ -28,18 +30,24 @@ done_with (endings.Exit code) = Done code
 done_with (endings.Fault k piece) = Fault k piece
 done_with endings.Spent = Spent
 
--- What is written of the play of an action, and the status: the program has no such action, or it is played for at most
--- so many turns. A play that still goes on after them is spent.
-pub data Plays (program : Played) (action : List ℕ) (turns : ℕ) : List ℕ → Status → Type 0 where
-  no_action : chosen_of program action ≡ None → Plays program action turns (codes "R action\n") NoAction
-  played : (chosen : List ℕ) (ending : Ending) → chosen_of program action ≡ Some chosen → ending_of (play program chosen turns).outcome ≡ Some ending →
-      Plays program action turns (text_of (play program chosen turns).events ending) (done_with ending)
+-- What is written of a play, and the status, by what a choice came to: the program has no such action, a name cannot be
+-- chosen, or the chosen procedures are played for at most so many turns. A play that still goes on after them is spent.
+pub data Plays (program : Played) (choice : Choice) (turns : ℕ) : List ℕ → Status → Type 0 where
+  no_action : choice ≡ choices.no_action → Plays program choice turns (codes "R action\n") NoAction
+  bad_choice : choice ≡ choices.bad_choice → Plays program choice turns (codes "R choice\n") BadChoice
+  played : (chosen : List ℕ) (ending : Ending) → choice ≡ choices.chosen chosen → ending_of (play program chosen turns).outcome ≡ Some ending →
+      Plays program choice turns (text_of (play program chosen turns).events ending) (done_with ending)
+
+-- the play of the action of this name, if the request asks for these names and leaves these out
+abbrev pub PlaysAction : List StmtTree → List ℕ → Request → (List ℕ → Status → Type 0)
+PlaysAction program action request =
+    Plays (as_played program) (choice_of (as_played program) action request.todo request.skip) request.turns
 
 -- the play of the action that a request names
 pub record PlaysAsked (program : List StmtTree) (request : Request) (text : List ℕ) (status : Status) : Type 0 where
   pub action : List ℕ
   pub asked : request.action ≡ Some action
-  pub plays : Plays (as_played program) action request.turns text status
+  pub plays : PlaysAction program action request text status
 
 -- The play that a request asks for, of a text that is a program: a piece of it is not built yet, or the action that is
 -- named is played.
@@ -100,4 +108,5 @@ IsFault (Fault k piece) = ⊥
 IsFault Spent = ⊥
 IsFault (Refused piece reason) = ⊥
 IsFault NoAction = ⊥
+IsFault BadChoice = ⊥
 IsFault (Usage n) = ⊥

@@ -1,28 +1,17 @@
 -- What a play through the code of a program finds.
-use Rattle.std.specs.Prelude.{◌≡◌, ℕ, List, [], ◌∷◌, map, Option, None, Some, if◌then◌else◌}
-use Rattle.std.specs.Str.{bytes_eq}
+use Rattle.std.specs.Prelude.{◌≡◌, ℕ, List, Option, Some}
 use Rattle.tool_io.specs.Bytes.{then_bytes, MovesFront}
 use Rattle.tool_io.specs.declared.lines.Lines.{Lines}
 use Rattle.tool_io.specs.Lines.{PutsFront}
 use Rattle.stapl_meaning.specs.declared.events.Ending.{Ending}
-use Rattle.stapl_meaning.specs.Scopes.{Played, chosen_of}
+use Rattle.stapl_meaning.specs.Choices.{Choice, chosen}
+use Rattle.stapl_meaning.specs.Scopes.{Played}
 use Rattle.stapl_meaning.specs.Plays.{Run, play, ending_of}
 use Rattle.stapl_meaning.specs.Texts.{text_of}
-use Rattle.stapl_code.specs.declared.raw.ActionDef.{ActionDef}
-use Rattle.stapl_code.specs.declared.raw.ItemDef.{ItemDef}
 use Rattle.stapl_machine.specs.declared.turns.Trouble.TheVariants as troubles
 use Rattle.stapl_machine.specs.declared.turns.Trouble.{Trouble}
 use Rattle.play_tool.specs.declared.status.NoAnswer.{NoAnswer}
 use Rattle.play_tool.specs.declared.status.NoAnswer.TheVariants as no_answers
-
--- the procedures of items, by number
-abbrev pub procedures_in : List ItemDef → List ℕ
-procedures_in items = map (λ item. item.procedure) items
-
--- the procedures of the action of a name, where there is one
-abbrev pub procedures_named : List ActionDef → List ℕ → Option (List ℕ)
-procedures_named [] name = None
-procedures_named (action ∷ actions) name = if bytes_eq name action.name then Some (procedures_in action.items) else procedures_named actions name
 
 -- why the tool gives no answer after a trouble of the machine
 abbrev pub no_answer_of : Trouble → NoAnswer
@@ -47,9 +36,9 @@ pub record RunFront (run : Run) (before after : Option (List ℕ)) : Type 0 wher
 pub record PutsRunFront {K : Type 0} (written : K → Option (List ℕ)) (run : Run) (old new : Lines K) : Type 0 where
   pub front : (ending : Ending) → ending_of run.outcome ≡ Some ending → PutsFront written old (text_of run.events ending) new
 
--- The run has the events and the ending of the play of this action of a program.
-pub record IsPlayOf (program : Played) (action : List ℕ) (turns : ℕ) (run : Run) : Type 0 where
-  pub chosen : List ℕ
-  pub is_chosen : chosen_of program action ≡ Some chosen
-  pub same_events : run.events ≡ (play program chosen turns).events
-  pub same_ending : ending_of run.outcome ≡ ending_of (play program chosen turns).outcome
+-- The run has the events and the ending of a program's play of the procedures that are chosen.
+pub record IsPlayOf (program : Played) (choice : Choice) (turns : ℕ) (run : Run) : Type 0 where
+  pub procedures : List ℕ
+  pub are_chosen : choice ≡ chosen procedures
+  pub same_events : run.events ≡ (play program procedures turns).events
+  pub same_ending : ending_of run.outcome ≡ ending_of (play program procedures turns).outcome

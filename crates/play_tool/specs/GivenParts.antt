@@ -1,18 +1,31 @@
 -- What the reader of words keeps of the words that it has read.
-use Rattle.std.specs.Prelude.{◌≡◌, ℕ, ◌+◌, ◌≤◌, Bool, true, false, ◌&&◌, not, List, Option, None, Some, is_some}
+use Rattle.std.specs.Prelude.{◌≡◌, ℕ, ◌+◌, ◌≤◌, Bool, true, false, ◌&&◌, not, List, [], Option, None, Some, is_some, if◌then◌else◌}
+use Rattle.std.specs.List.{filter_map}
 use Rattle.std.specs.Option.{option_map}
+use Rattle.std.specs.Str.{str_to_ascii_uppercase}
+use Rattle.stapl_lexer.specs.ReservedWords.{is_free_name}
 use Rattle.play_tool.specs.declared.mode.Mode.{Mode}
 use Rattle.play_tool.specs.declared.mode.WordKey.{WordKey}
-use Rattle.play_tool.specs.declared.mode.WordKey.TheVariants.{Program, Action, Turns}
+use Rattle.play_tool.specs.declared.mode.WordKey.TheVariants.{Program, Action, Do, Skip, Turns}
 use Rattle.play_tool.specs.declared.words.Given.{Given}
 use Rattle.play_tool.specs.declared.words.Request.{Request}
-use Rattle.play_tool.specs.Words.{Part, ProgramIn, ActionNamed, TurnsAtMost, key_of, usual_turns, takes, needs, GivesPart, HasMode, GiveOf, AreReadBefore}
+use Rattle.play_tool.specs.Words.{Part, ProgramIn, ActionNamed, NamesAsked, NamesSkipped, TurnsAtMost, key_of, parts_between_commas, usual_turns, takes, needs, GivesPart, HasMode, GiveOf, AreReadBefore}
+
+-- the name that bytes spell, if they spell one that is not reserved
+abbrev pub name_spelled : List ℕ → Option (List ℕ)
+name_spelled bytes = if is_free_name bytes then Some (str_to_ascii_uppercase bytes) else None
+
+-- the names among the parts between commas
+abbrev pub names_in : List ℕ → List (List ℕ)
+names_in spelling = filter_map name_spelled (parts_between_commas spelling)
 
 -- the mode, and the values that are given, by key
 pub record Values : Type 0 where
   pub mode : Mode
   pub program : Option (List ℕ)
   pub action : Option (List ℕ)
+  pub todo : Option (List (List ℕ))
+  pub skip : Option (List (List ℕ))
   pub turns : Option ℕ
 
 abbrev pub values_of : Given → Values
@@ -20,6 +33,8 @@ values_of given = record {
   mode = given.mode;
   program = option_map (λ path. path.now) given.program;
   action = given.action;
+  todo = option_map (λ spelling. names_in spelling.now) given.todo;
+  skip = option_map (λ spelling. names_in spelling.now) given.skip;
   turns = given.turns;
 }
 
@@ -27,12 +42,16 @@ values_of given = record {
 abbrev pub given_of : Values → WordKey → Option Part
 given_of values Program = option_map ProgramIn values.program
 given_of values Action = option_map ActionNamed values.action
+given_of values Do = option_map NamesAsked values.todo
+given_of values Skip = option_map NamesSkipped values.skip
 given_of values Turns = option_map TurnsAtMost values.turns
 
 -- the values with those of one part more
 abbrev pub with_part : Values → Part → Values
 with_part values (ProgramIn path) = record values { program = Some path }
 with_part values (ActionNamed name) = record values { action = Some name }
+with_part values (NamesAsked names) = record values { todo = Some names }
+with_part values (NamesSkipped names) = record values { skip = Some names }
 with_part values (TurnsAtMost n) = record values { turns = Some n }
 
 -- a part more, whose key the mode takes and which was free
@@ -62,7 +81,8 @@ one_if_some None = 0
 one_if_some (Some x) = 1
 
 abbrev pub count_of : Values → ℕ
-count_of values = one_if_some values.program + one_if_some values.action + one_if_some values.turns
+count_of values =
+    one_if_some values.program + one_if_some values.action + one_if_some values.todo + one_if_some values.skip + one_if_some values.turns
 
 -- The first n words are read, and they give these values.
 pub record AreReadUpTo (words : List (List ℕ)) (n : ℕ) (values : Values) : Type 0 where
@@ -75,18 +95,25 @@ pub record AreReadUpTo (words : List (List ℕ)) (n : ℕ) (values : Values) : T
 abbrev pub lacks : Values → WordKey → Bool
 lacks values key = needs values.mode key && not (is_some (given_of values key))
 
--- each key is given that the mode needs
+-- each key is given that the mode needs; no mode needs any but these
 abbrev pub is_complete : Values → Bool
-is_complete values = not (lacks values Program) && not (lacks values Action) && not (lacks values Turns)
+is_complete values = not (lacks values Program) && not (lacks values Action)
 
 -- the number of turns that is given, or the usual one
 abbrev pub turns_or_usual : Option ℕ → ℕ
 turns_or_usual None = usual_turns
 turns_or_usual (Some n) = n
 
+-- the names that are given, or none
+abbrev pub names_or_none : Option (List (List ℕ)) → List (List ℕ)
+names_or_none None = []
+names_or_none (Some names) = names
+
 -- the request with these values
 pub record HasValues (values : Values) (request : Request) : Type 0 where
   pub mode : request.mode ≡ values.mode
   pub program : request.program ≡ values.program
   pub action_named : request.action ≡ values.action
+  pub todo_are : request.todo ≡ names_or_none values.todo
+  pub skip_are : request.skip ≡ names_or_none values.skip
   pub turns_are : request.turns ≡ turns_or_usual values.turns

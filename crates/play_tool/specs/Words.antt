@@ -1,7 +1,7 @@
 -- The words of a command: the mode, and behind it keys with their values, in any order. The rules are this tool's own.
-use Rattle.std.specs.Prelude.{◌≡◌, ◌≢◌, ℕ, ◌+◌, ◌<◌, ◌≤◌, List, [], ◌∷◌, ◌++◌, Bool, ◌&&◌, ◌||◌, ◌==◌, not, true, false, length, codes, suc, zero, slice_index, slice_index_or, Option, None, Some, is_some}
+use Rattle.std.specs.Prelude.{◌≡◌, ◌≢◌, ℕ, ◌+◌, ◌<◌, ◌≤◌, List, [], ◌∷◌, ◌++◌, Bool, ◌&&◌, ◌||◌, ◌==◌, not, true, false, length, map, codes, suc, zero, slice_index, slice_index_or, Option, None, Some, is_some}
 use Rattle.std.specs.Char.{is_ascii_digit}
-use Rattle.std.specs.List.{list_all, list_any}
+use Rattle.std.specs.List.{list_all, list_any, slice_split}
 use Rattle.std.specs.Option.{option_map}
 use Rattle.std.specs.Str.{str_to_ascii_uppercase}
 use Rattle.std.specs.Str.Parse.{digits_value}
@@ -9,7 +9,7 @@ use Rattle.stapl_lexer.specs.ReservedWords.{is_free_name}
 use Rattle.play_tool.specs.declared.mode.Mode.{Mode}
 use Rattle.play_tool.specs.declared.mode.Mode.TheVariants as modes
 use Rattle.play_tool.specs.declared.mode.WordKey.{WordKey}
-use Rattle.play_tool.specs.declared.mode.WordKey.TheVariants.{Program, Action, Turns}
+use Rattle.play_tool.specs.declared.mode.WordKey.TheVariants.{Program, Action, Do, Skip, Turns}
 use Rattle.play_tool.specs.declared.words.Request.{Request}
 use Rattle.play_tool.specs.declared.words.WordsRefused.{WordsRefused}
 use Rattle.play_tool.specs.declared.words.WordsRefused.TheVariants as refusals
@@ -22,7 +22,7 @@ mode_word modes.List = codes "list"
 
 -- the keys that a mode takes
 abbrev pub keys_taken : Mode → List WordKey
-keys_taken modes.Play = Program ∷ Action ∷ Turns ∷ []
+keys_taken modes.Play = Program ∷ Action ∷ Do ∷ Skip ∷ Turns ∷ []
 keys_taken modes.Check = Program ∷ []
 keys_taken modes.List = Program ∷ []
 
@@ -35,6 +35,8 @@ keys_needed modes.List = Program ∷ []
 abbrev pub is_same_key : WordKey → WordKey → Bool
 is_same_key Program Program = true
 is_same_key Action Action = true
+is_same_key Do Do = true
+is_same_key Skip Skip = true
 is_same_key Turns Turns = true
 is_same_key _ _ = false
 
@@ -50,11 +52,15 @@ needs mode key = list_any (is_same_key key) (keys_needed mode)
 pub data Part : Type 0 where
   ProgramIn : (path : List ℕ) → Part
   ActionNamed : (name : List ℕ) → Part
+  NamesAsked : (names : List (List ℕ)) → Part
+  NamesSkipped : (names : List (List ℕ)) → Part
   TurnsAtMost : (n : ℕ) → Part
 
 abbrev pub key_of : Part → WordKey
 key_of (ProgramIn path) = Program
 key_of (ActionNamed name) = Action
+key_of (NamesAsked names) = Do
+key_of (NamesSkipped names) = Skip
 key_of (TurnsAtMost n) = Turns
 
 -- the most turns that words may ask for, and how many there are where they ask for none
@@ -84,6 +90,27 @@ pub record NamesAction (word action : List ℕ) : Type 0 where
   pub key : word ≡ codes "action=" ++ spelling
   pub name : SpellsFreeName spelling action
 
+-- the parts of a list of names, which a comma (44) separates
+abbrev pub parts_between_commas : List ℕ → List (List ℕ)
+parts_between_commas spelling = slice_split (λ b. b == 44) spelling
+
+-- the bytes spell these names, joined by commas: at least one, in either case of their letters, and none is reserved
+pub record SpellsNames (spelling : List ℕ) (names : List (List ℕ)) : Type 0 where
+  pub spelled : list_all is_free_name (parts_between_commas spelling) ≡ true
+  pub upper : names ≡ map str_to_ascii_uppercase (parts_between_commas spelling)
+
+-- the word asks for the procedures of these names
+pub record AsksFor (word : List ℕ) (names : List (List ℕ)) : Type 0 where
+  pub spelling : List ℕ
+  pub key : word ≡ codes "do=" ++ spelling
+  pub spells : SpellsNames spelling names
+
+-- the word leaves out the procedures of these names
+pub record LeavesOut (word : List ℕ) (names : List (List ℕ)) : Type 0 where
+  pub spelling : List ℕ
+  pub key : word ≡ codes "skip=" ++ spelling
+  pub spells : SpellsNames spelling names
+
 -- the bytes spell this number of turns
 pub record SpellsTurns (spelling : List ℕ) (turns : ℕ) : Type 0 where
   pub spelled : is_decimal spelling ≡ true
@@ -100,6 +127,8 @@ pub record NamesTurns (word : List ℕ) (turns : ℕ) : Type 0 where
 abbrev pub GivesPart : List ℕ → Part → Type 0
 GivesPart word (ProgramIn path) = NamesProgram word path
 GivesPart word (ActionNamed name) = NamesAction word name
+GivesPart word (NamesAsked names) = AsksFor word names
+GivesPart word (NamesSkipped names) = LeavesOut word names
 GivesPart word (TurnsAtMost n) = NamesTurns word n
 
 -- the word at a place, counted from 0
@@ -157,10 +186,17 @@ pub data AskTurns (words : List (List ℕ)) : ℕ → Type 0 where
   turns_given : (n : ℕ) → IsGiven words (TurnsAtMost n) → AskTurns words n
   turns_usual : ((n : ℕ) → IsGiven words (TurnsAtMost n) → ⊥) → AskTurns words usual_turns
 
--- what a request has of a key; it always has a number of turns
+-- The words give these names, as a part of this form, or they give none.
+pub data AskNames (words : List (List ℕ)) (part : List (List ℕ) → Part) : List (List ℕ) → Type 0 where
+  names_given : (names : List (List ℕ)) → IsGiven words (part names) → AskNames words part names
+  names_missing : ((names : List (List ℕ)) → IsGiven words (part names) → ⊥) → AskNames words part []
+
+-- what a request has of a key; it always has a number of turns, and lists of names, which may be empty
 abbrev pub has_key : Request → WordKey → Bool
 has_key request Program = is_some request.program
 has_key request Action = is_some request.action
+has_key request Do = true
+has_key request Skip = true
 has_key request Turns = true
 
 -- The request has each key that its mode needs.
@@ -175,6 +211,8 @@ pub record IsRequest (words : List (List ℕ)) (request : Request) : Type 0 wher
   pub needed : HasNeeded request
   pub program : GiveOf words (length words) Program (option_map ProgramIn request.program)
   pub action_named : GiveOf words (length words) Action (option_map ActionNamed request.action)
+  pub todo_asked : AskNames words NamesAsked request.todo
+  pub skip_asked : AskNames words NamesSkipped request.skip
   pub turns_asked : AskTurns words request.turns
 
 -- The words lack the mode, or a key that it needs.

@@ -19,6 +19,10 @@ pub(crate) enum WordKey {
     Program,
     /// The name of the action.
     Action,
+    /// The names of OPTIONAL procedures that are to run.
+    Do,
+    /// The names of RECOMMENDED procedures that are to be left out.
+    Skip,
     /// The most turns of the play.
     Turns,
 }
@@ -43,7 +47,7 @@ impl Mode {
         match key {
             WordKey::Program => true,
             WordKey::Action => matches!(self, Mode::Play),
-            WordKey::Turns => false,
+            WordKey::Do | WordKey::Skip | WordKey::Turns => false,
         }
     }
 }

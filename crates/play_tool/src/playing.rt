@@ -1,55 +1,39 @@
 //! The play of a program, through its code.
-ghost use Rattle.std.specs.Prelude.{◌≡◌, ◌<◌, length, map, Some, None, OnOk, OnErr, IfOk, IfSome, IfNone, IsErrOf};
+ghost use Rattle.std.specs.Prelude.{◌≡◌, ◌<◌, length, Some, OnOk, OnErr, IfOk, IsErrOf};
 ghost use Rattle.tool_io.specs.Causes.{HasRisen, NeverFalls};
 ghost use Rattle.tool_io.specs.Lines.{IsWhole, IsOverSame, SinkNeverFalls, sink_of, Puts};
 ghost use Rattle.stapl_syntax.specs.ProgramValues.{trees_of};
 ghost use Rattle.stapl_built.specs.Unbuilt.{IsBuiltProgram};
-ghost use Rattle.stapl_meaning.specs.Scopes.{as_played};
+ghost use Rattle.stapl_meaning.specs.Choices.{no_action, bad_choice, chosen, choice_of};
 ghost use Rattle.stapl_meaning.specs.Plays.{ending_of};
+ghost use Rattle.stapl_meaning.specs.Scopes.{as_played};
 ghost use Rattle.stapl_meaning.specs.Texts.{text_of};
+ghost use Rattle.stapl_meaning.specs.Typed.{IsTyped};
 ghost use Rattle.stapl_code.specs.Safe.{AllBelow, AllFit};
+ghost use Rattle.stapl_codegen.specs.Generated.{IsCodeOf};
 ghost use Rattle.stapl_machine.specs.Zeros.{zeros_of_code};
 ghost use Rattle.stapl_machine.specs.Machines.{IsPrepared, play_of};
 ghost use Rattle.play_tool.specs.Written.{Wrote, WroteFront, IsPrefixOf};
-ghost use Rattle.play_tool.specs.Answers.{done_with, IsFault, Plays};
-ghost use Rattle.play_tool.specs.CodePlays.{procedures_in, procedures_named, HasEnding, RunWritten, RunFront, PutsRunFront};
+ghost use Rattle.play_tool.specs.Answers.{done_with, IsFault, PlaysAction};
+ghost use Rattle.play_tool.specs.CodePlays.{HasEnding, RunWritten, RunFront, PutsRunFront};
 
-use crate::Status;
 use crate::status::NoAnswer;
 use crate::writing::{put_ending, write_text};
+use crate::{Request, Status};
 use base::Steps;
+use stapl_code::Code;
 use stapl_code::laws::never_stuck;
-use stapl_code::{ActionDef, Code, ItemDef};
 use stapl_codegen::generate;
 use stapl_lexer::Name;
 use stapl_machine::Machine;
 use stapl_meaning::Ending;
+use stapl_meaning::laws::programs_are_typed;
+use stapl_player::{ChoiceRefused, choose, play};
 use stapl_syntax::Program;
-use std::alloc::{AllocError, Global};
+use std::alloc::Global;
 use std::marker::Brand;
 use std::sync::ledger::{Blank, Ledger};
 use tool_io::{Lines, Sink};
-
-// The action of a name.
-fn find_action<'a>(actions: &'a [ActionDef], name: &Name) -> Option<&'a ActionDef>
-    ensures some { IfSome result (λ action.
-        procedures_named actions.now name.now ≡ Some (procedures_in action.now.items)) }
-    ensures none { IfNone result (procedures_named actions.now name.now ≡ None) }
-{
-    for action in actions {
-        if *name == action.name {
-            return Some(action);
-        }
-    }
-    None
-}
-
-// The procedures of items, by number.
-fn procedures_in(alloc: Global, items: &[ItemDef]) -> Result<Vec<u32>, AllocError>
-    ensures { IfOk result (λ procedures. procedures.items ≡ procedures_in items.now) }
-{
-    items.iter().map(|item| item.procedure).collect(alloc)
-}
 
 // Tells the proofs that a play of a code comes to an ending.
 fn check_ending(code: &Code, chosen: &[u32], turns: u32)
@@ -90,7 +74,7 @@ fn put_play<K: Sink, L: Ledger>(
     ensures kept { SinkNeverFalls K.faults K.is_last lines.old lines.new }
 {
     let mut steps = Steps::<L>::none(blank);
-    let ending = machine.run(code, chosen, lines, turns, &mut steps)?;
+    let ending = play(machine, code, chosen, lines, turns, &mut steps)?;
     put_ending(lines, ending)?;
     Ok(ending)
 }
@@ -132,6 +116,8 @@ fn play_chosen<K: Sink>(
     out: &mut K,
 ) -> Result<Ending, NoAnswer>
     requires below { AllBelow (length code.now.procedures) chosen.now }
+    requires fit { AllFit code.now.variables (zeros_of_code code.now) }
+    ensures comes { IsErrOf result NoAnswer.Write → HasEnding (play_of code.now chosen.now turns) }
     ensures ok { IfOk result (RunWritten (play_of code.now chosen.now turns) (K.written out.old) (K.written out.new)) }
     ensures front { OnErr result (RunFront (play_of code.now chosen.now turns) (K.written out.old)
         (K.written out.new)) }
@@ -139,36 +125,35 @@ fn play_chosen<K: Sink>(
     ensures write { IsErrOf result NoAnswer.Write → HasRisen K.faults K.is_last out.old out.new }
     ensures later { NeverFalls K.faults K.is_last out.old out.new }
 {
+    check_ending(code, chosen, turns);
     let mut machine = Machine::prepare(alloc, code)?;
     let blank = Blank::new(1);
     let ending = write_play::<K, Brand>(&mut machine, code, chosen, turns, out, blank)?;
     Ok(ending)
 }
 
-// Plays an action of a code.
-fn play_action<K: Sink>(
+// The procedures of an action of a program that run, by the choices of a request, which its code tells.
+fn choose_asked(
     alloc: Global,
+    program: &Program,
     code: &Code,
-    action: &ActionDef,
-    turns: u32,
-    out: &mut K,
-) -> Result<Ending, NoAnswer>
-    requires below { AllBelow (length code.now.procedures) (procedures_in action.now.items) }
-    requires fit { AllFit code.now.variables (zeros_of_code code.now) }
-    ensures comes { IsErrOf result NoAnswer.Write →
-        HasEnding (play_of code.now (procedures_in action.now.items) turns) }
-    ensures ok { IfOk result (RunWritten (play_of code.now (procedures_in action.now.items) turns) (K.written out.old)
-        (K.written out.new)) }
-    ensures front { OnErr result (RunFront (play_of code.now (procedures_in action.now.items) turns) (K.written out.old)
-        (K.written out.new)) }
-    ensures read { IsErrOf result NoAnswer.Read → ⊥ }
-    ensures write { IsErrOf result NoAnswer.Write → HasRisen K.faults K.is_last out.old out.new }
-    ensures later { NeverFalls K.faults K.is_last out.old out.new }
+    action: &Name,
+    request: &Request,
+) -> Result<Vec<u32>, ChoiceRefused>
+    requires typed { IsTyped (as_played (trees_of program.now)) }
+    requires code { IsCodeOf (as_played (trees_of program.now)) code.now }
+    ensures ok { IfOk result (λ procedures. choice_of (as_played (trees_of program.now)) action.now request.now.todo
+        request.now.skip ≡ chosen procedures.items) }
+    ensures below { IfOk result (λ procedures. AllBelow (length code.now.procedures) procedures.items) }
+    ensures action { IsErrOf result ChoiceRefused.NoAction →
+        choice_of (as_played (trees_of program.now)) action.now request.now.todo request.now.skip ≡ no_action }
+    ensures choice { IsErrOf result ChoiceRefused.BadChoice →
+        choice_of (as_played (trees_of program.now)) action.now request.now.todo request.now.skip ≡ bad_choice }
 {
-    let chosen = procedures_in(alloc, action.items.as_slice())?;
-    check_ending(code, &chosen, turns);
-    let ending = play_chosen(alloc, code, &chosen, turns, out)?;
-    Ok(ending)
+    let _program = program;
+    let asked = request.todo.as_slice();
+    let skipped = request.skip.as_slice();
+    choose(alloc, code, action, asked, skipped)
 }
 
 // The status of a play that ends so.
@@ -182,31 +167,42 @@ fn status_of(ending: Ending) -> Status
     }
 }
 
-/// Plays an action of a built program, for at most so many turns.
+/// Plays an action of a built program, as a request asks for it: its procedures that run by the choices of the request,
+/// for at most so many turns.
 pub fn play_program<K: Sink>(
     alloc: Global,
     program: &Program,
     action: &Name,
-    turns: u32,
+    request: &Request,
     out: &mut K,
 ) -> Result<Status, NoAnswer>
     requires { IsBuiltProgram program.now.text (trees_of program.now) }
     ensures answered { IfOk result (λ status. IsFault status → ⊥) }
-    ensures ok { IfOk result (Wrote (Plays (as_played (trees_of program.now)) action.now turns) (K.written out.old)
+    ensures ok { IfOk result (Wrote (PlaysAction (trees_of program.now) action.now request.now) (K.written out.old)
         (K.written out.new)) }
     ensures read { IsErrOf result NoAnswer.Read → ⊥ }
     ensures write { IsErrOf result NoAnswer.Write → HasRisen K.faults K.is_last out.old out.new }
     ensures front { IsErrOf result NoAnswer.Write →
-        WroteFront (Plays (as_played (trees_of program.now)) action.now turns) (K.written out.old) (K.written out.new) }
+        WroteFront (PlaysAction (trees_of program.now) action.now request.now) (K.written out.old) (K.written out.new) }
     ensures memory { IsErrOf result NoAnswer.Memory →
-        IsPrefixOf (Plays (as_played (trees_of program.now)) action.now turns) (K.written out.old) (K.written out.new) }
+        IsPrefixOf (PlaysAction (trees_of program.now) action.now request.now) (K.written out.old) (K.written out.new) }
     ensures later { NeverFalls K.faults K.is_last out.old out.new }
 {
+    programs_are_typed();
     let code = generate(alloc, program)?;
-    let Some(found) = find_action(code.raw().lists().actions.as_slice(), action) else {
-        write_text(out, b"R action\n")?;
-        return Ok(Status::NoAction);
-    };
-    let ending = play_action(alloc, &code, found, turns, out)?;
-    Ok(status_of(ending))
+    match choose_asked(alloc, program, &code, action, request) {
+        Ok(chosen) => {
+            let ending = play_chosen(alloc, &code, &chosen, request.turns, out)?;
+            Ok(status_of(ending))
+        }
+        Err(ChoiceRefused::NoAction) => {
+            write_text(out, b"R action\n")?;
+            Ok(Status::NoAction)
+        }
+        Err(ChoiceRefused::BadChoice) => {
+            write_text(out, b"R choice\n")?;
+            Ok(Status::BadChoice)
+        }
+        Err(ChoiceRefused::Memory) => Err(NoAnswer::Memory),
+    }
 }

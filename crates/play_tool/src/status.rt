@@ -25,6 +25,8 @@ pub enum Status {
     Refused(u32, Reason),
     /// The program has no action of the name that the words give.
     NoAction,
+    /// A name of `do` is not that of an OPTIONAL procedure of the action, or a name of `skip` not that of a RECOMMENDED one.
+    BadChoice,
     /// The first word, counted from 1, that is not as stated, or the number of words plus 1 where words are missing.
     Usage(u32),
     /// A file that the words name could not be read. Nothing is written.
@@ -89,7 +91,7 @@ impl Status {
             Status::Fault(_, _) => 2,
             Status::Spent => 3,
             Status::Refused(_, _) => 4,
-            Status::NoAction => 6,
+            Status::NoAction | Status::BadChoice => 6,
             Status::Usage(_) => 7,
             Status::ReadFault => 9,
             Status::WriteFault => 10,

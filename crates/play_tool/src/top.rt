@@ -49,7 +49,7 @@ fn play_text<K: Sink>(
             write_refusal(out, unbuilt.piece, unbuilt.line, Reason::NotYetBuilt)?;
             Ok(Status::Refused(unbuilt.piece, Reason::NotYetBuilt))
         }
-        None => play_program(alloc, program, action, request.turns, out),
+        None => play_program(alloc, program, action, request, out),
     }
 }
 

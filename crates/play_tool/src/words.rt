@@ -2,12 +2,15 @@
 ghost use Rattle.std.specs.Prelude.{◌≡◌, ◌≤◌, ◌<◌, ◌+◌, ℕ, List, [], length, map, codes, string_bytes, is_some, None, IfSome, IfNone, IfOk, IfErr};
 ghost use Rattle.std.specs.Char.{is_ascii_digit};
 ghost use Rattle.std.specs.List.{list_all};
-ghost use Rattle.play_tool.specs.Words.{mode_word, ProgramIn, ActionNamed, TurnsAtMost, is_decimal, NamesProgram, NamesAction, SpellsTurns, NamesTurns, HasMode, IsRequest, IsFirstUnread, IsWordsRefused};
-ghost use Rattle.play_tool.specs.GivenParts.{values_of, given_of, Adds, Refuses, AddsWord, AddsNothing, AreReadUpTo, lacks, is_complete, HasValues};
+ghost use Rattle.std.specs.Option.{option_map};
+ghost use Rattle.stapl_lexer.specs.ReservedWords.{is_free_name};
+ghost use Rattle.play_tool.specs.Words.{mode_word, ProgramIn, ActionNamed, NamesAsked, NamesSkipped, TurnsAtMost, is_decimal, parts_between_commas, NamesProgram, NamesAction, SpellsNames, AsksFor, LeavesOut, SpellsTurns, NamesTurns, HasMode, IsRequest, IsFirstUnread, IsWordsRefused};
+ghost use Rattle.play_tool.specs.GivenParts.{name_spelled, names_in, values_of, given_of, Adds, Refuses, AddsWord, AddsNothing, AreReadUpTo, lacks, is_complete, names_or_none, HasValues};
 ghost use Rattle.play_tool.specs.declared.mode.Mode.{Mode};
 
 use crate::mode::WordKey;
 use crate::{FileName, Mode};
+use base::ItemList;
 use stapl_lexer::Name;
 use std::alloc::{AllocError, Global};
 use thiserror::Error;
@@ -26,6 +29,10 @@ pub struct Request {
     pub program: Option<FileName>,
     /// The name of the action.
     pub action: Option<Name>,
+    /// The names of OPTIONAL procedures of the action that are to run.
+    pub todo: ItemList<Name>,
+    /// The names of RECOMMENDED procedures of the action that are to be left out.
+    pub skip: ItemList<Name>,
     /// The most turns that the play may take, or the usual number if the words say none.
     pub turns: u32,
 }
@@ -42,12 +49,14 @@ pub enum WordsRefused {
     Memory,
 }
 
-// What the words so far have given.
+// What the words so far have given. A list of names is kept as it is spelled.
 #[derive(Clone, Copy)]
 struct Given<'a> {
     mode: Mode,
     program: Option<&'a str>,
     action: Option<Name>,
+    todo: Option<&'a str>,
+    skip: Option<&'a str>,
     turns: Option<u32>,
 }
 
@@ -56,12 +65,16 @@ impl<'a> Given<'a> {
         ensures mode { result.mode ≡ mode }
         ensures program { result.program ≡ None }
         ensures action { result.action ≡ None }
+        ensures todo { result.todo ≡ None }
+        ensures skip { result.skip ≡ None }
         ensures turns { result.turns ≡ None }
     {
         Given {
             mode,
             program: None,
             action: None,
+            todo: None,
+            skip: None,
             turns: None,
         }
     }
@@ -79,6 +92,8 @@ impl<'a> Given<'a> {
                 mode: self.mode,
                 program: Some(path),
                 action: self.action,
+                todo: self.todo,
+                skip: self.skip,
                 turns: self.turns,
             }),
         }
@@ -97,6 +112,50 @@ impl<'a> Given<'a> {
                 mode: self.mode,
                 program: self.program,
                 action: Some(name),
+                todo: self.todo,
+                skip: self.skip,
+                turns: self.turns,
+            }),
+        }
+    }
+
+    fn with_todo(&self, spelling: &'a str) -> Option<Given<'a>>
+        ensures some { IfSome result (λ next.
+            Adds (values_of self.now) (NamesAsked (names_in spelling.now)) (values_of next)) }
+        ensures none { IfNone result (Refuses (values_of self.now) (NamesAsked (names_in spelling.now))) }
+    {
+        if !self.mode.takes(WordKey::Do) {
+            return None;
+        }
+        match self.todo {
+            Some(_) => None,
+            None => Some(Given {
+                mode: self.mode,
+                program: self.program,
+                action: self.action,
+                todo: Some(spelling),
+                skip: self.skip,
+                turns: self.turns,
+            }),
+        }
+    }
+
+    fn with_skip(&self, spelling: &'a str) -> Option<Given<'a>>
+        ensures some { IfSome result (λ next.
+            Adds (values_of self.now) (NamesSkipped (names_in spelling.now)) (values_of next)) }
+        ensures none { IfNone result (Refuses (values_of self.now) (NamesSkipped (names_in spelling.now))) }
+    {
+        if !self.mode.takes(WordKey::Skip) {
+            return None;
+        }
+        match self.skip {
+            Some(_) => None,
+            None => Some(Given {
+                mode: self.mode,
+                program: self.program,
+                action: self.action,
+                todo: self.todo,
+                skip: Some(spelling),
                 turns: self.turns,
             }),
         }
@@ -115,6 +174,8 @@ impl<'a> Given<'a> {
                 mode: self.mode,
                 program: self.program,
                 action: self.action,
+                todo: self.todo,
+                skip: self.skip,
                 turns: Some(turns),
             }),
         }
@@ -132,6 +193,12 @@ impl<'a> Given<'a> {
         if let Some(name) = action_name(word) {
             return self.with_action(name);
         }
+        if let Some(spelling) = names_asked(word) {
+            return self.with_todo(spelling);
+        }
+        if let Some(spelling) = names_skipped(word) {
+            return self.with_skip(spelling);
+        }
         if let Some(turns) = turn_count(word) {
             return self.with_turns(turns);
         }
@@ -144,6 +211,8 @@ impl<'a> Given<'a> {
         match key {
             WordKey::Program => self.program.is_some(),
             WordKey::Action => self.action.is_some(),
+            WordKey::Do => self.todo.is_some(),
+            WordKey::Skip => self.skip.is_some(),
             WordKey::Turns => self.turns.is_some(),
         }
     }
@@ -155,11 +224,11 @@ impl<'a> Given<'a> {
         self.mode.needs(key) && !self.has(key)
     }
 
-    // Whether each key is given that the mode needs.
+    // Whether each key is given that the mode needs. No mode needs any but these.
     fn is_complete(&self) -> bool
         ensures { result ≡ is_complete (values_of self.now) }
     {
-        !self.lacks(WordKey::Program) && !self.lacks(WordKey::Action) && !self.lacks(WordKey::Turns)
+        !self.lacks(WordKey::Program) && !self.lacks(WordKey::Action)
     }
 
     // The name of the program's file.
@@ -181,6 +250,8 @@ impl<'a> Given<'a> {
             mode: self.mode,
             program,
             action: self.action,
+            todo: names_given(alloc, self.todo)?,
+            skip: names_given(alloc, self.skip)?,
             turns: self.turns.unwrap_or(USUAL_TURNS),
         })
     }
@@ -205,6 +276,70 @@ fn action_name(word: &str) -> Option<Name>
     match word.strip_prefix("action=") {
         Some(spelling) => Name::read_free(spelling.as_bytes()),
         None => None,
+    }
+}
+
+// Whether a text spells names, joined by commas.
+fn spells_names(spelling: &str) -> bool
+    ensures { result ≡ list_all is_free_name (parts_between_commas spelling.now) }
+{
+    spelling.split(',').all(|part| is_free_name(part))
+}
+
+// Whether a text spells a name that is not reserved.
+fn is_free_name(spelling: &str) -> bool
+    ensures { result ≡ is_free_name spelling.now }
+{
+    Name::read_free(spelling.as_bytes()).is_some()
+}
+
+// The name that a text spells, if it spells one that is not reserved.
+fn name_spelled(spelling: &str) -> Option<Name>
+    ensures { result ≡ name_spelled spelling.now }
+{
+    Name::read_free(spelling.as_bytes())
+}
+
+// The names in a text between commas.
+fn names_in(alloc: Global, spelling: &str) -> Result<Vec<Name>, AllocError>
+    ensures { IfOk result (λ names. names.items ≡ names_in spelling.now) }
+{
+    spelling
+        .split(',')
+        .filter_map(|part| name_spelled(part))
+        .collect(alloc)
+}
+
+// The names in a text, if there is one.
+fn names_given(alloc: Global, spelling: Option<&str>) -> Result<ItemList<Name>, AllocError>
+    ensures { IfOk result (λ names.
+        names ≡ names_or_none (option_map (λ text. names_in text.now) spelling.entry)) }
+{
+    match spelling {
+        Some(spelling) => Ok(ItemList::of(names_in(alloc, spelling)?)),
+        None => Ok(ItemList::of(Vec::new(alloc))),
+    }
+}
+
+// The names, as they are spelled, that a word asks for.
+fn names_asked(word: &str) -> Option<&str>
+    ensures some { IfSome result (λ spelling. AsksFor word.now (names_in spelling.now)) }
+    ensures none { IfNone result ((names : List (List ℕ)) → AsksFor word.now names → ⊥) }
+{
+    match word.strip_prefix("do=") {
+        Some(spelling) if spells_names(spelling) => Some(spelling),
+        _ => None,
+    }
+}
+
+// The names, as they are spelled, that a word leaves out.
+fn names_skipped(word: &str) -> Option<&str>
+    ensures some { IfSome result (λ spelling. LeavesOut word.now (names_in spelling.now)) }
+    ensures none { IfNone result ((names : List (List ℕ)) → LeavesOut word.now names → ⊥) }
+{
+    match word.strip_prefix("skip=") {
+        Some(spelling) if spells_names(spelling) => Some(spelling),
+        _ => None,
     }
 }
 
@@ -284,7 +419,7 @@ fn read_parts(mode: Mode, words: &[String]) -> Result<Given<'_>, usize>
     ensures read { IfOk result (λ given.
         AreReadUpTo (map string_bytes words.now) (length words.now) (values_of given)) }
     ensures unread { IfErr result (IsFirstUnread (map string_bytes words.now)) }
-    ensures few { IfErr result (λ place. place ≤ 4) }
+    ensures few { IfErr result (λ place. place ≤ 6) }
 {
     let mut given = Given::nothing(mode);
     for place in 1..words.len() {

@@ -1,9 +1,9 @@
 use Rattle.std.proofs.Common.{map, string_bytes}
 use Rattle.std.specs.Option.{option_map}
-use Rattle.play_tool.specs.GivenParts.{AreReadUpTo}
+use Rattle.play_tool.specs.GivenParts.{names_in, AreReadUpTo}
 use Rattle.play_tool.proofs.words.read_parts.Given as goal
 
 abbrev pub invariant-loop-place : goal.invariant-loop-place
 invariant-loop-place l =
     AreReadUpTo (map string_bytes l.words) l.place
-    (record { mode = l.given.0; program = option_map (λ path. path.now) l.given.1.0; action = l.given.1.1.0; turns = l.given.1.1.1.0 })
+    (record { mode = l.given.0; program = option_map (λ path. path.now) l.given.1.0; action = l.given.1.1.0; todo = option_map (λ spelling. names_in spelling.now) l.given.1.1.1.0; skip = option_map (λ spelling. names_in spelling.now) l.given.1.1.1.1.0; turns = l.given.1.1.1.1.1.0 })

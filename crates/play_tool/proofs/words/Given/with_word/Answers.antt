@@ -1,5 +1,6 @@
 use Rattle.std.proofs.Common.{Option, None, Some, IfNone}
-use Rattle.play_tool.specs.Words.{ProgramIn, ActionNamed, TurnsAtMost}
+use Rattle.play_tool.specs.Words.{ProgramIn, ActionNamed, NamesAsked, NamesSkipped, TurnsAtMost}
+use Rattle.play_tool.specs.GivenParts.{names_in}
 use Rattle.play_tool.proofs.WordLemmas.{adds_refused}
 use Rattle.play_tool.proofs.words.Given.with_word.Goals as goal
 
@@ -14,6 +15,14 @@ returns-in-Some-clause-none c =
 pub returns-in-Some-action_name-clause-none : goal.returns-in-Some-action_name-clause-none
 returns-in-Some-action_name-clause-none c =
     on_none c.with_action.result (adds_refused (ActionNamed c.in-Some-action_name.name) c.in-Some-action_name.ensures.some) c.with_action.ensures.none
+
+pub returns-in-Some-names_asked-clause-none : goal.returns-in-Some-names_asked-clause-none
+returns-in-Some-names_asked-clause-none c =
+    on_none c.with_todo.result (adds_refused (NamesAsked (names_in c.in-Some-names_asked.spelling.now)) c.in-Some-names_asked.ensures.some) c.with_todo.ensures.none
+
+pub returns-in-Some-names_skipped-clause-none : goal.returns-in-Some-names_skipped-clause-none
+returns-in-Some-names_skipped-clause-none c =
+    on_none c.with_skip.result (adds_refused (NamesSkipped (names_in c.in-Some-names_skipped.spelling.now)) c.in-Some-names_skipped.ensures.some) c.with_skip.ensures.none
 
 pub returns-in-Some-turn_count-clause-none : goal.returns-in-Some-turn_count-clause-none
 returns-in-Some-turn_count-clause-none c =
