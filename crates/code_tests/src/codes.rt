@@ -1,10 +1,11 @@
 //! Codes: which are in range, and the first instruction that breaks a rule.
 use base::ItemList;
 use stapl_code::{
-    ActionDef, CodeLists, Instr, ItemDef, PrintPart, ProcDef, RawCode, ValidateRefused, VarDef,
-    validate,
+    ActionDef, CodeLists, ExportPart, Instr, ItemDef, PrintPart, ProcDef, RawCode, ValidateRefused,
+    VarDef, validate,
 };
 use stapl_lexer::Name;
+use stapl_meaning::ValueKind;
 use std::alloc::Global;
 use std::test::Fail;
 
@@ -17,14 +18,23 @@ pub enum Op {
     Load(u32),
     Store(u32),
     Binary(u8),
+    For(u32, u32),
+    Next(u32),
+    PushRecord(ValueKind),
+    PopRecord(ValueKind),
+    Call(u32),
     Jump(u32),
     JumpIfZero(u32),
     EndProc,
     Print(&'static [bool]),
+    Export(ExportPart),
     Exit,
 }
 
-pub use Op::{Binary, EndProc, Exit, Jump, JumpIfZero, Load, Print, Push, PushBit, Store, Turn};
+pub use Op::{
+    Binary, Call, EndProc, Exit, Export, For, Jump, JumpIfZero, Load, Next, PopRecord, Print, Push,
+    PushBit, PushRecord, Store, Turn,
+};
 
 const ADD: Op = Binary(0);
 
@@ -47,6 +57,11 @@ fn instr_of(alloc: Global, op: Op) -> Result<Instr, Fail> {
         Load(variable) => Instr::Load(variable),
         Store(variable) => Instr::Store(variable),
         Binary(op) => Instr::Binary(op),
+        For(variable, body) => Instr::For(variable, body),
+        Next(variable) => Instr::Next(variable),
+        PushRecord(kind) => Instr::PushRecord(kind),
+        PopRecord(kind) => Instr::PopRecord(kind),
+        Call(procedure) => Instr::Call(procedure),
         Jump(target) => Instr::Jump(target),
         JumpIfZero(target) => Instr::JumpIfZero(target),
         EndProc => Instr::EndProc,
@@ -61,6 +76,7 @@ fn instr_of(alloc: Global, op: Op) -> Result<Instr, Fail> {
             }
             Instr::Print(ItemList::of(list))
         }
+        Export(part) => Instr::Export(0, part),
         Exit => Instr::Exit,
     })
 }
@@ -132,7 +148,7 @@ fn answer(rt: &HostRuntime, entries: &[u32], ops: &[Op]) -> Result<Result<u32, u
 // Valid codes, with the most operands that each holds at once.
 #[test]
 fn accepts_valid_codes(rt: HostRuntime) -> Result<(), Fail> {
-    let table: [(&[u32], &[Op], u32); 10] = [
+    let table: [(&[u32], &[Op], u32); 12] = [
         (&[0], &[Turn(3), Push(0), Exit, Turn(4), EndProc], 1),
         (&[0], &[Turn(3), Jump(0), Turn(4), EndProc], 0),
         (
@@ -214,6 +230,37 @@ fn accepts_valid_codes(rt: HostRuntime) -> Result<(), Fail> {
             ],
             2,
         ),
+        (
+            &[0],
+            &[
+                Turn(3),
+                Push(1),
+                Push(3),
+                Push(1),
+                For(INTEGER, 5),
+                Turn(4),
+                Next(INTEGER),
+                Turn(5),
+                EndProc,
+            ],
+            3,
+        ),
+        (
+            &[0, 6],
+            &[
+                Turn(3),
+                Load(BOOLEAN),
+                PushRecord(ValueKind::Bit),
+                Call(1),
+                Turn(4),
+                EndProc,
+                Turn(7),
+                PopRecord(ValueKind::Int),
+                Store(INTEGER),
+                EndProc,
+            ],
+            1,
+        ),
     ];
     for (row, (entries, ops, depth)) in table.iter().enumerate() {
         assert_eq!(rt; answer(&rt, entries, ops)?, Ok(*depth), "row {row}");
@@ -224,7 +271,7 @@ fn accepts_valid_codes(rt: HostRuntime) -> Result<(), Fail> {
 // Codes with the instruction that breaks a rule first: where instructions stand, and where they lead.
 #[test]
 fn names_the_first_break_of_order(rt: HostRuntime) -> Result<(), Fail> {
-    let table: [(&[u32], &[Op], usize); 23] = [
+    let table: [(&[u32], &[Op], usize); 28] = [
         // targets
         (&[0], &[Turn(3), Jump(1), Turn(4), EndProc], 1),
         (
@@ -243,6 +290,34 @@ fn names_the_first_break_of_order(rt: HostRuntime) -> Result<(), Fail> {
             &[Turn(3), EndProc, Turn(6), Jump(0), Turn(7), EndProc],
             3,
         ),
+        (
+            &[0],
+            &[
+                Turn(3),
+                Push(1),
+                Push(3),
+                Push(1),
+                For(INTEGER, 1),
+                Turn(4),
+                EndProc,
+            ],
+            4,
+        ),
+        (
+            &[0, 7],
+            &[
+                Turn(3),
+                Push(1),
+                Push(3),
+                Push(1),
+                For(INTEGER, 7),
+                Turn(4),
+                EndProc,
+                Turn(7),
+                EndProc,
+            ],
+            4,
+        ),
         // the ends of procedures
         (&[0], &[Turn(3), Push(0), Exit], 2),
         (&[0], &[Turn(3), Jump(0)], 1),
@@ -257,8 +332,15 @@ fn names_the_first_break_of_order(rt: HostRuntime) -> Result<(), Fail> {
             2,
         ),
         (&[0, 1], &[EndProc, Turn(3), EndProc], 0),
-        // behind a jump and an exit
+        // behind a jump, a loop, a call and an exit
         (&[0], &[Turn(3), Jump(0), EndProc], 2),
+        (
+            &[0],
+            &[Turn(3), Push(1), Push(3), Push(1), For(INTEGER, 0), EndProc],
+            5,
+        ),
+        (&[0], &[Turn(3), Next(INTEGER), EndProc], 2),
+        (&[0], &[Turn(3), Call(0), EndProc], 2),
         (&[0], &[Turn(3), Push(0), Exit, Push(0), Exit, EndProc], 3),
         // what the prologue holds
         (&[1], &[Turn(3), Turn(4), EndProc], 0),
@@ -284,7 +366,7 @@ fn names_the_first_break_of_order(rt: HostRuntime) -> Result<(), Fail> {
 // The same of operands: how many there are, and of which kinds.
 #[test]
 fn names_the_first_break_of_operands(rt: HostRuntime) -> Result<(), Fail> {
-    let table: [(&[u32], &[Op], usize); 25] = [
+    let table: [(&[u32], &[Op], usize); 27] = [
         // operands that are left
         (&[0], &[Turn(3), Push(0), Turn(4), EndProc], 2),
         (&[0], &[Turn(3), Push(0), EndProc], 2),
@@ -352,6 +434,25 @@ fn names_the_first_break_of_operands(rt: HostRuntime) -> Result<(), Fail> {
             3,
         ),
         (&[0], &[Turn(3), Load(BOOLEAN), Print(&[false]), EndProc], 2),
+        (
+            &[0],
+            &[Turn(3), Load(BOOLEAN), PushRecord(ValueKind::Int), EndProc],
+            2,
+        ),
+        // variables of the wrong kind
+        (
+            &[0],
+            &[
+                Turn(3),
+                Push(1),
+                Push(3),
+                Push(1),
+                For(BOOLEAN, 5),
+                Turn(4),
+                EndProc,
+            ],
+            4,
+        ),
         // arrays are no operands
         (&[0], &[Turn(3), Load(INTEGERS), Store(INTEGER), EndProc], 1),
         (&[0], &[Turn(3), Load(BOOLEANS), Store(BOOLEAN), EndProc], 1),
@@ -366,7 +467,7 @@ fn names_the_first_break_of_operands(rt: HostRuntime) -> Result<(), Fail> {
 // Instructions with whether their fields are in range.
 #[test]
 fn tests_the_ranges_of_instructions(rt: HostRuntime) -> Result<(), Fail> {
-    let table: [(Op, bool); 16] = [
+    let table: [(Op, bool); 19] = [
         (Turn(0), false),
         (Turn(1), true),
         (Turn(100_000), true),
@@ -380,6 +481,9 @@ fn tests_the_ranges_of_instructions(rt: HostRuntime) -> Result<(), Fail> {
         (PushBit(2), false),
         (Binary(22), true),
         (Binary(23), false),
+        (Next(4), false),
+        (Call(0), true),
+        (Call(1), false),
         (Jump(u32::MAX), true),
         (Print(&[]), false),
         (Print(&[true]), true),

@@ -2,10 +2,11 @@
 ghost use Rattle.std.specs.Prelude.{◌≡◌, ◌<◌};
 
 use crate::codes::{
-    Binary, EndProc, Exit, INTEGER, Load, Op, Print, Push, Store, Turn, VARIABLES, lists,
+    Binary, Call, EndProc, Exit, Export, For, INTEGER, Load, Next, Op, Print, Push, Store, Turn,
+    VARIABLES, lists,
 };
 use base::Steps;
-use stapl_code::{Code, RawCode, validate};
+use stapl_code::{Code, ExportPart, RawCode, Source, validate};
 use stapl_machine::Machine;
 use stapl_meaning::Ending;
 use std::marker::Brand;
@@ -77,15 +78,42 @@ fn runs_the_prologue_and_chosen_procedures(rt: HostRuntime) -> Result<(), Fail> 
         EndProc,
     ];
     let sums = code(&rt, &[2, 10], &instructions)?;
-    let table = [
-        (0, Ending::Spent, b"".as_slice()),
-        (2, Ending::Spent, b"".as_slice()),
-        (3, Ending::Spent, b"P A8\n".as_slice()),
-        (4, Ending::Exit(8), b"P A8\n".as_slice()),
-        (1_000_000_000, Ending::Exit(8), b"P A8\n".as_slice()),
+    // Q calls P in a loop, and P exports the variable and its bits.
+    let instructions = [
+        Turn(3),
+        Load(INTEGER),
+        Export(ExportPart::Int),
+        Turn(4),
+        Load(INTEGER),
+        Export(ExportPart::Array(Source::FromInt)),
+        Turn(5),
+        EndProc,
+        Turn(7),
+        Push(9),
+        Push(14),
+        Push(5),
+        For(INTEGER, 13),
+        Turn(8),
+        Call(0),
+        Turn(9),
+        Next(INTEGER),
+        Turn(10),
+        EndProc,
     ];
-    for (turns, ending, text) in table {
-        let (ended, written) = run::<Brand>(&rt, &sums, turns, Blank::new(1))?;
+    let loops = code(&rt, &[0, 8], &instructions)?;
+    let exports =
+        b"X A = 9\nX A = $00000009\nX A = 14\nX A = $0000000E\nX A = 14\nX A = $0000000E\n";
+    let table = [
+        (&sums, 0, Ending::Spent, b"".as_slice()),
+        (&sums, 2, Ending::Spent, b"".as_slice()),
+        (&sums, 3, Ending::Spent, b"P A8\n".as_slice()),
+        (&sums, 4, Ending::Exit(8), b"P A8\n".as_slice()),
+        (&sums, 1_000_000_000, Ending::Exit(8), b"P A8\n".as_slice()),
+        (&loops, 3, Ending::Spent, b"X A = 9\n".as_slice()),
+        (&loops, 100, Ending::Exit(0), exports.as_slice()),
+    ];
+    for (code, turns, ending, text) in table {
+        let (ended, written) = run::<Brand>(&rt, code, turns, Blank::new(1))?;
         assert_eq!(rt; ended, ending, "after {turns} turns");
         assert_eq!(rt; written.as_slice(), text, "after {turns} turns");
     }

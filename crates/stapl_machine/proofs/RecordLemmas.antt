@@ -26,29 +26,29 @@ top_taken records at r inside is =
     ∙ reverse-append (take at records) (r ∷ [])
 
 -- a loop that is found on the way down
-module _ (records : List Record) (n at : ℕ) (turn : Loop) (some : 0 < at) (inside : at ≤ length records) (is : Looped turn ≡ get_or records (at - 1) (Looped turn)) where
+module _ (records : List Record) (n at : ℕ) (for_loop : Loop) (some : 0 < at) (inside : at ≤ length records) (is : Looped for_loop ≡ get_or records (at - 1) (Looped for_loop)) where
   abbrev below : List Record
   below = reverse (take (at - 1) records)
 
-  down : reverse (take at records) ≡ Looped turn ∷ below
+  down : reverse (take at records) ≡ Looped for_loop ∷ below
   down =
       let e : at ≡ at - 1 + 1 = omega arith in
-      ap (λ (k : ℕ). reverse (take k records)) e ∙ top_taken records (at - 1) (Looped turn) (omega arith) is
+      ap (λ (k : ℕ). reverse (take k records)) e ∙ top_taken records (at - 1) (Looped for_loop) (omega arith) is
 
-  pub loop_found : turn.variable ≡ n → nearest_loop n (reverse records) ≡ nearest_loop n (reverse (take at records)) → IsNearest records n (record { at = at - 1; turn = turn })
+  pub loop_found : for_loop.variable ≡ n → nearest_loop n (reverse records) ≡ nearest_loop n (reverse (take at records)) → IsNearest records n (record { at = at - 1; for_loop = for_loop })
   loop_found own same = record {
     there = omega arith;
-    is = item_at records (at - 1) (Looped turn) (omega arith) is;
+    is = item_at records (at - 1) (Looped for_loop) (omega arith) is;
     of_variable = own;
     nearest =
         same ∙ ap (nearest_loop n) down
-        ∙ ap (λ (b : Bool). let g : Got (Loop × List Record) = if b then Known (turn, below) else nearest_loop n below in g) (eq-eqb turn.variable n own);
+        ∙ ap (λ (b : Bool). let g : Got (Loop × List Record) = if b then Known (for_loop, below) else nearest_loop n below in g) (eq-eqb for_loop.variable n own);
   }
 
 -- the nearest loop is known, and the integer of its variable
-pub turn_known : (g : Got (Loop × List Record)) (h : Got ℤ) (l : Loop) (rest : List Record) (z : ℤ) (go : Loop → List Record → ℤ → Got Did) →
+pub loop_known : (g : Got (Loop × List Record)) (h : Got ℤ) (l : Loop) (rest : List Record) (z : ℤ) (go : Loop → List Record → ℤ → Got Did) →
     g ≡ Known (l, rest) → h ≡ Known z → then_get g (λ top. then_get h (λ z. go top.0 top.1 z)) ≡ go l rest z
-turn_known g h l rest z go e f =
+loop_known g h l rest z go e f =
     ap (λ g. then_get g (λ (top : Loop × List Record). then_get h (λ z. go top.0 top.1 z))) e ∙ ap (λ h. then_get h (λ z. go l rest z)) f
 
 -- a loop goes round

@@ -24,9 +24,9 @@ begun_loop l first s =
 -- the nearest loop of the variable of number n was found, at this place
 pub record IsNearest (records : List Record) (n : ℕ) (found : Nearest) : Type 0 where
   pub there : found.at < length records
-  pub is : slice_get records found.at ≡ Some (Looped found.turn)
-  pub of_variable : found.turn.variable ≡ n
-  pub nearest : nearest_loop n (reverse records) ≡ Known (found.turn, reverse (take found.at records))
+  pub is : slice_get records found.at ≡ Some (Looped found.for_loop)
+  pub of_variable : found.for_loop.variable ≡ n
+  pub nearest : nearest_loop n (reverse records) ≡ Known (found.for_loop, reverse (take found.at records))
 
 abbrev pub IsSearched : List Record → ℕ → Option Nearest → Type 0
 IsSearched records n (Some found) = IsNearest records n found

@@ -193,7 +193,8 @@ pub fn store_at(variables: &mut Vec<Held>, n: u32, index: i32, value: Value) -> 
 /// A value goes into the element of an array at an index.
 pub fn assign_at(variables: &mut Vec<Held>, n: u32, values: &[Value]) -> Result<Made, Stop>
     ensures made { (told : Told) (chosen : List ℕ) (records : List Record) →
-        IsMade result told (state_with chosen records variables.old.items) (state_with chosen records variables.new.items)
+        IsMade result told (state_with chosen records variables.old.items)
+        (state_with chosen records variables.new.items)
         (does (element_assigned n values.now (state_with chosen records variables.old.items))) }
     ensures sure { IfErr result (λ stop. stop ≢ Stop.Memory) }
 {
@@ -252,7 +253,8 @@ pub fn set_integers(
     values: &[Value],
 ) -> Result<Made, Stop>
     ensures made { (told : Told) (chosen : List ℕ) (records : List Record) →
-        IsMade result told (state_with chosen records variables.old.items) (state_with chosen records variables.new.items)
+        IsMade result told (state_with chosen records variables.old.items)
+        (state_with chosen records variables.new.items)
         (does (integers_set n list.now values.now (state_with chosen records variables.old.items))) }
     ensures sure { IfErr result (λ stop. stop ≢ Stop.Memory) }
 {

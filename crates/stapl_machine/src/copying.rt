@@ -117,7 +117,8 @@ fn copy_part(variables: &mut Vec<Held>, part: Part, from: Part) -> Result<Made, 
     requires is_part { IsPart variables.old.items part }
     requires source { IsPart variables.old.items from }
     ensures made { (told : Told) (chosen : List ℕ) (records : List Record) →
-        IsMade result told (state_with chosen records variables.old.items) (state_with chosen records variables.new.items)
+        IsMade result told (state_with chosen records variables.old.items)
+        (state_with chosen records variables.new.items)
         (does (bits_put variables.old.items part (state_with chosen records variables.old.items)
         (part_asked variables.old.items part from))) }
     ensures sure { IfErr result (λ stop. stop ≢ Stop.Memory) }
@@ -136,8 +137,10 @@ fn copy_literal(
     variables: &mut Vec<Held>,
 ) -> Result<Made, Stop>
     ensures made { (told : Told) (chosen : List ℕ) (records : List Record) →
-        IsMade result told (state_with chosen records variables.old.items) (state_with chosen records variables.new.items)
-        (does (copied (target_of dest) (These literal.now) values.now (state_with chosen records variables.old.items))) }
+        IsMade result told (state_with chosen records variables.old.items)
+        (state_with chosen records variables.new.items)
+        (does (copied (target_of dest) (These literal.now) values.now
+        (state_with chosen records variables.old.items))) }
     ensures sure { IfErr result (λ stop. stop ≢ Stop.Memory) }
 {
     let part = place(variables, dest, values)?;
@@ -157,7 +160,8 @@ fn copy_whole(
     variables: &mut Vec<Held>,
 ) -> Result<Made, Stop>
     ensures made { (told : Told) (chosen : List ℕ) (records : List Record) →
-        IsMade result told (state_with chosen records variables.old.items) (state_with chosen records variables.new.items)
+        IsMade result told (state_with chosen records variables.old.items)
+        (state_with chosen records variables.new.items)
         (does (copied (target_of dest) (Whole from) values.now (state_with chosen records variables.old.items))) }
     ensures sure { IfErr result (λ stop. stop ≢ Stop.Memory) }
 {
@@ -178,7 +182,8 @@ fn copy_range(
     variables: &mut Vec<Held>,
 ) -> Result<Made, Stop>
     ensures made { (told : Told) (chosen : List ℕ) (records : List Record) →
-        IsMade result told (state_with chosen records variables.old.items) (state_with chosen records variables.new.items)
+        IsMade result told (state_with chosen records variables.old.items)
+        (state_with chosen records variables.new.items)
         (does (copied (target_of dest) (Range from) values.now (state_with chosen records variables.old.items))) }
     ensures sure { IfErr result (λ stop. stop ≢ Stop.Memory) }
 {
@@ -196,8 +201,10 @@ fn copy_range(
 fn fill_integer(variables: &mut Vec<Held>, part: Part, value: Value) -> Result<Made, Stop>
     requires is_part { IsPart variables.old.items part }
     ensures made { (told : Told) (chosen : List ℕ) (records : List Record) →
-        IsMade result told (state_with chosen records variables.old.items) (state_with chosen records variables.new.items)
-        (does (bits_put variables.old.items part (state_with chosen records variables.old.items) (integer_asked part value))) }
+        IsMade result told (state_with chosen records variables.old.items)
+        (state_with chosen records variables.new.items)
+        (does (bits_put variables.old.items part (state_with chosen records variables.old.items)
+        (integer_asked part value))) }
     ensures sure { IfErr result (λ stop. stop ≢ Stop.Memory) }
 {
     match value {
@@ -214,7 +221,8 @@ fn fill_integer(variables: &mut Vec<Held>, part: Part, value: Value) -> Result<M
 
 fn copy_integer(dest: Dest, values: &[Value], variables: &mut Vec<Held>) -> Result<Made, Stop>
     ensures made { (told : Told) (chosen : List ℕ) (records : List Record) →
-        IsMade result told (state_with chosen records variables.old.items) (state_with chosen records variables.new.items)
+        IsMade result told (state_with chosen records variables.old.items)
+        (state_with chosen records variables.new.items)
         (does (copied (target_of dest) OfInt values.now (state_with chosen records variables.old.items))) }
     ensures sure { IfErr result (λ stop. stop ≢ Stop.Memory) }
 {
@@ -234,7 +242,8 @@ pub fn copy(
     variables: &mut Vec<Held>,
 ) -> Result<Made, Stop>
     ensures made { (told : Told) (chosen : List ℕ) (records : List Record) →
-        IsMade result told (state_with chosen records variables.old.items) (state_with chosen records variables.new.items)
+        IsMade result told (state_with chosen records variables.old.items)
+        (state_with chosen records variables.new.items)
         (does (then_get (known_source literals.now source)
         (λ from. copied (target_of dest) from values.now (state_with chosen records variables.old.items)))) }
     ensures sure { IfErr result (λ stop. stop ≢ Stop.Memory) }

@@ -114,7 +114,8 @@ pub fn store(variables: &mut Vec<Held>, n: u32, value: Value) -> bool
 /// A value goes into a scalar variable.
 pub fn assign(variables: &mut Vec<Held>, n: u32, values: &[Value]) -> Result<Made, Stop>
     ensures made { (told : Told) (chosen : List ℕ) (records : List Record) →
-        IsMade result told (state_with chosen records variables.old.items) (state_with chosen records variables.new.items)
+        IsMade result told (state_with chosen records variables.old.items)
+        (state_with chosen records variables.new.items)
         (does (assigned n values.now (state_with chosen records variables.old.items))) }
     ensures sure { IfErr result (λ stop. stop ≢ Stop.Memory) }
 {

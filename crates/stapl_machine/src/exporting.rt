@@ -96,8 +96,8 @@ fn find_bits(
 
 fn one_value(literals: &[Bits], values: &[Value], variables: &[Held]) -> Result<Exported, Stop>
     ensures is { (key : List ℕ) (s : State) → IsSure
-        (λ value g. g ≡ Known (Falls (events.Export key (value_exported literals.now variables.now value) ∷ []) s)) result
-        (exported key values.now s) }
+        (λ value g. g ≡ Known (Falls (events.Export key (value_exported literals.now variables.now value) ∷ []) s))
+        result (exported key values.now s) }
     ensures sure { IfErr result (λ stop. stop ≢ Stop.Memory) }
 {
     match values {

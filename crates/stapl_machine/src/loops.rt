@@ -15,21 +15,21 @@ use crate::records::{is_full, put};
 use stapl_meaning::{Held, Loop, Record, RunFault, Value};
 
 // A loop is put on top of the records, and its variable is set.
-fn begin(memory: &mut Memory, turn: Loop, first: i32) -> Result<Made, Stop>
+fn begin(memory: &mut Memory, for_loop: Loop, first: i32) -> Result<Made, Stop>
     ensures { (told : Told) (chosen : List ℕ) →
         IsMade result told (state_in chosen memory.old) (state_in chosen memory.new)
-        (does (begun_loop turn first (state_in chosen memory.old))) }
+        (does (begun_loop for_loop first (state_in chosen memory.old))) }
 {
-    if turn.step == 0 {
+    if for_loop.step == 0 {
         return Err(Stop::Fault(RunFault::ZeroStep));
     }
     if is_full(&memory.records) {
         return Err(Stop::Fault(RunFault::RecordsFull));
     }
-    if !store(&mut memory.variables, turn.variable, Value::Int(first)) {
+    if !store(&mut memory.variables, for_loop.variable, Value::Int(first)) {
         return Err(Stop::Wrong);
     }
-    put(&mut memory.records, Record::Looped(turn))?;
+    put(&mut memory.records, Record::Looped(for_loop))?;
     Ok(Made::On)
 }
 
@@ -41,13 +41,13 @@ pub fn begin_loop(memory: &mut Memory, n: u32, body: u32, values: &[Value]) -> R
 {
     match values {
         [Value::Int(first), Value::Int(limit), Value::Int(step)] => {
-            let turn = Loop {
+            let for_loop = Loop {
                 variable: n,
                 limit: *limit,
                 step: *step,
                 place: body,
             };
-            begin(memory, turn, *first)
+            begin(memory, for_loop, *first)
         }
         _ => Err(Stop::Wrong),
     }
@@ -57,7 +57,7 @@ pub fn begin_loop(memory: &mut Memory, n: u32, body: u32, values: &[Value]) -> R
 #[derive(Clone, Copy, Debug, PartialEq, Eq)]
 pub struct Nearest {
     pub at: usize,
-    pub turn: Loop,
+    pub for_loop: Loop,
 }
 
 // Finds the topmost loop of the variable of number n, if loops of other variables alone stand above it.
@@ -68,9 +68,9 @@ fn find_loop(records: &[Record], n: u32) -> Option<Nearest>
     'down: while at > 0 {
         at -= 1;
         match records[at] {
-            Record::Looped(turn) => {
-                if turn.variable == n {
-                    return Some(Nearest { at, turn });
+            Record::Looped(for_loop) => {
+                if for_loop.variable == n {
+                    return Some(Nearest { at, for_loop });
                 }
             }
             _ => return None,
@@ -81,10 +81,10 @@ fn find_loop(records: &[Record], n: u32) -> Option<Nearest>
 
 /// Whether a loop is over if its variable holds this integer.
 #[inline(always)]
-pub fn is_over(turn: Loop, z: i32) -> bool
-    ensures { result ≡ is_over turn z }
+pub fn is_over(for_loop: Loop, z: i32) -> bool
+    ensures { result ≡ is_over for_loop z }
 {
-    (0 < turn.step && turn.limit <= z) || (turn.step < 0 && z <= turn.limit)
+    (0 < for_loop.step && for_loop.limit <= z) || (for_loop.step < 0 && z <= for_loop.limit)
 }
 
 /// The integer that a scalar holds.
@@ -101,22 +101,27 @@ pub fn integer_held(variables: &[Held], n: u32) -> Result<i32, Stop>
 // The loop of a record, whose variable holds this integer, goes round, or it is over.
 fn go_round(memory: &mut Memory, found: Nearest, z: i32) -> Result<Made, Stop>
     requires there { found.at < length memory.old.records.items }
-    requires is { slice_get memory.old.records.items found.at ≡ Some (Looped found.turn) }
+    requires is { slice_get memory.old.records.items found.at ≡ Some (Looped found.for_loop) }
     ensures made { (told : Told) (chosen : List ℕ) →
         IsMade result told (state_in chosen memory.old) (state_in chosen memory.new)
-        (does (went_round found.turn (reverse (take found.at memory.old.records.items)) z (state_in chosen memory.old))) }
+        (does (went_round found.for_loop (reverse (take found.at memory.old.records.items)) z
+        (state_in chosen memory.old))) }
     ensures sure { IfErr result (λ stop. stop ≢ Stop.Memory) }
 {
-    if is_over(found.turn, z) {
+    if is_over(found.for_loop, z) {
         memory.records.truncate(found.at);
         return Ok(Made::On);
     }
-    let next = sum(z, found.turn.step);
-    if !store(&mut memory.variables, found.turn.variable, Value::Int(next)) {
+    let next = sum(z, found.for_loop.step);
+    if !store(
+        &mut memory.variables,
+        found.for_loop.variable,
+        Value::Int(next),
+    ) {
         return Err(Stop::Wrong);
     }
     memory.records.truncate(found.at + 1);
-    Ok(Made::Resume(found.turn.place))
+    Ok(Made::Resume(found.for_loop.place))
 }
 
 // The nearest loop of the variable of number n goes round, or it is over.

@@ -124,10 +124,12 @@ fn lead(
 ) -> Result<Moved, AllocError>
     ensures leads { IfOk result (λ moved. (go : List Value → State → Turned) →
         turn_of_piece work.old.piece
-        (continues (stepped code.now (lands (entries_of code.now.procedures) here instr.now) chosen.now made work.old) go)
+        (continues (stepped code.now (lands (entries_of code.now.procedures) here instr.now) chosen.now made
+        work.old) go)
         ≡ moved_to code.now moved chosen.now work.new go) }
     ensures ticks { IfOk result (λ moved. (go : List Value → State → ℕ) →
-        ticks_behind (stepped code.now (lands (entries_of code.now.procedures) here instr.now) chosen.now made work.old) go
+        ticks_behind (stepped code.now (lands (entries_of code.now.procedures) here instr.now) chosen.now made
+        work.old) go
         ≡ moved_ticks moved chosen.now work.new go) }
     ensures clean { IfOk result (λ moved. IsCleanMove moved work.new) }
 {

@@ -30,8 +30,8 @@ pub struct Machine {
 }
 
 impl Machine {
-    /// A machine for one run of this code: its variables are 0, and neither operand nor record is held. It takes the memory
-    /// of the variables, of as many operands as the code holds at once, and of the most records that there may be.
+    /// A machine for one run of this code: its variables are 0, and it holds neither operand nor record. It takes the
+    /// memory of the variables, of as many operands as the code holds at once, and of the most records there may be.
     ///
     /// `AllocError` comes only for want of memory.
     pub fn prepare(alloc: Global, code: &Code) -> Result<Machine, AllocError>

@@ -34,7 +34,8 @@ fn run_turns<K: Sink, L: Ledger>(
     requires whole { IsWhole out.old }
     ensures runs { IsRun K.written (run_of code.now turns start (state_of chosen.now work.old)) out.old result out.new }
     ensures state { IfOk result (λ ending.
-        LeavesState (run_of code.now turns start (state_of chosen.now work.old)) ending (state_of chosen.now work.new)) }
+        LeavesState (run_of code.now turns start (state_of chosen.now work.old)) ending
+        (state_of chosen.now work.new)) }
     ensures ticks { IsCounted result steps.old steps.new
         (run_ticks_of code.now turns start (state_of chosen.now work.old)) }
     ensures sink { Keeps K.faults K.is_last out.old out.new result }
@@ -65,7 +66,8 @@ fn run_chosen<K: Sink, L: Ledger>(
     ensures runs { (s : State) →
         IsRun K.written (chosen_run code.now turns (state_of chosen.now work.old) s) out.old result out.new }
     ensures state { IfOk result (λ ending. (s : State) →
-        LeavesState (chosen_run code.now turns (state_of chosen.now work.old) s) ending (state_of chosen.now work.new)) }
+        LeavesState (chosen_run code.now turns (state_of chosen.now work.old) s) ending
+        (state_of chosen.now work.new)) }
     ensures ticks { IsCounted result steps.old steps.new
         (chosen_ticks code.now turns (state_of chosen.now work.old)) }
     ensures sink { Keeps K.faults K.is_last out.old out.new result }

@@ -336,22 +336,22 @@ fn top_record(records: &Vec<Record>) -> Option<Record>
 
 // The topmost loop goes round, or it is over.
 #[inline(always)]
-fn try_round(turn: Loop, memory: &mut Memory) -> Tried
-    requires { reverse memory.old.records.items ≡ Looped turn ∷ drop 1 (reverse memory.old.records.items) }
+fn try_round(for_loop: Loop, memory: &mut Memory) -> Tried
+    requires { reverse memory.old.records.items ≡ Looped for_loop ∷ drop 1 (reverse memory.old.records.items) }
     ensures { (chosen : List ℕ) → IsRound result chosen memory.old memory.new
-        (repeated turn.variable [] (state_in chosen memory.old)) }
+        (repeated for_loop.variable [] (state_in chosen memory.old)) }
 {
-    match integer_held(&memory.variables, turn.variable) {
+    match integer_held(&memory.variables, for_loop.variable) {
         Ok(z) => {
-            if is_over(turn, z) {
+            if is_over(for_loop, z) {
                 let _ = memory.records.pop();
                 return Tried::On;
             }
-            let next = sum(z, turn.step);
-            if !store(&mut memory.variables, turn.variable, Value::Int(next)) {
+            let next = sum(z, for_loop.step);
+            if !store(&mut memory.variables, for_loop.variable, Value::Int(next)) {
                 return Tried::Not;
             }
-            Tried::To(turn.place)
+            Tried::To(for_loop.place)
         }
         Err(_) => Tried::Not,
     }
@@ -364,11 +364,11 @@ fn try_loop(n: u32, memory: &mut Memory) -> Tried
         (repeated n [] (state_in chosen memory.old)) }
 {
     match top_record(&memory.records) {
-        Some(Record::Looped(turn)) => {
-            if turn.variable != n {
+        Some(Record::Looped(for_loop)) => {
+            if for_loop.variable != n {
                 return Tried::Not;
             }
-            try_round(turn, memory)
+            try_round(for_loop, memory)
         }
         _ => Tried::Not,
     }

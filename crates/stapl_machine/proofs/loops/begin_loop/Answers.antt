@@ -21,8 +21,8 @@ returns-in-Int c = λ told chosen.
     let first_fits : SFits w32 first = search rules in
     let limit_fits : SFits w32 limit = search rules in
     let step_fits : SFits w32 step = search rules in
-    let turn = λ (l s : ℤ). let t : Loop = record { variable = c.args.n; limit = l; step = s; place = c.args.body } in t in
-    let is = λ (l s f : ℤ). IsMade c.begin.result told (state_in chosen old) (state_in chosen new) (does (begun_loop (turn l s) f (state_in chosen old))) in
+    let for_loop = λ (l s : ℤ). let t : Loop = record { variable = c.args.n; limit = l; step = s; place = c.args.body } in t in
+    let is = λ (l s f : ℤ). IsMade c.begin.result told (state_in chosen old) (state_in chosen new) (does (begun_loop (for_loop l s) f (state_in chosen old))) in
     let round = λ (z : ℤ). cast_signed w32 (cast_unsigned w32 z) in
     rw all (subst (λ (f : ℤ). is limit step f) (to_z-of_z w32 first first_fits)
     (subst (λ (s : ℤ). is limit s (round first)) (to_z-of_z w32 step step_fits)

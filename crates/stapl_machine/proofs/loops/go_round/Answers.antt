@@ -15,7 +15,7 @@ use Rattle.stapl_machine.proofs.loops.go_round.Goals as goal
 
 pub returns-clause-made : goal.returns-clause-made
 returns-clause-made c = λ told chosen.
-    let old = c.args.memory.now in let l = c.args.found.turn in let records = old.records.items in let z = c.args.z in
+    let old = c.args.memory.now in let l = c.args.found.for_loop in let records = old.records.items in let z = c.args.z in
     let over : is_over l z ≡ false = search rules in
     let step_fits : SFits w32 l.step = search rules in
     let next : c.sum-next.result ≡ int_wrap w32 (z +ℤ l.step) =

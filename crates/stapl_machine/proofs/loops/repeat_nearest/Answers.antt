@@ -8,7 +8,7 @@ use Rattle.stapl_meaning.specs.Effects.{nearest_loop, integer_held, went_round}
 use Rattle.stapl_code.specs.Machine.{does}
 use Rattle.stapl_machine.specs.Acts.{IsMade, state_in}
 use Rattle.stapl_machine.specs.Records.{IsNearest}
-use Rattle.stapl_machine.proofs.RecordLemmas.{turn_known}
+use Rattle.stapl_machine.proofs.RecordLemmas.{loop_known}
 use Rattle.stapl_machine.proofs.loops.repeat_nearest.Goals as goal
 
 pub returns-in_ok-z-in-Some-clause-made : goal.returns-in_ok-z-in-Some-clause-made
@@ -20,6 +20,6 @@ returns-in_ok-z-in-Some-clause-made c = λ told chosen.
     let fits : SFits w32 z = search rules in
     let round = cast_signed w32 (cast_unsigned w32 z) in
     subst (λ (d : Got Did). IsMade c.go_round.result told s (state_in chosen c.go_round.new.memory) (does d))
-    (sym (turn_known (nearest_loop c.args.n (reverse records)) (integer_held (slice_get old.variables.items c.args.n)) found.turn (reverse (take found.at records)) round
+    (sym (loop_known (nearest_loop c.args.n (reverse records)) (integer_held (slice_get old.variables.items c.args.n)) found.for_loop (reverse (take found.at records)) round
     (λ l r z. went_round l r z s) nearest.nearest (held ∙ ap (λ (x : ℤ). let g : Got ℤ = Known x in g) (sym (to_z-of_z w32 z fits)))))
     (c.go_round.ensures.made told chosen)
