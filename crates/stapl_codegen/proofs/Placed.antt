@@ -1,5 +1,5 @@
 -- What a statement does with places of the code in the state: the same, with these places in it.
-use Rattle.std.proofs.Common.{◌≡◌, ℕ, Bool, true, false, List, [], ◌∷◌, ◌++◌, length, map, Some, None, refl, ap, ◌∙◌, if◌then◌else◌}
+use Rattle.std.proofs.Common.{◌≡◌, ℕ, Bool, true, false, List, [], ◌∷◌, ◌++◌, length, map, Some, refl, ap, ◌∙◌, if◌then◌else◌}
 use Rattle.std.specs.Prelude.{ℤ, pos, ◌+ℤ◌, ◌==◌, nat_lt, slice_get, slice_set}
 use Rattle.std.specs.Int.{int_wrap, w32}
 use Rattle.std.specs.Ordering.{int_eq}
@@ -20,7 +20,7 @@ use Rattle.stapl_meaning.specs.declared.values.Held.TheVariants as held
 use Rattle.stapl_meaning.specs.Values.{Got, Known, Faults, Stuck, then_get, Span, Source, These, source_bits, asked, bits_held, span_of, source_of}
 use Rattle.stapl_meaning.specs.Operands.{given_kind}
 use Rattle.stapl_meaning.specs.States.{State, Did, Falls, Jumps, Resumes, Returns, Ends}
-use Rattle.stapl_meaning.specs.Effects.{replaced, scalar_written, element_written, with_variables, written, assigned, element_assigned, Target, IntoWhole, IntoRange, span_written, copied, with_integers, integers_set, way_of, jumped, parted, record_limit, with_records, with_room, number_of, topmost, pushed, popped, called, returned_from, returned, with_loop, looped, nearest_loop, is_over, integer_held, went_round, repeated, exited, joined, printed, exported, bits_exported}
+use Rattle.stapl_meaning.specs.Effects.{replaced, scalar_written, element_written, with_variables, written, assigned, element_assigned, Target, IntoWhole, IntoRange, span_written, copied, with_integers, integers_set, jumped, parted, record_limit, with_records, with_room, number_of, topmost, pushed, popped, called, returned_from, returned, with_loop, looped, nearest_loop, is_over, integer_held, went_round, repeated, exited, joined, printed, exported, bits_exported}
 use Rattle.stapl_meaning.specs.Scopes.{Scope}
 use Rattle.stapl_meaning.specs.Turns.{effect}
 use Rattle.stapl_codegen.specs.Correct.{placed_record, placed_state}

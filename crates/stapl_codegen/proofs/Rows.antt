@@ -1,5 +1,5 @@
 -- The rows of a statement, as cases: none, its own, or that of an IF and then those of its inner statement.
-use Rattle.std.proofs.Common.{◌≡◌, ℕ, Bool, true, false, List, [], ◌∷◌, Some, None, refl, sym}
+use Rattle.std.proofs.Common.{◌≡◌, Bool, true, false, List, [], ◌∷◌, Some, None, refl, sym}
 use Rattle.std.proofs.lemmas.Bool.{true≢false}
 use Rattle.stapl_syntax.specs.Trees.{ExprTree, BodyTree, boolean, boolean_array, integer, integer_array, call, if_then}
 use Rattle.stapl_meaning.specs.Scopes.{has_initial_value}

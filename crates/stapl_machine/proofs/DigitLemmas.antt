@@ -1,12 +1,12 @@
 -- On the hexadecimal digits of bits.
-use Rattle.std.proofs.Common.{◌≡◌, ◌≤◌, ◌<◌, ℕ, ℤ, zero, suc, ◌+◌, ◌-◌, ◌*◌, ◌/◌, ◌%◌, ◌^◌, nat_eq, Bool, true, false, List, [], ◌∷◌, ◌++◌, length, take, drop, refl, sym, ap, ◌∙◌, append_assoc, arith, Option}
+use Rattle.std.proofs.Common.{◌≡◌, ◌≤◌, ◌<◌, ℕ, ℤ, zero, suc, ◌+◌, ◌-◌, ◌*◌, ◌/◌, ◌%◌, ◌^◌, Bool, true, false, List, [], ◌∷◌, ◌++◌, length, take, drop, sym, ap, ◌∙◌, append_assoc, arith, Option}
 use Rattle.std.specs.Prelude.{min}
 use Rattle.std.specs.Int.{w32, cast_unsigned}
 use Rattle.std.proofs.lemmas.Int.{of_z-to_z}
-use Rattle.std.proofs.lemmas.List.{drop-take, drop-drop, length-take-le, length-drop, take_all, drop_all, append-nil}
+use Rattle.std.proofs.lemmas.List.{drop-take, drop-drop, length-take-le, length-drop, append-nil}
 use Rattle.std.proofs.lemmas.Nat.{pow_pos}
 use Rattle.std.proofs.Math.Nat.{pow-suc, div-div-eq-div-mul}
-use Rattle.base.specs.Bits.{low_bits, bit_value, number_of}
+use Rattle.base.specs.Bits.{low_bits, number_of}
 use Rattle.base.proofs.NumberBits.{number_of-low_bits}
 use Rattle.bit_list.specs.Integers.{int_of}
 use Rattle.bit_list.specs.Ranges.{taken}

@@ -1,11 +1,11 @@
 -- On what an Export exports.
-use Rattle.std.proofs.Common.{◌≡◌, ◌<◌, ℕ, zero, suc, Bool, List, [], ◌∷◌, length, get_or, Some, refl, sym, ap, ◌∙◌, arith}
+use Rattle.std.proofs.Common.{◌≡◌, ◌<◌, ℕ, zero, suc, List, [], ◌∷◌, length, get_or, Some, refl, sym, ap, ◌∙◌, arith}
 use Rattle.std.specs.Prelude.{slice_get}
 use Rattle.stapl_meaning.specs.declared.events.Event.TheVariants as events
 use Rattle.stapl_meaning.specs.declared.values.Held.{Held}
 use Rattle.stapl_meaning.specs.declared.values.Value.{Value}
 use Rattle.stapl_meaning.specs.Values.{Got, Known, then_get}
-use Rattle.stapl_meaning.specs.States.{State, Did, Falls}
+use Rattle.stapl_meaning.specs.States.{State, Falls}
 use Rattle.stapl_code.specs.declared.instr.ExportPart.{ExportPart}
 use Rattle.stapl_code.specs.Machine.{Constants, Made, Does, does, known_text, part_exported}
 use Rattle.stapl_machine.specs.declared.effects.Export.{Export}

@@ -1,6 +1,6 @@
-use Rattle.std.proofs.Common.{rules, ◌≡◌, ℕ, add-one, List, subst, slice_get, Bool, reverse}
+use Rattle.std.proofs.Common.{rules, ◌≡◌, List, subst, slice_get, Bool, reverse}
 use Rattle.stapl_meaning.specs.Values.{then_get}
-use Rattle.stapl_meaning.specs.Effects.{copied, called, IntoWhole}
+use Rattle.stapl_meaning.specs.Effects.{copied, IntoWhole}
 use Rattle.stapl_meaning.specs.declared.values.Held.{Held}
 use Rattle.stapl_code.specs.declared.instr.Instr.TheVariants.{Print}
 use Rattle.stapl_code.specs.Machine.{does, known_source, known_literal, known_text, part_exported, target_of}

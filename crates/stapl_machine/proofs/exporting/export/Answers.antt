@@ -1,4 +1,4 @@
-use Rattle.std.proofs.Common.{rules, ◌≡◌, ◌<◌, Bool, List, [], ◌∷◌, length, get_or, arith, subst}
+use Rattle.std.proofs.Common.{rules, ◌≡◌, ◌<◌, Bool, List, [], ◌∷◌, length, get_or, subst}
 use Rattle.stapl_meaning.specs.declared.events.Event.TheVariants as events
 use Rattle.stapl_meaning.specs.Values.{Known}
 use Rattle.stapl_meaning.specs.States.{Falls}

@@ -1,4 +1,4 @@
-use Rattle.std.proofs.Common.{rules, ◌≡◌, ℤ, [], ◌∷◌, get_or, sym, ap, subst, ◌∙◌, pos, w32, SFits}
+use Rattle.std.proofs.Common.{rules, ◌≡◌, ℤ, [], ◌∷◌, get_or, subst, pos, w32, SFits}
 use Rattle.std.proofs.lemmas.Int.{to_z-of_z}
 use Rattle.std.specs.Int.{cast_signed, cast_unsigned}
 use Rattle.stapl_meaning.specs.declared.values.Value.TheVariants.{Int}

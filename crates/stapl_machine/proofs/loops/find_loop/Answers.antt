@@ -1,4 +1,4 @@
-use Rattle.std.proofs.Common.{rules, ◌≡◌, ◌-◌, get_or, arith, sym}
+use Rattle.std.proofs.Common.{rules, ◌≡◌, ◌-◌, get_or, arith}
 use Rattle.stapl_meaning.specs.declared.records.Record.TheVariants.{Looped}
 use Rattle.stapl_machine.proofs.RecordLemmas.{loop_found}
 use Rattle.stapl_machine.proofs.loops.find_loop.Goals as goal

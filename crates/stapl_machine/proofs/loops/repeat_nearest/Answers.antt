@@ -1,4 +1,4 @@
-use Rattle.std.proofs.Common.{rules, ◌≡◌, ℤ, List, reverse, take, sym, ap, subst, ◌∙◌, w32, SFits}
+use Rattle.std.proofs.Common.{rules, ◌≡◌, ℤ, reverse, take, sym, ap, subst, ◌∙◌, w32, SFits}
 use Rattle.std.proofs.lemmas.Int.{to_z-of_z}
 use Rattle.std.specs.Int.{cast_signed, cast_unsigned}
 use Rattle.std.specs.Prelude.{slice_get}

@@ -1,4 +1,4 @@
-use Rattle.std.proofs.Common.{rules, arith, ◌≡◌, ◌*◌, sym, ap, ◌∙◌}
+use Rattle.std.proofs.Common.{sym, ap, ◌∙◌}
 use Rattle.stapl_meaning.specs.Texts.{hex_digit}
 use Rattle.stapl_machine.proofs.DigitLemmas.{low_digit}
 use Rattle.stapl_machine.proofs.writing.digit_of_number.Goals as goal

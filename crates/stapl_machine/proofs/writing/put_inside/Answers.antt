@@ -1,4 +1,4 @@
-use Rattle.std.proofs.Common.{◌≡◌, length, ap, subst}
+use Rattle.std.proofs.Common.{length}
 use Rattle.bit_list.specs.Ranges.{taken}
 use Rattle.stapl_meaning.specs.Texts.{hex_digits, digits_needed}
 use Rattle.tool_io.proofs.BytesLemmas.{on_err}
