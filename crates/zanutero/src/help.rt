@@ -10,11 +10,13 @@ const HELP: &[u8] = b"zanutero: checks, lists and plays STAPL programs (JEDEC JE
       first fault, and says whether its CRC is that of the text
   zanutero list program=PATH
       lists the notes of the program, and its actions with their procedures
-  zanutero play program=PATH action=NAME [turns=N]
+  zanutero play program=PATH action=NAME [do=NAME,..] [skip=NAME,..] [turns=N]
       plays the action NAME of the program, and writes what it prints and how it
       ends
-      turns=N  the most turns of the play, 0 to 1000000000; where it is missing,
-               100000000; each statement that is played takes one
+      do=NAME,..    runs these OPTIONAL procedures, too
+      skip=NAME,..  leaves out these RECOMMENDED procedures
+      turns=N       the most turns of the play, 0 to 1000000000, or 100000000 if
+                    it is missing; each statement that is played takes one
   zanutero --help
   zanutero --version
 
@@ -25,9 +27,11 @@ The keys stand in any order. For example:
 Exit codes:
   0  the program is checked or listed, or the play ended with code 0
   1  the play ended with another code
+  2  a fault ended the play
   3  the play still went on after its turns
   4  the program is refused: the line R program PIECE line LINE REASON
-  6  the program has no such action: the line R action
+  6  the program has no such action: the line R action; or a name of do or skip
+     is not that of such a procedure of the action: the line R choice
   7  the words are refused: the line R usage WORD
   9  the program could not be read
   10 the output could not be written
