@@ -25,7 +25,8 @@ pub enum Status {
     Refused(u32, Reason),
     /// The program has no action of the name that the words give.
     NoAction,
-    /// A name of `do` is not that of an OPTIONAL procedure of the action, or a name of `skip` not that of a RECOMMENDED one.
+    /// A name of `do` is not that of an OPTIONAL procedure of the action, or a name of `skip` not that of a RECOMMENDED
+    /// one.
     BadChoice,
     /// The first word, counted from 1, that is not as stated, or the number of words plus 1 where words are missing.
     Usage(u32),
