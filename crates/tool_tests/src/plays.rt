@@ -55,7 +55,14 @@ fn keeps_a_prefix_where_the_third_write_fails(rt: HostRuntime) -> Result<(), Fai
 fn reads_words(rt: HostRuntime) -> Result<(), Fail> {
     let alloc = rt.alloc();
     let mut words = Vec::new(alloc);
-    for word in ["play", "turns=7", "action=a", "program=p"] {
+    for word in [
+        "play",
+        "turns=7",
+        "action=a",
+        "do=b,c",
+        "program=p",
+        "skip=d",
+    ] {
         words.push(String::from_str(alloc, word)?)?;
     }
     let Ok(request) = read_words(alloc, &words) else {
@@ -63,6 +70,8 @@ fn reads_words(rt: HostRuntime) -> Result<(), Fail> {
     };
     assert_eq!(rt; request.mode, Mode::Play);
     assert_eq!(rt; request.turns, 7);
+    assert_eq!(rt; request.todo.len(), 2);
+    assert_eq!(rt; request.skip.len(), 1);
     match &request.program {
         Some(program) => assert_eq!(rt; program.as_str(), "p"),
         None => panic!(rt; "no program"),
@@ -77,7 +86,7 @@ fn reads_words(rt: HostRuntime) -> Result<(), Fail> {
 // The exit code of each status.
 #[test]
 fn gives_exit_codes(rt: HostRuntime) -> Result<(), Fail> {
-    let table: [(Status, u8); 11] = [
+    let table: [(Status, u8); 12] = [
         (Status::Done(0), 0),
         (Status::Done(-1), 1),
         (Status::Done(256), 1),
@@ -85,6 +94,7 @@ fn gives_exit_codes(rt: HostRuntime) -> Result<(), Fail> {
         (Status::Spent, 3),
         (Status::Refused(1, Reason::NotYetBuilt), 4),
         (Status::NoAction, 6),
+        (Status::BadChoice, 6),
         (Status::Usage(1), 7),
         (Status::ReadFault, 9),
         (Status::WriteFault, 10),
