@@ -1,9 +1,9 @@
-//! Tests of moves and stays over a cable that fails.
+//! Tests of moves, stays and the reset over a cable that fails.
 ghost use Rattle.std.specs.Prelude.{◌≡◌, ◌^◌, ◌-◌, not, None};
 ghost use Rattle.std.proofs.lemmas.Option.{none-some};
 ghost use Rattle.scan_paths.specs.Cables.{whole, whole_if};
 
-use scan_paths::{Cable, move_to, stay};
+use scan_paths::{Cable, move_to, reset_chain, stay};
 use std::test::Fail;
 use tap_states::Tap;
 use tool_io::Failed;
@@ -90,6 +90,12 @@ fn stops_at_the_clock_that_fails(rt: HostRuntime) -> Result<(), Fail> {
         let mut cable = SilentCable::new(failing);
         let stayed = stay(&mut cable, Tap::IrPause, 5);
         assert_eq!(rt; stayed.is_ok(), failing > 5);
+        assert_eq!(rt; cable.clocks, failing.min(5));
+    }
+    for failing in 1..8u32 {
+        let mut cable = SilentCable::new(failing);
+        let reset = reset_chain(&mut cable);
+        assert_eq!(rt; reset.is_ok(), failing > 5);
         assert_eq!(rt; cable.clocks, failing.min(5));
     }
     Ok(())

@@ -3,9 +3,10 @@ ghost use Rattle.std.specs.Prelude.{◌≡◌, ◌≤◌, ℕ, true, map, slice_
 ghost use Rattle.std.specs.Option.{option_map};
 ghost use Rattle.stapl_lexer.specs.Names.{IsUpperName};
 ghost use Rattle.tap_states.specs.declared.Tap.TheVariants.{Reset, Idle};
+ghost use Rattle.tap_states.specs.Path.{five_ones};
 ghost use Rattle.dev_card.specs.Descriptions.{IsGood};
 ghost use Rattle.dev_card.specs.Board.{AllIn, board_after};
-ghost use Rattle.dev_card.specs.Clocks.{move_inputs};
+ghost use Rattle.dev_card.specs.Clocks.{move_inputs, with_zero};
 ghost use Rattle.scan_paths.specs.Cables.{whole, WhereTold};
 ghost use Rattle.chain_sim.specs.Places.{cards_at, IsAbsent, is_chain};
 ghost use Rattle.chain_sim.specs.Rack.{IsRack, IsPlain};
@@ -14,7 +15,7 @@ use base::ItemList;
 use chain_sim::{Chain, fit_board};
 use dev_card::{Desc, Device, IdCode, Kind};
 use dev_kinds::Plain;
-use scan_paths::{Cable, move_to};
+use scan_paths::{Cable, move_to, reset_chain};
 use stapl_lexer::Name;
 use std::alloc::{AllocError, Global};
 use std::test::Fail;
@@ -130,7 +131,34 @@ fn wake(rack: &mut Vec<Box<dyn Device>>, places: &[u32]) -> bool
     }
 }
 
-// Fits the board and moves it to idle, and whether these clocks have their TDO on its chain then.
+// Brings the devices at these places to reset, whatever states they are in.
+fn reset(rack: &mut Vec<Box<dyn Device>>, places: &[u32]) -> bool
+    requires chain { IsTrue (is_chain (map fitted rack.old.items) places.now) }
+    ensures in_reset { result ≡ true }
+    ensures cards { cards_at (map fitted rack.new.items) places.now
+        ≡ option_map (λ cs. board_after cs (with_zero five_ones)) (cards_at (map fitted rack.old.items) places.now) }
+    ensures chain { IsTrue (is_chain (map fitted rack.new.items) places.now) }
+{
+    let mut chain = Chain::over(rack, places);
+    match reset_chain(&mut chain) {
+        Ok(()) => true,
+        Err(_) => false,
+    }
+}
+
+// Moves the devices at these places from reset to idle, and once more after a reset.
+fn wake_twice(rack: &mut Vec<Box<dyn Device>>, places: &[u32]) -> bool
+    requires chain { IsTrue (is_chain (map fitted rack.old.items) places.now) }
+    requires at { WhereTold (cards_at (map fitted rack.old.items) places.now) (AllIn Reset) }
+    ensures chain { IsTrue (is_chain (map fitted rack.new.items) places.now) }
+{
+    let woken = wake(rack, places);
+    let in_reset = reset(rack, places);
+    let woken_again = wake(rack, places);
+    woken && in_reset && woken_again
+}
+
+// Fits the board and moves it to idle twice, and whether these clocks have their TDO on its chain then.
 fn fits_and_gives(
     alloc: Global,
     rack: &mut Vec<Box<dyn Device>>,
@@ -144,7 +172,7 @@ fn fits_and_gives(
     requires plain { All IsPlain descs.now }
 {
     let places = fit_board(alloc, rack, descs)?;
-    let woken = wake(rack, &places);
+    let woken = wake_twice(rack, &places);
     let mut chain = Chain::over(rack, &places);
     Ok(woken && gives(&mut chain, clocks)?)
 }

@@ -1,4 +1,4 @@
--- The inputs of moves and stays, clock by clock, and the states to which they lead.
+-- The inputs of moves and stays, clock by clock, and the states to which they and five ones lead.
 use Rattle.std.proofs.Common.{◌≡◌, ◌<◌, ◌≤◌, ◌+◌, ◌-◌, ◌/◌, ◌%◌, ℕ, suc, zero, nat_eq, Bool, true, false, List, [], ◌∷◌, replicate, Option, Some, None, refl, sym, ap, subst, ◌∙◌, arith}
 use Rattle.std.proofs.lemmas.Bool.{false≢true}
 use Rattle.std.specs.Option.{option_map}
@@ -6,11 +6,12 @@ use Rattle.base.specs.Bits.{low_bits}
 use Rattle.tap_states.specs.declared.Tap.{Tap}
 use Rattle.tap_states.specs.declared.Tap.TheVariants.{Reset, Idle, DrPause, IrPause}
 use Rattle.tap_states.specs.Tap.{next_of, is_stable_state}
-use Rattle.tap_states.specs.Path.{walk}
+use Rattle.tap_states.specs.Path.{walk, five_ones}
 use Rattle.dev_card.specs.Card.{Card}
 use Rattle.dev_card.specs.Board.{board_after, AllIn}
 use Rattle.dev_card.specs.Clocks.{with_zero, rest_tms, move_inputs}
 use Rattle.dev_card.proofs.Reaching.{walk_in}
+use Rattle.dev_card.proofs.Resetting.{five_ones_reset}
 use Rattle.dev_card.proofs.ScanLines.{move_leads}
 use Rattle.scan_paths.specs.Cables.{WhereTold}
 
@@ -55,6 +56,10 @@ told_then (Some bs) new change P Q e h f cs t = subst Q (some_same (sym e ∙ t)
 pub told_moved : (old new : Option (List Card)) (at to : Tap) → new ≡ option_map (λ cs. board_after cs (move_inputs at to)) old →
     WhereTold old (AllIn at) → WhereTold new (AllIn to)
 told_moved old new at to e h = told_then old new (λ cs. board_after cs (move_inputs at to)) (AllIn at) (AllIn to) e h (λ cs a. move_leads at to cs a)
+
+-- after five clocks with TMS 1, whatever is known before
+pub told_reset : (old new : Option (List Card)) → new ≡ option_map (λ cs. board_after cs (with_zero five_ones)) old → WhereTold new (AllIn Reset)
+told_reset old new e = told_then old new (λ cs. board_after cs (with_zero five_ones)) (λ cs. Unit {0}) (AllIn Reset) e (λ cs t. tt) (λ cs a. five_ones_reset cs)
 
 rests : (s : Tap) → is_stable_state s ≡ true → next_of s (rest_tms s) ≡ s
 rests Reset h = refl

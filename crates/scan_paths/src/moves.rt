@@ -1,7 +1,9 @@
-//! Moves and stays of the controllers.
+//! Moves, stays and the reset of the controllers.
 ghost use Rattle.std.specs.Prelude.{◌≡◌, ◌≢◌, IsTrue, IfOk, OnOk, OnErr};
 ghost use Rattle.tool_io.specs.Causes.{HasCause};
 ghost use Rattle.base.specs.Bits.{low_bits};
+ghost use Rattle.tap_states.specs.declared.Tap.TheVariants.{Reset};
+ghost use Rattle.tap_states.specs.Path.{five_ones};
 ghost use Rattle.tap_states.specs.Tap.{is_stable_state};
 ghost use Rattle.dev_card.specs.Board.{AllIn};
 ghost use Rattle.dev_card.specs.Clocks.{with_zero, move_inputs, stay_inputs, rest_tms};
@@ -52,6 +54,29 @@ pub fn move_to<C: Cable>(cable: &mut C, at: Tap, to: Tap) -> Result<Tap, Failed>
     let path = Tap::path(at, to);
     send(cable, path.bits, path.len)?;
     Ok(to)
+}
+
+/// Brings all controllers to reset by five clocks with TMS 1 and TDI 0, from states that nobody knows (IEEE 1149.1, TAP
+/// controller state diagram).
+///
+/// The cable is not broken; nothing is asked of the states before. `Failed` only where the cable's count of faults rose,
+/// or stands at its last value; then the clocks that were made are those of a front of the five, and nothing is promised
+/// of the states.
+pub fn reset_chain<C: Cable>(cable: &mut C) -> Result<(), Failed>
+    requires whole { C.breakage cable.old ≡ whole }
+    ensures reset { OnOk result (WhereTold (C.board cable.new) (AllIn Reset)) }
+    ensures made { OnOk result (HasMade C.board C.made cable.old cable.new (with_zero five_ones)) }
+    ensures front { OnErr result (HasMadeFront C.board C.made cable.old cable.new (with_zero five_ones)) }
+    ensures unbroken { OnOk result (C.breakage cable.new ≡ whole) }
+    ensures broken { OnErr result (C.breakage cable.new ≢ whole) }
+    ensures line { HasPartCause line C.line_faults C.is_line_last C.breakage cable.old cable.new }
+    ensures pins { HasPartCause pins C.pin_faults C.is_pin_last C.breakage cable.old cable.new }
+    ensures cause { HasCause (cable_faults C.line_faults C.pin_faults)
+        (IsCableLast C.is_line_last C.is_pin_last) cable.old cable.new result }
+{
+    let ones = Tap::path(Tap::Reset, Tap::Reset);
+    send(cable, ones.bits, ones.len)?;
+    Ok(())
 }
 
 /// Makes n clocks in a stable state, in which all controllers stay: with TMS 1 in the reset state and with 0 in the
