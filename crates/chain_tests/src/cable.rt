@@ -1,7 +1,10 @@
 //! Tests of moves, stays and the reset over a cable that fails.
-ghost use Rattle.std.specs.Prelude.{◌≡◌, ◌^◌, ◌-◌, not, None};
+ghost use Rattle.std.specs.Prelude.{◌≡◌, ◌++◌, ◌^◌, ◌-◌, not, None, OnOk, OnErr};
 ghost use Rattle.std.proofs.lemmas.Option.{none-some};
-ghost use Rattle.scan_paths.specs.Cables.{whole, whole_if};
+ghost use Rattle.tap_states.specs.declared.Tap.TheVariants.{Reset};
+ghost use Rattle.tap_states.specs.Path.{five_ones};
+ghost use Rattle.dev_card.specs.Clocks.{with_zero, move_inputs};
+ghost use Rattle.scan_paths.specs.Cables.{whole, whole_if, HasMade, HasMadeFront};
 
 use scan_paths::{Cable, move_to, reset_chain, stay};
 use std::test::Fail;
@@ -70,6 +73,17 @@ impl Cable for SilentCable {
     ghost both_made = { λ _ _ _ _ _ _ _. tt };
 }
 
+// Brings the controllers to reset and then to a state: two calls in a row, of which either may fail.
+fn restart<C: Cable>(cable: &mut C, to: Tap) -> Result<Tap, Failed>
+    requires { C.breakage cable.old ≡ whole }
+    ensures made { OnOk result (HasMade C.board C.made cable.old cable.new (with_zero five_ones ++ move_inputs Reset to)) }
+    ensures front { OnErr result (HasMadeFront C.board C.made cable.old cable.new (with_zero five_ones ++ move_inputs Reset to)) }
+{
+    reset_chain(cable)?;
+    let state = move_to(cable, Tap::Reset, to)?;
+    Ok(state)
+}
+
 #[test]
 fn stops_at_the_clock_that_fails(rt: HostRuntime) -> Result<(), Fail> {
     // From the state diagram of IEEE 1149.1: from DRPAUSE to IRSHIFT there are six clocks.
@@ -92,11 +106,12 @@ fn stops_at_the_clock_that_fails(rt: HostRuntime) -> Result<(), Fail> {
         assert_eq!(rt; stayed.is_ok(), failing > 5);
         assert_eq!(rt; cable.clocks, failing.min(5));
     }
+    // Five clocks to reset, and one to idle.
     for failing in 1..8u32 {
         let mut cable = SilentCable::new(failing);
-        let reset = reset_chain(&mut cable);
-        assert_eq!(rt; reset.is_ok(), failing > 5);
-        assert_eq!(rt; cable.clocks, failing.min(5));
+        let restarted = restart(&mut cable, Tap::Idle);
+        assert_eq!(rt; restarted.is_ok(), failing > 6);
+        assert_eq!(rt; cable.clocks, failing.min(6));
     }
     Ok(())
 }

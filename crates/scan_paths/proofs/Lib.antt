@@ -1,3 +1,4 @@
+pub mod CallsInARow
 pub mod Way
 pub mod Parts
 pub mod Arriving

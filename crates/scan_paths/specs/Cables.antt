@@ -63,13 +63,17 @@ pub record HasBrokenOff {C : Type 0} (board : C → Option (List Card)) (makes :
 abbrev pub IsClockedOrNot : {C : Type 0} → (C → Option (List Card)) → (C → List Clock → C → Type 0) → C → C → Bool → Bool → Type 0
 IsClockedOrNot board makes old new tms tdi = HasBrokenOff board makes old new [] ⊎ HasBrokenOff board makes old new (record { tms = tms; tdi = tdi } ∷ [])
 
--- Clocks were made with exactly these inputs. Where the board is told, they are the board's clocks, and the board is the one after them.
-pub record HasMade {C : Type 0} (board : C → Option (List Card)) (makes : C → List Clock → C → Type 0) (old new : C) (inputs : List Input) : Type 0 where
-  pub clocks : List Clock
+-- These clocks were made, with exactly these inputs. Where the board is told, they are the board's clocks, and the board is the one after them.
+pub record HasMadeClocks {C : Type 0} (board : C → Option (List Card)) (makes : C → List Clock → C → Type 0) (old new : C) (inputs : List Input) (clocks : List Clock) : Type 0 where
   pub made : makes old clocks new
   pub went_in : map input_of clocks ≡ inputs
   pub seen : (cs : List Card) → board old ≡ Some cs → clocks ≡ clocks_of cs inputs
   pub cards : board new ≡ option_map (λ cs. board_after cs inputs) (board old)
+
+-- Some clocks were made, with exactly these inputs.
+pub record HasMade {C : Type 0} (board : C → Option (List Card)) (makes : C → List Clock → C → Type 0) (old new : C) (inputs : List Input) : Type 0 where
+  pub clocks : List Clock
+  pub made : HasMadeClocks board makes old new inputs clocks
 
 -- Clocks were made with exactly a front of these inputs, and then a call failed.
 pub record HasMadeFront {C : Type 0} (board : C → Option (List Card)) (makes : C → List Clock → C → Type 0) (old new : C) (inputs : List Input) : Type 0 where

@@ -59,9 +59,9 @@ pub fn move_to<C: Cable>(cable: &mut C, at: Tap, to: Tap) -> Result<Tap, Failed>
 /// Brings all controllers to reset by five clocks with TMS 1 and TDI 0, from states that nobody knows (IEEE 1149.1, TAP
 /// controller state diagram).
 ///
-/// The cable is not broken; nothing is asked of the states before. `Failed` only where the cable's count of faults rose,
-/// or stands at its last value; then the clocks that were made are those of a front of the five, and nothing is promised
-/// of the states.
+/// The cable is not broken; nothing is asked of the states before. `Failed` only where the cable's count of faults
+/// rose, or stands at its last value; then the clocks that were made are those of a front of the five, and nothing is
+/// promised of the states.
 pub fn reset_chain<C: Cable>(cable: &mut C) -> Result<(), Failed>
     requires whole { C.breakage cable.old ≡ whole }
     ensures reset { OnOk result (WhereTold (C.board cable.new) (AllIn Reset)) }

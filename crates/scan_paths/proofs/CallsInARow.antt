@@ -1,0 +1,98 @@
+-- Calls one after another: what they made together, for this crate and those above. Of all calls but the last it is known what they made, and the
+-- last one may have failed.
+use Rattle.std.proofs.Common.{◌≡◌, inl, inr, List, [], ◌∷◌, ◌++◌, map, Bool, Option, Some, None, refl, sym, ap, ◌∙◌, append_assoc}
+use Rattle.std.proofs.lemmas.List.{map-append}
+use Rattle.std.specs.Option.{option_map}
+use Rattle.dev_card.specs.Card.{Card}
+use Rattle.dev_card.specs.Board.{Clock, Input, clock_with, clocks_of, board_after}
+use Rattle.dev_card.proofs.ScanLines.{after-append, clocks-append}
+use Rattle.scan_paths.specs.Cables.{input_of, IsClocked, IsUnclocked, HasBrokenOff, IsClockedOrNot, HasMadeClocks, HasMade, HasMadeFront}
+
+after_none : (o : Option (List Card)) → o ≡ option_map (λ cs. board_after cs []) o
+after_none None = refl
+after_none (Some cs) = refl
+
+after_both : (o : Option (List Card)) (xs ys : List Input) →
+    option_map (λ cs. board_after cs ys) (option_map (λ cs. board_after cs xs) o) ≡ option_map (λ cs. board_after cs (xs ++ ys)) o
+after_both None xs ys = refl
+after_both (Some cs) xs ys = ap Some (sym (after-append xs ys cs))
+
+inputs_both : (ks ls : List Clock) (xs ys : List Input) → map input_of ks ≡ xs → map input_of ls ≡ ys → map input_of (ks ++ ls) ≡ xs ++ ys
+inputs_both ks ls xs ys p q = map-append input_of ks ls ∙ ap (λ z. z ++ map input_of ls) p ∙ ap (λ z. xs ++ z) q
+
+seen_both : (cs : List Card) (xs ys : List Input) (ks ls : List Clock) → ks ≡ clocks_of cs xs → ls ≡ clocks_of (board_after cs xs) ys →
+    ks ++ ls ≡ clocks_of cs (xs ++ ys)
+seen_both cs xs ys ks ls p q = ap (λ z. z ++ ls) p ∙ ap (λ z. clocks_of cs xs ++ z) q ∙ sym (clocks-append xs ys cs)
+
+module _ {C : Type 0} (board : C → Option (List Card)) (makes : C → List Clock → C → Type 0) where
+  -- no clock was made
+  pub made_nothing : (old new : C) → IsUnclocked board makes old new → HasMade board makes old new []
+  made_nothing old new u = record { clocks = []; made = record { made = u.made; went_in = refl; seen = λ cs t. refl; cards = u.cards ∙ after_none (board old) } }
+
+  -- one clock was made, this one
+  pub clocks_one : (old new : C) (i : Input) (tdo : Bool) → IsClocked board makes old new i.tms i.tdi tdo →
+      HasMadeClocks board makes old new (i ∷ []) (clock_with i tdo ∷ [])
+  clocks_one old new i tdo k = record { made = k.made; went_in = refl; seen = λ cs t. ap (λ b. clock_with i b ∷ []) (k.seen cs t); cards = k.cards }
+
+  pub made_one : (old new : C) (i : Input) (tdo : Bool) → IsClocked board makes old new i.tms i.tdi tdo → HasMade board makes old new (i ∷ [])
+  made_one old new i tdo k = record { clocks = clock_with i tdo ∷ []; made = clocks_one old new i tdo k }
+
+  -- what was made before a failure is a front
+  pub front_broken : (old new : C) (xs rest : List Input) → HasBrokenOff board makes old new xs → HasMadeFront board makes old new (xs ++ rest)
+  front_broken old new xs rest b = record { front = xs; rest = rest; parts = refl; made = b }
+
+  -- so it is if one clock failed
+  pub front_clock : (old new : C) (i : Input) (rest : List Input) → IsClockedOrNot board makes old new i.tms i.tdi →
+      HasMadeFront board makes old new (i ∷ rest)
+  front_clock old new i rest (inl b) = front_broken old new [] (i ∷ rest) b
+  front_clock old new i rest (inr b) = front_broken old new (i ∷ []) rest b
+
+  -- a front of a list is one of a longer list
+  pub front_longer : (old new : C) (xs ys : List Input) → HasMadeFront board makes old new xs → HasMadeFront board makes old new (xs ++ ys)
+  front_longer old new xs ys f = record {
+    front = f.front;
+    rest = f.rest ++ ys;
+    parts = ap (λ z. z ++ ys) f.parts ∙ append_assoc f.front f.rest ys;
+    made = f.made;
+  }
+
+  told_after : (old new : C) (xs : List Input) (ks : List Clock) → HasMadeClocks board makes old new xs ks → (cs : List Card) → board old ≡ Some cs →
+      board new ≡ Some (board_after cs xs)
+  told_after old new xs ks p cs t = p.cards ∙ ap (λ o. option_map (λ ks. board_after ks xs) o) t
+
+  module _ (both : (a b c : C) (front back : List Clock) → makes a front b → makes b back c → makes a (front ++ back) c) where
+    -- two calls in a row made their clocks, joined
+    pub clocks_both : (a b c : C) (xs ys : List Input) (ks ls : List Clock) → HasMadeClocks board makes a b xs ks → HasMadeClocks board makes b c ys ls →
+        HasMadeClocks board makes a c (xs ++ ys) (ks ++ ls)
+    clocks_both a b c xs ys ks ls p q = record {
+      made = both a b c ks ls p.made q.made;
+      went_in = inputs_both ks ls xs ys p.went_in q.went_in;
+      seen = λ cs t. seen_both cs xs ys ks ls (p.seen cs t) (q.seen (board_after cs xs) (told_after a b xs ks p cs t));
+      cards = q.cards ∙ ap (λ o. option_map (λ ks. board_after ks ys) o) p.cards ∙ after_both (board a) xs ys;
+    }
+
+    -- the same where nobody asks for the clocks
+    pub made_both : (a b c : C) (xs ys : List Input) → HasMade board makes a b xs → HasMade board makes b c ys → HasMade board makes a c (xs ++ ys)
+    made_both a b c xs ys p q = record { clocks = p.clocks ++ q.clocks; made = clocks_both a b c xs ys p.clocks q.clocks p.made q.made }
+
+    -- a call, and then one that failed
+    pub broken_after : (a b c : C) (xs ys : List Input) → HasMade board makes a b xs → HasBrokenOff board makes b c ys → HasBrokenOff board makes a c (xs ++ ys)
+    broken_after a b c xs ys p q =
+        let mid : (cs : List Card) → board a ≡ Some cs → board b ≡ Some (board_after cs xs) = told_after a b xs p.clocks p.made in
+        record {
+          clocks = p.clocks ++ q.clocks;
+          made = both a b c p.clocks q.clocks p.made.made q.made;
+          went_in = inputs_both p.clocks q.clocks xs ys p.made.went_in q.went_in;
+          seen = λ cs t. seen_both cs xs ys p.clocks q.clocks (p.made.seen cs t) (q.seen (board_after cs xs) (mid cs t));
+          cards = λ cs ks t u. q.cards (board_after cs xs) ks (mid cs t) u ∙ sym (after-append xs ys cs);
+          untold = λ t. q.untold (p.made.cards ∙ ap (λ o. option_map (λ ks. board_after ks xs) o) t);
+        }
+
+    -- a call, and then a front
+    pub front_after : (a b c : C) (xs ys : List Input) → HasMade board makes a b xs → HasMadeFront board makes b c ys → HasMadeFront board makes a c (xs ++ ys)
+    front_after a b c xs ys p f = record {
+      front = xs ++ f.front;
+      rest = f.rest;
+      parts = ap (λ z. xs ++ z) f.parts ∙ sym (append_assoc xs f.front f.rest);
+      made = broken_after a b c xs f.front p f.made;
+    }
