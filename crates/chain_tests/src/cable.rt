@@ -76,8 +76,10 @@ impl Cable for SilentCable {
 // Brings the controllers to reset and then to a state: two calls in a row, of which either may fail.
 fn restart<C: Cable>(cable: &mut C, to: Tap) -> Result<Tap, Failed>
     requires { C.breakage cable.old ≡ whole }
-    ensures made { OnOk result (HasMade C.board C.made cable.old cable.new (with_zero five_ones ++ move_inputs Reset to)) }
-    ensures front { OnErr result (HasMadeFront C.board C.made cable.old cable.new (with_zero five_ones ++ move_inputs Reset to)) }
+    ensures made { OnOk result (HasMade C.board C.made cable.old cable.new
+        (with_zero five_ones ++ move_inputs Reset to)) }
+    ensures front { OnErr result (HasMadeFront C.board C.made cable.old cable.new
+        (with_zero five_ones ++ move_inputs Reset to)) }
 {
     reset_chain(cable)?;
     let state = move_to(cable, Tap::Reset, to)?;
