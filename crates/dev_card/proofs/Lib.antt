@@ -8,3 +8,4 @@ pub mod ScanLines
 pub mod PaddedLines
 pub mod OneScan
 pub mod Resetting
+pub mod Scanning

@@ -1,6 +1,6 @@
 -- The clocks of moves, stays and scans (JESD71, STATE, WAIT, IRSCAN and DRSCAN), and the board after them. TDI is 0 outside the shift clocks of a
 -- scan. The ways between states are this profile's.
-use Rattle.std.specs.Prelude.{◌≡◌, ℕ, Bool, true, false, List, [], ◌∷◌, ◌++◌, map, replicate}
+use Rattle.std.specs.Prelude.{◌≡◌, ◌&&◌, ℕ, Bool, true, false, List, [], ◌∷◌, ◌++◌, map, replicate}
 use Rattle.tap_states.specs.declared.Tap.{Tap}
 use Rattle.tap_states.specs.declared.Tap.TheVariants.{Reset, Idle}
 use Rattle.tap_states.specs.PathTable.{path_of}
@@ -46,6 +46,16 @@ abbrev pub shift_inputs : List Bool → List Input
 shift_inputs [] = []
 shift_inputs (b ∷ []) = record { tms = true; tdi = b } ∷ []
 shift_inputs (b ∷ c ∷ bs) = record { tms = false; tdi = b } ∷ shift_inputs (c ∷ bs)
+
+-- whether no bit is left
+abbrev pub is_nil : List Bool → Bool
+is_nil [] = true
+is_nil (b ∷ bs) = false
+
+-- what goes in at the shift clocks of one part of a scan, true if the scan ends with it: at its last bit TMS is 1 then
+abbrev pub part_inputs : Bool → List Bool → List Input
+part_inputs last [] = []
+part_inputs last (b ∷ bs) = record { tms = last && is_nil bs; tdi = b } ∷ part_inputs last bs
 
 -- the clock to the pause state, and the move from there to the stop state
 abbrev pub pause_inputs : List Input

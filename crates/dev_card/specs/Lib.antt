@@ -6,3 +6,5 @@ pub mod Padding
 pub mod Clocks
 pub mod Sound
 pub mod PaddedScan
+pub mod Scans
+pub mod FarEnds

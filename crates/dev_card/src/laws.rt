@@ -1,5 +1,5 @@
 //! Laws of the definitions.
-ghost use Rattle.std.specs.Prelude.{◌≡◌, ◌≢◌, ◌<◌, ◌-◌, ◌^◌, ℕ, Bool, true, false, ◌++◌, All, List, Option, Some, length};
+ghost use Rattle.std.specs.Prelude.{◌≡◌, ◌≢◌, ◌<◌, ◌≤◌, ◌-◌, ◌^◌, ◌&&◌, ℕ, Bool, true, false, [], ◌∷◌, ◌++◌, All, List, Option, Some, length, take, drop, slice_get};
 ghost use Rattle.tap_states.specs.declared.Tap.{Tap};
 ghost use Rattle.tap_states.specs.declared.Tap.TheVariants.{DrShift, Reset};
 ghost use Rattle.tap_states.specs.Path.{five_ones};
@@ -7,11 +7,12 @@ ghost use Rattle.tap_states.specs.Tap.{is_stable_state};
 ghost use Rattle.dev_card.specs.declared.desc.Desc.{Desc};
 ghost use Rattle.dev_card.specs.Descriptions.{IsGood, opcodes_of};
 ghost use Rattle.dev_card.specs.Card.{Card, bypass, fresh, selected_by, step};
-ghost use Rattle.dev_card.specs.Board.{Input, board_after, AllIn};
+ghost use Rattle.dev_card.specs.Board.{Input, Clock, board_after, AllIn};
 ghost use Rattle.dev_card.specs.Line.{shift_state, line_of, AllShift};
-ghost use Rattle.dev_card.specs.Padding.{Paddings, base_pre_of, base_post_of};
-ghost use Rattle.dev_card.specs.PaddedScan.{IsSameScan, IsOneScan, base_of_cards};
-ghost use Rattle.dev_card.specs.Clocks.{with_zero, move_inputs, at_shift, board_scanned, StaysShifting, ShiftsAsLine, ScansAsLine};
+ghost use Rattle.dev_card.specs.Padding.{Paddings, base_pre_of, base_post_of, base_lengths};
+ghost use Rattle.dev_card.specs.PaddedScan.{IsSameScan, IsOneScan, base_of_cards, descriptions_of};
+ghost use Rattle.dev_card.specs.Clocks.{with_zero, move_inputs, is_nil, shift_inputs, part_inputs, at_shift, board_scanned, StaysShifting, ShiftsAsLine, ScansAsLine};
+ghost use Rattle.dev_card.specs.Scans.{BoardScan, inputs_of_scan, clocks_of_scan, captured_bits, captured_from, HasBaseAround, IsScanOfRun};
 ghost use Rattle.dev_card.specs.Sound.{IsSound, AllSound, AllBypass, register_lengths, SoundCard, card_in};
 
 /// Every opcode that a description doesn't name selects BYPASS.
@@ -89,6 +90,47 @@ pub fn one_padded_scan_is_the_scan_alone()
         AllIn at (before ++ (run ++ after)) → AllSound (before ++ (run ++ after)) →
         p.base_pre ≡ base_pre_of ir (base_of_cards before after) → p.base_post ≡ base_post_of ir (base_of_cards before after) →
         IsOneScan at ir before run after p bits }
+{}
+
+/// All bits of a scan are one part of it, with which it ends.
+pub fn a_whole_shift_is_one_part()
+    ensures { (bits : List Bool) → shift_inputs bits ≡ part_inputs true bits }
+{}
+
+/// A part of a scan that is cut in two is both parts in a row. Only the last part that has a bit has the last bit.
+pub fn a_part_of_a_shift_is_its_parts()
+    ensures { (last : Bool) (front back : List Bool) →
+        part_inputs last (front ++ back) ≡ part_inputs (last && is_nil back) front ++ part_inputs last back }
+{}
+
+/// The clocks of a scan hold what it captures of its board.
+pub fn clocks_of_a_scan_hold_what_it_captures()
+    ensures { (at : Tap) (s : BoardScan) (cs : List Card) →
+        captured_from at s (clocks_of_scan at s cs) ≡ captured_bits at s cs }
+{}
+
+/// A scan captures as many bits as its data has, whatever answers its clocks.
+pub fn a_scan_captures_as_many_bits_as_its_data()
+    ensures { (at : Tap) (s : BoardScan) (clocks : List Clock) → length clocks ≡ length (inputs_of_scan at s) →
+        length (captured_from at s clocks) ≡ length s.bits }
+{}
+
+/// What a scan captures of a board of sound cards in one stable state, with base padding around a run of neighbours, is
+/// what it captures of the run alone, if it is short enough, and if the other devices have BYPASS selected or it is a
+/// scan of the instruction registers.
+pub fn a_padded_scan_captures_what_the_run_gives()
+    ensures { (at : Tap) (before run after : List Card) (s : BoardScan) → is_stable_state at ≡ true →
+        AllIn at (before ++ (run ++ after)) → AllSound (before ++ (run ++ after)) → HasBaseAround before after s →
+        IsScanOfRun at before run after s (captured_bits at s (before ++ (run ++ after))) }
+{}
+
+/// The card at a place of a board, counted from 1, is a run between the cards before and after it, and base padding for
+/// the place is that around this run.
+pub fn a_place_is_a_run_of_one_card()
+    ensures board { (cs : List Card) (place : ℕ) (c : Card) → 1 ≤ place → slice_get cs (place - 1) ≡ Some c →
+        cs ≡ take (place - 1) cs ++ ((c ∷ []) ++ drop place cs) }
+    ensures base { (cs : List Card) (place : ℕ) →
+        base_lengths (descriptions_of cs) (Some place) ≡ base_of_cards (take (place - 1) cs) (drop place cs) }
 {}
 
 /// The line of sound cards that shift is as long as their registers together.
