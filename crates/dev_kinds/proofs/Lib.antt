@@ -1,3 +1,9 @@
 pub mod BitNumbers
 pub mod Rings
 pub mod PlainCards
+pub mod Searching
+pub mod RegsCards
+pub mod FlashCards
+pub mod SoundCards
+pub mod Packing
+pub mod MemoryLemmas

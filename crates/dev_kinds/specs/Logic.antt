@@ -57,8 +57,8 @@ abbrev pub selected_identity : Option IdCode → ℕ → Option ℕ
 selected_identity None op = None
 selected_identity (Some id) op = if id.op == op then Some id.value else None
 
--- what test logic keeps: its description is good, the number of the instruction register has the register's bits, and the data list has a bit
--- and room for an identification code
+-- what test logic keeps: its description is good, the number of the instruction register has the register's bits, and
+-- the data list has a bit and room for an identification code
 pub record IsLogic (desc : Desc) (ir_number : ℕ) (dr_list : List Bool) (room : ℕ) : Type 0 where
   pub good : IsGood desc
   pub ir_fits : ir_number < 2 ^ desc.ir_len

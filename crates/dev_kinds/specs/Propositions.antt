@@ -1,6 +1,6 @@
--- A card is sound in one way, so a struct may keep the fact that its card is. Each part is an equation or a bound of numbers or of lists, or such
--- a fact for each item of a list.
-use Rattle.std.specs.Prelude.{◌≡◌, ◌≢◌, ℕ, Bool, List, [], Option, None, All, AllPairs, refl}
+-- A card is sound in one way, so a struct may keep the fact that its card is. Each part is an equation or a bound of
+-- numbers or of lists, or such a fact for each item of a list.
+use Rattle.std.specs.Prelude.{◌≡◌, ◌≢◌, ℕ, Bool, List, [], Option, None, Some, All, AllPairs, refl}
 use Rattle.std.specs.Option.{ForSome, IsSomeAnd-prop}
 use Rattle.std.specs.Coded.{Coded, Coded-set, coded_ℕ, coded_bool, coded_list, coded_option, coded×, code_by, le_prop, ×_prop, Π_prop, →_prop}
 use Rattle.stapl_lexer.specs.Names.{IsUpperName}
@@ -119,3 +119,7 @@ IsSound-prop c x y = λ i. record {
   cell_count_and_lengths = Coded-set (coded_list coded_ℕ) _ _ x.cell_count_and_lengths y.cell_count_and_lengths i;
   busy_limit = le_prop x.busy_limit y.busy_limit i;
 }
+
+-- a description has one memory, so a struct may keep the fact which one
+pub same_flash-prop : (d : Desc) (f : FlashDesc) → IsProp (d.flash ≡ Some f)
+same_flash-prop d f = Coded-set (coded_option coded_memory) d.flash (Some f)

@@ -1,8 +1,16 @@
 //! The kinds of device.
 #![tactic(auto)]
 
+mod bit_copies;
+mod flash;
+mod memory;
+mod packed;
 mod plain;
+mod registers;
+mod regs;
 mod shift_list;
 mod test_logic;
 
+pub use flash::Flash;
 pub use plain::Plain;
+pub use regs::Regs;

@@ -15,8 +15,8 @@ use tap_states::Tap;
 // The identification register is the longest data register of a Plain.
 const LONGEST_REGISTER: u32 = 32;
 
-/// A device of kind `Plain`: it has the bypass register of 1 bit, perhaps the device identification register of 32 bits, and no other data
-/// register (IEEE 1149.1, clauses 10 and 12).
+/// A device of kind `Plain`: it has the bypass register of 1 bit, perhaps the device identification register of 32
+/// bits, and no other data register (IEEE 1149.1, clauses 10 and 12).
 ///
 /// `fit` takes all the memory that it needs; a clock takes none, and constant time.
 #[derive(Drop)]
@@ -35,7 +35,8 @@ struct FittedPlain {
 // The data list captures what the selected register gives: the identification code, or the 0 of BYPASS.
 fn capture(logic: &mut TestLogic)
     requires { logic.old.desc.kind ≡ kinds.Plain }
-    ensures { logic.new ≡ record logic.old { dr_list = captured (card_of logic.old [] 0) (selected (card_of logic.old [] 0)) } }
+    ensures { let card = card_of logic.old [] 0 in
+        logic.new ≡ record logic.old { dr_list = captured card (selected card) } }
 {
     match logic.identity() {
         Some(code) => logic.capture_word(code),

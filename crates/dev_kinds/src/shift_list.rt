@@ -4,11 +4,12 @@ ghost use Rattle.base.specs.Bits.{low_bits};
 ghost use Rattle.dev_card.specs.Card.{shifted};
 ghost use Rattle.dev_kinds.specs.ShiftRegister.{next_in_ring};
 
+use bit_list::Bits;
 use std::alloc::{AllocError, Global};
 use std::marker::Model;
 
-// A shift register with room for the longest data register of its device. The bits in use stand in a ring, so a shift writes one bit and moves
-// none.
+// A shift register with room for the longest data register of its device. The bits in use stand in a ring, so a shift
+// writes one bit and moves none.
 #[derive(Drop)]
 pub struct ShiftList {
     ring: Vec<bool>,
@@ -67,6 +68,29 @@ impl ShiftList {
         self.head = 0;
     }
 
+    // Becomes these bits.
+    pub fn load(&mut self, bits: &Bits)
+        requires some { 0 < length bits.now }
+        requires room { length bits.now ≤ self.old.room }
+        ensures { self.new ≡ record self.old { bits = bits.now } }
+    {
+        write_bits(&mut self.ring, bits);
+        self.len = bits.len() as usize;
+        self.head = 0;
+    }
+
+    // Gives its bits to a list of the same length.
+    pub fn give(&self, bits: &mut Bits)
+        requires { length bits.old ≡ length self.now.bits }
+        ensures { bits.new ≡ self.now.bits }
+    {
+        let mut place = self.head;
+        for i in 0..bits.len() {
+            bits.set(i, self.ring[place]);
+            place = next_place(place, self.len);
+        }
+    }
+
     // Becomes the lowest n bits of a number.
     pub fn load_number(&mut self, number: u64, n: usize)
         requires some { 0 < n }
@@ -96,5 +120,15 @@ fn write_number(bits: &mut [bool], number: u64, n: usize)
     for i in 0..n {
         bits[i] = rest % 2 == 1;
         rest /= 2;
+    }
+}
+
+// Writes bits to the front.
+fn write_bits(ring: &mut [bool], bits: &Bits)
+    requires { length bits.now ≤ length ring.old }
+    ensures { take (length bits.now) ring.new ≡ bits.now }
+{
+    for i in 0..bits.len() {
+        ring[i as usize] = bits.get(i);
     }
 }

@@ -1,18 +1,33 @@
 //! What all kinds share.
-ghost use Rattle.std.specs.Prelude.{◌≡◌, ◌<◌, ◌≤◌, ◌+◌, ◌-◌, ◌*◌, ◌/◌, ◌^◌, ℕ, Bool, List, [], ◌∷◌, IfOk};
+ghost use Rattle.std.specs.Prelude.{◌≡◌, ◌<◌, ◌≤◌, ◌+◌, ◌-◌, ◌*◌, ◌/◌, ◌^◌, ℕ, Bool, List, [], ◌∷◌, length};
+ghost use Rattle.std.specs.Prelude.{Some, IfOk, slice_get};
 ghost use Rattle.base.specs.Bits.{low_bits, bit_value};
 ghost use Rattle.dev_card.specs.Descriptions.{IsGood};
-ghost use Rattle.dev_card.specs.Card.{reset_instruction, tdo_of};
+ghost use Rattle.dev_card.specs.declared.desc.Kind.TheVariants as kinds;
+ghost use Rattle.dev_card.specs.declared.desc.RegDesc.{RegDesc};
+ghost use Rattle.dev_card.specs.Card.{reset_instruction, tdo_of, constant_or};
+ghost use Rattle.dev_kinds.specs.Registers.{IsSelected};
 ghost use Rattle.dev_kinds.specs.Logic.{card_of, lists_moved, state_entered, fresh_logic, selected_identity};
 
+use crate::registers::find_register;
 use crate::shift_list::ShiftList;
+use bit_list::Bits;
 use dev_card::Desc;
 use std::alloc::{AllocError, Global};
 use std::marker::Model;
 use tap_states::Tap;
 
-// The test logic that all kinds share (IEEE 1149.1, clauses 6 to 8): the controller, the instruction register, and the list that is shifted
-// through the selected data register.
+// The data register that is selected in a device of kind Regs: BYPASS, the identification register with its code, or
+// the register of the description with this number, counted from 0.
+#[derive(Clone, Copy)]
+pub enum DataRegister {
+    Bypass,
+    Identity(u32),
+    Held(u32),
+}
+
+// The test logic that all kinds share (IEEE 1149.1, clauses 6 to 8): the controller, the instruction register, and the
+// list that is shifted through the selected data register.
 #[derive(Drop)]
 pub struct TestLogic {
     desc: Desc,
@@ -74,7 +89,8 @@ fn shift_in(bits: u64, n: u32, bit: bool) -> u64
 }
 
 impl TestLogic {
-    // The test logic of a device with this description after power-up, with room for so many bits in its data list. No other call takes memory.
+    // The test logic of a device with this description after power-up, with room for so many bits in its data list. No
+    // other call takes memory.
     pub fn new(alloc: Global, desc: &Desc, room: u32) -> Result<TestLogic, AllocError>
         requires good { IsGood desc.now }
         requires room { 32 ≤ room }
@@ -167,6 +183,59 @@ impl TestLogic {
             }
             None => None,
         }
+    }
+
+    // The selected data register of a device of kind Regs.
+    pub fn selected(&self) -> DataRegister
+        requires { self.now.desc.kind ≡ kinds.Regs }
+        ensures { IsSelected result self.now.desc self.now.instruction }
+    {
+        match self.identity() {
+            Some(code) => DataRegister::Identity(code),
+            None => match find_register(self.desc.registers.as_slice(), self.instruction) {
+                Some(k) => DataRegister::Held(k),
+                None => DataRegister::Bypass,
+            },
+        }
+    }
+
+    // The data list captures what register k gives: its constant, or what it holds.
+    pub fn capture_held(&mut self, k: u32, held: &Bits)
+        requires kind { self.old.desc.kind ≡ kinds.Regs }
+        requires room { 65536 ≤ self.old.room }
+        requires register { (r : RegDesc) × ((slice_get self.old.desc.registers k ≡ Some r)
+            × (length held.now ≡ r.len)) }
+        ensures { (r : RegDesc) → slice_get self.old.desc.registers k ≡ Some r →
+            self.new ≡ record self.old { dr_list = constant_or r.constant held.now } }
+    {
+        match &self.desc.registers.as_slice()[k as usize].constant {
+            Some(bits) => self.dr_list.load(bits),
+            None => self.dr_list.load(held),
+        }
+    }
+
+    // The data list is given to a list of its length.
+    pub fn give_bits(&self, bits: &mut Bits)
+        requires { length bits.old ≡ length self.now.dr_list }
+        ensures { bits.new ≡ self.now.dr_list }
+    {
+        self.dr_list.give(bits);
+    }
+
+    // The lowest bit of the data list.
+    pub fn lowest(&self) -> bool
+        ensures { slice_get self.now.dr_list 0 ≡ Some result }
+    {
+        self.dr_list.lowest()
+    }
+
+    // The data list captures these bits.
+    pub fn capture_bits(&mut self, bits: &Bits)
+        requires some { 0 < length bits.now }
+        requires room { length bits.now ≤ self.old.room }
+        ensures { self.new ≡ record self.old { dr_list = bits.now } }
+    {
+        self.dr_list.load(bits);
     }
 
     // The data list captures one bit.
