@@ -15,7 +15,7 @@ use Rattle.dev_card.proofs.Resetting.{five_ones_reset}
 use Rattle.dev_card.proofs.ScanLines.{move_leads}
 use Rattle.scan_paths.specs.Cables.{WhereTold}
 
-minus_zero : (n : ℕ) → n ≡ n - 0
+pub minus_zero : (n : ℕ) → n ≡ n - 0
 minus_zero n = omega arith
 
 -- all TMS values
@@ -47,7 +47,7 @@ some_same : {X : Type 0} {x y : X} → Some x ≡ Some y → x ≡ y
 some_same e = cc
 
 -- a fact of the board after some clocks, where the board is told
-told_then : (old new : Option (List Card)) (change : List Card → List Card) (P Q : List Card → Type 0) → new ≡ option_map change old →
+pub told_then : (old new : Option (List Card)) (change : List Card → List Card) (P Q : List Card → Type 0) → new ≡ option_map change old →
     WhereTold old P → ((cs : List Card) → P cs → Q (change cs)) → WhereTold new Q
 told_then None new change P Q e h f cs t = absurd (none≢some (sym e ∙ t))
 told_then (Some bs) new change P Q e h f cs t = subst Q (some_same (sym e ∙ t)) (f bs (h bs refl))

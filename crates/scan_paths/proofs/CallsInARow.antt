@@ -26,8 +26,11 @@ seen_both cs xs ys ks ls p q = ap (λ z. z ++ ls) p ∙ ap (λ z. clocks_of cs x
 
 module _ {C : Type 0} (board : C → Option (List Card)) (makes : C → List Clock → C → Type 0) where
   -- no clock was made
+  pub clocks_nothing : (old new : C) → IsUnclocked board makes old new → HasMadeClocks board makes old new [] []
+  clocks_nothing old new u = record { made = u.made; went_in = refl; seen = λ cs t. refl; cards = u.cards ∙ after_none (board old) }
+
   pub made_nothing : (old new : C) → IsUnclocked board makes old new → HasMade board makes old new []
-  made_nothing old new u = record { clocks = []; made = record { made = u.made; went_in = refl; seen = λ cs t. refl; cards = u.cards ∙ after_none (board old) } }
+  made_nothing old new u = record { clocks = []; made = clocks_nothing old new u }
 
   -- one clock was made, this one
   pub clocks_one : (old new : C) (i : Input) (tdo : Bool) → IsClocked board makes old new i.tms i.tdi tdo →

@@ -2,3 +2,6 @@ pub mod CallsInARow
 pub mod Way
 pub mod Parts
 pub mod Arriving
+pub mod Shifting
+pub mod Capturing
+pub mod Scanning

@@ -13,8 +13,8 @@ use crate::cable::Cable;
 use tap_states::Tap;
 use tool_io::Failed;
 
-// Clocks the lowest n bits as TMS, the lowest first, with TDI 0.
-fn send<C: Cable>(cable: &mut C, bits: u32, n: u32) -> Result<(), Failed>
+/// Clocks the lowest n bits as TMS, the lowest first, with TDI 0.
+pub fn send<C: Cable>(cable: &mut C, bits: u32, n: u32) -> Result<(), Failed>
     requires { C.breakage cable.old ≡ whole }
     ensures made { OnOk result (HasMade C.board C.made cable.old cable.new (with_zero (low_bits n bits))) }
     ensures front { OnErr result (HasMadeFront C.board C.made cable.old cable.new (with_zero (low_bits n bits))) }

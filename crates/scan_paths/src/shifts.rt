@@ -1,0 +1,123 @@
+//! The shift clocks of a scan, part by part.
+ghost use Rattle.std.specs.Prelude.{◌≡◌, ◌≢◌, ◌≤◌, ◌<◌, ◌+◌, ◌&&◌, ◌==◌, true, length, take, drop, replicate, OnOk, OnErr};
+ghost use Rattle.dev_card.specs.Padding.{padded};
+ghost use Rattle.dev_card.specs.Clocks.{part_inputs};
+ghost use Rattle.scan_paths.specs.Cables.{whole, line, pins, HasPartCause, HasMade, HasMadeFront};
+ghost use Rattle.scan_paths.specs.Scans.{AreInside, paddings_of, HasSeen};
+
+use crate::cable::Cable;
+use crate::pads::Pads;
+use bit_list::Bits;
+use tool_io::Failed;
+
+/// Shifts all bits of a scan, with TMS 1 at the last one alone, and captures TDO at the places of its n bits of data.
+pub fn shift_padded<C: Cable>(
+    cable: &mut C,
+    bits: &Bits,
+    n: u32,
+    captured: &mut Bits,
+    pads: &Pads,
+) -> Result<(), Failed>
+    requires whole { C.breakage cable.old ≡ whole }
+    requires some { 1 ≤ n }
+    requires inside { n ≤ length bits.now }
+    requires room { n ≤ length captured.old }
+    requires pads { AreInside pads.now }
+    ensures made { OnOk result (HasSeen C.board C.made cable.old cable.new
+        (part_inputs true (padded (paddings_of pads.now) (take n bits.now)))
+        (pads.now.base_pre + pads.now.pre) (take n captured.new)) }
+    ensures rest { drop n captured.new ≡ drop n captured.old }
+    ensures length { length captured.new ≡ length captured.old }
+    ensures front { OnErr result (HasMadeFront C.board C.made cable.old cable.new
+        (part_inputs true (padded (paddings_of pads.now) (take n bits.now)))) }
+    ensures unbroken { OnOk result (C.breakage cable.new ≡ whole) }
+    ensures broken { OnErr result (C.breakage cable.new ≢ whole) }
+    ensures line { HasPartCause line C.line_faults C.is_line_last C.breakage cable.old cable.new }
+    ensures pins { HasPartCause pins C.pin_faults C.is_pin_last C.breakage cable.old cable.new }
+{
+    shift_ones(cable, pads.base_pre, false)?;
+    shift_padding(cable, &pads.pre_bits, pads.pre, false)?;
+    shift_data(cable, bits, n, captured, ends_with_data(pads))?;
+    shift_padding(cable, &pads.post_bits, pads.post, pads.base_post == 0)?;
+    shift_ones(cable, pads.base_post, true)?;
+    Ok(())
+}
+
+// Shifts n ones, true if the scan ends with them.
+fn shift_ones<C: Cable>(cable: &mut C, n: u32, last: bool) -> Result<(), Failed>
+    requires { C.breakage cable.old ≡ whole }
+    ensures made { OnOk result (HasMade C.board C.made cable.old cable.new (part_inputs last (replicate n true))) }
+    ensures front { OnErr result (HasMadeFront C.board C.made cable.old cable.new
+        (part_inputs last (replicate n true))) }
+    ensures unbroken { OnOk result (C.breakage cable.new ≡ whole) }
+    ensures broken { OnErr result (C.breakage cable.new ≢ whole) }
+    ensures line { HasPartCause line C.line_faults C.is_line_last C.breakage cable.old cable.new }
+    ensures pins { HasPartCause pins C.pin_faults C.is_pin_last C.breakage cable.old cable.new }
+{
+    for i in 0..n {
+        cable.clock(ends_at(last, i, n), true)?;
+    }
+    Ok(())
+}
+
+// Shifts the lowest n bits of a padding, true if the scan ends with them.
+fn shift_padding<C: Cable>(cable: &mut C, padding: &Bits, n: u32, last: bool) -> Result<(), Failed>
+    requires whole { C.breakage cable.old ≡ whole }
+    requires inside { n ≤ length padding.now }
+    ensures made { OnOk result (HasMade C.board C.made cable.old cable.new (part_inputs last (take n padding.now))) }
+    ensures front { OnErr result (HasMadeFront C.board C.made cable.old cable.new
+        (part_inputs last (take n padding.now))) }
+    ensures unbroken { OnOk result (C.breakage cable.new ≡ whole) }
+    ensures broken { OnErr result (C.breakage cable.new ≢ whole) }
+    ensures line { HasPartCause line C.line_faults C.is_line_last C.breakage cable.old cable.new }
+    ensures pins { HasPartCause pins C.pin_faults C.is_pin_last C.breakage cable.old cable.new }
+{
+    for i in 0..n {
+        cable.clock(ends_at(last, i, n), padding.get(i))?;
+    }
+    Ok(())
+}
+
+// Shifts the lowest n bits of the data, true if the scan ends with them, and captures as many.
+fn shift_data<C: Cable>(
+    cable: &mut C,
+    bits: &Bits,
+    n: u32,
+    captured: &mut Bits,
+    last: bool,
+) -> Result<(), Failed>
+    requires whole { C.breakage cable.old ≡ whole }
+    requires inside { n ≤ length bits.now }
+    requires room { n ≤ length captured.old }
+    ensures made { OnOk result (HasSeen C.board C.made cable.old cable.new
+        (part_inputs last (take n bits.now)) 0 (take n captured.new)) }
+    ensures rest { drop n captured.new ≡ drop n captured.old }
+    ensures length { length captured.new ≡ length captured.old }
+    ensures front { OnErr result (HasMadeFront C.board C.made cable.old cable.new
+        (part_inputs last (take n bits.now))) }
+    ensures unbroken { OnOk result (C.breakage cable.new ≡ whole) }
+    ensures broken { OnErr result (C.breakage cable.new ≢ whole) }
+    ensures line { HasPartCause line C.line_faults C.is_line_last C.breakage cable.old cable.new }
+    ensures pins { HasPartCause pins C.pin_faults C.is_pin_last C.breakage cable.old cable.new }
+{
+    for i in 0..n {
+        let tdo = cable.clock(ends_at(last, i, n), bits.get(i))?;
+        captured.set(i, tdo);
+    }
+    Ok(())
+}
+
+// Whether a scan ends with its data, since no padding follows.
+fn ends_with_data(pads: &Pads) -> bool
+    ensures { result ≡ (pads.now.post == 0 && pads.now.base_post == 0) }
+{
+    pads.post == 0 && pads.base_post == 0
+}
+
+// TMS at bit i of n: 1 at the last one, if the scan ends there.
+fn ends_at(last: bool, i: u32, n: u32) -> bool
+    requires { i < n }
+    ensures { result ≡ (last && (i + 1 == n)) }
+{
+    last && i + 1 == n
+}
