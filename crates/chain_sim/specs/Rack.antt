@@ -1,22 +1,33 @@
--- The rack that a board is fitted into, and the places of its devices there. Both are this profile's, and for now all devices are of kind Plain.
-use Rattle.std.specs.Prelude.{◌≡◌, ◌+◌, ℕ, List, [], ◌∷◌, replicate}
+-- The rack that a board is fitted into, and the places of its devices there. Both are this profile's.
+use Rattle.std.specs.Prelude.{◌≡◌, ◌+◌, ◌*◌, ℕ, suc, zero, List, [], ◌∷◌}
 use Rattle.dev_card.specs.Board.{most_devices}
 use Rattle.dev_card.specs.declared.desc.Kind.{Kind}
-use Rattle.dev_card.specs.declared.desc.Kind.TheVariants.{Plain}
+use Rattle.dev_card.specs.declared.desc.Kind.TheVariants.{Plain, Regs, Flash}
 use Rattle.dev_card.specs.declared.desc.Desc.{Desc}
 
--- the kinds of the rack's devices: as many of kind Plain as a board may have
+-- a rack has a device of each kind for each device of so many: these are their kinds
+abbrev pub rack_kinds : ℕ → List Kind
+rack_kinds zero = []
+rack_kinds (suc n) = Plain ∷ Regs ∷ Flash ∷ rack_kinds n
+
+-- the kinds of the devices of a rack that takes each board
 abbrev pub IsRack : List Kind → Type 0
-IsRack kinds = kinds ≡ replicate most_devices Plain
+IsRack kinds = kinds ≡ rack_kinds most_devices
 
--- a description that some device of the rack can take
-abbrev pub IsPlain : Desc → Type 0
-IsPlain d = d.kind ≡ Plain
+-- the number of a kind among the three
+abbrev pub kind_number : Kind → ℕ
+kind_number Plain = 0
+kind_number Regs = 1
+kind_number Flash = 2
 
--- the places of devices with these descriptions, of which the first is number i of its board, counted from 0
+-- the place of device i of a board, counted from 0
+abbrev pub place_of : ℕ → Desc → ℕ
+place_of i d = 3 * i + kind_number d.kind
+
+-- the places of devices with these descriptions, of which the first is number i of its board
 abbrev pub places_from : ℕ → List Desc → List ℕ
 places_from i [] = []
-places_from i (d ∷ ds) = i ∷ places_from (i + 1) ds
+places_from i (d ∷ ds) = place_of i d ∷ places_from (i + 1) ds
 
 abbrev pub places_of : List Desc → List ℕ
 places_of ds = places_from 0 ds

@@ -4,10 +4,29 @@ ghost use Rattle.dev_card.specs.Descriptions.{IsGood};
 ghost use Rattle.dev_card.specs.Board.{most_devices};
 ghost use Rattle.dev_card.specs.Card.{fresh};
 ghost use Rattle.chain_sim.specs.Places.{card_at, cards_at, IsAbsent, is_chain};
-ghost use Rattle.chain_sim.specs.Rack.{IsRack, IsPlain, places_of};
+ghost use Rattle.chain_sim.specs.Rack.{IsRack, kind_number, place_of, places_of};
 
-use dev_card::{Desc, Device, FitRefused};
+use dev_card::{Desc, Device, FitRefused, Kind};
 use std::alloc::{AllocError, Global};
+
+// The number of a kind among the three.
+fn number_of_kind(kind: Kind) -> usize
+    ensures { result ≡ kind_number kind }
+{
+    match kind {
+        Kind::Plain => 0,
+        Kind::Regs => 1,
+        Kind::Flash => 2,
+    }
+}
+
+// The place of device i of a board, counted from 0.
+fn place_at(i: usize, desc: &Desc) -> usize
+    requires { i < most_devices }
+    ensures { result ≡ place_of i desc.now }
+{
+    3 * i + number_of_kind(desc.kind)
+}
 
 // Fits the device at a place; the others stay as they are.
 fn fit_at<D: Device>(
@@ -35,7 +54,6 @@ fn fit_all<D: Device>(
     requires rack { IsRack (map D.kind_of rack.old.items) }
     requires most { length descs.now ≤ most_devices }
     requires good { All IsGood descs.now }
-    requires plain { All IsPlain descs.now }
     ensures kinds { map D.kind_of rack.new.items ≡ map D.kind_of rack.old.items }
     ensures places { IfOk result (λ v. v.items ≡ places_of descs.now) }
     ensures cards { OnOk result (cards_at (map D.fitted rack.new.items) (places_of descs.now) ≡ Some (map fresh descs.now)) }
@@ -44,22 +62,26 @@ fn fit_all<D: Device>(
     let mut places = Vec::new(alloc);
     for i in 0..descs.len() {
         let desc = &descs[i];
-        match fit_at(alloc, rack, i, desc) {
+        let place = place_at(i, desc);
+        match fit_at(alloc, rack, place, desc) {
             Ok(()) => {}
             Err(FitRefused::Memory) => return Err(AllocError),
             Err(FitRefused::WrongKind) => unreachable!(),
         }
-        places.push(i as u32)?;
+        places.push(place as u32)?;
     }
     Ok(places)
 }
 
-/// Fits a device of the rack for each of 1 to 16 good descriptions, and answers their places in the rack, counted from 0. These devices are then as
-/// after power-up, and a chain can be laid over the places.
+/// Fits a device of the rack for each of 1 to 16 good descriptions, and answers their places in the rack, counted from
+/// 0. These devices are then as after power-up, and a chain can be laid over the places.
 ///
-/// For now the rack has sixteen devices of kind `Plain`, each description is of that kind, and the devices are taken in order. `AllocError` comes
-/// only for want of memory; then some of these devices may be fitted. Each device keeps its kind in any case, and those at other places stay as they
-/// are.
+/// The rack has a device of each kind for each device that a board may have: the device at place `3 * p + k`, where p
+/// is 0 to 15, is of kind k, with 0 for `Plain`, 1 for `Regs` and 2 for `Flash`. Device i of the board, counted from 1,
+/// of kind k, gets the place `3 * (i - 1) + k`.
+///
+/// `AllocError` comes only for want of memory; then some of these devices may be fitted. Each device keeps its kind in
+/// any case, and those at other places stay as they are.
 pub fn fit_board(
     alloc: Global,
     rack: &mut Vec<Box<dyn Device>>,
@@ -69,7 +91,6 @@ pub fn fit_board(
     requires some { 1 ≤ length descs.now }
     requires most { length descs.now ≤ most_devices }
     requires good { All IsGood descs.now }
-    requires plain { All IsPlain descs.now }
     ensures kinds { map kind_of rack.new.items ≡ map kind_of rack.old.items }
     ensures places { IfOk result (λ v. v.items ≡ places_of descs.now) }
     ensures cards { OnOk result (cards_at (map fitted rack.new.items) (places_of descs.now) ≡ Some (map fresh descs.now)) }

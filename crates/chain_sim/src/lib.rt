@@ -3,7 +3,9 @@
 
 mod chain;
 mod fit;
+mod kinds;
 mod rack;
 
 pub use chain::{Chain, ChainOf};
 pub use fit::fit_board;
+pub use kinds::is_rack;
