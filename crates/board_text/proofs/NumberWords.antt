@@ -9,7 +9,7 @@ use Rattle.std.specs.Char.{is_ascii_digit, is_ascii_hexdigit, digit_value}
 use Rattle.std.specs.List.{list_all}
 use Rattle.std.specs.Str.Parse.{digits_value, AllDigits}
 use Rattle.stapl_lexer.proofs.NumberLemmas.{passes_at}
-use Rattle.board_text.specs.DeviceLines.{are_hexadecimal}
+use Rattle.board_text.specs.Shapes.{are_hexadecimal}
 
 -- a value that is capped at each digit is the value, capped
 capped : (a v d limit : ℕ) → v ≡ min a limit → min (v * 10 + d) limit ≡ min (a * 10 + d) limit

@@ -1,77 +1,164 @@
--- The smallest reason against a line.
-use Rattle.std.proofs.Common.{◌≡◌, ◌<◌, ◌≤◌, ℕ, zero, suc, List, [], ◌∷◌, refl, sym, ap, subst, ◌∙◌, Bool, true, false, Option, Some, None, IsSomeAnd, arith}
-use Rattle.std.specs.Prelude.{codes, cond, ◌&&◌, ◌==◌}
-use Rattle.std.specs.List.{Any}
-use Rattle.std.specs.Str.{bytes_eq}
-use Rattle.std.proofs.lemmas.Bool.{false≢true, and_parts}
-use Rattle.std.proofs.lemmas.Slice.Eq.{bytes_eq-Decides}
-use Rattle.stapl_lexer.specs.Names.{is_name}
+-- The smallest reason against what a line says.
+use Rattle.std.proofs.Common.{◌≡◌, ◌<◌, ◌≤◌, ℕ, zero, suc, List, refl, sym, subst, ◌∙◌, Bool, true, false, Option, Some, IsSomeAnd, All, length, arith}
+use Rattle.std.specs.Prelude.{cond, ◌==◌}
+use Rattle.std.proofs.lemmas.Bool.{false≢true}
+use Rattle.dev_card.specs.Board.{most_devices}
 use Rattle.dev_card.specs.declared.desc.Desc.{Desc}
+use Rattle.dev_card.specs.Descriptions.{IsOpcode, opcodes_of}
 use Rattle.board_text.specs.declared.reason.BoardReason.{BoardReason}
 use Rattle.board_text.specs.declared.reason.BoardReason.TheVariants as reasons
 use Rattle.board_text.specs.Reasons.{reason_number}
-use Rattle.board_text.specs.Lines.{words_of}
-use Rattle.board_text.specs.DeviceLines.{are_plain_words, described, is_unbuilt, IsInRange}
-use Rattle.board_text.specs.Boards.{HasName, HasReason, IsSmallestReason}
+use Rattle.board_text.specs.Contents.{DeviceLine, RegisterLine, device, register}
+use Rattle.board_text.specs.Limits.{HasGoodNumbers, IsDeviceInRange, HasGoodLength, IsRegisterInRange}
+use Rattle.board_text.specs.Boards.{most_registers, open_device, AwaitsRegister, RepeatsInBoard, RepeatsInDevice, ReasonAgainst, IsSmallest}
 
--- what a line describes
-pub some_at : (o : Option Desc) (P : Desc → Type 0) → IsSomeAnd o P → (d : Desc) × (o ≡ Some d) × P d
-some_at None P h = absurd h
-some_at (Some d) P h = (d, refl, h)
+-- a reason that holds, where no reason with a smaller number does
+record HoldNoSmaller (Holds : BoardReason → Type 0) (n : ℕ) : Type 0 where
+  form : Holds reasons.Form → n ≤ 1
+  range : Holds reasons.Range → n ≤ 2
+  duplicate : Holds reasons.Duplicate → n ≤ 3
+  misplaced : Holds reasons.Misplaced → n ≤ 4
+  empty : Holds reasons.Empty → n ≤ 5
+  too_many : Holds reasons.TooMany → n ≤ 6
+  too_long : Holds reasons.TooLong → n ≤ 7
 
-pub and_some : (o : Option Desc) (P : Desc → Type 0) (d : Desc) → o ≡ Some d → P d → IsSomeAnd o P
-and_some o P d e h = subst (λ (x : Option Desc). IsSomeAnd x P) (sym e) h
+least : (Holds : BoardReason → Type 0) (reason other : BoardReason) → HoldNoSmaller Holds (reason_number reason) → Holds other → reason_number reason ≤ reason_number other
+least Holds reason reasons.Form none h = none.form h
+least Holds reason reasons.Range none h = none.range h
+least Holds reason reasons.Duplicate none h = none.duplicate h
+least Holds reason reasons.Misplaced none h = none.misplaced h
+least Holds reason reasons.Empty none h = none.empty h
+least Holds reason reasons.TooMany none h = none.too_many h
+least Holds reason reasons.TooLong none h = none.too_long h
 
-pub at_most : (o : Option Desc) (P : Desc → Type 0) (d : Desc) → o ≡ Some d → IsSomeAnd o P → P d
-at_most o P d e h = subst (λ (x : Option Desc). IsSomeAnd x P) e h
+smallest : (Holds : BoardReason → Type 0) (reason : BoardReason) → Holds reason → HoldNoSmaller Holds (reason_number reason) → IsSmallest Holds reason
+smallest Holds reason holds none = record { holds = holds; smallest = λ other h. least Holds reason other none h }
 
-pub not_none : (o : Option Desc) (d : Desc) → o ≡ Some d → o ≡ None → ⊥
-not_none o d e n = cc
+-- the reasons against a device's line
+abbrev AgainstDevice : List Desc → DeviceLine → BoardReason → Type 0
+AgainstDevice earlier l = ReasonAgainst earlier (Some (device l))
 
--- the reasons that a line lacks
-no_unbuilt : (b : Bool) → b ≡ false → b ≡ true → ⊥
-no_unbuilt b e h = false≢true (sym e ∙ h)
+pub device_range : (earlier : List Desc) (l : DeviceLine) → (IsDeviceInRange l → ⊥) → IsSmallest (AgainstDevice earlier l) reasons.Range
+device_range earlier l bad = smallest (AgainstDevice earlier l) reasons.Range bad (record {
+  form = λ h. absurd cc;
+  range = λ _. omega arith;
+  duplicate = λ _. omega arith;
+  misplaced = λ h. absurd h;
+  empty = λ _. omega arith;
+  too_many = λ _. omega arith;
+  too_long = λ h. absurd h;
+})
 
-duplicate_least : (earlier : List Desc) (line : List ℕ) (d : Desc) → is_unbuilt (words_of line) ≡ false → described (words_of line) ≡ Some d → IsInRange d →
-    (other : BoardReason) → HasReason earlier line other → 3 ≤ reason_number other
-duplicate_least earlier line d b e r reasons.NotYetBuilt h = absurd (no_unbuilt _ b h)
-duplicate_least earlier line d b e r reasons.Form h = absurd (not_none _ d e h)
-duplicate_least earlier line d b e r reasons.Range h = absurd (at_most _ (λ (x : Desc). ¬ IsInRange x) d e h r)
-duplicate_least earlier line d b e r reasons.Duplicate h = omega arith
-duplicate_least earlier line d b e r reasons.Misplaced h = omega arith
-duplicate_least earlier line d b e r reasons.Empty h = omega arith
-duplicate_least earlier line d b e r reasons.TooMany h = omega arith
-duplicate_least earlier line d b e r reasons.TooLong h = omega arith
+pub device_duplicate : (earlier : List Desc) (l : DeviceLine) → IsDeviceInRange l → RepeatsInBoard earlier l.description → IsSmallest (AgainstDevice earlier l) reasons.Duplicate
+device_duplicate earlier l good repeats = smallest (AgainstDevice earlier l) reasons.Duplicate repeats (record {
+  form = λ h. absurd cc;
+  range = λ h. absurd (h good);
+  duplicate = λ _. omega arith;
+  misplaced = λ h. absurd h;
+  empty = λ _. omega arith;
+  too_many = λ _. omega arith;
+  too_long = λ h. absurd h;
+})
 
-pub duplicate_smallest : (earlier : List Desc) (line : List ℕ) (d : Desc) → is_unbuilt (words_of line) ≡ false → described (words_of line) ≡ Some d → IsInRange d →
-    Any (HasName d.name) earlier → IsSmallestReason earlier line reasons.Duplicate
-duplicate_smallest earlier line d b e r named =
-    record { holds = and_some _ (λ (x : Desc). Any (HasName x.name) earlier) d e named; smallest = duplicate_least earlier line d b e r }
+pub device_empty : (earlier : List Desc) (l : DeviceLine) → IsDeviceInRange l → (RepeatsInBoard earlier l.description → ⊥) → AwaitsRegister earlier →
+    IsSmallest (AgainstDevice earlier l) reasons.Empty
+device_empty earlier l good new awaits = smallest (AgainstDevice earlier l) reasons.Empty awaits (record {
+  form = λ h. absurd cc;
+  range = λ h. absurd (h good);
+  duplicate = λ h. absurd (new h);
+  misplaced = λ h. absurd h;
+  empty = λ _. omega arith;
+  too_many = λ _. omega arith;
+  too_long = λ h. absurd h;
+})
 
--- a line that describes a device is none that is not built yet
-key_of : (key name ir_len : List ℕ) → are_plain_words key name ir_len ≡ true → key ≡ codes "plain"
-key_of key name ir_len e = (bytes_eq-Decides key (codes "plain")).0 (and_parts _ _ (and_parts (bytes_eq key (codes "plain") && is_name name) _ e).0).0
+pub device_many : (earlier : List Desc) (l : DeviceLine) → IsDeviceInRange l → (RepeatsInBoard earlier l.description → ⊥) → (AwaitsRegister earlier → ⊥) → most_devices ≤ length earlier →
+    IsSmallest (AgainstDevice earlier l) reasons.TooMany
+device_many earlier l good new whole many = smallest (AgainstDevice earlier l) reasons.TooMany many (record {
+  form = λ h. absurd cc;
+  range = λ h. absurd (h good);
+  duplicate = λ h. absurd (new h);
+  misplaced = λ h. absurd h;
+  empty = λ h. absurd (whole h);
+  too_many = λ _. omega arith;
+  too_long = λ h. absurd h;
+})
 
-given : {A : Type 0} (b : Bool) (x : Option A) (y : A) → cond b x None ≡ Some y → b ≡ true
-given true x y e = refl
-given false x y e = cc
+pub device_faultless : (earlier : List Desc) (l : DeviceLine) → IsDeviceInRange l → (RepeatsInBoard earlier l.description → ⊥) → (AwaitsRegister earlier → ⊥) → length earlier < most_devices →
+    (reason : BoardReason) → AgainstDevice earlier l reason → ⊥
+device_faultless earlier l good new whole few reasons.Form h = cc
+device_faultless earlier l good new whole few reasons.Range h = h good
+device_faultless earlier l good new whole few reasons.Duplicate h = new h
+device_faultless earlier l good new whole few reasons.Misplaced h = h
+device_faultless earlier l good new whole few reasons.Empty h = whole h
+device_faultless earlier l good new whole few reasons.TooMany h = omega arith
+device_faultless earlier l good new whole few reasons.TooLong h = h
 
-pub described_is_built : (words : List (List ℕ)) (d : Desc) → described words ≡ Some d → is_unbuilt words ≡ false
-described_is_built [] d e = refl
-described_is_built (key ∷ []) d e = cc
-described_is_built (key ∷ name ∷ []) d e = cc
-described_is_built (key ∷ name ∷ ir_len ∷ rest) d e =
-    let plain : key ≡ codes "plain" = key_of key name ir_len (given (are_plain_words key name ir_len) _ d e) in
-    ap (λ (k : List ℕ). is_unbuilt (k ∷ name ∷ ir_len ∷ rest)) plain
+-- the reasons against a register's line, where a device is open
+abbrev AgainstRegister : List Desc → RegisterLine → BoardReason → Type 0
+AgainstRegister earlier l = ReasonAgainst earlier (Some (register l))
+
+at_owner : (o : Option Desc) (P : Desc → Type 0) (d : Desc) → o ≡ Some d → IsSomeAnd o P → P d
+at_owner o P d e h = subst (λ (x : Option Desc). IsSomeAnd x P) e h
+
+pub owner_and : (o : Option Desc) (P : Desc → Type 0) (d : Desc) → o ≡ Some d → P d → IsSomeAnd o P
+owner_and o P d e h = subst (λ (x : Option Desc). IsSomeAnd x P) (sym e) h
+
+pub owned_in_range : (o : Option Desc) (l : RegisterLine) (d : Desc) → o ≡ Some d → HasGoodLength l → IsOpcode d.ir_len l.description.op → IsRegisterInRange o l
+owned_in_range o l d e good op = record {
+  numbers = good;
+  opcode = λ x x_is. let same : d ≡ x = cc in subst (λ (y : Desc). IsOpcode y.ir_len l.description.op) same op;
+}
+
+pub register_many : (earlier : List Desc) (l : RegisterLine) (d : Desc) → open_device earlier ≡ Some d → HasGoodLength l → IsOpcode d.ir_len l.description.op →
+    (RepeatsInDevice l.description d → ⊥) → most_registers ≤ length d.registers → IsSmallest (AgainstRegister earlier l) reasons.TooMany
+register_many earlier l d e good op new many =
+    smallest (AgainstRegister earlier l) reasons.TooMany (owner_and (open_device earlier) (λ (x : Desc). most_registers ≤ length x.registers) d e many) (record {
+      form = λ h. absurd cc;
+      range = λ h. absurd (h (owned_in_range _ l d e good op));
+      duplicate = λ h. absurd (new (at_owner _ (RepeatsInDevice l.description) d e h));
+      misplaced = λ h. absurd cc;
+      empty = λ h. absurd h;
+      too_many = λ _. omega arith;
+      too_long = λ h. absurd h;
+    })
+
+pub register_faultless : (earlier : List Desc) (l : RegisterLine) (d : Desc) → open_device earlier ≡ Some d → HasGoodLength l → IsOpcode d.ir_len l.description.op →
+    (RepeatsInDevice l.description d → ⊥) → length d.registers < most_registers → (reason : BoardReason) → AgainstRegister earlier l reason → ⊥
+register_faultless earlier l d e good op new few reasons.Form h = cc
+register_faultless earlier l d e good op new few reasons.Range h = h (owned_in_range _ l d e good op)
+register_faultless earlier l d e good op new few reasons.Duplicate h = new (at_owner _ (RepeatsInDevice l.description) d e h)
+register_faultless earlier l d e good op new few reasons.Misplaced h = cc
+register_faultless earlier l d e good op new few reasons.Empty h = h
+register_faultless earlier l d e good op new few reasons.TooMany h = omega (arith, at_owner _ (λ (x : Desc). most_registers ≤ length x.registers) d e h)
+register_faultless earlier l d e good op new few reasons.TooLong h = h
+
+-- what the reader's tests say of a line
+pub refuted : {P : Type 0} (b : Bool) → (P → b ≡ true) → b ≡ false → P → ⊥
+refuted b f e p = false≢true (sym e ∙ f p)
+
+pub opcodes_in_range : (l : DeviceLine) (d : Desc) (ops opcodes : List ℕ) → d ≡ l.description → ops ≡ opcodes → opcodes ≡ opcodes_of d → HasGoodNumbers l → All (IsOpcode d.ir_len) ops →
+    IsDeviceInRange l
+opcodes_in_range l d ops opcodes d_is same named good all =
+    record { numbers = good; opcodes = subst (λ (x : Desc). All (IsOpcode x.ir_len) (opcodes_of x)) d_is (subst (All (IsOpcode d.ir_len)) (same ∙ named) all) }
+
+pub in_range_opcodes : (l : DeviceLine) (d : Desc) (ops opcodes : List ℕ) → d ≡ l.description → ops ≡ opcodes → opcodes ≡ opcodes_of d → IsDeviceInRange l → All (IsOpcode d.ir_len) ops
+in_range_opcodes l d ops opcodes d_is same named good =
+    subst (All (IsOpcode d.ir_len)) (sym (same ∙ named)) (subst (λ (x : Desc). All (IsOpcode x.ir_len) (opcodes_of x)) (sym d_is) good.opcodes)
+
+pub repeats_there : (xs ys : List Desc) (d e : Desc) → xs ≡ ys → d ≡ e → RepeatsInBoard xs d → RepeatsInBoard ys e
+repeats_there xs ys d e p q h = subst (λ (x : Desc). RepeatsInBoard ys x) q (subst (λ (zs : List Desc). RepeatsInBoard zs d) p h)
+
+pub awaits_there : (xs ys : List Desc) → xs ≡ ys → AwaitsRegister xs → AwaitsRegister ys
+awaits_there xs ys p h = subst AwaitsRegister p h
 
 -- a reason is told by its number
 pub reason_with : ℕ → BoardReason
 reason_with n =
-    cond (n == 0) reasons.NotYetBuilt (cond (n == 1) reasons.Form (cond (n == 2) reasons.Range (cond (n == 3) reasons.Duplicate (cond (n == 4) reasons.Misplaced (cond (n == 5) reasons.Empty (cond (n == 6) reasons.TooMany reasons.TooLong))))))
+    cond (n == 1) reasons.Form (cond (n == 2) reasons.Range (cond (n == 3) reasons.Duplicate (cond (n == 4) reasons.Misplaced (cond (n == 5) reasons.Empty (cond (n == 6) reasons.TooMany reasons.TooLong)))))
 
 pub told : (reason : BoardReason) → reason_with (reason_number reason) ≡ reason
 unfolding reason_with
-told reasons.NotYetBuilt = refl
 told reasons.Form = refl
 told reasons.Range = refl
 told reasons.Duplicate = refl
@@ -80,7 +167,7 @@ told reasons.Empty = refl
 told reasons.TooMany = refl
 told reasons.TooLong = refl
 
-pub number_with : (n : ℕ) → n < 8 → reason_number (reason_with n) ≡ n
+pub number_with : (n : ℕ) → n < 7 → reason_number (reason_with (suc n)) ≡ suc n
 unfolding reason_with
 number_with zero lt = refl
 number_with (suc zero) lt = refl
@@ -89,16 +176,4 @@ number_with (suc (suc (suc zero))) lt = refl
 number_with (suc (suc (suc (suc zero)))) lt = refl
 number_with (suc (suc (suc (suc (suc zero))))) lt = refl
 number_with (suc (suc (suc (suc (suc (suc zero)))))) lt = refl
-number_with (suc (suc (suc (suc (suc (suc (suc zero))))))) lt = refl
-number_with (suc (suc (suc (suc (suc (suc (suc (suc n)))))))) lt = absurd (omega arith)
-
--- each number is below 8
-pub number_below : (reason : BoardReason) → reason_number reason < 8
-number_below reasons.NotYetBuilt = omega arith
-number_below reasons.Form = omega arith
-number_below reasons.Range = omega arith
-number_below reasons.Duplicate = omega arith
-number_below reasons.Misplaced = omega arith
-number_below reasons.Empty = omega arith
-number_below reasons.TooMany = omega arith
-number_below reasons.TooLong = omega arith
+number_with (suc (suc (suc (suc (suc (suc (suc n))))))) lt = absurd (omega arith)

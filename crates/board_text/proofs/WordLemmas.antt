@@ -8,7 +8,11 @@ use Rattle.std.proofs.lemmas.List.{get_or-drop, length-drop}
 use Rattle.std.proofs.lemmas.List.Splits.{slice_split-cons_yes, slice_split_first, slice_split_none}
 use Rattle.std.proofs.lemmas.List.Sums.{prefix_len-le-length, prefix_len_passes, prefix_len_stops, passes_at_first}
 use Rattle.board_text.specs.Lines.{is_blank, is_word_byte, words_of}
-use Rattle.board_text.specs.Reading.{word_then}
+
+-- a word in front of others; where it has no byte there is no word at all
+abbrev word_then : List ℕ → List (List ℕ) → List (List ℕ)
+word_then [] words = []
+word_then (b ∷ bs) words = (b ∷ bs) ∷ words
 
 words_behind_blank : (b : ℕ) (bs : List ℕ) → is_blank b ≡ true → words_of (b ∷ bs) ≡ words_of bs
 words_behind_blank b bs e = ap (filter (λ part. not (length part == 0))) (slice_split-cons_yes is_blank b bs e)
@@ -72,7 +76,7 @@ starts xs some =
     let at : get_or (drop j xs) 0 0 ≡ get_or xs j 0 = get_or-drop j xs 0 0 ∙ ap (λ (k : ℕ). get_or xs k 0) (omega arith) in
     ap is_blank at ∙ not-true _ (not-false _ (prefix_len_stops (λ (x : ℕ). not (is_word_byte x)) xs 0 inside))
 
-pub first_word_is : (xs words front behind : List ℕ) (j n : ℕ) → j ≡ position_or_len is_word_byte xs → words ≡ drop j xs → n ≡ position_or_len is_blank words →
+first_word_is : (xs words front behind : List ℕ) (j n : ℕ) → j ≡ position_or_len is_word_byte xs → words ≡ drop j xs → n ≡ position_or_len is_blank words →
     front ≡ take n words → behind ≡ drop n words → words_of xs ≡ word_then front (words_of behind)
 first_word_is xs words front behind j n j_is words_are n_is front_is behind_is =
     let words_is : words ≡ drop (position_or_len is_word_byte xs) xs = words_are ∙ ap (λ (k : ℕ). drop k xs) j_is in
@@ -82,3 +86,20 @@ first_word_is xs words front behind j n j_is words_are n_is front_is behind_is =
     ∙ ap (λ (k : ℕ). word_then (take k words) (words_of (drop k words))) (sym n_is)
     ∙ ap (λ (w : List ℕ). word_then w (words_of (drop n words))) (sym front_is)
     ∙ ap (λ (w : List ℕ). word_then front (words_of w)) (sym behind_is)
+
+-- a word that has a byte
+one_then : (front : List ℕ) (ws words : List (List ℕ)) → 0 < length front → ws ≡ word_then front words → ws ≡ front ∷ words
+one_then [] ws words some e = absurd (omega arith)
+one_then (b ∷ bs) ws words some e = e
+
+none_then : (front : List ℕ) (ws words : List (List ℕ)) → length front ≡ 0 → ws ≡ word_then front words → ws ≡ []
+none_then [] ws words none e = e
+none_then (b ∷ bs) ws words none e = absurd (omega arith)
+
+pub some_word : (xs words front behind : List ℕ) (j n : ℕ) → j ≡ position_or_len is_word_byte xs → words ≡ drop j xs → n ≡ position_or_len is_blank words →
+    front ≡ take n words → behind ≡ drop n words → 0 < length front → words_of xs ≡ front ∷ words_of behind
+some_word xs words front behind j n a b c d e some = one_then front _ _ some (first_word_is xs words front behind j n a b c d e)
+
+pub no_word : (xs words front behind : List ℕ) (j n : ℕ) → j ≡ position_or_len is_word_byte xs → words ≡ drop j xs → n ≡ position_or_len is_blank words →
+    front ≡ take n words → behind ≡ drop n words → length front ≡ 0 → words_of xs ≡ []
+no_word xs words front behind j n a b c d e none = none_then front _ _ none (first_word_is xs words front behind j n a b c d e)

@@ -1,5 +1,7 @@
 pub mod Reasons
 pub mod Lines
-pub mod DeviceLines
+pub mod Shapes
+pub mod Contents
+pub mod Limits
 pub mod Boards
 pub mod Reading

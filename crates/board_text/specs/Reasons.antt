@@ -5,7 +5,6 @@ use Rattle.board_text.specs.declared.reason.BoardReason.TheVariants as reasons
 
 -- The number of a reason. Of the reasons that hold of a line, that with the smallest number is named.
 abbrev pub reason_number : BoardReason → ℕ
-reason_number reasons.NotYetBuilt = 0
 reason_number reasons.Form = 1
 reason_number reasons.Range = 2
 reason_number reasons.Duplicate = 3
@@ -16,7 +15,6 @@ reason_number reasons.TooLong = 7
 
 -- the name of a reason, as a refusal's line has it
 abbrev pub reason_name : BoardReason → List ℕ
-reason_name reasons.NotYetBuilt = codes "NotYetBuilt"
 reason_name reasons.Form = codes "Form"
 reason_name reasons.Range = codes "Range"
 reason_name reasons.Duplicate = codes "Duplicate"

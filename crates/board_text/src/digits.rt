@@ -3,7 +3,7 @@ ghost use Rattle.std.specs.Prelude.{◌≡◌, ◌≤◌, ◌<◌, ◌^◌, true
 ghost use Rattle.std.specs.Char.{is_ascii_digit, is_ascii_hexdigit, digit_value};
 ghost use Rattle.std.specs.List.{list_all};
 ghost use Rattle.std.specs.Str.Parse.{digits_value};
-ghost use Rattle.board_text.specs.DeviceLines.{is_decimal, are_hexadecimal, is_opcode_word, is_identity_word};
+ghost use Rattle.board_text.specs.Shapes.{is_decimal, are_hexadecimal, is_opcode_word, is_identity_word, is_constant_word};
 ghost use Rattle.board_text.specs.Reading.{cap};
 
 // What stands for each number that is greater.
@@ -42,6 +42,13 @@ pub fn is_identity_word(word: &[u8]) -> bool
     word.len() == 8 && are_hexadecimal(word)
 }
 
+// Whether a word is spelled as a constant.
+pub fn is_constant_word(word: &[u8]) -> bool
+    ensures { result ≡ is_constant_word word.now }
+{
+    1 <= word.len() && are_hexadecimal(word)
+}
+
 // The value of decimal digits, or the cap where it is greater.
 pub fn decimal_value(digits: &[u8]) -> u32
     requires { list_all is_ascii_digit digits.now ≡ true }
@@ -55,7 +62,7 @@ pub fn decimal_value(digits: &[u8]) -> u32
 }
 
 // The value of a hexadecimal digit.
-fn hexadecimal_digit(digit: u8) -> u64
+pub fn hexadecimal_digit(digit: u8) -> u64
     requires { is_ascii_hexdigit digit ≡ true }
     ensures value { result ≡ digit_value digit }
     ensures bound { result < 16 }

@@ -1,10 +1,10 @@
 //! Lines and words.
-ghost use Rattle.std.specs.Prelude.{◌≡◌, ◌≤◌, ◌<◌, ◌∷◌, ◌==◌, length, drop};
+ghost use Rattle.std.specs.Prelude.{◌≡◌, ◌≤◌, ◌<◌, ◌+◌, [], ◌∷◌, ◌==◌, length, drop, IfOk};
 ghost use Rattle.std.specs.List.{position, position_or_len};
-ghost use Rattle.std.specs.Str.{bytes_eq};
 ghost use Rattle.std.specs.Str.Lines.{lines, strip_carriage_return};
-ghost use Rattle.board_text.specs.Lines.{is_blank, is_word_byte, words_of, is_skipped};
-ghost use Rattle.board_text.specs.Reading.{word_then};
+ghost use Rattle.board_text.specs.Lines.{texts, is_blank, is_word_byte, words_of, is_skipped};
+
+use std::alloc::{AllocError, Global};
 
 fn is_blank(byte: u8) -> bool
     ensures { result ≡ is_blank byte }
@@ -52,18 +52,29 @@ fn blanks_len(bytes: &[u8]) -> usize
 }
 
 // The first word of a line, and what stands behind it. Where there is no word it is empty.
-pub fn first_word(line: &[u8]) -> (&[u8], &[u8])
-    ensures { words_of line.now ≡ word_then result.0.now (words_of result.1.now) }
+fn first_word(line: &[u8]) -> (&[u8], &[u8])
+    ensures some { 0 < length result.0.now → words_of line.now ≡ result.0.now ∷ words_of result.1.now }
+    ensures none { length result.0.now ≡ 0 → words_of line.now ≡ [] }
+    ensures lengths { length result.0.now + length result.1.now ≤ length line.now }
 {
     let words = &line[blanks_len(line)..];
     words.split_at(word_len(words))
 }
 
-// Whether a word is spelled so.
-pub fn is_word(word: &[u8], spelling: &str) -> bool
-    ensures { result ≡ bytes_eq word.now spelling.now }
+// The words of a line.
+pub fn words_of(alloc: Global, line: &[u8]) -> Result<Vec<&[u8]>, AllocError>
+    ensures { IfOk result (λ words. texts words.items ≡ words_of line.now) }
 {
-    word == spelling.as_bytes()
+    let mut words = Vec::new(alloc);
+    let mut rest = line;
+    'words: loop {
+        let (word, behind) = first_word(rest);
+        if word.is_empty() {
+            return Ok(words);
+        }
+        words.push(word)?;
+        rest = behind;
+    }
 }
 
 // Whether a line is empty or a comment.
