@@ -1,6 +1,6 @@
 -- A statement has no more symbols than its piece has bytes, and so the statements of a program are together no larger
 -- than its text.
-use Rattle.std.proofs.Common.{◌≡◌, ℕ, ◌+◌, ◌<◌, ◌≤◌, Bool, true, false, List, [], ◌∷◌, ◌++◌, length, map, Option, Some, None, if◌then◌else◌, refl, ap, subst, arith, length-append}
+use Rattle.std.proofs.Common.{◌≡◌, ℕ, ◌+◌, ◌<◌, ◌≤◌, inl, inr, Bool, true, false, List, [], ◌∷◌, ◌++◌, length, map, Option, Some, None, if◌then◌else◌, refl, ap, subst, arith, length-append}
 use Rattle.std.specs.Prelude.{All}
 use Rattle.std.specs.List.{list_all, slice_split, sum_by}
 use Rattle.std.proofs.lemmas.List.{length-map}
@@ -15,12 +15,12 @@ use Rattle.stapl_lexer.specs.Pieces.{is_blank, is_semicolon, piece_of, pieces_fr
 use Rattle.stapl_lexer.specs.Segments.{Segment, spelling}
 use Rattle.stapl_lexer.proofs.PieceLemmas.{cut_lies}
 use Rattle.stapl_syntax.specs.Symbols.{Symbol, symbol_of, symbols_of}
-use Rattle.stapl_syntax.specs.Trees.{ExprTree, ArrayTree, PartTree, BodyTree, boolean, integer, assign, assign_element, assign_array, assign_range, if_then, for_loop, push, pop, print, ExportTree, export, exit, end_data, end_procedure, StmtTree}
+use Rattle.stapl_syntax.specs.Trees.{ExprTree, ArrayTree, PartTree, BodyTree, boolean, integer, assign, assign_element, assign_array, assign_range, if_then, for_loop, push, pop, print, ExportTree, export, exit, wait_cycles, wait_usec, frequency, end_data, end_procedure, StmtTree}
 use Rattle.stapl_syntax.specs.Expressions.{operator, dots, right_round, right_square, IsExpr, of_unary, tighter, of_binary, IsUnary, negation, complement, negated, of_primary, IsPrimary, of_number, of_cell, of_brackets, of_abs, of_array, IsCell, of_scalar, of_element, IsTarget, of_whole, of_range, IsArray, of_literal, of_target, of_expr}
-use Rattle.stapl_syntax.specs.Parts.{IsPrintPart, of_string, of_value, of_character, IsExported, of_exported_value, of_exported_array, IsPart, a_print_part, step_part, Separated, comma, join}
+use Rattle.stapl_syntax.specs.Parts.{IsPrintPart, of_string, of_value, of_character, IsExported, of_exported_value, of_exported_array, hz, IsPart, an_expr, maybe_hz, a_print_part, step_part, usec_part, frequency_part, Separated, comma, join}
 use Rattle.stapl_syntax.specs.Statements.{IsBody, IsLabelled, IsPieceStatement}
 use Rattle.stapl_syntax.specs.Programs.{AreReadAs, IsProgram}
-use Rattle.stapl_built.specs.Sizes.{expr_size, array_size, part_size, export_size, step_size, body_size, statements_size}
+use Rattle.stapl_built.specs.Sizes.{expr_size, array_size, part_size, export_size, given_size, body_size, statements_size}
 
 -- ---- expressions and parts
 
@@ -100,9 +100,23 @@ named_fits : {n : ℕ} {v t : Symbol} {s r : List Symbol} (a b : List Symbol) �
     n ≤ length r → 2 + n ≤ length s
 named_fits a b is name rest fits = omega (arith, ap length is, length-append a b, ap length name, ap length rest, fits)
 
-step_fits : (s : List Symbol) (step : Option ExprTree) → IsPart step_part step s → step_size step ≤ length s
+step_fits : (s : List Symbol) (step : Option ExprTree) → IsPart step_part step s → given_size step ≤ length s
 step_fits s None is = omega arith
 step_fits s (Some x) is = later_fits is.1 (expr_fits is.2)
+
+usec_fits : (s : List Symbol) (usec : Option ExprTree) → IsPart usec_part usec s → given_size usec ≤ length s
+usec_fits s None is = omega arith
+usec_fits s (Some x) is =
+    let own = expr_fits is.2.2 in
+    omega (arith, own, ap length is.1, ap length is.2.1, length-append is.2.0 (join joins.Usec ∷ []))
+
+hertz_fits : (s : List Symbol) (x : ExprTree) → IsPart (maybe_hz an_expr) x s → expr_size x ≤ length s
+hertz_fits s x (inl is) = expr_fits is
+hertz_fits s x (inr is) = let own = expr_fits is.2 in omega (arith, own, ap length is.1, length-append is.0 (hz ∷ []))
+
+frequency_fits : (s : List Symbol) (hertz : Option ExprTree) → IsPart frequency_part hertz s → given_size hertz ≤ length s
+frequency_fits s None is = omega arith
+frequency_fits s (Some x) is = hertz_fits s x is
 
 -- ---- statements
 
@@ -144,6 +158,31 @@ body_fits s (export key x) is =
     let p = is.2 in
     omega (arith, ap length is.1, ap length p.2, length-append p.0 p.1, ap length p.3, exported_fits p.4.0 x p.4.2, ap length p.4.1)
 body_fits s (exit e) is = after_fits is.1 (expr_fits is.2)
+body_fits s (wait_cycles k e u l) is =
+    let x = is.2 in
+    let y = x.4 in
+    let z = y.4.2 in
+    let count = expr_fits y.3 in
+    let time = usec_fits z.0 u z.3 in
+    omega (
+      arith,
+      ap length is.1,
+      ap length x.2,
+      length-append x.0 x.1,
+      ap length y.2,
+      length-append y.0 y.1,
+      ap length y.4.1,
+      ap length z.2,
+      length-append z.0 z.1,
+      count,
+      time,
+    )
+body_fits s (wait_usec k e l) is =
+    let x = is.2 in
+    let y = x.4 in
+    let time = expr_fits y.3 in
+    omega (arith, ap length is.1, ap length x.2, length-append x.0 x.1, ap length y.2, length-append y.0 y.1, time)
+body_fits s (frequency e) is = after_fits is.1 (frequency_fits is.0 e is.2)
 body_fits s (boolean v (Some b)) is =
     omega (arith, ap length is.1, ap length is.2.2, length-append is.2.0 is.2.1, ap length is.2.3)
 body_fits s (integer v (Some z)) is =

@@ -1,8 +1,8 @@
 -- Which statements are built: those that the compiler takes. Which these are is this profile's, and grows.
 use Rattle.std.specs.Prelude.{◌≡◌, nat_lt, length, Bool, true, false, ◌||◌, None, Some}
-use Rattle.stapl_syntax.specs.Trees.{BodyTree, note, action, procedure, data_block, end_data, crc, end_procedure, boolean, boolean_array, integer, integer_array, assign, assign_element, assign_array, assign_range, call, goto, if_then, for_loop, next, push, scalar, element, pop, print, export, exit, StmtTree}
+use Rattle.stapl_syntax.specs.Trees.{BodyTree, note, action, procedure, data_block, end_data, crc, end_procedure, boolean, boolean_array, integer, integer_array, assign, assign_element, assign_array, assign_range, call, goto, if_then, for_loop, next, push, scalar, element, pop, print, export, exit, state_list, wait_cycles, wait_usec, frequency, StmtTree}
 
--- a statement that may stand after THEN; each PRINT of a program has a part, and each POP a cell
+-- a statement that may stand after THEN; each PRINT of a program has a part, each POP a cell, and each STATE a state
 abbrev pub is_built_simple : BodyTree → Bool
 is_built_simple (assign name e) = true
 is_built_simple (assign_element name index e) = true
@@ -19,6 +19,10 @@ is_built_simple (if_then e body) = is_built_simple body
 is_built_simple (print parts) = nat_lt 0 (length parts)
 is_built_simple (export key x) = true
 is_built_simple (exit e) = true
+is_built_simple (state_list states) = nat_lt 0 (length states)
+is_built_simple (wait_cycles state cycles usec last) = true
+is_built_simple (wait_usec state usec last) = true
+is_built_simple (frequency hertz) = true
 is_built_simple _ = false
 
 -- a statement of a procedure or a declaration of a DATA block; each INTEGER array of a program that has initial values

@@ -2,7 +2,7 @@
 -- not counted. This measure is this profile's.
 use Rattle.std.specs.Prelude.{ℕ, ◌+◌, List, Option, None, Some}
 use Rattle.std.specs.List.{sum_by}
-use Rattle.stapl_syntax.specs.Trees.{ExprTree, number, scalar, element, unary, binary, abs, int, ArrayTree, literal, whole, range, of_int, PartTree, string, value, character, BodyTree, boolean, integer, assign, assign_element, assign_array, assign_range, if_then, for_loop, push, pop, print, ExportTree, exported_value, exported_array, export, exit, StmtTree}
+use Rattle.stapl_syntax.specs.Trees.{ExprTree, number, scalar, element, unary, binary, abs, int, ArrayTree, literal, whole, range, of_int, PartTree, string, value, character, BodyTree, boolean, integer, assign, assign_element, assign_array, assign_range, if_then, for_loop, push, pop, print, ExportTree, exported_value, exported_array, export, exit, wait_cycles, wait_usec, frequency, StmtTree}
 
 abbrev mutual
   -- an expression, without brackets around it
@@ -33,10 +33,10 @@ abbrev pub export_size : ExportTree → ℕ
 export_size (exported_value x) = expr_size x
 export_size (exported_array a) = array_size a
 
--- the step of a FOR, if it has one
-abbrev pub step_size : Option ExprTree → ℕ
-step_size None = 0
-step_size (Some x) = expr_size x
+-- an expression that may be left out, as the step of a FOR
+abbrev pub given_size : Option ExprTree → ℕ
+given_size None = 0
+given_size (Some x) = expr_size x
 
 -- a statement without its label; each form that is not named here counts as one symbol
 abbrev pub body_size : BodyTree → ℕ
@@ -47,12 +47,15 @@ body_size (assign_element name index x) = 2 + expr_size index + expr_size x
 body_size (assign_array name a) = 2 + array_size a
 body_size (assign_range name high low a) = 2 + expr_size high + expr_size low + array_size a
 body_size (if_then x body) = 2 + expr_size x + body_size body
-body_size (for_loop name from to step) = 3 + expr_size from + expr_size to + step_size step
+body_size (for_loop name from to step) = 3 + expr_size from + expr_size to + given_size step
 body_size (push x) = 1 + expr_size x
 body_size (pop cell) = 1 + expr_size cell
 body_size (print parts) = 1 + sum_by part_size parts
 body_size (export key x) = 2 + export_size x
 body_size (exit x) = 1 + expr_size x
+body_size (wait_cycles state x usec last) = 1 + expr_size x + given_size usec
+body_size (wait_usec state x last) = 1 + expr_size x
+body_size (frequency hertz) = 1 + given_size hertz
 body_size _ = 1
 
 -- the statements together

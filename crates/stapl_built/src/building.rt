@@ -35,7 +35,11 @@ fn is_simple(body: &Body) -> bool
         | Body::Next(_)
         | Body::Push(_)
         | Body::Export(_, _)
-        | Body::Exit(_) => true,
+        | Body::Exit(_)
+        | Body::WaitCycles(_, _, _, _)
+        | Body::WaitUsec(_, _, _)
+        | Body::Frequency(_) => true,
+        Body::State(states) => 0 < states.len(),
         Body::If(_, body) => is_simple(body),
         Body::Pop(cell) => is_cell(cell),
         Body::Print(parts) => has_parts(parts.as_slice()),
