@@ -117,6 +117,7 @@ module _ (program : List StmtTree) (sound : IsSound program) where
             leads = subst (λ inside. AllByRecursion (λ name. IsInBlock (as_played program) block (label_from names count inside name)) (labels_named st.body)) (sym (own.inside ∙ e)) labels;
             declares = subst (λ inside. IfSome (declaration st.body) (IsDeclared (as_played program) (lookup_from names inside) (1 + i) block)) (sym own.inside) (declared_at program sound i st own.at block e);
             few_values = few_values_at program sound i st own.at;
+            stable = sound.keeps i st reasons.NotStable own.at;
           }
 
   pub typed_at : (i : ℕ) (st : StmtTree) → slice_get (pieces_from None program) i ≡ Some st → is_outer st.body ≡ false → IsTypedAt (as_played program) i st.body

@@ -1,7 +1,7 @@
 -- A statement does one thing: what it does as a relation is what it does as a function.
 use Rattle.std.proofs.Common.{◌≡◌, ℕ, ◌+◌, List, [], ◌∷◌, Option, Some, None, refl, sym, ap, subst, ◌∙◌, slice_get}
 use Rattle.stapl_syntax.specs.Trees.{BodyTree, StmtTree}
-use Rattle.stapl_meaning.specs.declared.events.Event.{Event}
+use Rattle.stapl_meaning.specs.Deeds.{Deed}
 use Rattle.stapl_meaning.specs.declared.values.Value.{Value}
 use Rattle.stapl_meaning.specs.Values.{Got, Known, Faults, Stuck}
 use Rattle.stapl_meaning.specs.Operands.{values_of}
@@ -9,17 +9,17 @@ use Rattle.stapl_meaning.specs.States.{State, Did, Falls, Jumps, Resumes, Return
 use Rattle.stapl_meaning.specs.Scopes.{Scope, Played, scope_at}
 use Rattle.stapl_meaning.specs.Turns.{operands, effect, target, rows, HasEffect, Does, follows, operand_faults, effect_faults, falls, jumps, resumes, returns, ends, IsTurn, carried, rows_done, done, turn_of, turn, IsFound}
 
-found_preceded : (events : List Event) (t : Turned) → IsFound t → IsFound (preceded events t)
-found_preceded events (Leads es place s) h = tt
-found_preceded events (Over es ending s) h = tt
-found_preceded events (Broken es k s) h = tt
-found_preceded events (NoTurn es) h = absurd h
+found_preceded : (deeds : List Deed) (t : Turned) → IsFound t → IsFound (preceded deeds t)
+found_preceded deeds (Leads es place s) h = tt
+found_preceded deeds (Over es ending s) h = tt
+found_preceded deeds (Broken es k s) h = tt
+found_preceded deeds (NoTurn es) h = absurd h
 
-found_behind : (events : List Event) (t : Turned) → IsFound (preceded events t) → IsFound t
-found_behind events (Leads es place s) h = tt
-found_behind events (Over es ending s) h = tt
-found_behind events (Broken es k s) h = tt
-found_behind events (NoTurn es) h = absurd h
+found_behind : (deeds : List Deed) (t : Turned) → IsFound (preceded deeds t) → IsFound t
+found_behind deeds (Leads es place s) h = tt
+found_behind deeds (Over es ending s) h = tt
+found_behind deeds (Broken es k s) h = tt
+found_behind deeds (NoTurn es) h = absurd h
 
 found_of_piece : (piece : ℕ) (t : Turned) → IsFound t → IsFound (turn_of_piece piece t)
 found_of_piece piece (Leads es place s) h = tt
@@ -52,8 +52,8 @@ module _ (scope : Scope) where
   does_done _ _ _ (follows s) = refl
   does_done _ _ _ (operand_faults b rest s k e) = ap (λ g. with_got g s (behind b s (rows_done scope rest))) e
   does_done _ _ _ (effect_faults b rest s k has) = has_effect b s (Faults k) (rows_done scope rest) has
-  does_done _ _ _ (falls b rest s t events turned has more) =
-      has_effect b s (Known (Falls events t)) (rows_done scope rest) has ∙ ap (preceded events) (does_done rest t turned more)
+  does_done _ _ _ (falls b rest s t deeds turned has more) =
+      has_effect b s (Known (Falls deeds t)) (rows_done scope rest) has ∙ ap (preceded deeds) (does_done rest t turned more)
   does_done _ _ _ (jumps b rest s t place has e) =
       has_effect b s (Known (Jumps t)) (rows_done scope rest) has ∙ ap (λ o. jumps_to o t) e
   does_done _ _ _ (resumes b rest s t place has) = has_effect b s (Known (Resumes place t)) (rows_done scope rest) has
@@ -73,8 +73,8 @@ module _ (scope : Scope) where
     with_effect : (values : List Value) (g : Got Did) → values_of scope.look s.store.variables (operands scope b) ≡ Known values → effect scope b values s ≡ g →
         IsFound (with_got g s (λ did. led scope.entry (target scope b) did (rows_done scope rest))) →
         Does scope (b ∷ rest) s (with_got g s (λ did. led scope.entry (target scope b) did (rows_done scope rest)))
-    with_effect values (Known (Falls events t)) p q found =
-        falls b rest s t events (rows_done scope rest t) (record { values = values; are = p; is = q }) (others t (found_behind events (rows_done scope rest t) found))
+    with_effect values (Known (Falls deeds t)) p q found =
+        falls b rest s t deeds (rows_done scope rest t) (record { values = values; are = p; is = q }) (others t (found_behind deeds (rows_done scope rest t) found))
     with_effect values (Known (Jumps t)) p q found = with_target values t (target scope b) p q refl found
     with_effect values (Known (Resumes place t)) p q found = resumes b rest s t place (record { values = values; are = p; is = q })
     with_effect values (Known (Returns t)) p q found = returns b rest s t (record { values = values; are = p; is = q })
@@ -96,7 +96,7 @@ module _ (scope : Scope) where
   is_found _ _ _ (follows s) = tt
   is_found _ _ _ (operand_faults b rest s k e) = tt
   is_found _ _ _ (effect_faults b rest s k has) = tt
-  is_found _ _ _ (falls b rest s t events turned has more) = found_preceded events turned (is_found rest t turned more)
+  is_found _ _ _ (falls b rest s t deeds turned has more) = found_preceded deeds turned (is_found rest t turned more)
   is_found _ _ _ (jumps b rest s t place has e) = tt
   is_found _ _ _ (resumes b rest s t place has) = tt
   is_found _ _ _ (returns b rest s t has) = found_chosen scope.entry t t.chosen

@@ -1,15 +1,17 @@
 -- What values do to the state. Statements and instructions share these. Source: JESD71, statements.
-use Rattle.std.specs.Prelude.{ℕ, ℤ, pos, ◌+ℤ◌, int_lt, int_le, nat_abs, nat_lt, ◌==◌, ◌&&◌, ◌||◌, not, if◌then◌else◌, Bool, true, false, List, [], ◌∷◌, ◌++◌, length, Option, Some, None, slice_get, slice_set}
+use Rattle.std.specs.Prelude.{ℕ, ℤ, pos, ◌+◌, map, ◌+ℤ◌, int_lt, int_le, nat_abs, nat_lt, ◌==◌, ◌&&◌, ◌||◌, not, if◌then◌else◌, Bool, true, false, List, [], ◌∷◌, ◌++◌, length, Option, Some, None, slice_get, slice_set}
 use Rattle.std.specs.Int.{int_wrap, w32}
 use Rattle.std.specs.Ordering.{int_eq}
 use Rattle.std.specs.Fmt.{signed_decimal}
 use Rattle.bit_list.specs.Ranges.{spliced}
 use Rattle.stapl_syntax.specs.Trees.{PartTree, string, value, character}
-use Rattle.stapl_meaning.specs.declared.events.Event.TheVariants.{Print, Export}
+use Rattle.tap_states.specs.declared.Tap.{Tap}
+use Rattle.tap_states.specs.Tap.{is_stable_state}
+use Rattle.stapl_meaning.specs.declared.events.Event.TheVariants.{Print, Export, Usec, Hertz}
 use Rattle.stapl_meaning.specs.declared.events.ExportValue.{ExportValue}
 use Rattle.stapl_meaning.specs.declared.events.ExportValue.TheVariants as exports
 use Rattle.stapl_meaning.specs.declared.events.Ending.TheVariants.{Exit}
-use Rattle.stapl_meaning.specs.declared.events.RunFault.TheVariants.{IndexOutOfRange, ZeroStep, NoRecord, RecordsFull}
+use Rattle.stapl_meaning.specs.declared.events.RunFault.TheVariants.{IndexOutOfRange, BadCount, ZeroStep, NoRecord, RecordsFull}
 use Rattle.stapl_meaning.specs.declared.records.Loop.{Loop}
 use Rattle.stapl_meaning.specs.declared.records.Record.{Record}
 use Rattle.stapl_meaning.specs.declared.records.Record.TheVariants.{Pushed, Called, Looped}
@@ -19,6 +21,9 @@ use Rattle.stapl_meaning.specs.declared.values.Held.{Held}
 use Rattle.stapl_meaning.specs.declared.values.Held.TheVariants as held
 use Rattle.stapl_meaning.specs.declared.values.ValueKind.{ValueKind}
 use Rattle.stapl_meaning.specs.declared.values.ValueKind.TheVariants as value_kinds
+use Rattle.stapl_meaning.specs.declared.waits.WaitKind.{WaitKind}
+use Rattle.stapl_meaning.specs.declared.waits.WaitKind.TheVariants as waits
+use Rattle.stapl_meaning.specs.Deeds.{Deed, Says, Goes, Stays}
 use Rattle.stapl_meaning.specs.Values.{Got, Known, Faults, Stuck, then_get, is_index, passed, bits_held, Span, span_of, Source, source_bits, padded, asked, integer_of}
 use Rattle.stapl_meaning.specs.Operands.{character_of, bit_number}
 use Rattle.stapl_meaning.specs.States.{State, Did, Falls, Jumps, Resumes, Returns, Ends}
@@ -247,7 +252,7 @@ joined (character e ∷ parts) (v ∷ vs) = after_character v (joined parts vs)
 
 -- a text is printed
 abbrev pub printed : Got (List ℕ) → State → Got Did
-printed text s = then_get text (λ bytes. Known (Falls (Print bytes ∷ []) s))
+printed text s = then_get text (λ bytes. Known (Falls (Says (Print bytes) ∷ []) s))
 
 -- a value is exported under a key
 abbrev pub export_of : Value → ExportValue
@@ -255,10 +260,49 @@ export_of (Int z) = exports.Int z
 export_of (Bit b) = exports.Bit b
 
 abbrev pub exported : List ℕ → List Value → State → Got Did
-exported key (v ∷ []) s = Known (Falls (Export key (export_of v) ∷ []) s)
+exported key (v ∷ []) s = Known (Falls (Says (Export key (export_of v)) ∷ []) s)
 exported key _ s = Stuck
 
 -- the bits of a source are exported under a key
 abbrev pub bits_exported : List ℕ → Source → List Value → State → Got Did
 bits_exported key source values s =
-    then_get (source_bits s.store.variables source values) (λ bits. Known (Falls (Export key (exports.Array bits) ∷ []) s))
+    then_get (source_bits s.store.variables source values) (λ bits. Known (Falls (Says (Export key (exports.Array bits)) ∷ []) s))
+
+-- The chain moves through these states, one after the other.
+abbrev pub moved_through : List Tap → List Value → State → Got Did
+moved_through states [] s = Known (Falls (map Goes states) s)
+moved_through states _ s = Stuck
+
+-- the most clocks of one WAIT, which is this profile's limit
+abbrev pub most_cycles : ℕ
+most_cycles = 16777216
+
+-- a number of clocks, of microseconds, and of hertz, or the fault of one that is outside its limits
+abbrev pub cycles_of : ℤ → Got ℕ
+cycles_of z = passed (is_index z (most_cycles + 1)) BadCount (nat_abs z)
+
+abbrev pub usec_of : ℤ → Got ℕ
+usec_of z = passed (int_le (pos 0) z) BadCount (nat_abs z)
+
+abbrev pub hertz_of : ℤ → Got ℕ
+hertz_of z = passed (int_lt (pos 0) z) BadCount (nat_abs z)
+
+-- A WAIT in a state: the move there, a stay of so many clocks, so many microseconds, and the move to another state. Both
+-- counts are there before the first is tested.
+abbrev pub waited_for : WaitKind → Tap → Tap → List Value → Got (List Deed)
+waited_for waits.Cycles at last (Int n ∷ []) = then_get (cycles_of n) (λ c. Known (Goes at ∷ Stays c ∷ Goes last ∷ []))
+waited_for waits.Usec at last (Int n ∷ []) = then_get (usec_of n) (λ u. Known (Goes at ∷ Says (Usec u) ∷ Goes last ∷ []))
+waited_for waits.Both at last (Int n ∷ Int m ∷ []) =
+    then_get (cycles_of n) (λ c. then_get (usec_of m) (λ u. Known (Goes at ∷ Stays c ∷ Says (Usec u) ∷ Goes last ∷ [])))
+waited_for kind at last _ = Stuck
+
+-- a state in which no WAIT may stay is met by no accepted program
+abbrev pub waited : WaitKind → Tap → Tap → List Value → State → Got Did
+waited kind at last values s =
+    if is_stable_state at then then_get (waited_for kind at last values) (λ deeds. Known (Falls deeds s)) else Stuck
+
+-- The frequency of the clocks that follow is stated, or that none is.
+abbrev pub tuned : List Value → State → Got Did
+tuned [] s = Known (Falls (Says (Hertz 0) ∷ []) s)
+tuned (Int n ∷ []) s = then_get (hertz_of n) (λ h. Known (Falls (Says (Hertz h) ∷ []) s))
+tuned _ s = Stuck

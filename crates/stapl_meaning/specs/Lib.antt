@@ -1,5 +1,6 @@
 pub mod Values
 pub mod Operands
+pub mod Deeds
 pub mod States
 pub mod Effects
 pub mod Scopes

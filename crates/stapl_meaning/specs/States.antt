@@ -1,6 +1,7 @@
 -- What a run keeps from one turn to the next, what a statement does, and what a turn leads to.
 use Rattle.std.specs.Prelude.{ℕ, pos, List, [], ◌∷◌, ◌++◌, Option, Some, None}
 use Rattle.stapl_meaning.specs.declared.events.Event.{Event}
+use Rattle.stapl_meaning.specs.Deeds.{Deed, Chain, deeds_events, deeds_chain}
 use Rattle.stapl_meaning.specs.declared.events.RunFault.{RunFault}
 use Rattle.stapl_meaning.specs.declared.events.Ending.{Ending}
 use Rattle.stapl_meaning.specs.declared.events.Ending.TheVariants.{Exit, Fault}
@@ -18,22 +19,22 @@ pub record State : Type 0 where
   pub records : List Record
   pub store : Store
 
--- What a statement does: with its events it goes on to what follows, it jumps to its target, it goes on at the place that
+-- What a statement does: with its deeds it goes on to what follows, it jumps to its target, it goes on at the place that
 -- a record kept, it ends its procedure, or it ends the run.
 pub data Did : Type 0 where
-  Falls : (events : List Event) (state : State) → Did
+  Falls : (deeds : List Deed) (state : State) → Did
   Jumps : (state : State) → Did
   Resumes : (place : ℕ) (state : State) → Did
   Returns : (state : State) → Did
   Ends : (ending : Ending) (state : State) → Did
 
--- What a turn does: with its events it leads to a place, it ends the run, or a fault breaks it. A turn that no accepted
--- program meets finds nothing to do; it carries the events so far.
+-- What a turn does, whatever the chain is: with its deeds it leads to a place, it ends the run, or a fault breaks it. A turn
+-- that no accepted program meets finds nothing to do; it carries the deeds so far.
 pub data Turned : Type 0 where
-  Leads : (events : List Event) (place : ℕ) (state : State) → Turned
-  Over : (events : List Event) (ending : Ending) (state : State) → Turned
-  Broken : (events : List Event) (fault : RunFault) (state : State) → Turned
-  NoTurn : (events : List Event) → Turned
+  Leads : (deeds : List Deed) (place : ℕ) (state : State) → Turned
+  Over : (deeds : List Deed) (ending : Ending) (state : State) → Turned
+  Broken : (deeds : List Deed) (fault : RunFault) (state : State) → Turned
+  NoTurn : (deeds : List Deed) → Turned
 
 -- goes on with what was asked for; a fault leaves the state as it is
 abbrev pub with_got : {A : Type 0} → Got A → State → (A → Turned) → Turned
@@ -41,19 +42,19 @@ with_got (Known x) s go = go x
 with_got (Faults k) s go = Broken [] k s
 with_got Stuck s go = NoTurn []
 
--- events before those of a turn
-abbrev pub preceded : List Event → Turned → Turned
-preceded before (Leads events place s) = Leads (before ++ events) place s
-preceded before (Over events ending s) = Over (before ++ events) ending s
-preceded before (Broken events k s) = Broken (before ++ events) k s
-preceded before (NoTurn events) = NoTurn (before ++ events)
+-- deeds before those of a turn
+abbrev pub preceded : List Deed → Turned → Turned
+preceded before (Leads deeds place s) = Leads (before ++ deeds) place s
+preceded before (Over deeds ending s) = Over (before ++ deeds) ending s
+preceded before (Broken deeds k s) = Broken (before ++ deeds) k s
+preceded before (NoTurn deeds) = NoTurn (before ++ deeds)
 
 -- the turn of a piece: a fault ends the run, and names the piece
 abbrev pub turn_of_piece : ℕ → Turned → Turned
-turn_of_piece piece (Leads events place s) = Leads events place s
-turn_of_piece piece (Over events ending s) = Over events ending s
-turn_of_piece piece (Broken events k s) = Over events (Fault k piece) s
-turn_of_piece piece (NoTurn events) = NoTurn events
+turn_of_piece piece (Leads deeds place s) = Leads deeds place s
+turn_of_piece piece (Over deeds ending s) = Over deeds ending s
+turn_of_piece piece (Broken deeds k s) = Over deeds (Fault k piece) s
+turn_of_piece piece (NoTurn deeds) = NoTurn deeds
 
 -- The next chosen procedure begins at its entry; where there is none, the run ends with code 0.
 abbrev pub next_chosen : (ℕ → ℕ) → State → List ℕ → Turned
@@ -62,10 +63,10 @@ next_chosen entry s (p ∷ ps) = Leads [] (entry p) (record s { chosen = ps })
 
 -- The first chosen procedure begins where what sets a play up has come to its end.
 abbrev pub begun : (ℕ → ℕ) → Turned → Turned
-begun entry (Leads events place s) = preceded events (next_chosen entry s s.chosen)
-begun entry (Over events ending s) = NoTurn events
-begun entry (Broken events k s) = NoTurn events
-begun entry (NoTurn events) = NoTurn events
+begun entry (Leads deeds place s) = preceded deeds (next_chosen entry s s.chosen)
+begun entry (Over deeds ending s) = NoTurn deeds
+begun entry (Broken deeds k s) = NoTurn deeds
+begun entry (NoTurn deeds) = NoTurn deeds
 
 -- a jump to a target, if there is one
 abbrev pub jumps_to : Option ℕ → State → Turned
@@ -74,8 +75,36 @@ jumps_to (Some place) s = Leads [] place s
 
 -- what a statement with a target does, and then what follows it
 abbrev pub led : (ℕ → ℕ) → Option ℕ → Did → (State → Turned) → Turned
-led entry to (Falls events s) go = preceded events (go s)
+led entry to (Falls deeds s) go = preceded deeds (go s)
 led entry to (Jumps s) go = jumps_to to s
 led entry to (Resumes place s) go = Leads [] place s
 led entry to (Returns s) go = next_chosen entry s s.chosen
 led entry to (Ends ending s) go = Over [] ending s
+
+-- What a turn comes to on a chain: with its events it leads to a place, it ends the run, a fault breaks it, or it finds
+-- nothing to do.
+pub data Happened : Type 0 where
+  Led : (events : List Event) (place : ℕ) (state : State) (chain : Chain) → Happened
+  Finished : (events : List Event) (ending : Ending) (state : State) (chain : Chain) → Happened
+  Broke : (events : List Event) (fault : RunFault) (state : State) (chain : Chain) → Happened
+  Lacks : (events : List Event) → Happened
+
+abbrev pub happens : Chain → Turned → Happened
+happens k (Leads deeds place s) = Led (deeds_events k deeds) place s (deeds_chain k deeds)
+happens k (Over deeds ending s) = Finished (deeds_events k deeds) ending s (deeds_chain k deeds)
+happens k (Broken deeds f s) = Broke (deeds_events k deeds) f s (deeds_chain k deeds)
+happens k (NoTurn deeds) = Lacks (deeds_events k deeds)
+
+-- events before those of what happened
+abbrev pub with_events : List Event → Happened → Happened
+with_events before (Led events place s k) = Led (before ++ events) place s k
+with_events before (Finished events ending s k) = Finished (before ++ events) ending s k
+with_events before (Broke events f s k) = Broke (before ++ events) f s k
+with_events before (Lacks events) = Lacks (before ++ events)
+
+-- what happened in the turn of a piece: a fault ends the run, and names the piece
+abbrev pub happened_in_piece : ℕ → Happened → Happened
+happened_in_piece piece (Led events place s k) = Led events place s k
+happened_in_piece piece (Finished events ending s k) = Finished events ending s k
+happened_in_piece piece (Broke events f s k) = Finished events (Fault f piece) s k
+happened_in_piece piece (Lacks events) = Lacks events

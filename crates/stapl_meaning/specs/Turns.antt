@@ -1,17 +1,47 @@
 -- Turns: the execution of one piece. Source: JESD71, statements. Statements are rows of a table with three columns: the
 -- operands, what their values do, and where the statement leads if it does not go on to what follows.
-use Rattle.std.specs.Prelude.{◌≡◌, ℕ, ◌+◌, List, [], ◌∷◌, ◌++◌, Option, Some, None, slice_get}
+use Rattle.std.specs.Prelude.{◌≡◌, ℕ, ◌+◌, map, List, [], ◌∷◌, ◌++◌, Option, Some, None, slice_get, slice_index_or}
 use Rattle.stapl_syntax.specs.Kinds.{expr_kind}
-use Rattle.stapl_syntax.specs.Trees.{number, BodyTree, end_procedure, boolean, boolean_array, integer, integer_array, assign, assign_element, assign_array, assign_range, scalar, element, call, goto, if_then, for_loop, next, push, pop, print, exported_value, exported_array, export, exit, StmtTree}
-use Rattle.stapl_meaning.specs.declared.events.Event.{Event}
+use Rattle.stapl_syntax.specs.Trees.{ExprTree, number, BodyTree, end_procedure, boolean, boolean_array, integer, integer_array, assign, assign_element, assign_array, assign_range, scalar, element, call, goto, if_then, for_loop, next, push, pop, print, exported_value, exported_array, export, exit, state_list, wait_cycles, wait_usec, frequency, StmtTree}
+use Rattle.tap_states.specs.declared.Tap.{Tap}
+use Rattle.tap_states.specs.declared.Tap.TheVariants as taps
+use Rattle.stapl_meaning.specs.declared.waits.WaitKind.{WaitKind}
+use Rattle.stapl_meaning.specs.declared.waits.WaitKind.TheVariants as waits
+use Rattle.stapl_meaning.specs.Deeds.{Deed}
 use Rattle.stapl_meaning.specs.declared.events.RunFault.{RunFault}
 use Rattle.stapl_meaning.specs.declared.events.Ending.{Ending}
 use Rattle.stapl_meaning.specs.declared.values.Value.{Value}
 use Rattle.stapl_meaning.specs.Values.{Got, Known, Faults, Stuck, These, source_of}
 use Rattle.stapl_meaning.specs.Operands.{Operand, plain, an_integer, a_boolean, an_index, a_range, bit_number, given_kind, printed_kind, step_or_one, array_operands, part_operands, values_of}
 use Rattle.stapl_meaning.specs.States.{State, Did, Falls, Jumps, Resumes, Returns, Ends, Turned, Leads, Over, Broken, NoTurn, with_got, preceded, turn_of_piece, next_chosen, led}
-use Rattle.stapl_meaning.specs.Effects.{assigned, element_assigned, IntoWhole, IntoRange, copied, integers_set, jumped, parted, pushed, popped, called, looped, repeated, returned, exited, joined, printed, exported, bits_exported}
+use Rattle.stapl_meaning.specs.Effects.{assigned, element_assigned, IntoWhole, IntoRange, copied, integers_set, jumped, parted, pushed, popped, called, looped, repeated, returned, exited, joined, printed, exported, bits_exported, moved_through, waited, tuned}
 use Rattle.stapl_meaning.specs.Scopes.{Scope, Played, scope_at}
+
+-- the states in the order in which the profile lists its reserved words of states
+abbrev pub taps_in_order : List Tap
+taps_in_order =
+    taps.Reset ∷ taps.Idle
+    ∷ taps.DrSelect ∷ taps.DrCapture ∷ taps.DrShift ∷ taps.DrExit1 ∷ taps.DrPause ∷ taps.DrExit2 ∷ taps.DrUpdate
+    ∷ taps.IrSelect ∷ taps.IrCapture ∷ taps.IrShift ∷ taps.IrExit1 ∷ taps.IrPause ∷ taps.IrExit2 ∷ taps.IrUpdate ∷ []
+
+-- the state of a number; no program has another number
+abbrev pub tap_of : ℕ → Tap
+tap_of n = slice_index_or taps_in_order n taps.Reset
+
+-- the state of a WAIT, which is IDLE if none is written
+abbrev pub tap_or_idle : Option ℕ → Tap
+tap_or_idle None = taps.Idle
+tap_or_idle (Some n) = tap_of n
+
+-- what a WAIT for clocks counts, with a time or without one
+abbrev pub kind_of_wait : Option ExprTree → WaitKind
+kind_of_wait None = waits.Cycles
+kind_of_wait (Some e) = waits.Both
+
+-- an expression that may be left out, as an operand
+abbrev pub integer_given : Option ExprTree → List Operand
+integer_given None = []
+integer_given (Some e) = an_integer e ∷ []
 
 -- The table. A statement that is not built has no operands, and finds nothing to do.
 
@@ -32,6 +62,9 @@ operands scope (print parts) = part_operands scope.look parts
 operands scope (export key (exported_value e)) = plain (printed_kind (expr_kind scope.look.kind e)) e ∷ []
 operands scope (export key (exported_array a)) = array_operands scope.look a
 operands scope (exit e) = an_integer e ∷ []
+operands scope (wait_cycles state cycles usec last) = an_integer cycles ∷ integer_given usec
+operands scope (wait_usec state usec last) = an_integer usec ∷ []
+operands scope (frequency hertz) = integer_given hertz
 operands scope _ = []
 
 -- what their values do
@@ -60,6 +93,11 @@ effect scope (print parts) values s = printed (joined parts values) s
 effect scope (export key (exported_value e)) values s = exported key values s
 effect scope (export key (exported_array a)) values s = bits_exported key (source_of scope.look a) values s
 effect scope (exit e) values s = exited values s
+effect scope (state_list states) values s = moved_through (map tap_of states) values s
+effect scope (wait_cycles state cycles usec last) values s =
+    waited (kind_of_wait usec) (tap_or_idle state) (tap_or_idle last) values s
+effect scope (wait_usec state usec last) values s = waited waits.Usec (tap_or_idle state) (tap_or_idle last) values s
+effect scope (frequency hertz) values s = tuned values s
 effect scope _ values s = Stuck
 
 -- where it leads if it does not go on to what follows
@@ -96,8 +134,8 @@ pub data Does (scope : Scope) : List BodyTree → State → Turned → Type 0 wh
   effect_faults : (b : BodyTree) (rest : List BodyTree) (s : State) (k : RunFault) → HasEffect scope b s (Faults k) →
       Does scope (b ∷ rest) s (Broken [] k s)
   -- the row is done, and the others follow
-  falls : (b : BodyTree) (rest : List BodyTree) (s t : State) (events : List Event) (turned : Turned) →
-      HasEffect scope b s (Known (Falls events t)) → Does scope rest t turned → Does scope (b ∷ rest) s (preceded events turned)
+  falls : (b : BodyTree) (rest : List BodyTree) (s t : State) (deeds : List Deed) (turned : Turned) →
+      HasEffect scope b s (Known (Falls deeds t)) → Does scope rest t turned → Does scope (b ∷ rest) s (preceded deeds turned)
   -- the row is done, and the turn is over
   jumps : (b : BodyTree) (rest : List BodyTree) (s t : State) (place : ℕ) → HasEffect scope b s (Known (Jumps t)) →
       target scope b ≡ Some place → Does scope (b ∷ rest) s (Leads [] place t)
@@ -142,5 +180,5 @@ turn program i s = turn_of (scope_at program i) (i + 1) s (slice_get program.pie
 
 -- the turn finds something to do
 abbrev pub IsFound : Turned → Type 0
-IsFound (NoTurn events) = ⊥
+IsFound (NoTurn deeds) = ⊥
 IsFound _ = Unit {0}

@@ -13,7 +13,7 @@ use Rattle.stapl_syntax.specs.Trees.{ItemTree, BodyTree, action, procedure, call
 use Rattle.stapl_syntax.specs.Statements.{is_outer, begins_procedure, ends_procedure}
 use Rattle.stapl_syntax.specs.Names.{declaration, variable_entry}
 use Rattle.stapl_meaning.specs.Values.{Lookup}
-use Rattle.stapl_syntax.specs.Rules.{is_boolean, boolean_limit, booleans_limit, integers_limit, has_too_many_values}
+use Rattle.stapl_syntax.specs.Rules.{is_boolean, boolean_limit, booleans_limit, integers_limit, stops_unstable, has_too_many_values}
 use Rattle.stapl_syntax.specs.Programs.{piece_limit}
 use Rattle.stapl_syntax.specs.Kinds.{operands_suit}
 use Rattle.stapl_syntax.specs.Mentions.{labels_named}
@@ -85,8 +85,8 @@ module _ (program : Played) where
     pub entry : slice_get program.names.variables (look.variable d.name) ≡ Some (variable_entry block piece d)
 
   -- The statement at a place of a procedure is typed: its operands have the kinds that it wants, a label that it names
-  -- stands in the same procedure, the name that it declares stands for its variable, and an INTEGER array has no more
-  -- initial values than elements.
+  -- stands in the same procedure, the name that it declares stands for its variable, an INTEGER array has no more
+  -- initial values than elements, and the test logic stays in stable states alone.
   pub record IsTypedAt (i : ℕ) (body : BodyTree) : Type 0 where
     pub block : List ℕ
     pub inside : block_at program.pieces i ≡ Some block
@@ -94,6 +94,7 @@ module _ (program : Played) where
     pub leads : AllByRecursion (λ name. IsInBlock block ((scope_at program i).label name)) (labels_named body)
     pub declares : IfSome (declaration body) (IsDeclared (scope_at program i).look (1 + i) block)
     pub few_values : has_too_many_values body ≡ false
+    pub stable : stops_unstable body ≡ false
 
   -- The same of a declaration of a DATA block, which has an initial value.
   pub record IsTypedPreset (preset : Preset) : Type 0 where

@@ -26,6 +26,12 @@ pub enum Event {
     Print(Text),
     /// One EXPORT, by its key and its value.
     Export(Text, ExportValue),
+    /// One clock of the chain: TMS, TDI, and TDO as it was before the clock.
+    Clock(bool, bool, bool),
+    /// A wait of so many microseconds.
+    Usec(u32),
+    /// The frequency of the clocks that follow, in hertz; 0 if none is stated.
+    Hertz(u32),
 }
 
 /// What goes wrong in a turn, and ends the play. The rules are this profile's.
@@ -39,6 +45,8 @@ pub enum RunFault {
     RangeReversed,
     /// An array that is no literal has fewer bits than are asked of it.
     LengthMismatch,
+    /// A count of WAIT or FREQUENCY is outside its limits.
+    BadCount,
     /// A shift count is not in 0 to 31.
     ShiftCount,
     /// The step of a FOR is 0.
@@ -61,6 +69,7 @@ impl RunFault {
             RunFault::IndexOutOfRange => b"IndexOutOfRange",
             RunFault::RangeReversed => b"RangeReversed",
             RunFault::LengthMismatch => b"LengthMismatch",
+            RunFault::BadCount => b"BadCount",
             RunFault::ShiftCount => b"ShiftCount",
             RunFault::ZeroStep => b"ZeroStep",
             RunFault::NoRecord => b"NoRecord",

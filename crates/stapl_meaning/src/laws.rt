@@ -2,6 +2,7 @@
 ghost use Rattle.std.specs.Prelude.{◌≡◌, ℕ, ◌+◌, List};
 ghost use Rattle.stapl_syntax.specs.Trees.{StmtTree};
 ghost use Rattle.stapl_built.specs.Unbuilt.{IsBuiltProgram};
+ghost use Rattle.stapl_meaning.specs.Deeds.{Chain};
 ghost use Rattle.stapl_meaning.specs.States.{State, Turned};
 ghost use Rattle.stapl_meaning.specs.Scopes.{Played, as_played};
 ghost use Rattle.stapl_meaning.specs.Turns.{IsTurn, turn, IsFound};
@@ -21,7 +22,8 @@ pub fn one_turn()
 
 /// A run of n + m turns is a run of n turns, and then one of m.
 pub fn runs_follow_each_other()
-    ensures { (program : Played) (n m i : ℕ) (s : State) → run program (n + m) i s ≡ then_runs (run program n i s) (run program m) }
+    ensures { (program : Played) (n m i : ℕ) (s : State) (k : Chain) →
+        run program (n + m) i s k ≡ then_runs (run program n i s k) (run program m) }
 {}
 
 /// Each built program is typed.

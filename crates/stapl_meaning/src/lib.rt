@@ -5,7 +5,9 @@ mod events;
 pub mod laws;
 mod records;
 mod values;
+mod waits;
 
 pub use events::{Ending, Event, ExportValue, RunFault, Text};
 pub use records::{Loop, Record};
 pub use values::{Held, Value, ValueKind};
+pub use waits::WaitKind;

@@ -1,0 +1,47 @@
+-- What a turn does to the outside, as data: events that it says, and moves and stays of the chain. What these come to on a
+-- chain are events, clocks among them, and the chain after them. Source: JESD71, STATE and WAIT.
+use Rattle.std.specs.Prelude.{ℕ, List, [], ◌∷◌, ◌++◌, map}
+use Rattle.tap_states.specs.declared.Tap.{Tap}
+use Rattle.dev_card.specs.Board.{Clock}
+use Rattle.dev_card.specs.Clocks.{move_inputs, stay_inputs}
+use Rattle.dev_card.specs.FarEnds.{FarEnd, far_clocks, far_after}
+use Rattle.stapl_meaning.specs.declared.events.Event.{Event}
+use Rattle.stapl_meaning.specs.declared.events.Event.TheVariants as events
+
+-- It says an event that is no clock, it moves the controllers to a state, or it stays where they are for so many clocks.
+pub data Deed : Type 0 where
+  Says : (event : Event) → Deed
+  Goes : (to : Tap) → Deed
+  Stays : (clocks : ℕ) → Deed
+
+-- the state of the controllers, and what answers their clocks
+pub record Chain : Type 0 where
+  pub tap : Tap
+  pub far : FarEnd
+
+-- clocks as events
+abbrev pub pulse : Clock → Event
+pulse k = events.Clock k.tms k.tdi k.tdo
+
+abbrev pub pulses : List Clock → List Event
+pulses clocks = map pulse clocks
+
+-- the events of a deed, and the chain after it
+abbrev pub deed_events : Chain → Deed → List Event
+deed_events k (Says event) = event ∷ []
+deed_events k (Goes to) = pulses (far_clocks k.far (move_inputs k.tap to))
+deed_events k (Stays n) = pulses (far_clocks k.far (stay_inputs k.tap n))
+
+abbrev pub deed_chain : Chain → Deed → Chain
+deed_chain k (Says event) = k
+deed_chain k (Goes to) = record { tap = to; far = far_after k.far (move_inputs k.tap to) }
+deed_chain k (Stays n) = record { tap = k.tap; far = far_after k.far (stay_inputs k.tap n) }
+
+-- the same of deeds one after another
+abbrev pub deeds_events : Chain → List Deed → List Event
+deeds_events k [] = []
+deeds_events k (d ∷ ds) = deed_events k d ++ deeds_events (deed_chain k d) ds
+
+abbrev pub deeds_chain : Chain → List Deed → Chain
+deeds_chain k [] = k
+deeds_chain k (d ∷ ds) = deeds_chain (deed_chain k d) ds

@@ -1,0 +1,12 @@
+//! What a WAIT waits for.
+
+/// What a WAIT counts.
+#[derive(Clone, Copy, Debug, PartialEq, Eq)]
+pub enum WaitKind {
+    /// Clocks alone.
+    Cycles,
+    /// Microseconds alone.
+    Usec,
+    /// Clocks, and then microseconds.
+    Both,
+}
