@@ -1,16 +1,21 @@
 -- One instruction of a valid code finds its operands, and keeps what holds of the state: a line for each instruction,
 -- and one rule.
 use Rattle.std.proofs.Common.{◌≡◌, ℕ, zero, suc, ◌+◌, ◌<◌, ◌≤◌, Bool, true, false, List, [], ◌∷◌, ◌++◌, Option, Some, None, length, arith, refl, sym, ap, ◌∙◌, subst}
-use Rattle.std.specs.Prelude.{ℤ, pos, ◌+ℤ◌, ◌==◌, nat_abs, nat_lt, if◌then◌else◌, slice_get, slice_set, All}
+use Rattle.std.specs.Prelude.{ℤ, pos, int_lt, int_le, ◌+ℤ◌, ◌==◌, nat_abs, nat_lt, if◌then◌else◌, slice_get, slice_set, All}
 use Rattle.std.specs.Int.{int_wrap, w32}
 use Rattle.std.specs.Ordering.{int_eq}
 use Rattle.std.specs.List.{list_all}
 use Rattle.std.proofs.lemmas.Bool.{and_parts, eqb-true}
 use Rattle.std.proofs.lemmas.List.{append-nil}
-use Rattle.stapl_meaning.specs.declared.events.Event.{Event}
+use Rattle.tap_states.specs.declared.Tap.{Tap}
+use Rattle.tap_states.specs.Tap.{is_stable_state}
+use Rattle.stapl_meaning.specs.declared.waits.WaitKind.{WaitKind}
+use Rattle.stapl_meaning.specs.declared.waits.WaitKind.TheVariants as waits
+use Rattle.stapl_meaning.specs.Deeds.{Deed, Says, Goes, Stays}
 use Rattle.stapl_meaning.specs.declared.events.Event.TheVariants as events
 use Rattle.stapl_meaning.specs.declared.events.ExportValue.TheVariants.{Array}
-use Rattle.stapl_meaning.specs.declared.events.RunFault.TheVariants.{BadChar, ZeroStep, RecordsFull}
+use Rattle.stapl_meaning.specs.declared.events.RunFault.{RunFault}
+use Rattle.stapl_meaning.specs.declared.events.RunFault.TheVariants.{BadChar, BadCount, ZeroStep, RecordsFull}
 use Rattle.stapl_meaning.specs.declared.values.Held.{Held}
 use Rattle.stapl_meaning.specs.declared.values.Held.TheVariants as held
 use Rattle.stapl_meaning.specs.declared.values.Value.{Value}
@@ -24,7 +29,7 @@ use Rattle.stapl_meaning.specs.declared.records.Record.{Record}
 use Rattle.stapl_meaning.specs.declared.records.Record.TheVariants.{Pushed, Called, Looped}
 use Rattle.stapl_meaning.specs.States.{State, Did, Turned, Leads, Over, Broken, NoTurn, next_chosen, jumps_to}
 use Rattle.stapl_meaning.specs.States as did
-use Rattle.stapl_meaning.specs.Effects.{scalar_written, element_assigned, IntoWhole, copied, integers_set, written, way_of, with_variables, with_records, record_limit, number_of, value_as, topmost, returned_from, with_loop, looped, nearest_loop, is_over, integer_held, went_round, after_value, printed, exported, bits_exported}
+use Rattle.stapl_meaning.specs.Effects.{scalar_written, element_assigned, IntoWhole, copied, integers_set, written, way_of, with_variables, with_records, record_limit, number_of, value_as, topmost, returned_from, with_loop, looped, nearest_loop, is_over, integer_held, went_round, after_value, printed, exported, bits_exported, cycles_of, usec_of, hertz_of, most_cycles, waited_for, waited, tuned}
 use Rattle.stapl_code.specs.declared.raw.VarDef.{VarDef}
 use Rattle.stapl_code.specs.declared.operators.Operator.{Operator}
 use Rattle.stapl_code.specs.declared.instr.PrintPart.{PrintPart}
@@ -32,12 +37,12 @@ use Rattle.stapl_code.specs.declared.instr.PrintPart.TheVariants as parts
 use Rattle.stapl_code.specs.declared.instr.ExportPart.TheVariants as exports
 use Rattle.stapl_code.specs.declared.instr.Source.{Source}
 use Rattle.stapl_code.specs.declared.instr.Instr.{Instr}
-use Rattle.stapl_code.specs.declared.instr.Instr.TheVariants.{Turn, Push, PushBit, Load, LoadAt, CheckIndex, CheckRange, Store, StoreAt, Unary, Binary, ToInt, CopyBits, SetBits, SetInts, For, Next, PushRecord, PopRecord, Call, Jump, JumpIfZero, EndProc, Print, Export, CheckChar, Exit}
+use Rattle.stapl_code.specs.declared.instr.Instr.TheVariants.{Turn, Push, PushBit, Load, LoadAt, CheckIndex, CheckRange, Store, StoreAt, Unary, Binary, ToInt, CopyBits, SetBits, SetInts, For, Next, PushRecord, PopRecord, Call, Jump, JumpIfZero, EndProc, Print, Export, CheckChar, Exit, State as GoThrough, Wait, Frequency}
 use Rattle.stapl_code.specs.Operators.{operator_table, unary_kinds, unary_results}
-use Rattle.stapl_code.specs.Machine.{Constants, AnInteger, AnArray, OfBits, OfInts, source_slots, source_wants, dest_slots, dest_want, target_of, known_literal, known_source, Made, Puts, PutsFrom, PutsTwo, unrecorded, Does, puts, does, one, two, bit_of, operated_by, signed_by, Slot, Of, OfScalar, OfElement, slot_of, sides_of, result_of, part_slots, takes, gives, wants, known_text, parts_text, made, lands, Step, Falls, Emits, Stops, Faulted, Wrong, taken_onto, taken, on_taken, emitted, entry_of, on_made, step}
+use Rattle.stapl_code.specs.Machine.{Constants, AnInteger, AnArray, OfBits, OfInts, source_slots, source_wants, dest_slots, dest_want, target_of, known_literal, known_source, Made, Puts, PutsFrom, PutsTwo, unrecorded, Does, puts, does, one, two, bit_of, operated_by, signed_by, Slot, Of, OfScalar, OfElement, slot_of, sides_of, result_of, part_slots, wait_slots, frequency_slots, takes, gives, wants, known_text, parts_text, made, lands, Step, Falls, Acts, Stops, Faulted, Wrong, taken_onto, taken, on_taken, acted, entry_of, on_made, step}
 use Rattle.stapl_code.specs.Ranges.{IsPart, IsSource, IsInstr}
 use Rattle.stapl_code.specs.Kinds.{then_kinds, scalar_kind, variable_kind, element_kind, is_of_kind, is_met, put_on, left_by, clears, slot_kind, all_off, all_on, kinds_behind}
-use Rattle.stapl_code.specs.Valid.{is_turn, departs, is_target, leads_well}
+use Rattle.stapl_code.specs.Valid.{is_turn, departs, is_target, leads_well, rests_well}
 use Rattle.stapl_code.specs.Safe.{Fits, AllFit, AllBelow}
 use Rattle.stapl_code.proofs.KindCounts.{then_some, met_and_behind}
 use Rattle.stapl_code.proofs.Fitting.{FitAt, fit_at, fit_set}
@@ -105,14 +110,14 @@ module _
 
   -- what holds of a turn's end: it leads to a place
   abbrev pub TurnedGood : Turned → Type 0
-  TurnedGood (Leads events place s) = IsPlace place × Good s
-  TurnedGood (Over events ending s) = Unit {0}
-  TurnedGood (Broken events k s) = Unit {0}
-  TurnedGood (NoTurn events) = ⊥
+  TurnedGood (Leads deeds place s) = IsPlace place × Good s
+  TurnedGood (Over deeds ending s) = Unit {0}
+  TurnedGood (Broken deeds k s) = Unit {0}
+  TurnedGood (NoTurn deeds) = ⊥
 
   abbrev pub StepGood : List ValueKind → Step → Type 0
   StepGood after (Falls ops s) = (kinds_of ops ≡ after) × Good s
-  StepGood after (Emits events ops s) = (kinds_of ops ≡ after) × Good s
+  StepGood after (Acts deeds ops s) = (kinds_of ops ≡ after) × Good s
   StepGood after (Stops ops t) = (ops ≡ []) × TurnedGood t
   StepGood after (Faulted k s) = Unit {0}
   StepGood after Wrong = ⊥
@@ -140,7 +145,7 @@ module _
     MadeGood gs clear to (Known (Puts v)) = Adds gs (kind_of v ∷ [])
     MadeGood gs clear to (Known (PutsFrom v t)) = Adds gs (kind_of v ∷ []) × Good t
     MadeGood gs clear to (Known (PutsTwo x y)) = Adds gs (kind_of y ∷ kind_of x ∷ [])
-    MadeGood gs clear to (Known (Does (did.Falls events t))) = Adds gs [] × Good t
+    MadeGood gs clear to (Known (Does (did.Falls deeds t))) = Adds gs [] × Good t
     MadeGood gs clear to (Known (Does (did.Jumps t))) = (clear ≡ true) × IsTarget to × Good t
     MadeGood gs clear to (Known (Does (did.Resumes place t))) = (clear ≡ true) × IsPlace place × Good t
     MadeGood gs clear to (Known (Does (did.Returns t))) = (clear ≡ true) × Good t
@@ -234,10 +239,10 @@ module _
     kind_as kinds.Int z = refl
     kind_as kinds.Bit z = refl
 
-    emitted_good : (events : List Event) (ops : List Value) (s : State) (after : List ValueKind) → kinds_of ops ≡ after →
-        Good s → StepGood after (emitted events ops s)
-    emitted_good [] ops s after e good = (e, good)
-    emitted_good (event ∷ events) ops s after e good = (e, good)
+    acted_good : (deeds : List Deed) (ops : List Value) (s : State) (after : List ValueKind) → kinds_of ops ≡ after →
+        Good s → StepGood after (acted deeds ops s)
+    acted_good [] ops s after e good = (e, good)
+    acted_good (d ∷ deeds) ops s after e good = (e, good)
 
     module _ (s : State) (good : Good s) where
       printed_good : (clear : Bool) (to : Option ℕ) (text : Got (List ℕ)) → TextGood text →
@@ -247,7 +252,7 @@ module _
       printed_good clear to Stuck h = absurd h
 
       wrote_good : (g : Got Did) → IsGot (Writes variables s) g → MadeGood [] false None (does g)
-      wrote_good (Known (did.Falls events t)) h =
+      wrote_good (Known (did.Falls deeds t)) h =
           let good_now : Good t = record {
             variables_fit = h.1;
             chosen_below = subst (AllBelow procedures) (sym h.0) good.chosen_below;
@@ -389,10 +394,58 @@ module _
 
       -- what is exported
       exports_good : (key : List ℕ) (g : Got (List Bool)) → IsAnswer g →
-          MadeGood [] false None (does (then_get g (λ bits. Known (did.Falls (events.Export key (Array bits) ∷ []) s))))
+          MadeGood [] false None (does (then_get g (λ bits. Known (did.Falls (Says (events.Export key (Array bits)) ∷ []) s))))
       exports_good key (Known bits) h = (λ below. refl, good)
       exports_good key (Faults k) h = tt
       exports_good key Stuck h = absurd h
+
+      -- what a wait counts, and what is stated of a frequency
+      deeds_good : (g : Got (List Deed)) → IsAnswer g → MadeGood [] false None (does (then_get g (λ deeds. Known (did.Falls deeds s))))
+      deeds_good (Known deeds) h = (λ below. refl, good)
+      deeds_good (Faults k) h = tt
+      deeds_good Stuck h = absurd h
+
+      stays : (at : Tap) → is_stable_state at ≡ true → (g : Got (List Deed)) → IsAnswer g →
+          MadeGood [] false None (does (if is_stable_state at then then_get g (λ deeds. Known (did.Falls deeds s)) else Stuck))
+      stays at stable g h =
+          subst (λ (b : Bool). MadeGood [] false None (does (if b then then_get g (λ deeds. Known (did.Falls deeds s)) else Stuck))) (sym stable) (deeds_good g h)
+
+      passed_answers : {A : Type 0} (b : Bool) (k : RunFault) (x : A) → IsAnswer (passed b k x)
+      passed_answers true k x = tt
+      passed_answers false k x = tt
+
+      answers_one : {A B : Type 0} (g : Got A) (go : A → B) → IsAnswer g → IsAnswer (then_get g (λ x. Known (go x)))
+      answers_one (Known x) go h = tt
+      answers_one (Faults k) go h = tt
+      answers_one Stuck go h = absurd h
+
+      answers_both : {A B C : Type 0} (g : Got A) (f : Got B) (go : A → B → C) → IsAnswer g → IsAnswer f →
+          IsAnswer (then_get g (λ x. then_get f (λ y. Known (go x y))))
+      answers_both (Known x) f go h i = answers_one f (go x) i
+      answers_both (Faults k) f go h i = tt
+      answers_both Stuck f go h i = absurd h
+
+      waits_good : (kind : WaitKind) (at last : Tap) → is_stable_state at ≡ true →
+          Each variables (wait_slots kind) (λ vs. MadeGood [] false None (does (waited kind at last vs s)))
+      waits_good waits.Cycles at last stable = λ n.
+          stays at stable (waited_for waits.Cycles at last (Int n ∷ []))
+          (answers_one (cycles_of n) (λ c. Goes at ∷ Stays c ∷ Goes last ∷ []) (passed_answers (is_index n (most_cycles + 1)) BadCount (nat_abs n)))
+      waits_good waits.Usec at last stable = λ n.
+          stays at stable (waited_for waits.Usec at last (Int n ∷ []))
+          (answers_one (usec_of n) (λ u. Goes at ∷ Says (events.Usec u) ∷ Goes last ∷ []) (passed_answers (int_le (pos 0) n) BadCount (nat_abs n)))
+      waits_good waits.Both at last stable = λ n m.
+          stays at stable (waited_for waits.Both at last (Int n ∷ Int m ∷ []))
+          (answers_both (cycles_of n) (usec_of m) (λ c u. Goes at ∷ Stays c ∷ Says (events.Usec u) ∷ Goes last ∷ [])
+          (passed_answers (is_index n (most_cycles + 1)) BadCount (nat_abs n)) (passed_answers (int_le (pos 0) m) BadCount (nat_abs m)))
+
+      tuned_good : (stated : Bool) → Each variables (frequency_slots stated) (λ vs. MadeGood [] false None (does (tuned vs s)))
+      tuned_good true = λ n. by (hertz_of n) (passed_answers (int_lt (pos 0) n) BadCount (nat_abs n))
+        where
+          by : (g : Got ℕ) → IsAnswer g → MadeGood [] false None (does (then_get g (λ h. Known (did.Falls (Says (events.Hertz h) ∷ []) s))))
+          by (Known h) a = (λ below. refl, good)
+          by (Faults k) a = tt
+          by Stuck a = absurd a
+      tuned_good false = (λ below. refl, good)
 
       -- the key is there
       keyed_good : (o : Option (List ℕ)) → IsThere o → (go : List ℕ → Got Did) → ((key : List ℕ) → MadeGood [] false None (does (go key))) →
@@ -433,7 +486,7 @@ module _
         made_good (Known (Puts v)) m = (kinds_above (kind_of v ∷ []) m, good)
         made_good (Known (PutsFrom v t)) m = (kinds_above (kind_of v ∷ []) m.0, m.1)
         made_good (Known (PutsTwo x y)) m = (kinds_above (kind_of y ∷ kind_of x ∷ []) m, good)
-        made_good (Known (Does (did.Falls events t))) m = emitted_good events ops t after (kinds_above [] m.0) m.1
+        made_good (Known (Does (did.Falls deeds t))) m = acted_good deeds ops t after (kinds_above [] m.0) m.1
         made_good (Known (Does (did.Jumps t))) m = (none_below m.0, jumps_good to t m.1 m.2)
         made_good (Known (Does (did.Resumes place t))) m = (none_below m.0, (m.1, m.2))
         made_good (Known (Does (did.Returns t))) m = (none_below m.0, chosen_good begin t m.1 t.chosen m.1.chosen_below)
@@ -463,79 +516,79 @@ module _
 
         -- a line for each instruction
         row_good : (x : Instr) (mid : List ValueKind) → all_on variables (gives x) mid ≡ Some after → IsMet x →
-            leads_well entry procedure x ≡ true → Stands x → (is_turn (Some x) ≡ true → IsPlace here) → (departs x ≡ true → IsPlace (suc here)) → Each variables (takes x) (Makes x)
-        row_good (Turn piece) mid on met leads r at behind = (refl, at refl, good)
-        row_good (Push z) mid on met leads r at behind = λ below. refl
-        row_good (PushBit b) mid on met leads r at behind = puts_good false None (Of kinds.Bit) (bit_of b) (bit_good b r)
-        row_good (Load n) mid on met leads r at behind =
+            leads_well entry procedure x ≡ true → rests_well x ≡ true → Stands x → (is_turn (Some x) ≡ true → IsPlace here) → (departs x ≡ true → IsPlace (suc here)) → Each variables (takes x) (Makes x)
+        row_good (Turn piece) mid on met leads rests r at behind = (refl, at refl, good)
+        row_good (Push z) mid on met leads rests r at behind = λ below. refl
+        row_good (PushBit b) mid on met leads rests r at behind = puts_good false None (Of kinds.Bit) (bit_of b) (bit_good b r)
+        row_good (Load n) mid on met leads rests r at behind =
             let kind = is_put (variable_kind (slice_get variables n)) mid after on in
             puts_good false None (OfScalar n) (scalar_of (slice_get s.store.variables n))
             (load_good (slice_get variables n) (slice_get s.store.variables n) kind.0 (fits n) kind.1)
-        row_good (LoadAt n) mid on met leads r at behind = λ i.
+        row_good (LoadAt n) mid on met leads rests r at behind = λ i.
             let kind = is_put (element_kind (slice_get variables n)) mid after on in
             puts_good false None (OfElement n) (element_of (slice_get s.store.variables n) (Int i))
             (element_good (slice_get variables n) (slice_get s.store.variables n) kind.0 i (fits n) kind.1)
-        row_good (CheckIndex n) mid on met leads r at behind = λ i.
+        row_good (CheckIndex n) mid on met leads rests r at behind = λ i.
             let array = (and_parts (is_met variables (AnArray n)) true met).0 in
             puts_good false None (Of kinds.Int) (index_held (slice_get s.store.variables n) (Int i))
             (index_good (slice_get variables n) (slice_get s.store.variables n) i (fits n) array)
-        row_good (CheckRange n) mid on met leads r at behind = λ high low.
+        row_good (CheckRange n) mid on met leads rests r at behind = λ high low.
             let bits = (and_parts (is_met variables (OfBits n)) true met).0 in
             kept_good high low (range_held (slice_get s.store.variables n) (Int high) (Int low))
             (range_good (slice_get variables n) (slice_get s.store.variables n) (fits n) bits high low)
-        row_good (Store n) mid on met leads r at behind =
+        row_good (Store n) mid on met leads rests r at behind =
             each_of (variable_kind (slice_get variables n)) (Stores s good n (slice_get s.store.variables n))
             (λ v. store_good s good n (slice_get variables n) (slice_get s.store.variables n) v refl (fits n))
-        row_good (StoreAt n) mid on met leads r at behind = λ i.
+        row_good (StoreAt n) mid on met leads rests r at behind = λ i.
             each_of (element_kind (slice_get variables n)) (λ v. Makes (StoreAt n) (Int i ∷ v ∷ []))
             (λ v e. wrote_good s good (element_assigned n (Int i ∷ v ∷ []) s)
             (element_stored variables s good.variables_fit n (slice_get variables n) (slice_get s.store.variables n) i v refl (fits n) e))
-        row_good (Unary op) mid on met leads r at behind =
+        row_good (Unary op) mid on met leads rests r at behind =
             unary_good false None (slice_get unary_kinds op) (slice_get unary_results op) (signed_good op r)
-        row_good (Binary op) mid on met leads r at behind = binary_good false None (slice_get operator_table op) (combined_good op r)
-        row_good (ToInt source) mid on met leads r at behind =
+        row_good (Binary op) mid on met leads rests r at behind = binary_good false None (slice_get operator_table op) (combined_good op r)
+        row_good (ToInt source) mid on met leads rests r at behind =
             let integer : List Value → Got Value =
             λ vs. then_get (known_source constants.literals source) (λ from. source_integer s.store.variables from vs)
             in
             each_map variables (source_slots source) (λ vs. GotOf (Some kinds.Int) (integer vs)) (Makes (ToInt source))
             (λ vs. puts_good false None (Of kinds.Int) (integer vs))
             (integer_good variables constants.literals s.store.variables source (resolves source r met))
-        row_good (CopyBits dest source) mid on met leads r at behind =
+        row_good (CopyBits dest source) mid on met leads rests r at behind =
             let both = and_parts (is_met variables (dest_want dest)) (list_all (is_met variables) (source_wants source)) met in
             each_map variables (dest_slots dest (source_slots source)) (Copies variables s good.variables_fit constants.literals dest source)
             (Makes (CopyBits dest source))
             (λ vs. wrote_good s good (then_get (known_source constants.literals source) (λ from. copied (target_of dest) from vs s)))
             (copy_good variables s good.variables_fit constants.literals dest source both.0 (resolves source r.1 both.1))
-        row_good (SetBits n literal) mid on met leads r at behind =
+        row_good (SetBits n literal) mid on met leads rests r at behind =
             let bits = (and_parts (is_met variables (OfBits n)) true met).0 in
             wrote_good s good (then_get (known_literal (slice_get constants.literals literal)) (λ from. copied (IntoWhole n) from [] s))
             (bits_good variables s good.variables_fit constants.literals n literal bits r.1)
-        row_good (SetInts n list) mid on met leads r at behind =
+        row_good (SetInts n list) mid on met leads rests r at behind =
             let integers = (and_parts (is_met variables (OfInts n)) true met).0 in
             wrote_good s good (integers_set n list [] s) (integers_good variables s good.variables_fit n list integers)
-        row_good (For n body) mid on met leads r at behind = λ first limit step.
+        row_good (For n body) mid on met leads rests r at behind = λ first limit step.
             looped_good s good n body first limit step (targets body leads) (and_parts (is_met variables (AnInteger n)) true met).0
-        row_good (Next n) mid on met leads r at behind =
+        row_good (Next n) mid on met leads rests r at behind =
             repeated_good s good n (and_parts (is_met variables (AnInteger n)) true met).0 s.records good.records_placed
-        row_good (PushRecord kind) mid on met leads r at behind =
+        row_good (PushRecord kind) mid on met leads rests r at behind =
             each_of (Some kind) (λ v. Makes (PushRecord kind) (v ∷ []))
             (λ v e. pushed_good s good v (nat_lt (length s.records) record_limit))
-        row_good (PopRecord kind) mid on met leads r at behind = popped_good s good kind s.records good.records_placed
-        row_good (Call p) mid on met leads r at behind =
+        row_good (PopRecord kind) mid on met leads rests r at behind = popped_good s good kind s.records good.records_placed
+        row_good (Call p) mid on met leads rests r at behind =
             called_good s good (entry_of entries p) (begin p r) (behind refl) (nat_lt (length s.records) record_limit)
-        row_good (Jump to) mid on met leads r at behind = (refl, targets to leads, good)
-        row_good (JumpIfZero to) mid on met leads r at behind = way_good s good to (targets to leads)
-        row_good EndProc mid on met leads r at behind = returned_good s good s.records good.records_placed
-        row_good (Print list) mid on met leads r at behind =
+        row_good (Jump to) mid on met leads rests r at behind = (refl, targets to leads, good)
+        row_good (JumpIfZero to) mid on met leads rests r at behind = way_good s good to (targets to leads)
+        row_good EndProc mid on met leads rests r at behind = returned_good s good s.records good.records_placed
+        row_good (Print list) mid on met leads rests r at behind =
             each_map variables (part_slots list) (PartsGood list) (Makes (Print list))
             (λ vs. printed_good s good false None (parts_text entries constants list vs)) (parts_good list r.1)
-        row_good (Export key exports.Int) mid on met leads r at behind = λ z.
+        row_good (Export key exports.Int) mid on met leads rests r at behind = λ z.
             keyed_good s good (slice_get constants.texts key) (text_there key constants.texts r.0) (λ bytes. exported bytes (Int z ∷ []) s)
             (λ bytes. (λ below. refl, good))
-        row_good (Export key exports.Bit) mid on met leads r at behind = λ b.
+        row_good (Export key exports.Bit) mid on met leads rests r at behind = λ b.
             keyed_good s good (slice_get constants.texts key) (text_there key constants.texts r.0) (λ bytes. exported bytes (Bit b ∷ []) s)
             (λ bytes. (λ below. refl, good))
-        row_good (Export key (exports.Array source)) mid on met leads r at behind =
+        row_good (Export key (exports.Array source)) mid on met leads rests r at behind =
             let is = resolves source r.1 met in
             let put : Got values.Source → List Value → List ℕ → Got Did = λ g vs bytes. then_get g (λ from. bits_exported bytes from vs s) in
             each_map variables (source_slots source) (λ vs. IsAnswer (source_bits s.store.variables is.from vs))
@@ -545,14 +598,18 @@ module _
             (λ bytes.
             subst (λ g. MadeGood [] false None (does (put g vs bytes))) (sym is.known)
             (exports_good s good bytes (source_bits s.store.variables is.from vs) answer))) is.bits
-        row_good CheckChar mid on met leads r at behind = λ z.
+        row_good CheckChar mid on met leads rests r at behind = λ z.
             puts_good false None (Of kinds.Int) (passed (is_index z 256) BadChar (Int z)) (passed_good (is_index z 256) z)
-        row_good Exit mid on met leads r at behind = λ z. refl
+        row_good Exit mid on met leads rests r at behind = λ z. refl
+        row_good (GoThrough states) mid on met leads rests r at behind = (λ below. refl, good)
+        row_good (Wait state kind last) mid on met leads rests r at behind =
+            waits_good s good kind state last (and_parts (is_stable_state state) (is_stable_state last) rests).0
+        row_good (Frequency stated) mid on met leads rests r at behind = tuned_good s good stated
 
         pub step_good : (x : Instr) (ops : List Value) → kinds_behind variables x (kinds_of ops) ≡ Some after →
-            leads_well entry procedure x ≡ true → Stands x → (is_turn (Some x) ≡ true → IsPlace here) → (departs x ≡ true → IsPlace (suc here)) →
-            StepGood after (step entries constants here x ops s)
-        step_good x ops e leads r at behind_here =
+            leads_well entry procedure x ≡ true → rests_well x ≡ true → Stands x → (is_turn (Some x) ≡ true → IsPlace here) →
+            (departs x ≡ true → IsPlace (suc here)) → StepGood after (step entries constants here x ops s)
+        step_good x ops e leads rests r at behind_here =
             let behind : List ValueKind → Option (List ValueKind) = λ ks. then_kinds (left_by (clears x) ks) (all_on variables (gives x)) in
             let both = met_and_behind variables x (kinds_of ops) after e in
             let off = then_some (all_off variables (takes x) (kinds_of ops)) behind after both.1 in
@@ -565,7 +622,7 @@ module _
             ∙ ap (λ o. on_taken o go) t.are
             ∙ ap (λ vs. go vs t.rest) (append-nil t.values)
             in
-            let makes = each_at variables (takes x) (Makes x) (row_good x on.0 on.2 both.0 leads r at behind_here) t.values t.fill in
+            let makes = each_at variables (takes x) (Makes x) (row_good x on.0 on.2 both.0 leads rests r at behind_here) t.values t.fill in
             let left = ap (left_by (clears x)) t.left ∙ on.1 in
             subst (StepGood after) (sym is)
             (made_good s good (gives x) (clears x) (lands entries here x) t.rest on.0 after left on.2 (made entries constants here x t.values s) makes)

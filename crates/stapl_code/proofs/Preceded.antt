@@ -1,25 +1,65 @@
--- Events in front of a turn.
-use Rattle.std.proofs.Common.{◌≡◌, ℕ, List, [], ◌++◌, refl, sym, ap, append_assoc}
+-- Deeds in front of a turn, and events in front of what happened.
+use Rattle.std.proofs.Common.{◌≡◌, ℕ, List, [], ◌∷◌, ◌++◌, refl, sym, ap, ◌∙◌, append_assoc}
 use Rattle.stapl_meaning.specs.declared.events.Event.{Event}
-use Rattle.stapl_meaning.specs.States.{Turned, Leads, Over, Broken, NoTurn, preceded, next_chosen, begun}
+use Rattle.stapl_meaning.specs.Deeds.{Deed, Chain, deed_events, deed_chain, deeds_events, deeds_chain}
+use Rattle.stapl_meaning.specs.States.{Turned, Leads, Over, Broken, NoTurn, preceded, next_chosen, begun, turn_of_piece, Happened, Led, Finished, Broke, Lacks, happens, with_events, happened_in_piece}
+use Rattle.stapl_code.specs.Machine.{begins_chosen}
 
 -- no event in front changes nothing
-pub preceded_nothing : (t : Turned) → t ≡ preceded [] t
-preceded_nothing (Leads events place s) = refl
-preceded_nothing (Over events ending s) = refl
-preceded_nothing (Broken events k s) = refl
-preceded_nothing (NoTurn events) = refl
+pub with_nothing : (h : Happened) → h ≡ with_events [] h
+with_nothing (Led events place s k) = refl
+with_nothing (Finished events ending s k) = refl
+with_nothing (Broke events f s k) = refl
+with_nothing (Lacks events) = refl
 
 -- events in front, and others in front of these
-pub preceded_twice : (first second : List Event) (t : Turned) → preceded first (preceded second t) ≡ preceded (first ++ second) t
-preceded_twice first second (Leads events place s) = ap (λ l. let t : Turned = Leads l place s in t) (sym (append_assoc first second events))
-preceded_twice first second (Over events ending s) = ap (λ l. let t : Turned = Over l ending s in t) (sym (append_assoc first second events))
-preceded_twice first second (Broken events k s) = ap (λ l. let t : Turned = Broken l k s in t) (sym (append_assoc first second events))
-preceded_twice first second (NoTurn events) = ap (λ l. let t : Turned = NoTurn l in t) (sym (append_assoc first second events))
+pub with_both : (first second : List Event) (h : Happened) → with_events first (with_events second h) ≡ with_events (first ++ second) h
+with_both first second (Led events place s k) = ap (λ l. let h : Happened = Led l place s k in h) (sym (append_assoc first second events))
+with_both first second (Finished events ending s k) = ap (λ l. let h : Happened = Finished l ending s k in h) (sym (append_assoc first second events))
+with_both first second (Broke events f s k) = ap (λ l. let h : Happened = Broke l f s k in h) (sym (append_assoc first second events))
+with_both first second (Lacks events) = ap (λ l. let h : Happened = Lacks l in h) (sym (append_assoc first second events))
+
+-- deeds one after another, and others behind them
+pub events_behind : (k : Chain) (first second : List Deed) → deeds_events k (first ++ second) ≡ deeds_events k first ++ deeds_events (deeds_chain k first) second
+events_behind k [] second = refl
+events_behind k (d ∷ first) second =
+    ap (λ es. deed_events k d ++ es) (events_behind (deed_chain k d) first second)
+    ∙ sym (append_assoc (deed_events k d) (deeds_events (deed_chain k d) first) (deeds_events (deeds_chain (deed_chain k d) first) second))
+
+pub chain_behind : (k : Chain) (first second : List Deed) → deeds_chain k (first ++ second) ≡ deeds_chain (deeds_chain k first) second
+chain_behind k [] second = refl
+chain_behind k (d ∷ first) second = chain_behind (deed_chain k d) first second
+
+-- deeds in front of a turn are done before it
+pub happens_behind : (k : Chain) (deeds : List Deed) (t : Turned) → happens k (preceded deeds t) ≡ with_events (deeds_events k deeds) (happens (deeds_chain k deeds) t)
+happens_behind k deeds (Leads more place s) =
+    ap (λ l. let h : Happened = Led l place s (deeds_chain k (deeds ++ more)) in h) (events_behind k deeds more)
+    ∙ ap (λ l. let h : Happened = Led (deeds_events k deeds ++ deeds_events (deeds_chain k deeds) more) place s l in h) (chain_behind k deeds more)
+happens_behind k deeds (Over more ending s) =
+    ap (λ l. let h : Happened = Finished l ending s (deeds_chain k (deeds ++ more)) in h) (events_behind k deeds more)
+    ∙ ap (λ l. let h : Happened = Finished (deeds_events k deeds ++ deeds_events (deeds_chain k deeds) more) ending s l in h) (chain_behind k deeds more)
+happens_behind k deeds (Broken more f s) =
+    ap (λ l. let h : Happened = Broke l f s (deeds_chain k (deeds ++ more)) in h) (events_behind k deeds more)
+    ∙ ap (λ l. let h : Happened = Broke (deeds_events k deeds ++ deeds_events (deeds_chain k deeds) more) f s l in h) (chain_behind k deeds more)
+happens_behind k deeds (NoTurn more) = ap (λ l. let h : Happened = Lacks l in h) (events_behind k deeds more)
+
+-- the turn of a piece, on a chain
+pub happens_in_piece : (k : Chain) (piece : ℕ) (t : Turned) → happens k (turn_of_piece piece t) ≡ happened_in_piece piece (happens k t)
+happens_in_piece k piece (Leads deeds place s) = refl
+happens_in_piece k piece (Over deeds ending s) = refl
+happens_in_piece k piece (Broken deeds f s) = refl
+happens_in_piece k piece (NoTurn deeds) = refl
 
 -- events of the prologue stand in front of the play
-pub begun_preceded : (entry : ℕ → ℕ) (seen : List Event) (t : Turned) → begun entry (preceded seen t) ≡ preceded seen (begun entry t)
-begun_preceded entry seen (Leads events place s) = sym (preceded_twice seen events (next_chosen entry s s.chosen))
-begun_preceded entry seen (Over events ending s) = refl
-begun_preceded entry seen (Broken events k s) = refl
-begun_preceded entry seen (NoTurn events) = refl
+pub begins_with : (entry : ℕ → ℕ) (seen : List Event) (h : Happened) → begins_chosen entry (with_events seen h) ≡ with_events seen (begins_chosen entry h)
+begins_with entry seen (Led events place s k) = sym (with_both seen events (happens k (next_chosen entry s s.chosen)))
+begins_with entry seen (Finished events ending s k) = refl
+begins_with entry seen (Broke events f s k) = refl
+begins_with entry seen (Lacks events) = refl
+
+-- what sets a play up, and then the first chosen procedure, on a chain
+pub happens_begun : (entry : ℕ → ℕ) (k : Chain) (t : Turned) → happens k (begun entry t) ≡ begins_chosen entry (happens k t)
+happens_begun entry k (Leads deeds place s) = happens_behind k deeds (next_chosen entry s s.chosen)
+happens_begun entry k (Over deeds ending s) = refl
+happens_begun entry k (Broken deeds f s) = refl
+happens_begun entry k (NoTurn deeds) = refl

@@ -4,6 +4,7 @@ use Rattle.std.specs.Prelude.{ℤ, slice_get, slice_range, ◌&&◌, ◌||◌, n
 use Rattle.std.specs.List.{list_all}
 use Rattle.std.proofs.lemmas.Bool.Decides.{nat_tests}
 use Rattle.std.proofs.lemmas.List.{take-append-drop, drop-append-le, drop-drop}
+use Rattle.stapl_meaning.specs.Deeds.{Chain, deeds_events, deeds_chain}
 use Rattle.stapl_meaning.specs.declared.events.Event.{Event}
 use Rattle.stapl_meaning.specs.declared.values.Held.{Held}
 use Rattle.stapl_meaning.specs.declared.values.Held.TheVariants as held
@@ -11,7 +12,7 @@ use Rattle.stapl_meaning.specs.declared.values.Value.{Value}
 use Rattle.stapl_meaning.specs.declared.values.Value.TheVariants as values
 use Rattle.stapl_meaning.specs.declared.records.Record.{Record}
 use Rattle.stapl_meaning.specs.declared.records.Record.TheVariants.{Pushed, Called, Looped}
-use Rattle.stapl_meaning.specs.States.{State, Turned, Leads, Over, Broken, NoTurn, preceded, next_chosen, turn_of_piece, begun}
+use Rattle.stapl_meaning.specs.States.{State, Turned, Leads, Over, Broken, NoTurn, next_chosen, Happened, Led, Finished, Broke, Lacks, happens, with_events, happened_in_piece}
 use Rattle.stapl_meaning.specs.Effects.{scalar_written, written, replaced, span_written, with_integers, returned_from}
 use Rattle.stapl_meaning.specs.Values.{Known, then_get, bits_held}
 use Rattle.stapl_meaning.specs.Plays.{goes_on, Stopped, start}
@@ -21,13 +22,13 @@ use Rattle.stapl_code.specs.declared.raw.ProcDef.{ProcDef}
 use Rattle.stapl_code.specs.declared.raw.CodeLists.{CodeLists}
 use Rattle.stapl_code.specs.declared.instr.Instr.{Instr}
 use Rattle.stapl_code.specs.declared.instr.Instr.TheVariants.{Turn, Push, PushBit, Store, SetBits, SetInts, EndProc}
-use Rattle.stapl_code.specs.Machine.{Does, does, puts, bit_of, known_literal, Step, Falls, Emits, Stops, Faulted, Wrong, on_made, entry_of, step, at_end, continues, stretch, begins, code_turn, code_run, code_play}
+use Rattle.stapl_code.specs.Machine.{Does, does, puts, bit_of, known_literal, Step, Falls, Acts, Stops, Faulted, Wrong, on_made, entry_of, step, at_end, continues, begins_chosen, stretch, begins, code_turn, code_run, code_beginning, code_play}
 use Rattle.stapl_code.specs.Ranges.{IsInstr, IsInRange}
 use Rattle.stapl_code.specs.Kinds.{kinds_behind}
-use Rattle.stapl_code.specs.Valid.{is_turn, is_end, sets_up, departs, is_last, agree, kinds_kept, judged, first_of, is_target, leads_well, stands_well, prologue_break, rest_break, procedure_break, next_entry, procedures_break, entry_break, IsValid}
+use Rattle.stapl_code.specs.Valid.{is_turn, is_end, sets_up, departs, is_last, agree, kinds_kept, judged, first_of, is_target, leads_well, rests_well, stands_well, prologue_break, rest_break, procedure_break, next_entry, procedures_break, entry_break, IsValid}
 use Rattle.stapl_code.specs.Safe.{AllFit, AllBelow, entries_of, constants_of}
-use Rattle.stapl_code.specs.Ticks.{ticks_then}
-use Rattle.stapl_code.specs.Depth.{on_kinds, deepest, procedures_depth, depth_of, held_behind, held, begin_held, turn_held, run_held, play_held}
+use Rattle.stapl_code.specs.Ticks.{counted_behind, counted_then}
+use Rattle.stapl_code.specs.Depth.{on_kinds, deepest, procedures_depth, depth_of, held, begin_held, turn_held, run_held, play_held}
 use Rattle.stapl_code.proofs.Operands.{kinds_of}
 use Rattle.stapl_code.proofs.OneStep.{Good, TurnedGood, StepGood, step_good, chosen_good}
 
@@ -105,25 +106,33 @@ no_kinds variables piece (k ∷ ks) after e = absurd cc
 
 -- what an instruction is that stands well
 module _ (entry : ℕ) (procedure : List Instr) (must : Bool) (x : Instr) (last : Bool) (well : stands_well entry procedure must x last ≡ true) where
+  first_three : (not must || is_turn (Some x)) && agree (is_end x) last && leads_well entry procedure x ≡ true
+  first_three = and_left ((not must || is_turn (Some x)) && agree (is_end x) last && leads_well entry procedure x) (rests_well x) well
+
+  first_two : (not must || is_turn (Some x)) && agree (is_end x) last ≡ true
+  first_two = and_left ((not must || is_turn (Some x)) && agree (is_end x) last) (leads_well entry procedure x) first_three
+
   turn_stands : must ≡ true → is_turn (Some x) ≡ true
-  turn_stands m =
-      turn_if must (is_turn (Some x)) (and_left (not must || is_turn (Some x)) (agree (is_end x) last) (and_left ((not must || is_turn (Some x)) && agree (is_end x) last) (leads_well entry procedure x) well)) m
+  turn_stands m = turn_if must (is_turn (Some x)) (and_left (not must || is_turn (Some x)) (agree (is_end x) last) first_two) m
 
   end_stands : agree (is_end x) last ≡ true
-  end_stands = and_right (not must || is_turn (Some x)) (agree (is_end x) last) (and_left ((not must || is_turn (Some x)) && agree (is_end x) last) (leads_well entry procedure x) well)
+  end_stands = and_right (not must || is_turn (Some x)) (agree (is_end x) last) first_two
 
   target_stands : leads_well entry procedure x ≡ true
-  target_stands = and_right ((not must || is_turn (Some x)) && agree (is_end x) last) (leads_well entry procedure x) well
+  target_stands = and_right ((not must || is_turn (Some x)) && agree (is_end x) last) (leads_well entry procedure x) first_three
+
+  rest_stands : rests_well x ≡ true
+  rest_stands = and_right ((not must || is_turn (Some x)) && agree (is_end x) last && leads_well entry procedure x) (rests_well x) well
 
 -- an EndProc never falls to the instruction behind it
 abbrev FallsOnly : Bool → Step → Type 0
 FallsOnly end (Falls ops s) = end ≡ false
-FallsOnly end (Emits events ops s) = end ≡ false
+FallsOnly end (Acts deeds ops s) = end ≡ false
 FallsOnly end _ = Unit {0}
 
 never_an_end : (st : Step) → FallsOnly false st
 never_an_end (Falls ops s) = refl
-never_an_end (Emits events ops s) = refl
+never_an_end (Acts deeds ops s) = refl
 never_an_end _ = tt
 
 -- the prologue's instructions never end a turn, and never fault
@@ -196,19 +205,32 @@ module _ (code : CodeLists) where
   abbrev Follows : List ValueKind → Step → Type 0
   Follows after st = StepGood code.variables (length code.procedures) (entries_of code.procedures) (constants_of code) IsPlace after st
 
+  -- what happened is a turn that ends well
+  abbrev EndsWell : Happened → Type 0
+  EndsWell (Led events place s k) = IsPlace place × Ready s
+  EndsWell (Finished events ending s k) = Unit {0}
+  EndsWell (Broke events f s k) = Unit {0}
+  EndsWell (Lacks events) = ⊥
+
+  happens_well : (k : Chain) (t : Turned) → Ends t → EndsWell (happens k t)
+  happens_well k (Leads deeds place s) g = g
+  happens_well k (Over deeds ending s) g = g
+  happens_well k (Broken deeds f s) g = g
+  happens_well k (NoTurn deeds) g = g
+
   -- the rest of a turn that ends well, and so many operands
-  abbrev Safe : Turned → ℕ → Type 0
-  Safe t n = Ends t × (n ≤ depth_of code)
+  abbrev Safe : Happened → ℕ → Type 0
+  Safe h n = EndsWell h × (n ≤ depth_of code)
 
   -- the turn of a piece that ends well: a fault has become its ending
-  abbrev EndsPiece : Turned → Type 0
-  EndsPiece (Leads events place s) = IsPlace place × Ready s
-  EndsPiece (Over events ending s) = Unit {0}
-  EndsPiece (Broken events k s) = ⊥
-  EndsPiece (NoTurn events) = ⊥
+  abbrev EndsPiece : Happened → Type 0
+  EndsPiece (Led events place s k) = IsPlace place × Ready s
+  EndsPiece (Finished events ending s k) = Unit {0}
+  EndsPiece (Broke events f s k) = ⊥
+  EndsPiece (Lacks events) = ⊥
 
-  abbrev SafePiece : Turned → ℕ → Type 0
-  SafePiece t n = EndsPiece t × (n ≤ depth_of code)
+  abbrev SafePiece : Happened → ℕ → Type 0
+  SafePiece h n = EndsPiece h × (n ≤ depth_of code)
 
   target_place : (entry : ℕ) (procedure behind : List Instr) → procedure_break code.variables entry procedure ≡ None → drop entry code.instrs ≡ procedure ++ behind → deepest code.variables [] procedure ≤ depth_of code → (to : ℕ) → is_target entry procedure to ≡ true → IsPlace to
   target_place entry procedure behind whole stands deep to e = record {
@@ -321,24 +343,31 @@ module _ (code : CodeLists) where
     falls_inside here EndProc ops s = returns_only ops s s.records
     falls_inside here x ops s = never_an_end (step (entries_of code.procedures) (constants_of code) here x ops s)
 
-    preceded_good : (events : List Event) (t : Turned) → Ends t → Ends (preceded events t)
-    preceded_good events (Leads more place s) g = g
-    preceded_good events (Over more ending s) g = g
-    preceded_good events (Broken more k s) g = g
-    preceded_good events (NoTurn more) g = g
+    with_good : (events : List Event) (h : Happened) → EndsWell h → EndsWell (with_events events h)
+    with_good events (Led more place s k) g = g
+    with_good events (Finished more ending s k) g = g
+    with_good events (Broke more f s k) g = g
+    with_good events (Lacks more) g = g
 
-    piece_good : (piece : ℕ) (t : Turned) → Ends t → EndsPiece (turn_of_piece piece t)
-    piece_good piece (Leads events place s) g = g
-    piece_good piece (Over events ending s) g = g
-    piece_good piece (Broken events k s) g = tt
-    piece_good piece (NoTurn events) g = g
+    piece_good : (piece : ℕ) (h : Happened) → EndsWell h → EndsPiece (happened_in_piece piece h)
+    piece_good piece (Led events place s k) g = g
+    piece_good piece (Finished events ending s k) g = g
+    piece_good piece (Broke events f s k) g = tt
+    piece_good piece (Lacks events) g = g
 
-    continue_good : (end : Bool) (after : List ValueKind) (st : Step) (go : List Value → State → Turned) (count : List Value → State → ℕ) → Follows after st → FallsOnly end st → ((ops : List Value) (t : State) → end ≡ false → kinds_of ops ≡ after → Ready t → Safe (go ops t) (count ops t)) → Safe (continues st go) (held_behind st count)
-    continue_good end after (Falls ops t) go count g f rest = rest ops t f g.0 g.1
-    continue_good end after (Emits events ops t) go count g f rest = let r = rest ops t f g.0 g.1 in (preceded_good events (go ops t) r.0, r.1)
-    continue_good end after (Stops ops t) go count g f rest = (subst (λ o. Ends (at_end o t)) (sym g.0) g.1, omega arith)
-    continue_good end after (Faulted k t) go count g f rest = (tt, omega arith)
-    continue_good end after Wrong go count g f rest = absurd g
+    continue_good : (end : Bool) (after : List ValueKind) (k : Chain) (st : Step) (go : List Value → State → Chain → Happened)
+        (count : List Value → State → Chain → ℕ) → Follows after st → FallsOnly end st →
+        ((ops : List Value) (t : State) (l : Chain) → end ≡ false → kinds_of ops ≡ after → Ready t → Safe (go ops t l) (count ops t l)) →
+        Safe (continues k st go) (counted_behind k st count)
+    continue_good end after k (Falls ops t) go count g f rest = rest ops t k f g.0 g.1
+    continue_good end after k (Acts deeds ops t) go count g f rest =
+        let l = deeds_chain k deeds in
+        let r = rest ops t l f g.0 g.1 in
+        (with_good (deeds_events k deeds) (go ops t l) r.0, r.1)
+    continue_good end after k (Stops ops t) go count g f rest =
+        (subst (λ o. EndsWell (at_end o (happens k t))) (sym g.0) (happens_well k t g.1), omega arith)
+    continue_good end after k (Faulted x t) go count g f rest = (tt, omega arith)
+    continue_good end after k Wrong go count g f rest = absurd g
 
     module _ (entry : ℕ) (procedure behind : List Instr) (whole : procedure_break code.variables entry procedure ≡ None) (stands : drop entry code.instrs ≡ procedure ++ behind) (deep : deepest code.variables [] procedure ≤ depth_of code) where
       turn_place : (j : ℕ) (x : Instr) (rest : List Instr) → drop j procedure ≡ x ∷ rest → is_turn (Some x) ≡ true → IsPlace (entry + j)
@@ -366,9 +395,9 @@ module _ (code : CodeLists) where
           subst IsPlace one (turn_place (j + 1) y rest next turn)
 
       -- the rest of a turn
-      rest_good : (rest : List Instr) (j : ℕ) (must : Bool) (ops : List Value) (s : State) → Ready s → drop j procedure ≡ rest → drop (entry + j) code.instrs ≡ rest ++ behind → 0 < length rest → rest_break code.variables entry procedure (entry + j) must (kinds_of ops) rest ≡ None → deepest code.variables (kinds_of ops) rest ≤ depth_of code → Safe (stretch (entries_of code.procedures) (constants_of code) total (rest ++ behind) ops s) (held (entries_of code.procedures) (constants_of code) total (rest ++ behind) ops s)
-      rest_good [] j must ops s good d at some e below = absurd (omega arith)
-      rest_good (x ∷ rest) j must ops s good d at some e below =
+      rest_good : (rest : List Instr) (j : ℕ) (must : Bool) (ops : List Value) (s : State) (k : Chain) → Ready s → drop j procedure ≡ rest → drop (entry + j) code.instrs ≡ rest ++ behind → 0 < length rest → rest_break code.variables entry procedure (entry + j) must (kinds_of ops) rest ≡ None → deepest code.variables (kinds_of ops) rest ≤ depth_of code → Safe (stretch (entries_of code.procedures) (constants_of code) total (rest ++ behind) ops s k) (held (entries_of code.procedures) (constants_of code) total (rest ++ behind) ops s k)
+      rest_good [] j must ops s k good d at some e below = absurd (omega arith)
+      rest_good (x ∷ rest) j must ops s chain good d at some e below =
           let k = judged_none (kinds_behind code.variables x (kinds_of ops)) (stands_well entry procedure must x (is_last rest)) (entry + j) (λ after. rest_break code.variables entry procedure (entry + j + 1) (departs x) after rest) e in
           let here : total - suc (length (rest ++ behind)) ≡ entry + j = omega (arith, ap length at, length-drop (entry + j) code.instrs) in
           let more : drop (j + 1) procedure ≡ rest = rw add-one (drop_tail j procedure ∙ ap (drop 1) d) in
@@ -376,18 +405,18 @@ module _ (code : CodeLists) where
           let again : entry + (j + 1) ≡ entry + j + 1 = omega arith in
           let next : drop (entry + (j + 1)) code.instrs ≡ rest ++ behind = ap (λ (n : ℕ). drop n code.instrs) one ∙ drop_tail (entry + j) code.instrs ∙ ap (drop 1) at in
           let r = all_dropped (IsInstr code.variables (length code.literals) (length code.texts) (length code.procedures)) (entry + j) code.instrs x (rest ++ behind) range.instrs at in
-          let sg = step_good code.variables (length code.procedures) (entries_of code.procedures) (constants_of code) IsPlace (total - suc (length (rest ++ behind))) begin entry procedure (target_place entry procedure behind whole stands deep) s good k.0 x ops k.1 (target_stands entry procedure must x (is_last rest) k.2) r (λ t. subst IsPlace (sym here) (turn_place j x rest d t)) (λ t. subst IsPlace (ap suc (sym here)) (turn_behind j x rest d must (kinds_of ops) k.0 t k.2 k.3)) in
+          let sg = step_good code.variables (length code.procedures) (entries_of code.procedures) (constants_of code) IsPlace (total - suc (length (rest ++ behind))) begin entry procedure (target_place entry procedure behind whole stands deep) s good k.0 x ops k.1 (target_stands entry procedure must x (is_last rest) k.2) (rest_stands entry procedure must x (is_last rest) k.2) r (λ t. subst IsPlace (sym here) (turn_place j x rest d t)) (λ t. subst IsPlace (ap suc (sym here)) (turn_behind j x rest d must (kinds_of ops) k.0 t k.2 k.3)) in
           let under = deeper x (kinds_of ops) k.0 rest k.1 in
-          let c = continue_good (is_end x) k.0 (step (entries_of code.procedures) (constants_of code) (total - suc (length (rest ++ behind))) x ops s) (stretch (entries_of code.procedures) (constants_of code) total (rest ++ behind)) (held (entries_of code.procedures) (constants_of code) total (rest ++ behind)) sg (falls_inside _ x ops s) (λ o t end kinds g.
-          rest_good rest (j + 1) (departs x) o t g more next (more_follow rest (not_last (is_end x) (is_last rest) (end_stands entry procedure must x (is_last rest) k.2) end))
+          let c = continue_good (is_end x) k.0 chain (step (entries_of code.procedures) (constants_of code) (total - suc (length (rest ++ behind))) x ops s) (stretch (entries_of code.procedures) (constants_of code) total (rest ++ behind)) (held (entries_of code.procedures) (constants_of code) total (rest ++ behind)) sg (falls_inside _ x ops s) (λ o t l end kinds g.
+          rest_good rest (j + 1) (departs x) o t l g more next (more_follow rest (not_last (is_end x) (is_last rest) (end_stands entry procedure must x (is_last rest) k.2) end))
           (ap (λ n. rest_break code.variables entry procedure n (departs x) (kinds_of o) rest) again ∙ ap (λ ks. rest_break code.variables entry procedure (entry + j + 1) (departs x) ks rest) kinds ∙ k.3)
           (subst (λ ks. deepest code.variables ks rest ≤ depth_of code) (sym kinds) (omega (arith, under.1, below)))) in
           let few : length ops ≤ depth_of code = omega (arith, under.0, below, kinds_count ops) in
           (c.0, omega (arith, c.1, few))
 
       -- a turn that begins in the procedure
-      turn_from : (j : ℕ) (s : State) → Ready s → is_turn (slice_get procedure j) ≡ true → SafePiece (code_turn (entries_of code.procedures) (constants_of code) code.instrs (entry + j) s) (turn_held (entries_of code.procedures) (constants_of code) code.instrs (entry + j) s)
-      turn_from j s good e = from (drop j procedure) refl
+      turn_from : (j : ℕ) (s : State) (k : Chain) → Ready s → is_turn (slice_get procedure j) ≡ true → SafePiece (code_turn (entries_of code.procedures) (constants_of code) code.instrs (entry + j) s k) (turn_held (entries_of code.procedures) (constants_of code) code.instrs (entry + j) s k)
+      turn_from j s k good e = from (drop j procedure) refl
         where
           some : (l : List Instr) → drop j procedure ≡ l → is_turn (head_of l) ≡ true
           some l d = ap is_turn (sym (get_head j procedure ∙ ap head_of d)) ∙ e
@@ -395,34 +424,34 @@ module _ (code : CodeLists) where
           at_most : (l : List Instr) → drop j procedure ≡ l → 0 < length l → j ≤ length procedure
           at_most l d h = omega (arith, ap length d, length-drop j procedure)
 
-          by_turn : (piece : ℕ) (rest : List Instr) → drop j procedure ≡ Turn piece ∷ rest → drop (entry + j) code.instrs ≡ Turn piece ∷ rest ++ behind → SafePiece (begins (entries_of code.procedures) (constants_of code) total (Turn piece ∷ rest ++ behind) s) (begin_held (entries_of code.procedures) (constants_of code) total (Turn piece ∷ rest ++ behind) s)
+          by_turn : (piece : ℕ) (rest : List Instr) → drop j procedure ≡ Turn piece ∷ rest → drop (entry + j) code.instrs ≡ Turn piece ∷ rest ++ behind → SafePiece (begins (entries_of code.procedures) (constants_of code) total (Turn piece ∷ rest ++ behind) s k) (begin_held (entries_of code.procedures) (constants_of code) total (Turn piece ∷ rest ++ behind) s k)
           by_turn piece rest d at =
               let r = reached entry procedure j entry true [] procedure whole in
-              let k = judged_none (kinds_behind code.variables (Turn piece) r.1) (stands_well entry procedure r.0 (Turn piece) (is_last rest)) (entry + j) (λ after. rest_break code.variables entry procedure (entry + j + 1) (departs (Turn piece)) after rest) (ap (rest_break code.variables entry procedure (entry + j) r.0 r.1) (sym d) ∙ r.2) in
+              let own = judged_none (kinds_behind code.variables (Turn piece) r.1) (stands_well entry procedure r.0 (Turn piece) (is_last rest)) (entry + j) (λ after. rest_break code.variables entry procedure (entry + j + 1) (departs (Turn piece)) after rest) (ap (rest_break code.variables entry procedure (entry + j) r.0 r.1) (sym d) ∙ r.2) in
               let more : drop (j + 1) procedure ≡ rest = rw add-one (drop_tail j procedure ∙ ap (drop 1) d) in
               let one : entry + (j + 1) ≡ suc (entry + j) = omega arith in
               let again : entry + (j + 1) ≡ entry + j + 1 = omega arith in
               let next : drop (entry + (j + 1)) code.instrs ≡ rest ++ behind = ap (λ (n : ℕ). drop n code.instrs) one ∙ drop_tail (entry + j) code.instrs ∙ ap (drop 1) at in
-              let none = no_kinds code.variables piece r.1 k.0 k.1 in
+              let none = no_kinds code.variables piece r.1 own.0 own.1 in
               let there : deepest code.variables r.1 (Turn piece ∷ rest) ≤ depth_of code = subst (λ l. deepest code.variables r.1 l ≤ depth_of code) d (omega (arith, r.3, deep)) in
-              let below : deepest code.variables k.0 rest ≤ depth_of code = omega (arith, (deeper (Turn piece) r.1 k.0 rest k.1).1, there) in
-              let r = rest_good rest (j + 1) false [] s good more next (more_follow rest (not_last false (is_last rest) (end_stands entry procedure r.0 (Turn piece) (is_last rest) k.2) refl))
-              (ap (λ n. rest_break code.variables entry procedure n false [] rest) again ∙ ap (λ ks. rest_break code.variables entry procedure (entry + j + 1) false ks rest) (sym none) ∙ k.3)
+              let below : deepest code.variables own.0 rest ≤ depth_of code = omega (arith, (deeper (Turn piece) r.1 own.0 rest own.1).1, there) in
+              let r = rest_good rest (j + 1) false [] s k good more next (more_follow rest (not_last false (is_last rest) (end_stands entry procedure r.0 (Turn piece) (is_last rest) own.2) refl))
+              (ap (λ n. rest_break code.variables entry procedure n false [] rest) again ∙ ap (λ ks. rest_break code.variables entry procedure (entry + j + 1) false ks rest) (sym none) ∙ own.3)
               (subst (λ ks. deepest code.variables ks rest ≤ depth_of code) none below) in
-              (piece_good piece (stretch (entries_of code.procedures) (constants_of code) total (rest ++ behind) [] s) r.0, r.1)
+              (piece_good piece (stretch (entries_of code.procedures) (constants_of code) total (rest ++ behind) [] s k) r.0, r.1)
 
-          from : (l : List Instr) → drop j procedure ≡ l → SafePiece (begins (entries_of code.procedures) (constants_of code) total (drop (entry + j) code.instrs) s) (begin_held (entries_of code.procedures) (constants_of code) total (drop (entry + j) code.instrs) s)
+          from : (l : List Instr) → drop j procedure ≡ l → SafePiece (begins (entries_of code.procedures) (constants_of code) total (drop (entry + j) code.instrs) s k) (begin_held (entries_of code.procedures) (constants_of code) total (drop (entry + j) code.instrs) s k)
           from [] d = absurd (let a = some [] d in cc)
           from (x ∷ rest) d =
               let t = is_a_turn x (some (x ∷ rest) d) in
               let is : drop j procedure ≡ Turn t.0 ∷ rest = d ∙ ap (λ y. y ∷ rest) t.1 in
               let at : drop (entry + j) code.instrs ≡ Turn t.0 ∷ rest ++ behind = sym (drop-drop j entry code.instrs) ∙ ap (drop j) stands ∙ drop-append-le j procedure behind (at_most (x ∷ rest) d (omega arith)) ∙ ap (λ l. l ++ behind) is in
-              subst (λ l. SafePiece (begins (entries_of code.procedures) (constants_of code) total l s) (begin_held (entries_of code.procedures) (constants_of code) total l s)) (sym at) (by_turn t.0 rest is at)
+              subst (λ l. SafePiece (begins (entries_of code.procedures) (constants_of code) total l s k) (begin_held (entries_of code.procedures) (constants_of code) total l s k)) (sym at) (by_turn t.0 rest is at)
 
-    turn_good : (place : ℕ) (s : State) → IsPlace place → Ready s → SafePiece (code_turn (entries_of code.procedures) (constants_of code) code.instrs place s) (turn_held (entries_of code.procedures) (constants_of code) code.instrs place s)
-    turn_good place s at good =
+    turn_good : (place : ℕ) (s : State) (k : Chain) → IsPlace place → Ready s → SafePiece (code_turn (entries_of code.procedures) (constants_of code) code.instrs place s k) (turn_held (entries_of code.procedures) (constants_of code) code.instrs place s k)
+    turn_good place s k at good =
         let same : at.entry + (place - at.entry) ≡ place = omega (arith, at.from) in
-        subst (λ n. SafePiece (code_turn (entries_of code.procedures) (constants_of code) code.instrs n s) (turn_held (entries_of code.procedures) (constants_of code) code.instrs n s)) same (turn_from at.entry at.procedure at.behind at.whole at.stands at.deep (place - at.entry) s good at.turn)
+        subst (λ n. SafePiece (code_turn (entries_of code.procedures) (constants_of code) code.instrs n s k) (turn_held (entries_of code.procedures) (constants_of code) code.instrs n s k)) same (turn_from at.entry at.procedure at.behind at.whole at.stands at.deep (place - at.entry) s k good at.turn)
 
     place_turn : (place : ℕ) → IsPlace place → is_turn (head_of (drop place code.instrs)) ≡ true
     place_turn place at = from (drop j at.procedure) refl
@@ -442,27 +471,33 @@ module _ (code : CodeLists) where
             ap (λ l. is_turn (head_of l)) is ∙ some (x ∷ rest) d
 
     -- the prologue falls into the first Turn
-    abbrev Begins : Turned → Type 0
-    Begins (Leads events place s) = Ready s
-    Begins (Over events ending s) = ⊥
-    Begins (Broken events k s) = ⊥
-    Begins (NoTurn events) = ⊥
+    abbrev Begins : Happened → Type 0
+    Begins (Led events place s k) = Ready s
+    Begins (Finished events ending s k) = ⊥
+    Begins (Broke events f s k) = ⊥
+    Begins (Lacks events) = ⊥
 
-    abbrev BeginsSafe : Turned → ℕ → Type 0
-    BeginsSafe t n = Begins t × (n ≤ depth_of code)
+    abbrev BeginsSafe : Happened → ℕ → Type 0
+    BeginsSafe h n = Begins h × (n ≤ depth_of code)
 
-    preceded_begins : (events : List Event) (t : Turned) → Begins t → Begins (preceded events t)
-    preceded_begins events (Leads more place s) g = g
-    preceded_begins events (Over more ending s) g = g
-    preceded_begins events (Broken more k s) g = g
-    preceded_begins events (NoTurn more) g = g
+    with_begins : (events : List Event) (h : Happened) → Begins h → Begins (with_events events h)
+    with_begins events (Led more place s k) g = g
+    with_begins events (Finished more ending s k) g = g
+    with_begins events (Broke more f s k) g = g
+    with_begins events (Lacks more) g = g
 
-    continue_begins : (after : List ValueKind) (st : Step) (go : List Value → State → Turned) (count : List Value → State → ℕ) → Follows after st → NeverStops st → ((ops : List Value) (t : State) → kinds_of ops ≡ after → Ready t → BeginsSafe (go ops t) (count ops t)) → BeginsSafe (continues st go) (held_behind st count)
-    continue_begins after (Falls ops t) go count g f rest = rest ops t g.0 g.1
-    continue_begins after (Emits events ops t) go count g f rest = let r = rest ops t g.0 g.1 in (preceded_begins events (go ops t) r.0, r.1)
-    continue_begins after (Stops ops t) go count g f rest = absurd f
-    continue_begins after (Faulted k t) go count g f rest = absurd f
-    continue_begins after Wrong go count g f rest = absurd g
+    continue_begins : (after : List ValueKind) (k : Chain) (st : Step) (go : List Value → State → Chain → Happened)
+        (count : List Value → State → Chain → ℕ) → Follows after st → NeverStops st →
+        ((ops : List Value) (t : State) (l : Chain) → kinds_of ops ≡ after → Ready t → BeginsSafe (go ops t l) (count ops t l)) →
+        BeginsSafe (continues k st go) (counted_behind k st count)
+    continue_begins after k (Falls ops t) go count g f rest = rest ops t k g.0 g.1
+    continue_begins after k (Acts deeds ops t) go count g f rest =
+        let l = deeds_chain k deeds in
+        let r = rest ops t l g.0 g.1 in
+        (with_begins (deeds_events k deeds) (go ops t l) r.0, r.1)
+    continue_begins after k (Stops ops t) go count g f rest = absurd f
+    continue_begins after k (Faulted x t) go count g f rest = absurd f
+    continue_begins after k Wrong go count g f rest = absurd g
 
     store_never_stops : (n here : ℕ) (ops : List Value) (s : State) → NeverStops (step (entries_of code.procedures) (constants_of code) here (Store n) ops s)
     store_never_stops n here [] s = tt
@@ -478,6 +513,14 @@ module _ (code : CodeLists) where
     never_stops (SetInts n list) here ops s e =
         integers_never_stop (entries_of code.procedures) None ops s s.store.variables n list (slice_get s.store.variables n)
     never_stops _ here ops s e = absurd cc
+
+    rests_nowhere : (x : Instr) → sets_up x ≡ true → rests_well x ≡ true
+    rests_nowhere (Push z) e = refl
+    rests_nowhere (PushBit b) e = refl
+    rests_nowhere (Store n) e = refl
+    rests_nowhere (SetBits n literal) e = refl
+    rests_nowhere (SetInts n list) e = refl
+    rests_nowhere _ e = absurd cc
 
     leads_nowhere : (x : Instr) → sets_up x ≡ true → leads_well 0 [] x ≡ true
     leads_nowhere (Push z) e = refl
@@ -513,38 +556,37 @@ module _ (code : CodeLists) where
     no_operands [] e = refl
     no_operands (v ∷ ops) e = absurd cc
 
-    prologue_good : (prologue behind : List Instr) (i : ℕ) (ops : List Value) (s : State) → is_turn (head_of behind) ≡ true → Ready s → drop i code.instrs ≡ prologue ++ behind → (prologue ≡ [] → ops ≡ []) → prologue_break code.variables i (kinds_of ops) prologue ≡ None → deepest code.variables (kinds_of ops) prologue ≤ depth_of code → BeginsSafe (stretch (entries_of code.procedures) (constants_of code) total (prologue ++ behind) ops s) (held (entries_of code.procedures) (constants_of code) total (prologue ++ behind) ops s)
-    prologue_good [] [] i ops s turn good at none e below = absurd cc
-    prologue_good [] (y ∷ behind) i ops s turn good at none e below =
+    prologue_good : (prologue behind : List Instr) (i : ℕ) (ops : List Value) (s : State) (k : Chain) → is_turn (head_of behind) ≡ true → Ready s → drop i code.instrs ≡ prologue ++ behind → (prologue ≡ [] → ops ≡ []) → prologue_break code.variables i (kinds_of ops) prologue ≡ None → deepest code.variables (kinds_of ops) prologue ≤ depth_of code → BeginsSafe (stretch (entries_of code.procedures) (constants_of code) total (prologue ++ behind) ops s k) (held (entries_of code.procedures) (constants_of code) total (prologue ++ behind) ops s k)
+    prologue_good [] [] i ops s k turn good at none e below = absurd cc
+    prologue_good [] (y ∷ behind) i ops s k turn good at none e below =
         let t = is_a_turn y turn in
-        subst (λ o. BeginsSafe (stretch (entries_of code.procedures) (constants_of code) total (y ∷ behind) o s) (held (entries_of code.procedures) (constants_of code) total (y ∷ behind) o s)) (sym (none refl))
-        (subst (λ z. BeginsSafe (stretch (entries_of code.procedures) (constants_of code) total (z ∷ behind) [] s) (held (entries_of code.procedures) (constants_of code) total (z ∷ behind) [] s)) (sym t.1) (good, omega arith))
-    prologue_good (x ∷ rest) behind i ops s turn good at none e below =
+        subst (λ o. BeginsSafe (stretch (entries_of code.procedures) (constants_of code) total (y ∷ behind) o s k) (held (entries_of code.procedures) (constants_of code) total (y ∷ behind) o s k)) (sym (none refl))
+        (subst (λ z. BeginsSafe (stretch (entries_of code.procedures) (constants_of code) total (z ∷ behind) [] s k) (held (entries_of code.procedures) (constants_of code) total (z ∷ behind) [] s k)) (sym t.1) (good, omega arith))
+    prologue_good (x ∷ rest) behind i ops s chain turn good at none e below =
         let k = judged_none (kinds_kept (is_last rest) (kinds_behind code.variables x (kinds_of ops))) (sets_up x) i (λ after. prologue_break code.variables (i + 1) after rest) e in
         let kept = none_kept rest (kinds_behind code.variables x (kinds_of ops)) k.0 k.1 in
         let next : drop (i + 1) code.instrs ≡ rest ++ behind = rw add-one (drop_tail i code.instrs ∙ ap (drop 1) at) in
         let r = all_dropped (IsInstr code.variables (length code.literals) (length code.texts) (length code.procedures)) i code.instrs x (rest ++ behind) range.instrs at in
         let here = total - suc (length (rest ++ behind)) in
-        let sg = step_good code.variables (length code.procedures) (entries_of code.procedures) (constants_of code) IsPlace here begin 0 [] no_target s good k.0 x ops kept.0 (leads_nowhere x k.2) r (λ t. absurd (no_turn x k.2 t)) (λ t. absurd (no_departure x k.2 t)) in
+        let sg = step_good code.variables (length code.procedures) (entries_of code.procedures) (constants_of code) IsPlace here begin 0 [] no_target s good k.0 x ops kept.0 (leads_nowhere x k.2) (rests_nowhere x k.2) r (λ t. absurd (no_turn x k.2 t)) (λ t. absurd (no_departure x k.2 t)) in
         let under = deeper x (kinds_of ops) k.0 rest kept.0 in
-        let c = continue_begins k.0 (step (entries_of code.procedures) (constants_of code) here x ops s) (stretch (entries_of code.procedures) (constants_of code) total (rest ++ behind)) (held (entries_of code.procedures) (constants_of code) total (rest ++ behind)) sg (never_stops x here ops s k.2) (λ o t kinds g.
-        prologue_good rest behind (i + 1) o t turn g next (λ f. no_operands o (kinds ∙ kept.1 f)) (ap (λ ks. prologue_break code.variables (i + 1) ks rest) kinds ∙ k.3)
+        let c = continue_begins k.0 chain (step (entries_of code.procedures) (constants_of code) here x ops s) (stretch (entries_of code.procedures) (constants_of code) total (rest ++ behind)) (held (entries_of code.procedures) (constants_of code) total (rest ++ behind)) sg (never_stops x here ops s k.2) (λ o t l kinds g.
+        prologue_good rest behind (i + 1) o t l turn g next (λ f. no_operands o (kinds ∙ kept.1 f)) (ap (λ ks. prologue_break code.variables (i + 1) ks rest) kinds ∙ k.3)
         (subst (λ ks. deepest code.variables ks rest ≤ depth_of code) (sym kinds) (omega (arith, under.1, below)))) in
         let few : length ops ≤ depth_of code = omega (arith, under.0, below, kinds_count ops) in
         (c.0, omega (arith, c.1, few))
 
-    chosen_begins : (events : List Event) (s : State) → Ready s → (ps : List ℕ) → AllBelow (length code.procedures) ps →
-        EndsPiece (preceded events (next_chosen (entry_of (entries_of code.procedures)) s ps))
-    chosen_begins events s g [] below = tt
-    chosen_begins events s g (p ∷ ps) below =
+    chosen_begins : (events : List Event) (s : State) (k : Chain) → Ready s → (ps : List ℕ) → AllBelow (length code.procedures) ps →
+        EndsPiece (with_events events (happens k (next_chosen (entry_of (entries_of code.procedures)) s ps)))
+    chosen_begins events s k g [] below = tt
+    chosen_begins events s k g (p ∷ ps) below =
         chosen_good code.variables (length code.procedures) (entries_of code.procedures) (constants_of code) IsPlace begin s g (p ∷ ps) below
 
-    begun_good : (t : Turned) → Begins t → EndsPiece (begun (entry_of (entries_of code.procedures)) t)
-    begun_good (Leads events place s) g =
-        chosen_begins events s g s.chosen g.chosen_below
-    begun_good (Over events ending s) g = absurd g
-    begun_good (Broken events k s) g = absurd g
-    begun_good (NoTurn events) g = absurd g
+    begun_good : (h : Happened) → Begins h → EndsPiece (begins_chosen (entry_of (entries_of code.procedures)) h)
+    begun_good (Led events place s k) g = chosen_begins events s k g s.chosen g.chosen_below
+    begun_good (Finished events ending s k) g = absurd g
+    begun_good (Broke events f s k) g = absurd g
+    begun_good (Lacks events) g = absurd g
 
     first_turn : is_turn (head_of (drop (next_entry total code.procedures) code.instrs)) ≡ true
     first_turn = at_first code.procedures refl
@@ -556,25 +598,28 @@ module _ (code : CodeLists) where
             let first : entry_of (entries_of code.procedures) 0 ≡ p.entry = ap (λ qs. entry_of (entries_of qs) 0) is in
             subst (λ (n : ℕ). is_turn (head_of (drop n code.instrs)) ≡ true) first (place_turn (entry_of (entries_of code.procedures) 0) at)
 
-    never_stopped : (n : ℕ) (t : Turned) (s : State) → EndsPiece t → (goes_on t s (code_run (entries_of code.procedures) (constants_of code) code.instrs n)).outcome ≢ Stopped
-    never_stopped n (NoTurn events) s g e = g
-    never_stopped n (Broken events k u) s g e = g
-    never_stopped n (Over events ending u) s g e = cc
-    never_stopped zero (Leads events place u) s g e = cc
-    never_stopped (suc n) (Leads events place u) s g e = never_stopped n (code_turn (entries_of code.procedures) (constants_of code) code.instrs place u) u (turn_good place u g.0 g.1).0 e
+    never_stopped : (n : ℕ) (h : Happened) (s : State) (k : Chain) → EndsPiece h →
+        (goes_on h s k (code_run (entries_of code.procedures) (constants_of code) code.instrs n)).outcome ≢ Stopped
+    never_stopped n (Lacks events) s k g e = g
+    never_stopped n (Broke events f u l) s k g e = g
+    never_stopped n (Finished events ending u l) s k g e = cc
+    never_stopped zero (Led events place u l) s k g e = cc
+    never_stopped (suc n) (Led events place u l) s k g e =
+        never_stopped n (code_turn (entries_of code.procedures) (constants_of code) code.instrs place u l) u l (turn_good place u l g.0 g.1).0 e
 
-    run_within : (n : ℕ) (t : Turned) → EndsPiece t → ticks_then t (run_held (entries_of code.procedures) (constants_of code) code.instrs n) ≤ depth_of code
-    run_within n (NoTurn events) g = absurd g
-    run_within n (Broken events k s) g = absurd g
-    run_within n (Over events ending s) g = omega arith
-    run_within zero (Leads events place s) g = omega arith
-    run_within (suc n) (Leads events place s) g =
-        let t = turn_good place s g.0 g.1 in
-        omega (arith, t.1, run_within n (code_turn (entries_of code.procedures) (constants_of code) code.instrs place s) t.0)
+    run_within : (n : ℕ) (h : Happened) → EndsPiece h →
+        counted_then h (run_held (entries_of code.procedures) (constants_of code) code.instrs n) ≤ depth_of code
+    run_within n (Lacks events) g = absurd g
+    run_within n (Broke events f s k) g = absurd g
+    run_within n (Finished events ending s k) g = omega arith
+    run_within zero (Led events place s k) g = omega arith
+    run_within (suc n) (Led events place s k) g =
+        let t = turn_good place s k g.0 g.1 in
+        omega (arith, t.1, run_within n (code_turn (entries_of code.procedures) (constants_of code) code.instrs place s k) t.0)
 
     module _ (chosen : List ℕ) (below : AllBelow (length code.procedures) chosen) (variables : List Held) (fit : AllFit code.variables variables) where
-      prologue_runs : BeginsSafe (stretch (entries_of code.procedures) (constants_of code) total code.instrs [] (start chosen variables)) (held (entries_of code.procedures) (constants_of code) total code.instrs [] (start chosen variables))
-      prologue_runs =
+      prologue_runs : (k : Chain) → BeginsSafe (stretch (entries_of code.procedures) (constants_of code) total code.instrs [] (start chosen variables) k) (held (entries_of code.procedures) (constants_of code) total code.instrs [] (start chosen variables) k)
+      prologue_runs k =
           let s : State = start chosen variables in
           let good : Ready s = record { variables_fit = fit; chosen_below = below; records_placed = tt } in
           let first = next_entry total code.procedures in
@@ -582,11 +627,20 @@ module _ (code : CodeLists) where
           let from : first - 0 ≡ first = omega arith in
           let whole : prologue ++ drop first code.instrs ≡ code.instrs = ap (λ (n : ℕ). take n code.instrs ++ drop first code.instrs) from ∙ take-append-drop first code.instrs in
           let deep : deepest code.variables [] prologue ≤ depth_of code = omega arith in
-          subst (λ l. BeginsSafe (stretch (entries_of code.procedures) (constants_of code) total l [] s) (held (entries_of code.procedures) (constants_of code) total l [] s)) whole
-          (prologue_good prologue (drop first code.instrs) 0 [] s first_turn good (sym whole) (λ _. refl) prologue_ok deep)
+          subst (λ l. BeginsSafe (stretch (entries_of code.procedures) (constants_of code) total l [] s k) (held (entries_of code.procedures) (constants_of code) total l [] s k)) whole
+          (prologue_good prologue (drop first code.instrs) 0 [] s k first_turn good (sym whole) (λ _. refl) prologue_ok deep)
 
-      pub never_stuck : (n : ℕ) → (code_play (entries_of code.procedures) (constants_of code) code.instrs chosen variables n).outcome ≢ Stopped
-      never_stuck n = never_stopped n (begun (entry_of (entries_of code.procedures)) (stretch (entries_of code.procedures) (constants_of code) total code.instrs [] (start chosen variables))) (start chosen variables) (begun_good _ prologue_runs.0)
+      pub never_stuck : (n : ℕ) (k : Chain) →
+          (code_play (entries_of code.procedures) (constants_of code) code.instrs chosen variables n k).outcome ≢ Stopped
+      never_stuck n k =
+          never_stopped n (code_beginning (entries_of code.procedures) (constants_of code) code.instrs chosen variables k) (start chosen variables) k
+          (begun_good _ (prologue_runs k).0)
 
-      pub within_depth : (n : ℕ) → play_held (entries_of code.procedures) (constants_of code) code.instrs chosen variables n ≤ depth_of code
-      within_depth n = omega (arith, prologue_runs.1, run_within n (begun (entry_of (entries_of code.procedures)) (stretch (entries_of code.procedures) (constants_of code) total code.instrs [] (start chosen variables))) (begun_good _ prologue_runs.0))
+      pub within_depth : (n : ℕ) (k : Chain) →
+          play_held (entries_of code.procedures) (constants_of code) code.instrs chosen variables n k ≤ depth_of code
+      within_depth n k =
+          omega (
+            arith,
+            (prologue_runs k).1,
+            run_within n (code_beginning (entries_of code.procedures) (constants_of code) code.instrs chosen variables k) (begun_good _ (prologue_runs k).0),
+          )

@@ -2,7 +2,8 @@
 use Rattle.std.specs.Prelude.{ℕ, zero, suc, ◌-◌, max, List, [], ◌∷◌, length, drop, Option, Some, None, slice_range}
 use Rattle.stapl_meaning.specs.declared.values.Value.{Value}
 use Rattle.stapl_meaning.specs.declared.values.Held.{Held}
-use Rattle.stapl_meaning.specs.States.{State, begun}
+use Rattle.stapl_meaning.specs.Deeds.{Chain}
+use Rattle.stapl_meaning.specs.States.{State}
 use Rattle.stapl_meaning.specs.Plays.{start}
 use Rattle.stapl_meaning.specs.declared.values.ValueKind.{ValueKind}
 use Rattle.stapl_code.specs.declared.raw.VarDef.{VarDef}
@@ -10,8 +11,8 @@ use Rattle.stapl_code.specs.declared.raw.ProcDef.{ProcDef}
 use Rattle.stapl_code.specs.declared.raw.CodeLists.{CodeLists}
 use Rattle.stapl_code.specs.declared.instr.Instr.{Instr}
 use Rattle.stapl_code.specs.declared.instr.Instr.TheVariants.{Turn}
-use Rattle.stapl_code.specs.Machine.{Constants, Step, Falls, Emits, Stops, Faulted, Wrong, step, stretch, code_turn, entry_of}
-use Rattle.stapl_code.specs.Ticks.{ticks_then}
+use Rattle.stapl_code.specs.Machine.{Constants, step, code_turn, code_beginning}
+use Rattle.stapl_code.specs.Ticks.{counted_behind, counted_then}
 use Rattle.stapl_code.specs.Kinds.{kinds_behind}
 use Rattle.stapl_code.specs.Valid.{next_entry}
 
@@ -37,35 +38,29 @@ depth_of code =
     max (deepest code.variables [] (slice_range code.instrs 0 (next_entry (length code.instrs) code.procedures)))
     (procedures_depth code.variables code.instrs code.procedures)
 
-abbrev pub held_behind : Step → (List Value → State → ℕ) → ℕ
-held_behind (Falls ops s) go = go ops s
-held_behind (Emits events ops s) go = go ops s
-held_behind (Stops ops t) go = 0
-held_behind (Faulted k s) go = 0
-held_behind Wrong go = 0
-
 module _ (entries : List ℕ) (constants : Constants) where
   -- the most operands before an instruction of the rest of a turn
-  abbrev pub held : ℕ → List Instr → List Value → State → ℕ
-  held total [] ops s = length ops
-  held total (i ∷ rest) ops s =
-      max (length ops) (held_behind (step entries constants (total - suc (length rest)) i ops s) (held total rest))
+  abbrev pub held : ℕ → List Instr → List Value → State → Chain → ℕ
+  held total [] ops s k = length ops
+  held total (i ∷ rest) ops s k =
+      max (length ops) (counted_behind k (step entries constants (total - suc (length rest)) i ops s) (held total rest))
 
-  abbrev pub begin_held : ℕ → List Instr → State → ℕ
-  begin_held total (Turn piece ∷ rest) s = held total rest [] s
-  begin_held total _ s = 0
+  abbrev pub begin_held : ℕ → List Instr → State → Chain → ℕ
+  begin_held total (Turn piece ∷ rest) s k = held total rest [] s k
+  begin_held total _ s k = 0
 
   -- the most operands in a turn
-  abbrev pub turn_held : List Instr → ℕ → State → ℕ
-  turn_held code place s = begin_held (length code) (drop place code) s
+  abbrev pub turn_held : List Instr → ℕ → State → Chain → ℕ
+  turn_held code place s k = begin_held (length code) (drop place code) s k
 
   -- the most operands in at most n turns
-  abbrev pub run_held : List Instr → ℕ → ℕ → State → ℕ
-  run_held code zero place s = 0
-  run_held code (suc n) place s = max (turn_held code place s) (ticks_then (code_turn entries constants code place s) (run_held code n))
+  abbrev pub run_held : List Instr → ℕ → ℕ → State → Chain → ℕ
+  run_held code zero place s k = 0
+  run_held code (suc n) place s k =
+      max (turn_held code place s k) (counted_then (code_turn entries constants code place s k) (run_held code n))
 
   -- the most operands in the prologue and in at most n turns of the chosen procedures
-  abbrev pub play_held : List Instr → List ℕ → List Held → ℕ → ℕ
-  play_held code chosen variables n =
-      max (held (length code) code [] (start chosen variables))
-      (ticks_then (begun (entry_of entries) (stretch entries constants (length code) code [] (start chosen variables))) (run_held code n))
+  abbrev pub play_held : List Instr → List ℕ → List Held → ℕ → Chain → ℕ
+  play_held code chosen variables n k =
+      max (held (length code) code [] (start chosen variables) k)
+      (counted_then (code_beginning entries constants code chosen variables k) (run_held code n))

@@ -1,6 +1,8 @@
 -- What the stack machine does with a code. The machine is this profile's. Places are numbers of instructions, from 0.
 use Rattle.std.specs.Prelude.{ℕ, zero, suc, ◌-◌, ◌^◌, Bool, true, false, List, [], ◌∷◌, ◌++◌, length, drop, Option, Some, None, slice_get, slice_index_or}
-use Rattle.stapl_meaning.specs.declared.events.Event.{Event}
+use Rattle.stapl_meaning.specs.declared.waits.WaitKind.{WaitKind}
+use Rattle.stapl_meaning.specs.declared.waits.WaitKind.TheVariants as waits
+use Rattle.stapl_meaning.specs.Deeds.{Deed, Chain, deeds_events, deeds_chain}
 use Rattle.stapl_meaning.specs.declared.events.RunFault.{RunFault}
 use Rattle.stapl_meaning.specs.declared.values.ValueKind.{ValueKind}
 use Rattle.stapl_meaning.specs.declared.values.ValueKind.TheVariants as kinds
@@ -11,9 +13,9 @@ use Rattle.stapl_meaning.specs.Values.{Got, Known, Faults, Stuck, then_get, comb
 use Rattle.stapl_meaning.specs.Values as values
 use Rattle.stapl_meaning.specs.Operands.{character_of}
 use Rattle.stapl_meaning.specs.declared.records.Record.{Record}
-use Rattle.stapl_meaning.specs.States.{State, Did, Turned, Leads, Over, Broken, NoTurn, preceded, turn_of_piece, next_chosen, begun, jumps_to}
+use Rattle.stapl_meaning.specs.States.{State, Did, Turned, Leads, Over, next_chosen, jumps_to, Happened, Led, Finished, Broke, Lacks, happens, with_events, happened_in_piece}
 use Rattle.stapl_meaning.specs.States as did
-use Rattle.stapl_meaning.specs.Effects.{assigned, element_assigned, Target, IntoWhole, IntoRange, copied, integers_set, jumped, parted, with_records, pushed, topmost, called, looped, repeated, returned, exited, printed, after_value, after_character, exported, bits_exported}
+use Rattle.stapl_meaning.specs.Effects.{assigned, element_assigned, Target, IntoWhole, IntoRange, copied, integers_set, jumped, parted, with_records, pushed, topmost, called, looped, repeated, returned, exited, printed, after_value, after_character, exported, bits_exported, moved_through, waited, tuned}
 use Rattle.stapl_meaning.specs.Plays.{Run, Going, goes_on, start}
 use Rattle.stapl_code.specs.declared.operators.Operator.{Operator}
 use Rattle.stapl_code.specs.declared.instr.PrintPart.{PrintPart}
@@ -25,7 +27,7 @@ use Rattle.stapl_code.specs.declared.instr.Source.TheVariants as sources
 use Rattle.stapl_code.specs.declared.instr.Dest.{Dest}
 use Rattle.stapl_code.specs.declared.instr.Dest.TheVariants as dests
 use Rattle.stapl_code.specs.declared.instr.Instr.{Instr}
-use Rattle.stapl_code.specs.declared.instr.Instr.TheVariants.{Turn, Push, PushBit, Load, LoadAt, CheckIndex, CheckRange, Store, StoreAt, Unary, Binary, ToInt, CopyBits, SetBits, SetInts, For, Next, PushRecord, PopRecord, Call, Jump, JumpIfZero, EndProc, Print, Export, CheckChar, Exit}
+use Rattle.stapl_code.specs.declared.instr.Instr.TheVariants.{Turn, Push, PushBit, Load, LoadAt, CheckIndex, CheckRange, Store, StoreAt, Unary, Binary, ToInt, CopyBits, SetBits, SetInts, For, Next, PushRecord, PopRecord, Call, Jump, JumpIfZero, EndProc, Print, Export, CheckChar, Exit, State as GoThrough, Wait, Frequency}
 use Rattle.stapl_code.specs.Operators.{operator_table, unary_kinds, unary_results}
 
 -- what instructions name by number, and no run changes
@@ -148,6 +150,17 @@ export_wants exports.Int = []
 export_wants exports.Bit = []
 export_wants (exports.Array source) = source_wants source
 
+-- what a Wait takes
+abbrev pub wait_slots : WaitKind → List Slot
+wait_slots waits.Cycles = Of kinds.Int ∷ []
+wait_slots waits.Usec = Of kinds.Int ∷ []
+wait_slots waits.Both = Of kinds.Int ∷ Of kinds.Int ∷ []
+
+-- what a Frequency takes, if one is stated
+abbrev pub frequency_slots : Bool → List Slot
+frequency_slots true = Of kinds.Int ∷ []
+frequency_slots false = []
+
 -- where a destination puts bits
 abbrev pub target_of : Dest → Target
 target_of (dests.Whole n) = IntoWhole n
@@ -173,6 +186,8 @@ takes (Print list) = part_slots list
 takes (Export key part) = export_slots part
 takes CheckChar = Of kinds.Int ∷ []
 takes Exit = Of kinds.Int ∷ []
+takes (Wait at kind last) = wait_slots kind
+takes (Frequency stated) = frequency_slots stated
 takes _ = []
 
 -- the kinds of those that it gives
@@ -280,14 +295,17 @@ module _ (entries : List ℕ) (constants : Constants) where
       does (then_get (known_text (slice_get constants.texts key)) (λ bytes. part_exported constants.literals part bytes vs s))
   made here CheckChar vs s = one vs character_of
   made here Exit vs s = does (exited vs s)
+  made here (GoThrough states) vs s = does (moved_through states vs s)
+  made here (Wait at kind last) vs s = does (waited kind at last vs s)
+  made here (Frequency stated) vs s = does (tuned vs s)
 
 -- The rule.
 
--- What one instruction does: on to the one behind it, perhaps with events; the end of the turn, which must find no
+-- What one instruction does: on to the one behind it, perhaps with deeds; the end of the turn, which must find no
 -- operand left; a fault; or what no valid code meets.
 pub data Step : Type 0 where
   Falls : (operands : List Value) (state : State) → Step
-  Emits : (events : List Event) (operands : List Value) (state : State) → Step
+  Acts : (deeds : List Deed) (operands : List Value) (state : State) → Step
   Stops : (operands : List Value) (turned : Turned) → Step
   Faulted : (fault : RunFault) (state : State) → Step
   Wrong : Step
@@ -305,10 +323,10 @@ abbrev pub on_taken : Option (List Value × List Value) → (List Value → List
 on_taken None go = Wrong
 on_taken (Some both) go = go both.0 both.1
 
--- on with these events, if there are any
-abbrev pub emitted : List Event → List Value → State → Step
-emitted [] below s = Falls below s
-emitted (e ∷ events) below s = Emits (e ∷ events) below s
+-- on with these deeds, if there are any
+abbrev pub acted : List Deed → List Value → State → Step
+acted [] below s = Falls below s
+acted (d ∷ deeds) below s = Acts (d ∷ deeds) below s
 
 -- a place that no code has
 abbrev pub nowhere : ℕ
@@ -330,7 +348,7 @@ abbrev pub on_made : List ℕ → Option ℕ → List Value → State → Got Ma
 on_made entries to below s (Known (Puts v)) = Falls (v ∷ below) s
 on_made entries to below s (Known (PutsFrom v t)) = Falls (v ∷ below) t
 on_made entries to below s (Known (PutsTwo x y)) = Falls (y ∷ x ∷ below) s
-on_made entries to below s (Known (Does (did.Falls events t))) = emitted events below t
+on_made entries to below s (Known (Does (did.Falls deeds t))) = acted deeds below t
 on_made entries to below s (Known (Does (did.Jumps t))) = Stops below (jumps_to to t)
 on_made entries to below s (Known (Does (did.Resumes place t))) = Stops below (Leads [] place t)
 on_made entries to below s (Known (Does (did.Returns t))) = Stops below (next_chosen (entry_of entries) t t.chosen)
@@ -339,17 +357,24 @@ on_made entries to below s (Faults k) = Faulted k s
 on_made entries to below s Stuck = Wrong
 
 -- the end of a turn, which must find no operand left
-abbrev pub at_end : List Value → Turned → Turned
-at_end [] t = t
-at_end (v ∷ rest) t = NoTurn []
+abbrev pub at_end : List Value → Happened → Happened
+at_end [] h = h
+at_end (v ∷ rest) h = Lacks []
 
--- a step, and then the rest of the turn
-abbrev pub continues : Step → (List Value → State → Turned) → Turned
-continues (Falls ops s) go = go ops s
-continues (Emits events ops s) go = preceded events (go ops s)
-continues (Stops ops t) go = at_end ops t
-continues (Faulted k s) go = Broken [] k s
-continues Wrong go = NoTurn []
+-- a step on a chain, and then the rest of the turn
+abbrev pub continues : Chain → Step → (List Value → State → Chain → Happened) → Happened
+continues k (Falls ops s) go = go ops s k
+continues k (Acts deeds ops s) go = with_events (deeds_events k deeds) (go ops s (deeds_chain k deeds))
+continues k (Stops ops t) go = at_end ops (happens k t)
+continues k (Faulted f s) go = Broke [] f s k
+continues k Wrong go = Lacks []
+
+-- The first chosen procedure begins where the prologue has come to its end.
+abbrev pub begins_chosen : (ℕ → ℕ) → Happened → Happened
+begins_chosen entry (Led events place s k) = with_events events (happens k (next_chosen entry s s.chosen))
+begins_chosen entry (Finished events ending s k) = Lacks events
+begins_chosen entry (Broke events f s k) = Lacks events
+begins_chosen entry (Lacks events) = Lacks events
 
 module _ (entries : List ℕ) (constants : Constants) where
   -- one instruction, which stands at a place
@@ -357,27 +382,32 @@ module _ (entries : List ℕ) (constants : Constants) where
   step here i ops s =
       on_taken (taken (length (takes i)) ops) (λ vs below. on_made entries (lands entries here i) below s (made entries constants here i vs s))
 
-  -- The rest of a turn: these instructions, which are the last ones of so many. A Turn that is met ends it.
-  abbrev pub stretch : ℕ → List Instr → List Value → State → Turned
-  stretch total [] ops s = NoTurn []
-  stretch total (i ∷ rest) ops s = continues (step (total - suc (length rest)) i ops s) (stretch total rest)
+  -- The rest of a turn on a chain: these instructions, which are the last ones of so many. A Turn that is met ends it.
+  abbrev pub stretch : ℕ → List Instr → List Value → State → Chain → Happened
+  stretch total [] ops s k = Lacks []
+  stretch total (i ∷ rest) ops s k = continues k (step (total - suc (length rest)) i ops s) (stretch total rest)
 
   -- a turn, which begins with the first of these instructions
-  abbrev pub begins : ℕ → List Instr → State → Turned
-  begins total (Turn piece ∷ rest) s = turn_of_piece piece (stretch total rest [] s)
-  begins total _ s = NoTurn []
+  abbrev pub begins : ℕ → List Instr → State → Chain → Happened
+  begins total (Turn piece ∷ rest) s k = happened_in_piece piece (stretch total rest [] s k)
+  begins total _ s k = Lacks []
 
   -- the turn that begins at a place
-  abbrev pub code_turn : List Instr → ℕ → State → Turned
-  code_turn code place s = begins (length code) (drop place code) s
+  abbrev pub code_turn : List Instr → ℕ → State → Chain → Happened
+  code_turn code place s k = begins (length code) (drop place code) s k
 
   -- at most n turns
-  abbrev pub code_run : List Instr → ℕ → ℕ → State → Run
-  code_run code zero place s = record { events = []; outcome = Going place; state = s }
-  code_run code (suc n) place s = goes_on (code_turn code place s) s (code_run code n)
+  abbrev pub code_run : List Instr → ℕ → ℕ → State → Chain → Run
+  code_run code zero place s k = record { events = []; outcome = Going place; state = s; chain = k }
+  code_run code (suc n) place s k = goes_on (code_turn code place s k) s k (code_run code n)
+
+  -- the prologue of a code, and the beginning of the first chosen procedure
+  abbrev pub code_beginning : List Instr → List ℕ → List Held → Chain → Happened
+  code_beginning code chosen variables k =
+      begins_chosen (entry_of entries) (stretch (length code) code [] (start chosen variables) k)
 
   -- The prologue and then the chosen procedures, for at most n turns. The prologue falls into the first Turn, and the first
   -- chosen procedure begins.
-  abbrev pub code_play : List Instr → List ℕ → List Held → ℕ → Run
-  code_play code chosen variables n =
-      goes_on (begun (entry_of entries) (stretch (length code) code [] (start chosen variables))) (start chosen variables) (code_run code n)
+  abbrev pub code_play : List Instr → List ℕ → List Held → ℕ → Chain → Run
+  code_play code chosen variables n k =
+      goes_on (code_beginning code chosen variables k) (start chosen variables) k (code_run code n)

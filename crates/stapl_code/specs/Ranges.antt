@@ -11,7 +11,7 @@ use Rattle.stapl_code.specs.declared.instr.Source.TheVariants as sources
 use Rattle.stapl_code.specs.declared.instr.Dest.{Dest}
 use Rattle.stapl_code.specs.declared.instr.Dest.TheVariants as dests
 use Rattle.stapl_code.specs.declared.instr.Instr.{Instr}
-use Rattle.stapl_code.specs.declared.instr.Instr.TheVariants.{Turn, PushBit, Load, LoadAt, CheckIndex, CheckRange, Store, StoreAt, Unary, Binary, ToInt, CopyBits, SetBits, SetInts, For, Next, Call, Print, Export}
+use Rattle.stapl_code.specs.declared.instr.Instr.TheVariants.{Turn, PushBit, Load, LoadAt, CheckIndex, CheckRange, Store, StoreAt, Unary, Binary, ToInt, CopyBits, SetBits, SetInts, For, Next, Call, Print, Export, State as GoThrough}
 use Rattle.stapl_code.specs.declared.raw.VarDef.{VarDef}
 use Rattle.stapl_code.specs.declared.raw.ProcDef.{ProcDef}
 use Rattle.stapl_code.specs.declared.raw.ItemDef.{ItemDef}
@@ -106,6 +106,7 @@ IsInstr variables literals texts procedures (For n body) = n < length variables
 IsInstr variables literals texts procedures (Next n) = n < length variables
 IsInstr variables literals texts procedures (Call p) = p < procedures
 IsInstr variables literals texts procedures (Print list) = (1 ≤ length list) × All (IsPart texts) list
+IsInstr variables literals texts procedures (GoThrough states) = 1 ≤ length states
 IsInstr variables literals texts procedures (Export key part) = (key < texts) × IsExport (length variables) literals part
 IsInstr variables literals texts procedures _ = Unit {0}
 

@@ -3,6 +3,7 @@
 use Rattle.std.specs.Prelude.{◌≡◌, ◌≢◌, ℕ, ◌+◌, ◌*◌, ◌<◌, ◌≤◌, List, [], ◌∷◌, length, map}
 use Rattle.stapl_meaning.specs.declared.values.Held.{Held}
 use Rattle.stapl_meaning.specs.declared.values.Held.TheVariants as held
+use Rattle.stapl_meaning.specs.Deeds.{Chain}
 use Rattle.stapl_meaning.specs.States.{State}
 use Rattle.stapl_meaning.specs.Plays.{Stopped}
 use Rattle.stapl_code.specs.declared.raw.VarDef.{VarDef}
@@ -41,27 +42,28 @@ AllBelow n [] = Unit {0}
 AllBelow n (p ∷ ps) = (p < n) × AllBelow n ps
 
 -- A valid code never stops for want of an operand, at an operand of the wrong kind, or where no turn begins: whichever
--- procedures are chosen, whatever the variables hold, and however many turns there are.
+-- procedures are chosen, whatever the variables hold, however many turns there are, and whatever answers the clocks.
 abbrev pub NeverStuck : Type 0
 NeverStuck =
     (code : CodeLists) → IsInRange code → IsValid code → (chosen : List ℕ) → AllBelow (length code.procedures) chosen →
-    (variables : List Held) → AllFit code.variables variables → (n : ℕ) →
-    (code_play (entries_of code.procedures) (constants_of code) code.instrs chosen variables n).outcome ≢ Stopped
+    (variables : List Held) → AllFit code.variables variables → (n : ℕ) (k : Chain) →
+    (code_play (entries_of code.procedures) (constants_of code) code.instrs chosen variables n k).outcome ≢ Stopped
 
 -- No play of a valid code holds more operands at once than its depth.
 abbrev pub DepthIsKept : Type 0
 DepthIsKept =
     (code : CodeLists) → IsInRange code → IsValid code → (chosen : List ℕ) → AllBelow (length code.procedures) chosen →
-    (variables : List Held) → AllFit code.variables variables → (n : ℕ) →
-    play_held (entries_of code.procedures) (constants_of code) code.instrs chosen variables n ≤ depth_of code
+    (variables : List Held) → AllFit code.variables variables → (n : ℕ) (k : Chain) →
+    play_held (entries_of code.procedures) (constants_of code) code.instrs chosen variables n k ≤ depth_of code
 
 -- From one Turn to the next a code takes no more instructions than it has.
 abbrev pub TurnsAreBounded : Type 0
 TurnsAreBounded =
-    (entries : List ℕ) (constants : Constants) (code : List Instr) (place : ℕ) (s : State) → turn_ticks entries constants code place s ≤ length code
+    (entries : List ℕ) (constants : Constants) (code : List Instr) (place : ℕ) (s : State) (k : Chain) →
+    turn_ticks entries constants code place s k ≤ length code
 
 -- A play takes no more instructions than the code has, for the prologue and for each of its turns.
 abbrev pub PlaysAreBounded : Type 0
 PlaysAreBounded =
-    (entries : List ℕ) (constants : Constants) (code : List Instr) (chosen : List ℕ) (variables : List Held) (n : ℕ) →
-    play_ticks entries constants code chosen variables n ≤ (n + 1) * length code
+    (entries : List ℕ) (constants : Constants) (code : List Instr) (chosen : List ℕ) (variables : List Held) (n : ℕ) (k : Chain) →
+    play_ticks entries constants code chosen variables n k ≤ (n + 1) * length code

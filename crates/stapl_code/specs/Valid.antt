@@ -11,15 +11,18 @@
 --   (kinds_behind).
 --   A target, that of a For too, is a Turn of the same procedure (is_target).
 --   Behind a For, a Next, a Call, a Jump and an Exit stands a Turn (departs).
+--   The last state of a State, and both of a Wait, are stable (rests_well).
 --   A procedure begins at an instruction (entry_break).
 use Rattle.std.specs.Prelude.{◌≡◌, ℕ, ◌+◌, ◌-◌, ◌&&◌, ◌||◌, not, Bool, true, false, List, [], ◌∷◌, length, Option, Some, None, slice_get, slice_range, nat_lt, nat_le, if◌then◌else◌}
 use Rattle.std.specs.List.{list_all}
+use Rattle.tap_states.specs.declared.Tap.{Tap}
+use Rattle.tap_states.specs.Tap.{is_stable_state}
 use Rattle.stapl_meaning.specs.declared.values.ValueKind.{ValueKind}
 use Rattle.stapl_code.specs.declared.raw.VarDef.{VarDef}
 use Rattle.stapl_code.specs.declared.raw.ProcDef.{ProcDef}
 use Rattle.stapl_code.specs.declared.raw.CodeLists.{CodeLists}
 use Rattle.stapl_code.specs.declared.instr.Instr.{Instr}
-use Rattle.stapl_code.specs.declared.instr.Instr.TheVariants.{Turn, Push, PushBit, Store, SetBits, SetInts, For, Next, Call, Jump, EndProc, Exit}
+use Rattle.stapl_code.specs.declared.instr.Instr.TheVariants.{Turn, Push, PushBit, Store, SetBits, SetInts, For, Next, Call, Jump, EndProc, Exit, State as GoThrough, Wait}
 use Rattle.stapl_code.specs.declared.valid.ValidateRefused.{ValidateRefused}
 use Rattle.stapl_code.specs.declared.valid.ValidateRefused.TheVariants.{Invalid, Memory}
 use Rattle.stapl_code.specs.Machine.{goes_to}
@@ -50,6 +53,21 @@ departs (Call p) = true
 departs (Jump to) = true
 departs Exit = true
 departs _ = false
+
+-- the state is stable, if there is one
+abbrev pub is_stable_if : Option Tap → Bool
+is_stable_if None = true
+is_stable_if (Some t) = is_stable_state t
+
+-- the last one of these states is stable
+abbrev pub ends_stable : List Tap → Bool
+ends_stable states = is_stable_if (slice_get states (length states - 1))
+
+-- the chain is left in stable states alone
+abbrev pub rests_well : Instr → Bool
+rests_well (GoThrough states) = ends_stable states
+rests_well (Wait at kind last) = is_stable_state at && is_stable_state last
+rests_well _ = true
 
 -- no instruction follows
 abbrev pub is_last : List Instr → Bool
@@ -90,9 +108,9 @@ module _ (entry : ℕ) (procedure : List Instr) where
   leads_well x = leads_to (goes_to x)
 
   -- An instruction stands well where it is a Turn if one has to stand there, it is an EndProc exactly if it is the last
-  -- of the procedure, and its target is a Turn of the procedure.
+  -- of the procedure, its target is a Turn of the procedure, and it leaves the chain in stable states.
   abbrev pub stands_well : Bool → Instr → Bool → Bool
-  stands_well must_turn x last = (not must_turn || is_turn (Some x)) && agree (is_end x) last && leads_well x
+  stands_well must_turn x last = (not must_turn || is_turn (Some x)) && agree (is_end x) last && leads_well x && rests_well x
 
 module _ (variables : List VarDef) where
   -- the first break of the prologue in its instructions from number i on, where the operands have these kinds

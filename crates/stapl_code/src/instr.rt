@@ -1,6 +1,7 @@
 //! The instructions of the stack machine.
 use base::ItemList;
-use stapl_meaning::ValueKind;
+use stapl_meaning::{ValueKind, WaitKind};
+use tap_states::Tap;
 
 /// A part of what a Print prints.
 #[derive(Clone, Copy, Debug, PartialEq, Eq)]
@@ -109,4 +110,11 @@ pub enum Instr {
     CheckChar,
     /// Takes an integer off the operands, and ends the play with it.
     Exit,
+    /// Moves the chain through these states, one after the other. The last one is stable.
+    State(ItemList<Tap>),
+    /// Takes the counts of a wait off the operands, the microseconds topmost, moves the chain to the first state, waits
+    /// there, and moves it to the last one. Both are stable.
+    Wait(Tap, WaitKind, Tap),
+    /// States the frequency of the clocks that follow: that which it takes off the operands, or none.
+    Frequency(bool),
 }

@@ -1,14 +1,14 @@
 //! The kinds of operands.
 ghost use Rattle.std.specs.Prelude.{◌≡◌, ◌∷◌, [], List, Some, None, IfOk, if◌then◌else◌, slice_get};
 ghost use Rattle.std.specs.List.{list_all};
-ghost use Rattle.stapl_code.specs.Machine.{Slot, Of, part_slots, slot_of, sides_of, result_of, source_slots, source_wants, dest_slots, dest_want, export_slots, export_wants, takes, gives, wants};
+ghost use Rattle.stapl_code.specs.Machine.{Slot, Of, wait_slots, frequency_slots, part_slots, slot_of, sides_of, result_of, source_slots, source_wants, dest_slots, dest_want, export_slots, export_wants, takes, gives, wants};
 ghost use Rattle.stapl_code.specs.Kinds.{off, variable_kind, element_kind, is_of_kind, is_met, put_on, taken_off, clears, all_off, all_on, kinds_behind};
 
 use crate::instr::{Dest, ExportPart, Instr, PrintPart, Source};
 use crate::operators::{Operator, operator_of, unary_kind};
 use crate::raw::VarDef;
 use base::Stack;
-use stapl_meaning::ValueKind;
+use stapl_meaning::{ValueKind, WaitKind};
 use std::alloc::AllocError;
 
 /// Takes off the topmost kind, and answers whether it was this one.
@@ -227,6 +227,25 @@ fn take_export(kinds: &mut Stack<ValueKind>, part: ExportPart) -> bool
     }
 }
 
+// Takes off the kinds of the counts of a wait, and answers whether they were there.
+fn take_counts(kinds: &mut Stack<ValueKind>, wait: WaitKind) -> bool
+    ensures { (variables : List VarDef) →
+        all_off variables (wait_slots wait) kinds.old ≡ (if result then Some kinds.new else None) }
+{
+    match wait {
+        WaitKind::Cycles | WaitKind::Usec => take(kinds, ValueKind::Int),
+        WaitKind::Both => take_indexes(kinds),
+    }
+}
+
+// Takes off the kind of a frequency, where one is stated, and answers whether it was there.
+fn take_frequency(kinds: &mut Stack<ValueKind>, stated: bool) -> bool
+    ensures { (variables : List VarDef) →
+        all_off variables (frequency_slots stated) kinds.old ≡ (if result then Some kinds.new else None) }
+{
+    !stated || take(kinds, ValueKind::Int)
+}
+
 // Takes off the kinds of the operands of an instruction, and answers whether they were there.
 fn take_operands(variables: &[VarDef], instr: &Instr, kinds: &mut Stack<ValueKind>) -> bool
     ensures { all_off variables.now (takes instr.now) kinds.old ≡ (if result then Some kinds.new else None) }
@@ -242,8 +261,11 @@ fn take_operands(variables: &[VarDef], instr: &Instr, kinds: &mut Stack<ValueKin
         | Instr::PopRecord(_)
         | Instr::Call(_)
         | Instr::Jump(_)
-        | Instr::EndProc => true,
+        | Instr::EndProc
+        | Instr::State(_) => true,
         Instr::For(_, _) => take_loop(kinds),
+        Instr::Wait(_, wait, _) => take_counts(kinds, *wait),
+        Instr::Frequency(stated) => take_frequency(kinds, *stated),
         Instr::PushRecord(kind) => take(kinds, *kind),
         Instr::Export(_, part) => take_export(kinds, *part),
         Instr::CheckRange(_) => take_indexes(kinds),
@@ -366,7 +388,10 @@ fn put_operands(
         | Instr::EndProc
         | Instr::Print(_)
         | Instr::Export(_, _)
-        | Instr::Exit => Ok(true),
+        | Instr::Exit
+        | Instr::State(_)
+        | Instr::Wait(_, _, _)
+        | Instr::Frequency(_) => Ok(true),
     }
 }
 

@@ -2,7 +2,8 @@
 ghost use Rattle.stapl_code.specs.Safe.{NeverStuck, DepthIsKept, TurnsAreBounded, PlaysAreBounded};
 
 /// A valid code in range never gets stuck: where the chosen procedures exist and the variables hold what their kinds
-/// say, no play of it finds an operand missing or of the wrong kind, or goes to a place where no turn begins.
+/// say, no play of it finds an operand missing or of the wrong kind, goes to a place where no turn begins, or waits
+/// in a state that is not stable, whatever answers the clocks of the chain.
 pub fn never_stuck()
     ensures { NeverStuck }
 {}

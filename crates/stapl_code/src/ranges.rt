@@ -183,7 +183,10 @@ fn is_instr(
             (*key as usize) < texts && is_export(variables.len(), literals, *part)
         }
         Instr::Call(procedure) => (*procedure as usize) < procedures,
-        Instr::Push(_)
+        Instr::State(states) => !states.is_empty(),
+        Instr::Wait(_, _, _)
+        | Instr::Frequency(_)
+        | Instr::Push(_)
         | Instr::PushRecord(_)
         | Instr::PopRecord(_)
         | Instr::Jump(_)

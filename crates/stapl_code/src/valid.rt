@@ -4,7 +4,7 @@ ghost use Rattle.std.specs.List.{list_all};
 ghost use Rattle.stapl_code.specs.Depth.{depth_of};
 ghost use Rattle.stapl_code.specs.Kinds.{kinds_behind};
 ghost use Rattle.stapl_code.specs.Ranges.{IsInRange};
-ghost use Rattle.stapl_code.specs.Valid.{is_turn, is_end, sets_up, departs, kinds_kept, is_target, leads_well, stands_well, prologue_break, procedure_break, next_entry, procedures_break, entry_break, first_break, IsValid, NamesFirst};
+ghost use Rattle.stapl_code.specs.Valid.{is_turn, is_end, sets_up, departs, kinds_kept, is_target, leads_well, ends_stable, rests_well, stands_well, prologue_break, procedure_break, next_entry, procedures_break, entry_break, first_break, IsValid, NamesFirst};
 
 use crate::depth::depth_of;
 use crate::instr::Instr;
@@ -15,6 +15,7 @@ use base::Stack;
 use stapl_meaning::ValueKind;
 use std::alloc::{AllocError, Global};
 use std::marker::Model;
+use tap_states::Tap;
 use thiserror::Error;
 
 /// A valid code. Contracts see it as its lists.
@@ -115,6 +116,26 @@ fn leads_well(entry: usize, procedure: &[Instr], instr: &Instr) -> bool
     }
 }
 
+// Whether the last one of these states is stable.
+fn ends_stable(states: &[Tap]) -> bool
+    ensures { result ≡ ends_stable states.now }
+{
+    match states.get(states.len().saturating_sub(1)) {
+        Some(state) => state.is_stable(),
+        None => true,
+    }
+}
+
+fn rests_well(instr: &Instr) -> bool
+    ensures { result ≡ rests_well instr.now }
+{
+    match instr {
+        Instr::State(states) => ends_stable(states.as_slice()),
+        Instr::Wait(at, _, last) => at.is_stable() && last.is_stable(),
+        _ => true,
+    }
+}
+
 /// Does to the kinds what an instruction of the prologue does, and answers whether it found its operands and, as the
 /// last one, left none.
 fn follow_prologue(
@@ -183,7 +204,10 @@ fn stands_well(
 ) -> bool
     ensures { result ≡ stands_well entry procedure.now must_turn instr.now last }
 {
-    (!must_turn || is_turn(instr)) && is_end(instr) == last && leads_well(entry, procedure, instr)
+    (!must_turn || is_turn(instr))
+        && is_end(instr) == last
+        && leads_well(entry, procedure, instr)
+        && rests_well(instr)
 }
 
 /// The first break of the procedures.
