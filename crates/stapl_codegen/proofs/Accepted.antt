@@ -6,7 +6,7 @@ use Rattle.std.proofs.lemmas.List.{append-nil}
 use Rattle.std.proofs.lemmas.List.Elements.{All-nil, All-cons, All-head, All-tail, All-append, All-weaker}
 use Rattle.std.proofs.lemmas.List.Sums.{sum_by-cons}
 use Rattle.stapl_lexer.specs.Pieces.{text_limit}
-use Rattle.stapl_syntax.specs.Trees.{ArrayTree, literal, PartTree, string, value, character, BodyTree, end_data, boolean, boolean_array, integer, integer_array, assign, assign_element, assign_array, assign_range, if_then, for_loop, push, pop, print, exported_value, exported_array, export, exit, StmtTree}
+use Rattle.stapl_syntax.specs.Trees.{ArrayTree, literal, PartTree, string, value, character, BodyTree, end_data, boolean, boolean_array, integer, integer_array, assign, assign_element, assign_array, assign_range, if_then, for_loop, push, pop, print, exported_value, exported_array, export, exit, wait_cycles, wait_usec, frequency, StmtTree}
 use Rattle.stapl_built.specs.Built.{is_built_outer, is_built_inner, IsBuilt}
 use Rattle.stapl_built.specs.Unbuilt.{IsBuiltProgram}
 use Rattle.stapl_built.specs.Sizes.{body_size, statements_size}
@@ -147,6 +147,9 @@ some_size (pop cell) = omega arith
 some_size (export key x) = omega arith
 some_size (print parts) = omega arith
 some_size (exit x) = omega arith
+some_size (wait_cycles state x usec end) = omega arith
+some_size (wait_usec state x end) = omega arith
+some_size (frequency hertz) = omega arith
 some_size _ = omega arith
 
 pieces_size : (now : Option (List ℕ)) (rest : List StmtTree) → statements_size (pieces_from now rest) ≤ statements_size rest

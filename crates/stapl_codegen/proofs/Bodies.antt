@@ -1,10 +1,10 @@
 -- The code of a statement does what the statement does.
 use Rattle.std.proofs.Common.{◌≡◌, ℕ, suc, ◌-◌, Bool, true, false, List, [], ◌∷◌, ◌++◌, length, Option, Some, None, refl, sym, ap, subst, ◌∙◌, arith, length-append}
-use Rattle.std.specs.Prelude.{ℤ, nat_abs, map, slice_get, slice_set}
+use Rattle.std.specs.Prelude.{ℤ, nat_abs, is_some, map, slice_get, slice_set}
 use Rattle.std.proofs.lemmas.Bool.{true≢false}
-use Rattle.stapl_syntax.specs.Trees.{ExprTree, BodyTree, scalar, element, end_procedure, boolean, boolean_array, integer, integer_array, assign, assign_element, assign_array, assign_range, call, goto, if_then, for_loop, next, push, pop, print, exported_value, exported_array, export, exit}
+use Rattle.stapl_syntax.specs.Trees.{ExprTree, BodyTree, scalar, element, end_procedure, boolean, boolean_array, integer, integer_array, assign, assign_element, assign_array, assign_range, call, goto, if_then, for_loop, next, push, pop, print, exported_value, exported_array, export, exit, state_list, wait_cycles, wait_usec, frequency}
 use Rattle.stapl_syntax.specs.Kinds.{expr_kind}
-use Rattle.stapl_meaning.specs.declared.events.Event.{Event}
+use Rattle.stapl_meaning.specs.Deeds.{Deed, Chain, deeds_events, deeds_chain}
 use Rattle.stapl_meaning.specs.declared.events.RunFault.{RunFault}
 use Rattle.stapl_meaning.specs.declared.events.RunFault.TheVariants.{IndexOutOfRange}
 use Rattle.stapl_meaning.specs.declared.records.Record.{Record}
@@ -17,18 +17,18 @@ use Rattle.stapl_meaning.specs.declared.values.ValueKind.{ValueKind}
 use Rattle.stapl_meaning.specs.declared.values.ValueKind.TheVariants as kinds
 use Rattle.stapl_meaning.specs.Values.{Got, Known, Faults, Stuck, then_get, is_index, passed, index_held, Lookup, value_of}
 use Rattle.stapl_meaning.specs.Operands.{an_index, values_of, given_kind, printed_kind}
-use Rattle.stapl_meaning.specs.States.{State, Did, Falls, Jumps, Resumes, Returns, Ends, Turned, Leads, Over, Broken, NoTurn, with_got, preceded, turn_of_piece, next_chosen, jumps_to, led}
+use Rattle.stapl_meaning.specs.States.{State, Did, Falls, Jumps, Resumes, Returns, Ends, Turned, Leads, Over, Broken, NoTurn, with_got, preceded, turn_of_piece, next_chosen, jumps_to, led, Led, happens, with_events}
 use Rattle.stapl_meaning.specs.Effects.{with_scalar, replaced, scalar_written, written, assigned, with_element, element_written, element_assigned, IntoWhole, IntoRange, copied, with_records, value_as, topmost, popped, called, returned_from, printed, exported, bits_exported}
 use Rattle.stapl_meaning.specs.Scopes.{Scope}
-use Rattle.stapl_meaning.specs.Turns.{operands, effect, target, rows, carried, rows_done, done}
+use Rattle.stapl_meaning.specs.Turns.{kind_of_wait, integer_given, operands, effect, target, rows, carried, rows_done, done}
 use Rattle.stapl_code.specs.declared.instr.Instr.{Instr}
 use Rattle.stapl_code.specs.declared.instr.Instr.TheVariants.{Store, StoreAt, PopRecord, EndProc}
-use Rattle.stapl_code.specs.Machine.{Constants, Step, Does, does, two, unrecorded, export_slots, known_literal, known_source, known_text, part_exported, takes, lands, made, on_taken, taken, on_made, continues, stretch, entry_of}
-use Rattle.stapl_code.proofs.Preceded.{preceded_nothing}
+use Rattle.stapl_code.specs.Machine.{Constants, Step, Does, does, two, unrecorded, export_slots, known_literal, known_source, known_text, part_exported, wait_slots, frequency_slots, takes, lands, made, on_taken, taken, on_made, continues, stretch, entry_of}
+use Rattle.stapl_code.proofs.Preceded.{with_nothing, happens_behind}
 use Rattle.stapl_codegen.specs.Emit.{Firsts, last, between, source_code, export_part, row_texts, row_literals, behind_row, rows_items, body_texts, body_literals, row_code, rows_code, body_code}
 use Rattle.stapl_codegen.specs.Correct.{falls, placed_record, placed_state}
 use Rattle.stapl_codegen.proofs.Constants.{HasConstants, row_has, others_have, item_known, source_known, source_count}
-use Rattle.stapl_codegen.proofs.Exprs.{with_known, onto, taken-onto, operands_follow, one_each}
+use Rattle.stapl_codegen.proofs.Exprs.{got_on, with_known, onto, taken-onto, operands_follow, one_each}
 use Rattle.stapl_codegen.proofs.Placed.{placed_did, placed_got, keeps_place, effect_placed, called_placed, looped_placed, assigned_placed, element_placed}
 use Rattle.stapl_codegen.proofs.Prints.{parts_are_joined, parts_count}
 use Rattle.stapl_codegen.proofs.Rows.{is_call, CallsLast, calls_last}
@@ -44,16 +44,22 @@ abbrev target_placed : (ℕ → ℕ) → Option ℕ → Option ℕ
 target_placed place None = None
 target_placed place (Some to) = Some (place to)
 
-pub with_placed : {A : Type 0} (place : ℕ → ℕ) (g : Got A) (s : State) (k : A → Turned) → with_got g (placed_state place s) (λ x. placed place (k x)) ≡ placed place (with_got g s k)
-with_placed place (Known x) s k = refl
-with_placed place (Faults f) s k = refl
-with_placed place Stuck s k = refl
+pub with_placed : {A : Type 0} (place : ℕ → ℕ) (g : Got A) (s : State) (chain : Chain) (k : A → Turned) →
+    got_on g (placed_state place s) chain (λ x. happens chain (placed place (k x))) ≡ happens chain (placed place (with_got g s k))
+with_placed place (Known x) s chain k = refl
+with_placed place (Faults f) s chain k = refl
+with_placed place Stuck s chain k = refl
 
-pub preceded_placed : (place : ℕ → ℕ) (es : List Event) (t : Turned) → preceded es (placed place t) ≡ placed place (preceded es t)
-preceded_placed place es (Leads fs i s) = refl
-preceded_placed place es (Over fs ending s) = refl
-preceded_placed place es (Broken fs k s) = refl
-preceded_placed place es (NoTurn fs) = refl
+pub preceded_placed : (place : ℕ → ℕ) (ds : List Deed) (t : Turned) → preceded ds (placed place t) ≡ placed place (preceded ds t)
+preceded_placed place ds (Leads es i s) = refl
+preceded_placed place ds (Over es ending s) = refl
+preceded_placed place ds (Broken es k s) = refl
+preceded_placed place ds (NoTurn es) = refl
+
+-- deeds in front of a turn, on a chain
+deeds_placed : (place : ℕ → ℕ) (chain : Chain) (ds : List Deed) (t : Turned) →
+    with_events (deeds_events chain ds) (happens (deeds_chain chain ds) (placed place t)) ≡ happens chain (placed place (preceded ds t))
+deeds_placed place chain ds t = sym (happens_behind chain ds (placed place t)) ∙ ap (happens chain) (preceded_placed place ds t)
 
 jump_placed : (place : ℕ → ℕ) (to : Option ℕ) (s : State) → jumps_to (target_placed place to) (placed_state place s) ≡ placed place (jumps_to to s)
 jump_placed place None s = refl
@@ -184,7 +190,7 @@ module _ (place : ℕ → ℕ) (entries : List ℕ) (constants : Constants) (tot
 
   -- the next turn follows behind a statement
   pub record Behind (rest : List Instr) : Type 0 where
-    pub falls_on : (t : State) → stretch entries constants total rest [] t ≡ Leads [] (place scope.follow) t
+    pub falls_on : (t : State) (k : Chain) → stretch entries constants total rest [] t k ≡ Led [] (place scope.follow) t k
     pub is_behind : IsBehind rest
 
   -- procedures begin where the code says
@@ -195,19 +201,23 @@ module _ (place : ℕ → ℕ) (entries : List ℕ) (constants : Constants) (tot
   end_law s [] entry_is = refl
   end_law s (p ∷ ps) entry_is = ap (λ i. Leads [] i (record (placed_state place s) { chosen = ps })) (entry_is p)
 
-  did_follows : (to : Option ℕ) (g : Got Did) (s : State) (rest : List Instr) (go : State → Turned) → EntriesAre →
-      ((t : State) → stretch entries constants total rest [] (placed_state place t) ≡ placed place (go t)) →
-      continues (on_made entries (target_placed place to) [] (placed_state place s) (does (placed_got place g))) (stretch entries constants total rest)
-      ≡ placed place (with_got g s (λ did. led scope.entry to did go))
-  did_follows to (Known (Falls [] t)) s rest go entry_is more = more t ∙ ap (placed place) (preceded_nothing (go t))
-  did_follows to (Known (Falls (e ∷ es) t)) s rest go entry_is more =
-      ap (preceded (e ∷ es)) (more t) ∙ preceded_placed place (e ∷ es) (go t)
-  did_follows to (Known (Jumps t)) s rest go entry_is more = jump_placed place to t
-  did_follows to (Known (Resumes i t)) s rest go entry_is more = refl
-  did_follows to (Known (Returns t)) s rest go entry_is more = end_law t t.chosen entry_is
-  did_follows to (Known (Ends ending t)) s rest go entry_is more = refl
-  did_follows to (Faults k) s rest go entry_is more = refl
-  did_follows to Stuck s rest go entry_is more = refl
+  -- the code from here on does what the program does
+  abbrev GoesAlike : List Instr → (State → Turned) → Type 0
+  GoesAlike rest go = (t : State) (k : Chain) → stretch entries constants total rest [] (placed_state place t) k ≡ happens k (placed place (go t))
+
+  did_follows : (to : Option ℕ) (g : Got Did) (s : State) (k : Chain) (rest : List Instr) (go : State → Turned) → EntriesAre → GoesAlike rest go →
+      continues k (on_made entries (target_placed place to) [] (placed_state place s) (does (placed_got place g))) (stretch entries constants total rest)
+      ≡ happens k (placed place (with_got g s (λ did. led scope.entry to did go)))
+  did_follows to (Known (Falls [] t)) s k rest go entry_is more =
+      more t k ∙ with_nothing (happens k (placed place (go t))) ∙ deeds_placed place k [] (go t)
+  did_follows to (Known (Falls (d ∷ ds) t)) s k rest go entry_is more =
+      ap (with_events (deeds_events k (d ∷ ds))) (more t (deeds_chain k (d ∷ ds))) ∙ deeds_placed place k (d ∷ ds) (go t)
+  did_follows to (Known (Jumps t)) s k rest go entry_is more = ap (happens k) (jump_placed place to t)
+  did_follows to (Known (Resumes i t)) s k rest go entry_is more = refl
+  did_follows to (Known (Returns t)) s k rest go entry_is more = ap (happens k) (end_law t t.chosen entry_is)
+  did_follows to (Known (Ends ending t)) s k rest go entry_is more = refl
+  did_follows to (Faults f) s k rest go entry_is more = refl
+  did_follows to Stuck s k rest go entry_is more = refl
 
   -- an instruction takes all these operands, does this with them, and leads to this target
   pub record DoesSo (i : Instr) (here : ℕ) (vs : List Value) (s : State) (g : Got Did) (to : Option ℕ) : Type 0 where
@@ -215,25 +225,24 @@ module _ (place : ℕ → ℕ) (entries : List ℕ) (constants : Constants) (tot
     pub same : made entries constants here i vs (placed_state place s) ≡ does (placed_got place g)
     pub leads : lands entries here i ≡ target_placed place to
 
-  instr_follows : (i : Instr) (rest : List Instr) (vs : List Value) (s : State) (g : Got Did) (to : Option ℕ) (go : State → Turned) →
-      DoesSo i (total - suc (length rest)) vs s g to → EntriesAre →
-      ((t : State) → stretch entries constants total rest [] (placed_state place t) ≡ placed place (go t)) →
-      stretch entries constants total (i ∷ rest) (onto vs []) (placed_state place s) ≡ placed place (with_got g s (λ did. led scope.entry to did go))
-  instr_follows i rest vs s g to go so entry_is more =
+  instr_follows : (i : Instr) (rest : List Instr) (vs : List Value) (s : State) (k : Chain) (g : Got Did) (to : Option ℕ) (go : State → Turned) →
+      DoesSo i (total - suc (length rest)) vs s g to → EntriesAre → GoesAlike rest go →
+      stretch entries constants total (i ∷ rest) (onto vs []) (placed_state place s) k ≡ happens k (placed place (with_got g s (λ did. led scope.entry to did go)))
+  instr_follows i rest vs s k g to go so entry_is more =
       let here : ℕ = total - suc (length rest) in
       let made_of : List Value → List Value → Step = λ ws below. on_made entries (lands entries here i) below (placed_state place s) (made entries constants here i ws (placed_state place s)) in
-      ap (λ n. continues (on_taken (taken n (onto vs [])) made_of) (stretch entries constants total rest)) so.count
-      ∙ ap (λ o. continues (on_taken o made_of) (stretch entries constants total rest)) (taken-onto vs [])
-      ∙ ap (λ g. continues (on_made entries (lands entries here i) [] (placed_state place s) g) (stretch entries constants total rest)) so.same
-      ∙ ap (λ to. continues (on_made entries to [] (placed_state place s) (does (placed_got place g))) (stretch entries constants total rest)) so.leads
-      ∙ did_follows to g s rest go entry_is more
+      ap (λ n. continues k (on_taken (taken n (onto vs [])) made_of) (stretch entries constants total rest)) so.count
+      ∙ ap (λ o. continues k (on_taken o made_of) (stretch entries constants total rest)) (taken-onto vs [])
+      ∙ ap (λ g. continues k (on_made entries (lands entries here i) [] (placed_state place s) g) (stretch entries constants total rest)) so.same
+      ∙ ap (λ to. continues k (on_made entries to [] (placed_state place s) (does (placed_got place g))) (stretch entries constants total rest)) so.leads
+      ∙ did_follows to g s k rest go entry_is more
 
   -- What stands behind the operands of a row does with their values what the row does.
   pub record Tied (first : Firsts) (b : BodyTree) : Type 0 where
-    pub follows : (rest : List Instr) (vs : List Value) (s : State) (go : State → Turned) → values_of scope.look s.store.variables (operands scope b) ≡ Known vs →
-        (is_call b ≡ true → IsBehind rest) → ((t : State) → stretch entries constants total rest [] (placed_state place t) ≡ placed place (go t)) →
-        stretch entries constants total (between scope b (last scope place first b ∷ rest)) (onto vs []) (placed_state place s)
-        ≡ placed place (with_got (effect scope b vs s) s (λ did. led scope.entry (target scope b) did go))
+    pub follows : (rest : List Instr) (vs : List Value) (s : State) (k : Chain) (go : State → Turned) → values_of scope.look s.store.variables (operands scope b) ≡ Known vs →
+        (is_call b ≡ true → IsBehind rest) → GoesAlike rest go →
+        stretch entries constants total (between scope b (last scope place first b ∷ rest)) (onto vs []) (placed_state place s) k
+        ≡ happens k (placed place (with_got (effect scope b vs s) s (λ did. led scope.entry (target scope b) did go)))
 
   module _ (first : Firsts) (b : BodyTree) (entry_is : EntriesAre) where
     -- what is so of the last instruction of a row, which stands right behind the operands
@@ -250,10 +259,10 @@ module _ (place : ℕ → ℕ) (entries : List ℕ) (constants : Constants) (tot
         ((here : ℕ) (vs : List Value) (s : State) → (is_call b ≡ true → suc here ≡ place scope.follow) →
         made entries constants here (last scope place first b) vs (placed_state place s) ≡ does (placed_got place (effect scope b vs s))) → Tied first b
     simply alone count leads same = record {
-      follows = λ rest vs s go e behind more.
+      follows = λ rest vs s k go e behind more.
           let here : ℕ = total - suc (length rest) in
-          ap (λ l. stretch entries constants total l (onto vs []) (placed_state place s)) (alone (last scope place first b ∷ rest))
-          ∙ instr_follows (last scope place first b) rest vs s (effect scope b vs s) (target scope b) go
+          ap (λ l. stretch entries constants total l (onto vs []) (placed_state place s) k) (alone (last scope place first b ∷ rest))
+          ∙ instr_follows (last scope place first b) rest vs s k (effect scope b vs s) (target scope b) go
           (record { count = count ∙ one_each scope.look s (operands scope b) vs e; same = same here vs s behind; leads = leads here }) entry_is more;
     }
 
@@ -277,33 +286,33 @@ module _ (place : ℕ → ℕ) (entries : List ℕ) (constants : Constants) (tot
     pub is_placed : (vs : List Value) (s : State) → does_so vs (placed_state place s) ≡ placed_got place (does_so vs s)
 
   pop_follows : (kind : ValueKind) (i : Instr) (assigns : List Value → State → Got Did) → Assigns i assigns → EntriesAre →
-      (rest : List Instr) (vs : List Value) (s : State) (go : State → Turned) → length (takes i) ≡ suc (length vs) →
+      (rest : List Instr) (vs : List Value) (s : State) (k : Chain) (go : State → Turned) → length (takes i) ≡ suc (length vs) →
       ((v : Value) (records : List Record) → NeverFaults (assigns (vs ++ v ∷ []) (with_records s records))) →
-      ((t : State) → stretch entries constants total rest [] (placed_state place t) ≡ placed place (go t)) →
-      stretch entries constants total (PopRecord kind ∷ i ∷ rest) (onto vs []) (placed_state place s)
-      ≡ placed place (with_got (popped kind assigns vs s) s (λ did. led scope.entry None did go))
-  pop_follows kind i assigns is entry_is rest vs s go count never more = by s.records
+      GoesAlike rest go →
+      stretch entries constants total (PopRecord kind ∷ i ∷ rest) (onto vs []) (placed_state place s) k
+      ≡ happens k (placed place (with_got (popped kind assigns vs s) s (λ did. led scope.entry None did go)))
+  pop_follows kind i assigns is entry_is rest vs s k go count never more = by s.records
     where
       leads_on : Did → Turned
       leads_on did = led scope.entry None did go
 
       by : (records : List Record) →
-          continues (on_made entries None (onto vs []) (placed_state place s) (unrecorded (topmost kind (map (placed_record place) records)) (placed_state place s))) (stretch entries constants total (i ∷ rest))
-          ≡ placed place (with_got (then_get (topmost kind records) (λ top. assigns (vs ++ top.0 ∷ []) (with_records s top.1))) s (λ did. led scope.entry None did go))
+          continues k (on_made entries None (onto vs []) (placed_state place s) (unrecorded (topmost kind (map (placed_record place) records)) (placed_state place s))) (stretch entries constants total (i ∷ rest))
+          ≡ happens k (placed place (with_got (then_get (topmost kind records) (λ top. assigns (vs ++ top.0 ∷ []) (with_records s top.1))) s (λ did. led scope.entry None did go)))
       by [] = refl
       by (Called i ∷ records) = refl
       by (Looped l ∷ records) = refl
       by (Pushed z ∷ records) =
           let v : Value = value_as kind z in
           let t : State = with_records s records in
-          ap (λ ops. stretch entries constants total (i ∷ rest) ops (placed_state place t)) (sym (onto_one vs [] v))
-          ∙ instr_follows i rest (vs ++ v ∷ []) t (assigns (vs ++ v ∷ []) t) None go
+          ap (λ ops. stretch entries constants total (i ∷ rest) ops (placed_state place t) k) (sym (onto_one vs [] v))
+          ∙ instr_follows i rest (vs ++ v ∷ []) t k (assigns (vs ++ v ∷ []) t) None go
           (record {
             count = omega (arith, count, length-append vs (v ∷ []));
             same = is.same (total - suc (length rest)) (vs ++ v ∷ []) (placed_state place t) ∙ ap does (is.is_placed (vs ++ v ∷ []) t);
             leads = is.leads (total - suc (length rest));
           }) entry_is more
-          ∙ ap (placed place) (same_state (assigns (vs ++ v ∷ []) t) s t (λ did. led scope.entry None did go) (never v records))
+          ∙ ap (λ u. happens k (placed place u)) (same_state (assigns (vs ++ v ∷ []) t) s t (λ did. led scope.entry None did go) (never v records))
 
   -- ---- a line for each statement
 
@@ -314,6 +323,15 @@ module _ (place : ℕ → ℕ) (entries : List ℕ) (constants : Constants) (tot
   value_count : (kind : ValueKind) → length (export_slots (export_part kind)) ≡ 1
   value_count kinds.Int = refl
   value_count kinds.Bit = refl
+
+  -- a WAIT takes its counts, and a FREQUENCY what is stated
+  wait_count : (usec : Option ExprTree) → length (wait_slots (kind_of_wait usec)) ≡ suc (length (integer_given usec))
+  wait_count None = refl
+  wait_count (Some e) = refl
+
+  frequency_count : (hertz : Option ExprTree) → length (frequency_slots (is_some hertz)) ≡ length (integer_given hertz)
+  frequency_count None = refl
+  frequency_count (Some e) = refl
 
   pub row_tied : (first : Firsts) (b : BodyTree) → EntriesAre → HasConstants constants first (row_texts b) (row_literals b) → Tied first b
   row_tied first end_procedure entry_is has = plainly first end_procedure entry_is refl (λ l. refl) refl (λ here. refl) (λ here vs s. refl)
@@ -351,15 +369,15 @@ module _ (place : ℕ → ℕ) (entries : List ℕ) (constants : Constants) (tot
   row_tied first (next name) entry_is has = plainly first (next name) entry_is refl (λ l. refl) refl (λ here. refl) (λ here vs s. refl)
   row_tied first (push e) entry_is has = plainly first (push e) entry_is refl (λ l. refl) refl (λ here. refl) (λ here vs s. refl)
   row_tied first (pop (scalar name)) entry_is has = record {
-    follows = λ rest vs s go e behind more.
+    follows = λ rest vs s k go e behind more.
         pop_follows (given_kind (scope.look.kind name)) (Store (scope.look.variable name)) (assigned (scope.look.variable name))
-        (record { same = λ here ws t. refl; leads = λ here. refl; is_placed = assigned_placed place (scope.look.variable name) }) entry_is rest vs s go
+        (record { same = λ here ws t. refl; leads = λ here. refl; is_placed = assigned_placed place (scope.look.variable name) }) entry_is rest vs s k go
         (ap suc (one_each scope.look s [] vs e)) (scalar_never (scope.look.variable name) vs s) more;
   }
   row_tied first (pop (element name index)) entry_is has = record {
-    follows = λ rest vs s go e behind more.
+    follows = λ rest vs s k go e behind more.
         pop_follows (given_kind (scope.look.kind name)) (StoreAt (scope.look.variable name)) (element_assigned (scope.look.variable name))
-        (record { same = λ here ws t. refl; leads = λ here. refl; is_placed = element_placed place (scope.look.variable name) }) entry_is rest vs s go
+        (record { same = λ here ws t. refl; leads = λ here. refl; is_placed = element_placed place (scope.look.variable name) }) entry_is rest vs s k go
         (ap suc (one_each scope.look s (operands scope (pop (element name index))) vs e))
         (element_never scope.look (scope.look.variable name) index vs s e) more;
   }
@@ -379,20 +397,25 @@ module _ (place : ℕ → ℕ) (entries : List ℕ) (constants : Constants) (tot
       (item_known constants.texts first.text key has.texts)
       ∙ ap (λ g. does (then_get g (λ from. bits_exported key from vs s))) (source_known constants.literals scope.look first.literal a has.literals))
   row_tied first (exit e) entry_is has = plainly first (exit e) entry_is refl (λ l. refl) refl (λ here. refl) (λ here vs s. refl)
+  row_tied first (state_list states) entry_is has = plainly first (state_list states) entry_is refl (λ l. refl) refl (λ here. refl) (λ here vs s. refl)
+  row_tied first (wait_cycles state cycles usec end) entry_is has =
+      plainly first (wait_cycles state cycles usec end) entry_is refl (λ l. refl) (wait_count usec) (λ here. refl) (λ here vs s. refl)
+  row_tied first (wait_usec state usec end) entry_is has = plainly first (wait_usec state usec end) entry_is refl (λ l. refl) refl (λ here. refl) (λ here vs s. refl)
+  row_tied first (frequency hertz) entry_is has = plainly first (frequency hertz) entry_is refl (λ l. refl) (frequency_count hertz) (λ here. refl) (λ here vs s. refl)
   row_tied first _ entry_is has = plainly first _ entry_is refl (λ l. refl) refl (λ here. refl) (λ here vs s. nothing_made vs)
 
   -- ---- rows, and statements
 
   -- the law of all rows
-  pub row_follows : (s : State) (first : Firsts) (b : BodyTree) (rest : List Instr) (go : State → Turned) → Tied first b →
-      (is_call b ≡ true → IsBehind rest) → ((t : State) → stretch entries constants total rest [] (placed_state place t) ≡ placed place (go t)) →
-      stretch entries constants total (row_code scope place first b rest) [] (placed_state place s) ≡ placed place (carried scope b s go)
-  row_follows s first b rest go tied behind more =
+  pub row_follows : (s : State) (k : Chain) (first : Firsts) (b : BodyTree) (rest : List Instr) (go : State → Turned) → Tied first b →
+      (is_call b ≡ true → IsBehind rest) → GoesAlike rest go →
+      stretch entries constants total (row_code scope place first b rest) [] (placed_state place s) k ≡ happens k (placed place (carried scope b s go))
+  row_follows s k first b rest go tied behind more =
       let values : Got (List Value) = values_of scope.look s.store.variables (operands scope b) in
       let did : List Value → Turned = λ vs. with_got (effect scope b vs s) s (λ did. led scope.entry (target scope b) did go) in
-      operands_follow entries constants total (placed_state place s) scope.look (operands scope b) (between scope b (last scope place first b ∷ rest)) []
-      ∙ with_known values (placed_state place s) _ (λ vs. placed place (did vs)) (λ vs e. tied.follows rest vs s go e behind more)
-      ∙ with_placed place values s did
+      operands_follow entries constants total (placed_state place s) k scope.look (operands scope b) (between scope b (last scope place first b ∷ rest)) []
+      ∙ with_known values (placed_state place s) k _ (λ vs. happens k (placed place (did vs))) (λ vs e. tied.follows rest vs s k go e behind more)
+      ∙ with_placed place values s k did
 
   -- the place behind a CALL is that behind its statement
   call_behind : (first : Firsts) (b : BodyTree) (bs : List BodyTree) (rest : List Instr) → CallsLast (b ∷ bs) → IsBehind rest → is_call b ≡ true →
@@ -404,41 +427,43 @@ module _ (place : ℕ → ℕ) (entries : List ℕ) (constants : Constants) (tot
   rows_behind b [] last = tt
   rows_behind b (c ∷ bs) last = last.1
 
-  rows_follow : (s : State) (first : Firsts) (bs : List BodyTree) (rest : List Instr) → EntriesAre → HasConstants constants first (rows_items row_texts bs) (rows_items row_literals bs) →
-      CallsLast bs → Behind rest → stretch entries constants total (rows_code scope place first bs rest) [] (placed_state place s) ≡ placed place (rows_done scope bs s)
-  rows_follow s first [] rest entry_is has last behind = behind.falls_on (placed_state place s)
-  rows_follow s first (b ∷ bs) rest entry_is has last behind =
+  rows_follow : (s : State) (k : Chain) (first : Firsts) (bs : List BodyTree) (rest : List Instr) → EntriesAre → HasConstants constants first (rows_items row_texts bs) (rows_items row_literals bs) →
+      CallsLast bs → Behind rest → stretch entries constants total (rows_code scope place first bs rest) [] (placed_state place s) k ≡ happens k (placed place (rows_done scope bs s))
+  rows_follow s k first [] rest entry_is has last behind = behind.falls_on (placed_state place s) k
+  rows_follow s k first (b ∷ bs) rest entry_is has last behind =
       let own = row_has constants first (row_texts b) (rows_items row_texts bs) (row_literals b) (rows_items row_literals bs) has in
       let others = others_have constants first (row_texts b) (rows_items row_texts bs) (row_literals b) (rows_items row_literals bs) has in
-      row_follows s first b (rows_code scope place (behind_row first b) bs rest) (rows_done scope bs) (row_tied first b entry_is own)
+      row_follows s k first b (rows_code scope place (behind_row first b) bs rest) (rows_done scope bs) (row_tied first b entry_is own)
       (call_behind (behind_row first b) b bs rest last behind.is_behind)
-      (λ t. rows_follow t (behind_row first b) bs rest entry_is others (rows_behind b bs last) behind)
+      (λ t l. rows_follow t l (behind_row first b) bs rest entry_is others (rows_behind b bs last) behind)
 
   -- ENDPROC alone may be the last statement of the code: it never goes on to what stands behind it
   ends : (b : BodyTree) → falls b ≡ false → b ≡ end_procedure
   ends end_procedure e = refl
   ends _ e = absurd cc
 
-  end_follows : (s : State) (rest : List Instr) → EntriesAre →
-      stretch entries constants total (EndProc ∷ rest) [] (placed_state place s) ≡ placed place (done scope s end_procedure)
-  end_follows s rest entry_is =
-      ap (λ g. continues (on_made entries None [] (placed_state place s) (does g)) (stretch entries constants total rest)) (effect_placed place scope end_procedure refl [] s)
+  end_follows : (s : State) (k : Chain) (rest : List Instr) → EntriesAre →
+      stretch entries constants total (EndProc ∷ rest) [] (placed_state place s) k ≡ happens k (placed place (done scope s end_procedure))
+  end_follows s k rest entry_is =
+      ap (λ g. continues k (on_made entries None [] (placed_state place s) (does g)) (stretch entries constants total rest)) (effect_placed place scope end_procedure refl [] s)
       ∙ by s.records
     where
       by : (records : List Record) →
-          continues (on_made entries None [] (placed_state place s) (Known (Does (placed_did place (returned_from records s))))) (stretch entries constants total rest)
-          ≡ placed place (led scope.entry None (returned_from records s) (rows_done scope []))
-      by [] = end_law (with_records s []) s.chosen entry_is
+          continues k (on_made entries None [] (placed_state place s) (Known (Does (placed_did place (returned_from records s))))) (stretch entries constants total rest)
+          ≡ happens k (placed place (led scope.entry None (returned_from records s) (rows_done scope [])))
+      by [] = ap (happens k) (end_law (with_records s []) s.chosen entry_is)
       by (Pushed z ∷ records) = by records
       by (Called i ∷ records) = refl
       by (Looped l ∷ records) = by records
 
-  pub body_follows : (s : State) (first : Firsts) (b : BodyTree) (rest : List Instr) → EntriesAre → (falls b ≡ true → Behind rest) → HasConstants constants first (body_texts b) (body_literals b) →
-      stretch entries constants total (body_code scope place first b rest) [] (placed_state place s) ≡ placed place (done scope s b)
-  body_follows s first b rest entry_is behind has = by (falls b) refl
+  -- the code of a statement does in a state and on a chain what the statement does
+  abbrev Follows : State → Chain → Firsts → BodyTree → List Instr → Type 0
+  Follows s k first b rest = stretch entries constants total (body_code scope place first b rest) [] (placed_state place s) k ≡ happens k (placed place (done scope s b))
+
+  pub body_follows : (s : State) (k : Chain) (first : Firsts) (b : BodyTree) (rest : List Instr) → EntriesAre → (falls b ≡ true → Behind rest) → HasConstants constants first (body_texts b) (body_literals b) →
+      Follows s k first b rest
+  body_follows s k first b rest entry_is behind has = by (falls b) refl
     where
-      by : (t : Bool) → falls b ≡ t → stretch entries constants total (body_code scope place first b rest) [] (placed_state place s) ≡ placed place (done scope s b)
-      by true e = rows_follow s first (rows b) rest entry_is has (calls_last b) (behind e)
-      by false e =
-          subst (λ c. stretch entries constants total (body_code scope place first c rest) [] (placed_state place s) ≡ placed place (done scope s c)) (sym (ends b e))
-          (end_follows s rest entry_is)
+      by : (t : Bool) → falls b ≡ t → Follows s k first b rest
+      by true e = rows_follow s k first (rows b) rest entry_is has (calls_last b) (behind e)
+      by false e = subst (λ c. Follows s k first c rest) (sym (ends b e)) (end_follows s k rest entry_is)

@@ -1,6 +1,8 @@
 pub mod Heads
 pub mod Places
 pub mod Views
+pub mod Stable
+pub mod Taps
 pub mod Exprs
 pub mod Constants
 pub mod Prints

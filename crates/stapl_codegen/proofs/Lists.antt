@@ -1,7 +1,7 @@
 -- The code of expressions, operands, rows and pieces: what stands behind it, and its targets.
 use Rattle.std.proofs.Common.{◌≡◌, ℕ, zero, suc, ◌+◌, Bool, true, false, cond, List, [], ◌∷◌, ◌++◌, length, map, drop, arith, append_assoc, refl, sym, ap, ◌∙◌}
 use Rattle.std.specs.Prelude.{ℤ, pos, negsuc, Option, Some}
-use Rattle.stapl_syntax.specs.Trees.{ExprTree, number, scalar, element, unary, binary, abs, int, ArrayTree, literal, whole, range, of_int, BodyTree, end_procedure, boolean, boolean_array, integer, integer_array, assign, assign_element, assign_array, assign_range, call, goto, if_then, for_loop, next, push, pop, print, exported_value, exported_array, export, exit, StmtTree}
+use Rattle.stapl_syntax.specs.Trees.{ExprTree, number, scalar, element, unary, binary, abs, int, ArrayTree, literal, whole, range, of_int, BodyTree, end_procedure, boolean, boolean_array, integer, integer_array, assign, assign_element, assign_array, assign_range, call, goto, if_then, for_loop, next, push, pop, print, exported_value, exported_array, export, exit, state_list, wait_cycles, wait_usec, frequency, StmtTree}
 use Rattle.stapl_syntax.specs.Statements.{is_outer}
 use Rattle.stapl_syntax.specs.Names.{Names}
 use Rattle.stapl_meaning.specs.declared.values.ValueKind.{ValueKind}
@@ -153,6 +153,10 @@ module _ (scope : Scope) (place : ℕ → ℕ) where
   last_retarget first (export key (exported_value e)) = refl
   last_retarget first (export key (exported_array a)) = refl
   last_retarget first (exit e) = refl
+  last_retarget first (state_list states) = refl
+  last_retarget first (wait_cycles state cycles usec end) = refl
+  last_retarget first (wait_usec state usec end) = refl
+  last_retarget first (frequency hertz) = refl
   last_retarget first _ = refl
 
   pub row_retarget : (first : Firsts) (b : BodyTree) (c : List Instr) → map (retarget place) (row_code scope (λ i. i) first b c) ≡ row_code scope place first b (map (retarget place) c)
@@ -224,6 +228,10 @@ module _ (names : Names) (entry entry' : ℕ → ℕ) (number number' : List ℕ
   last_same first (export key (exported_value e)) alike = refl
   last_same first (export key (exported_array a)) alike = refl
   last_same first (exit e) alike = refl
+  last_same first (state_list states) alike = refl
+  last_same first (wait_cycles state cycles usec end) alike = refl
+  last_same first (wait_usec state usec end) alike = refl
+  last_same first (frequency hertz) alike = refl
   last_same first _ alike = refl
 
   pub row_same : (first : Firsts) (b : BodyTree) → RowAlike b → (c : List Instr) → row_code One place first b c ≡ row_code Other place first b c

@@ -5,8 +5,10 @@ use Rattle.std.specs.Int.{int_wrap, w32}
 use Rattle.std.specs.Ordering.{int_eq}
 use Rattle.std.proofs.lemmas.List.{length-map}
 use Rattle.bit_list.specs.Ranges.{spliced}
-use Rattle.stapl_syntax.specs.Trees.{BodyTree, scalar, element, end_procedure, boolean, boolean_array, integer, integer_array, assign, assign_element, assign_array, assign_range, call, goto, if_then, for_loop, next, push, pop, print, exported_value, exported_array, export, exit}
-use Rattle.stapl_meaning.specs.declared.events.Event.TheVariants.{Export}
+use Rattle.stapl_syntax.specs.Trees.{BodyTree, scalar, element, end_procedure, boolean, boolean_array, integer, integer_array, assign, assign_element, assign_array, assign_range, call, goto, if_then, for_loop, next, push, pop, print, exported_value, exported_array, export, exit, state_list, wait_cycles, wait_usec, frequency}
+use Rattle.tap_states.specs.declared.Tap.{Tap}
+use Rattle.tap_states.specs.Tap.{is_stable_state}
+use Rattle.stapl_meaning.specs.declared.events.Event.TheVariants.{Export, Hertz}
 use Rattle.stapl_meaning.specs.declared.events.ExportValue.TheVariants.{Array}
 use Rattle.stapl_meaning.specs.declared.events.RunFault.TheVariants.{ZeroStep, RecordsFull}
 use Rattle.stapl_meaning.specs.declared.records.Loop.{Loop}
@@ -15,19 +17,22 @@ use Rattle.stapl_meaning.specs.declared.records.Record.TheVariants.{Pushed, Call
 use Rattle.stapl_meaning.specs.declared.values.Value.{Value}
 use Rattle.stapl_meaning.specs.declared.values.Value.TheVariants.{Int, Bit}
 use Rattle.stapl_meaning.specs.declared.values.ValueKind.{ValueKind}
+use Rattle.stapl_meaning.specs.declared.waits.WaitKind.{WaitKind}
+use Rattle.stapl_meaning.specs.declared.waits.WaitKind.TheVariants as waits
+use Rattle.stapl_meaning.specs.Deeds.{Deed, Says}
 use Rattle.stapl_meaning.specs.declared.values.Held.{Held}
 use Rattle.stapl_meaning.specs.declared.values.Held.TheVariants as held
 use Rattle.stapl_meaning.specs.Values.{Got, Known, Faults, Stuck, then_get, Span, Source, These, source_bits, asked, bits_held, span_of, source_of}
 use Rattle.stapl_meaning.specs.Operands.{given_kind}
 use Rattle.stapl_meaning.specs.States.{State, Did, Falls, Jumps, Resumes, Returns, Ends}
-use Rattle.stapl_meaning.specs.Effects.{replaced, scalar_written, element_written, with_variables, written, assigned, element_assigned, Target, IntoWhole, IntoRange, span_written, copied, with_integers, integers_set, jumped, parted, record_limit, with_records, with_room, number_of, topmost, pushed, popped, called, returned_from, returned, with_loop, looped, nearest_loop, is_over, integer_held, went_round, repeated, exited, joined, printed, exported, bits_exported}
+use Rattle.stapl_meaning.specs.Effects.{replaced, scalar_written, element_written, with_variables, written, assigned, element_assigned, Target, IntoWhole, IntoRange, span_written, copied, with_integers, integers_set, jumped, parted, record_limit, with_records, with_room, number_of, topmost, pushed, popped, called, returned_from, returned, with_loop, looped, nearest_loop, is_over, integer_held, went_round, repeated, exited, joined, printed, exported, bits_exported, moved_through, hertz_of, waited_for, waited, tuned}
 use Rattle.stapl_meaning.specs.Scopes.{Scope}
-use Rattle.stapl_meaning.specs.Turns.{effect}
+use Rattle.stapl_meaning.specs.Turns.{tap_of, tap_or_idle, kind_of_wait, effect}
 use Rattle.stapl_codegen.specs.Correct.{placed_record, placed_state}
 
 module _ (place : ℕ → ℕ) where
   abbrev pub placed_did : Did → Did
-  placed_did (Falls events t) = Falls events (placed_state place t)
+  placed_did (Falls deeds t) = Falls deeds (placed_state place t)
   placed_did (Jumps t) = Jumps (placed_state place t)
   placed_did (Resumes i t) = Resumes (place i) (placed_state place t)
   placed_did (Returns t) = Returns (placed_state place t)
@@ -258,8 +263,32 @@ module _ (place : ℕ → ℕ) where
 
   bits_placed : (key : List ℕ) (source : Source) → Places (bits_exported key source)
   bits_placed key source vs s =
-      let go : State → List Bool → Got Did = λ t bits. Known (Falls (Export key (Array bits) ∷ []) t) in
+      let go : State → List Bool → Got Did = λ t bits. Known (Falls (Says (Export key (Array bits)) ∷ []) t) in
       then_placed (source_bits s.store.variables source vs) (go s) (go (placed_state place s)) (λ bits. refl)
+
+  moved_placed : (states : List Tap) → Places (moved_through states)
+  moved_placed states [] s = refl
+  moved_placed states (v ∷ vs) s = refl
+
+  waited_placed : (kind : WaitKind) (at end : Tap) → Places (waited kind at end)
+  waited_placed kind at end vs s = by (is_stable_state at)
+    where
+      go : State → List Deed → Got Did
+      go t deeds = Known (Falls deeds t)
+
+      by : (b : Bool) →
+          (let g : Got Did = if b then then_get (waited_for kind at end vs) (go (placed_state place s)) else Stuck in g)
+          ≡ placed_got (if b then then_get (waited_for kind at end vs) (go s) else Stuck)
+      by true = then_placed (waited_for kind at end vs) (go s) (go (placed_state place s)) (λ deeds. refl)
+      by false = refl
+
+  tuned_placed : Places tuned
+  tuned_placed [] s = refl
+  tuned_placed (Int n ∷ []) s =
+      let go : State → ℕ → Got Did = λ t h. Known (Falls (Says (Hertz h) ∷ []) t) in
+      then_placed (hertz_of n) (go s) (go (placed_state place s)) (λ h. refl)
+  tuned_placed (Int n ∷ v ∷ vs) s = refl
+  tuned_placed (Bit b ∷ vs) s = refl
 
   -- the statement keeps the place behind it: CALL and FOR
   abbrev pub keeps_place : BodyTree → Bool
@@ -290,4 +319,8 @@ module _ (place : ℕ → ℕ) where
   effect_placed scope (pop (element name index)) e = popped_placed (given_kind (scope.look.kind name)) (element_assigned (scope.look.variable name)) (element_placed (scope.look.variable name))
   effect_placed scope (print parts) e = λ vs s. printed_placed s (joined parts vs)
   effect_placed scope (exit x) e = exited_placed
+  effect_placed scope (state_list states) e = moved_placed (map tap_of states)
+  effect_placed scope (wait_cycles state cycles usec end) e = waited_placed (kind_of_wait usec) (tap_or_idle state) (tap_or_idle end)
+  effect_placed scope (wait_usec state usec end) e = waited_placed waits.Usec (tap_or_idle state) (tap_or_idle end)
+  effect_placed scope (frequency hertz) e = tuned_placed
   effect_placed scope _ e = λ vs s. refl

@@ -1,22 +1,37 @@
 -- The prologue of the code does what the initial values of DATA blocks do.
-use Rattle.std.proofs.Common.{◌≡◌, ℕ, true, List, [], ◌∷◌, refl, sym, ap, ◌∙◌}
+use Rattle.std.proofs.Common.{◌≡◌, ℕ, true, List, [], ◌∷◌, ◌++◌, refl, sym, ap, ◌∙◌, append_assoc}
 use Rattle.std.proofs.lemmas.List.Elements.{All-head, All-tail}
 use Rattle.stapl_syntax.specs.Trees.{BodyTree, end_data}
 use Rattle.stapl_meaning.specs.declared.values.Value.{Value}
 use Rattle.stapl_meaning.specs.Values.{Got, Known, Faults, Stuck}
 use Rattle.stapl_meaning.specs.Operands.{values_of}
-use Rattle.stapl_meaning.specs.States.{State, Did, Falls, Jumps, Resumes, Returns, Ends, Turned, Leads, Over, Broken, NoTurn, with_got, preceded, next_chosen, begun, led}
+use Rattle.stapl_meaning.specs.Deeds.{Deed, Chain}
+use Rattle.stapl_meaning.specs.States.{State, Did, Falls, Jumps, Resumes, Returns, Ends, Turned, Leads, Over, Broken, NoTurn, with_got, preceded, next_chosen, begun, led, Led, happens}
 use Rattle.stapl_meaning.specs.Scopes.{has_initial_value, Preset, Scope, Played, entry_from, preset_scope}
 use Rattle.stapl_meaning.specs.Turns.{operands, effect, target, carried}
 use Rattle.stapl_meaning.specs.Plays.{set_up, beginning}
 use Rattle.stapl_code.specs.declared.instr.Instr.{Instr}
-use Rattle.stapl_code.specs.Machine.{Constants, entry_of, stretch}
-use Rattle.stapl_code.proofs.Preceded.{begun_preceded}
+use Rattle.stapl_code.specs.Machine.{Constants, entry_of, begins_chosen, stretch}
+use Rattle.stapl_code.proofs.Preceded.{happens_begun}
 use Rattle.stapl_codegen.specs.Emit.{Firsts, behind_row, row_texts, row_literals, presets_items, presets_code}
 use Rattle.stapl_codegen.proofs.Constants.{HasConstants, row_has, others_have}
 use Rattle.stapl_codegen.specs.Correct.{placed_state, AllStart}
 use Rattle.stapl_codegen.proofs.Rows.{starts_no_call}
 use Rattle.stapl_codegen.proofs.Bodies.{placed, preceded_placed, end_law, row_follows, row_tied}
+
+-- deeds in front, and others in front of these
+preceded_twice : (first second : List Deed) (t : Turned) → preceded first (preceded second t) ≡ preceded (first ++ second) t
+preceded_twice first second (Leads deeds place s) = ap (λ l. let t : Turned = Leads l place s in t) (sym (append_assoc first second deeds))
+preceded_twice first second (Over deeds ending s) = ap (λ l. let t : Turned = Over l ending s in t) (sym (append_assoc first second deeds))
+preceded_twice first second (Broken deeds k s) = ap (λ l. let t : Turned = Broken l k s in t) (sym (append_assoc first second deeds))
+preceded_twice first second (NoTurn deeds) = ap (λ l. let t : Turned = NoTurn l in t) (sym (append_assoc first second deeds))
+
+-- deeds of the prologue stand in front of the run
+begun_preceded : (entry : ℕ → ℕ) (deeds : List Deed) (t : Turned) → begun entry (preceded deeds t) ≡ preceded deeds (begun entry t)
+begun_preceded entry deeds (Leads more place s) = sym (preceded_twice deeds more (next_chosen entry s s.chosen))
+begun_preceded entry deeds (Over more ending s) = refl
+begun_preceded entry deeds (Broken more k s) = refl
+begun_preceded entry deeds (NoTurn more) = refl
 
 -- ---- where the last one leads is of no matter
 
@@ -33,7 +48,7 @@ module _ (entry : ℕ → ℕ) (scope : Scope) where
   module _ (go go' : State → Turned) (alike : BeginAlike go go') where
     led_alike : (b : BodyTree) (s : State) (did : Got Did) →
         begun entry (with_got did s (λ d. led scope.entry (target scope b) d go)) ≡ begun entry (with_got did s (λ d. led scope.entry (target scope b) d go'))
-    led_alike b s (Known (Falls events t)) = begun_preceded entry events (go t) ∙ ap (preceded events) (alike t) ∙ sym (begun_preceded entry events (go' t))
+    led_alike b s (Known (Falls deeds t)) = begun_preceded entry deeds (go t) ∙ ap (preceded deeds) (alike t) ∙ sym (begun_preceded entry deeds (go' t))
     led_alike b s (Known (Jumps t)) = refl
     led_alike b s (Known (Resumes i t)) = refl
     led_alike b s (Known (Returns t)) = refl
@@ -61,35 +76,39 @@ set_up_alike program place (preset ∷ presets) s =
 -- ---- the prologue
 
 module _ (program : Played) (place : ℕ → ℕ) (entries : List ℕ) (constants : Constants) (total : ℕ) (entry_is : (p : ℕ) → entry_of entries p ≡ place (entry_from program.pieces p)) where
-  prologue_follows : (first_place : ℕ) (first : Firsts) (presets : List Preset) (rest : List Instr) (s : State) →
-      HasConstants constants first (presets_items row_texts presets) (presets_items row_literals presets) → AllStart presets →
-      ((t : State) → stretch entries constants total rest [] t ≡ Leads [] (place first_place) t) →
-      stretch entries constants total (presets_code program place first presets rest) [] (placed_state place s) ≡ placed place (set_up_to program first_place presets s)
-  prologue_follows first_place first [] rest s has start behind = behind (placed_state place s)
-  prologue_follows first_place first (preset ∷ presets) rest s has start behind =
+  -- what stands behind the prologue leads to a place
+  abbrev LeadsTo : ℕ → List Instr → Type 0
+  LeadsTo first_place rest = (t : State) (k : Chain) → stretch entries constants total rest [] t k ≡ Led [] (place first_place) t k
+
+  prologue_follows : (first_place : ℕ) (first : Firsts) (presets : List Preset) (rest : List Instr) (s : State) (k : Chain) →
+      HasConstants constants first (presets_items row_texts presets) (presets_items row_literals presets) → AllStart presets → LeadsTo first_place rest →
+      stretch entries constants total (presets_code program place first presets rest) [] (placed_state place s) k ≡ happens k (placed place (set_up_to program first_place presets s))
+  prologue_follows first_place first [] rest s k has start behind = behind (placed_state place s) k
+  prologue_follows first_place first (preset ∷ presets) rest s k has start behind =
       let Starts : Preset → Type 0 = λ (p : Preset). has_initial_value p.body ≡ true in
       let b : BodyTree = preset.body in
       let own = row_has constants first (row_texts b) (presets_items row_texts presets) (row_literals b) (presets_items row_literals presets) has in
       let others = others_have constants first (row_texts b) (presets_items row_texts presets) (row_literals b) (presets_items row_literals presets) has in
-      row_follows place entries constants total (preset_scope program preset) s first b (presets_code program place (behind_row first b) presets rest)
+      row_follows place entries constants total (preset_scope program preset) s k first b (presets_code program place (behind_row first b) presets rest)
       (set_up_to program first_place presets) (row_tied place entries constants total (preset_scope program preset) first b entry_is own)
       (λ is. absurd (starts_no_call b (All-head Starts preset presets start) is))
-      (λ t. prologue_follows first_place (behind_row first b) presets rest t others (All-tail Starts preset presets start) behind)
+      (λ t l. prologue_follows first_place (behind_row first b) presets rest t l others (All-tail Starts preset presets start) behind)
 
   begun_placed : (t : Turned) → begun (entry_of entries) (placed place t) ≡ placed place (begun (entry_from program.pieces) t)
-  begun_placed (Leads events i s) =
-      ap (preceded events) (end_law place entries constants total (preset_scope program (record { block = []; body = end_data })) s s.chosen entry_is)
-      ∙ preceded_placed place events (next_chosen (entry_from program.pieces) s s.chosen)
-  begun_placed (Over events ending s) = refl
-  begun_placed (Broken events k s) = refl
-  begun_placed (NoTurn events) = refl
+  begun_placed (Leads deeds i s) =
+      ap (preceded deeds) (end_law place entries constants total (preset_scope program (record { block = []; body = end_data })) s s.chosen entry_is)
+      ∙ preceded_placed place deeds (next_chosen (entry_from program.pieces) s s.chosen)
+  begun_placed (Over deeds ending s) = refl
+  begun_placed (Broken deeds k s) = refl
+  begun_placed (NoTurn deeds) = refl
 
-  -- the beginning of a play
-  pub begins_alike : (first_place : ℕ) (first : Firsts) (rest : List Instr) (s : State) →
-      HasConstants constants first (presets_items row_texts program.presets) (presets_items row_literals program.presets) → AllStart program.presets →
-      ((t : State) → stretch entries constants total rest [] t ≡ Leads [] (place first_place) t) →
-      begun (entry_of entries) (stretch entries constants total (presets_code program place first program.presets rest) [] (placed_state place s)) ≡ placed place (beginning program s)
-  begins_alike first_place first rest s has start behind =
-      ap (begun (entry_of entries)) (prologue_follows first_place first program.presets rest s has start behind)
-      ∙ begun_placed (set_up_to program first_place program.presets s)
-      ∙ ap (placed place) (set_up_alike program first_place program.presets s)
+  -- the beginning of a run of chosen procedures
+  pub begins_alike : (first_place : ℕ) (first : Firsts) (rest : List Instr) (s : State) (k : Chain) →
+      HasConstants constants first (presets_items row_texts program.presets) (presets_items row_literals program.presets) → AllStart program.presets → LeadsTo first_place rest →
+      begins_chosen (entry_of entries) (stretch entries constants total (presets_code program place first program.presets rest) [] (placed_state place s) k)
+      ≡ happens k (placed place (beginning program s))
+  begins_alike first_place first rest s k has start behind =
+      let front : Turned = set_up_to program first_place program.presets s in
+      ap (begins_chosen (entry_of entries)) (prologue_follows first_place first program.presets rest s k has start behind)
+      ∙ sym (happens_begun (entry_of entries) k (placed place front))
+      ∙ ap (happens k) (begun_placed front ∙ ap (placed place) (set_up_alike program first_place program.presets s))

@@ -2,7 +2,7 @@
 use Rattle.std.proofs.Common.{◌≡◌, ℕ, zero, suc, ◌+◌, ◌<◌, ◌≤◌, true, false, List, [], ◌∷◌, length, map, Option, Some, None, is_some, option_map, arith, refl, ap, ◌∙◌}
 use Rattle.std.specs.Prelude.{ℤ, pos, negsuc, nat_abs, ◌&&◌, if◌then◌else◌, slice_get, IfSome, All, sum_by}
 use Rattle.std.proofs.lemmas.Bool.{and_parts, ltb-true, ltb-false}
-use Rattle.std.proofs.lemmas.List.{append-nil}
+use Rattle.std.proofs.lemmas.List.{append-nil, length-map}
 use Rattle.std.proofs.lemmas.List.Elements.{All-head, All-tail}
 use Rattle.std.proofs.lemmas.List.Sums.{sum_by-cons}
 use Rattle.std.proofs.lemmas.Option.{slice_get-map}
@@ -20,14 +20,14 @@ use Rattle.stapl_syntax.specs.declared.names.VarKind.TheVariants as variables
 use Rattle.stapl_syntax.specs.Kinds.{expr_kind, element_kind, is_array, is_int, is_bit, is_bit_array, is_integer, wants_int, suits, if_given, operands_suit}
 use Rattle.stapl_syntax.specs.Names.{Names, declaration, found_from, kind_of_found}
 use Rattle.stapl_syntax.specs.Rules.{is_boolean, has_too_many_values}
-use Rattle.stapl_syntax.specs.Trees.{ExprTree, number, scalar, element, unary, binary, abs, int, ArrayTree, literal, whole, range, of_int, PartTree, string, value, character, BodyTree, boolean, boolean_array, integer, integer_array, assign, assign_element, assign_array, assign_range, call, goto, if_then, for_loop, next, push, pop, print, exported_value, exported_array, export, exit}
+use Rattle.stapl_syntax.specs.Trees.{ExprTree, number, scalar, element, unary, binary, abs, int, ArrayTree, literal, whole, range, of_int, PartTree, string, value, character, BodyTree, boolean, boolean_array, integer, integer_array, assign, assign_element, assign_array, assign_range, call, goto, if_then, for_loop, next, push, pop, print, exported_value, exported_array, export, exit, state_list, wait_cycles, wait_usec, frequency}
 use Rattle.stapl_built.specs.Built.{is_built_simple, is_built_inner}
 use Rattle.stapl_meaning.specs.declared.values.ValueKind.{ValueKind}
 use Rattle.stapl_meaning.specs.declared.values.ValueKind.TheVariants as kinds
 use Rattle.stapl_meaning.specs.Values.{Lookup, unary_side, sides}
 use Rattle.stapl_meaning.specs.Operands.{Test, Plain, Character, Index, Range, Operand, array_operands, bit_number, given_kind, printed_kind}
 use Rattle.stapl_meaning.specs.Scopes.{Scope, number_found, lookup_from}
-use Rattle.stapl_meaning.specs.Turns.{operands}
+use Rattle.stapl_meaning.specs.Turns.{tap_of, operands}
 use Rattle.stapl_meaning.specs.Typed.{HasSize, IsSized, integers_of, booleans_of, AreSized}
 use Rattle.stapl_code.specs.declared.instr.Source.TheVariants as sources
 use Rattle.stapl_code.specs.declared.instr.Instr.{Instr}
@@ -41,7 +41,7 @@ use Rattle.stapl_codegen.specs.Emit.{literal_code, expr_code, int_code, test_cod
 use Rattle.stapl_codegen.proofs.Views.{IsInner, an_end, a_bit, some_bits, an_integer, no_integers, some_integers, a_simple, inner_view}
 use Rattle.stapl_codegen.proofs.Sides.{fits, scalar_fits, element_fits, indexed_fits, unary_fits, integer_fits, operates}
 use Rattle.stapl_codegen.proofs.WellKinded.{Agrees, scalar_agrees, element_agrees, bits_agree, integer_agrees, printed_fits, TestFits, AllTyped, one_typed, parts_typed, range_typed, array_typed, no_bit}
-use Rattle.stapl_codegen.proofs.WellPlaced.{given_fits, item_given, scalar_popped, item_popped, step_fits, bit_fits, number_fits}
+use Rattle.stapl_codegen.proofs.WellPlaced.{given_fits, item_given, scalar_popped, item_popped, step_fits, given_typed, bit_fits, number_fits}
 
 -- something is so of each element
 abbrev pub Each : {A : Type 0} → (A → Type 0) → List A → Type 0
@@ -345,6 +345,18 @@ module _ (defs : List VarDef) (literals texts procedures : ℕ) where
         one_range first (print list) rest (parts_typed defs scope.look [] list suit)
         (some, each_all (IsPart texts) (print_parts scope.look first.text list) (parts_range texts scope.look first.text list within)) more
     simple_range first (exit e) rest built suit there more = one_range first (exit e) rest (one_typed defs scope.look [] kinds.Int e suit) tt more
+    simple_range first (state_list states) rest built suit there more =
+        let some : 1 ≤ length (map tap_of states) = omega (arith, length-map states tap_of, ltb-true 0 (length states) built) in
+        one_range first (state_list states) rest tt some more
+    simple_range first (wait_cycles state cycles usec end) rest built suit there more =
+        let kind = scope.look.kind in
+        let suits = and_parts (is_int (expr_kind kind cycles)) (if_given (wants_int kind) usec) suit in
+        one_range first (wait_cycles state cycles usec end) rest
+        (record { fits = suits.0; test = tt }, given_typed defs scope.look (kinds.Int ∷ []) usec suits.1) tt more
+    simple_range first (wait_usec state usec end) rest built suit there more =
+        one_range first (wait_usec state usec end) rest (one_typed defs scope.look [] kinds.Int usec suit) tt more
+    simple_range first (frequency hertz) rest built suit there more =
+        one_range first (frequency hertz) rest (given_typed defs scope.look [] hertz suit) tt more
     simple_range first _ rest built suit there more = absurd cc
 
     -- the variable of a declaration has its kind and its size

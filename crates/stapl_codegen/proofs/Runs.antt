@@ -2,15 +2,17 @@
 use Rattle.std.proofs.Common.{◌≡◌, ◌≢◌, ℕ, zero, suc, ◌+◌, ◌-◌, ◌≤◌, Bool, true, false, cond, List, [], ◌∷◌, length, drop, Some, None, refl, sym, ap, subst, ◌∙◌, add-one, arith, length-append}
 use Rattle.std.specs.Prelude.{slice_get}
 use Rattle.std.proofs.lemmas.List.{drop_all}
-use Rattle.stapl_syntax.specs.Trees.{BodyTree, end_procedure, boolean, boolean_array, integer, integer_array, assign, assign_element, assign_array, assign_range, call, goto, if_then, for_loop, next, push, pop, print, export, exit, StmtTree}
+use Rattle.stapl_syntax.specs.Trees.{BodyTree, end_procedure, boolean, boolean_array, integer, integer_array, assign, assign_element, assign_array, assign_range, call, goto, if_then, for_loop, next, push, pop, print, export, exit, state_list, wait_cycles, wait_usec, frequency, StmtTree}
 use Rattle.stapl_syntax.specs.Statements.{is_outer}
-use Rattle.stapl_meaning.specs.States.{State, Turned, Leads, Over, Broken, NoTurn, turn_of_piece}
+use Rattle.stapl_meaning.specs.Deeds.{Chain, deeds_events, deeds_chain}
+use Rattle.stapl_meaning.specs.States.{State, Turned, Leads, Over, Broken, NoTurn, turn_of_piece, Happened, Led, Lacks, happens, happened_in_piece}
 use Rattle.stapl_meaning.specs.Scopes.{Played, Scope, scope_at, zeros_of}
 use Rattle.stapl_meaning.specs.Turns.{done, turn, turn_of}
 use Rattle.stapl_meaning.specs.Plays.{after, goes_on, run, start, beginning}
 use Rattle.stapl_code.specs.declared.instr.Instr.{Instr}
 use Rattle.stapl_code.specs.declared.instr.Instr.TheVariants.{Turn}
 use Rattle.stapl_code.specs.Machine.{Constants, nowhere, stretch, begins, code_turn, code_run}
+use Rattle.stapl_code.proofs.Preceded.{happens_in_piece}
 use Rattle.stapl_codegen.specs.Emit.{body_code, at_first, firsts_at, constants_in, pieces_code, program_code, start_of, program_entries}
 use Rattle.stapl_codegen.specs.Correct.{GoesOn, IsClosed, placed_state, placed_run, AllStart, Stands}
 use Rattle.stapl_codegen.proofs.Heads.{head_of, get_head, drop_tail}
@@ -45,6 +47,10 @@ outer_stays scope s (pop cell) e = absurd cc
 outer_stays scope s (print list) e = absurd cc
 outer_stays scope s (export key x) e = absurd cc
 outer_stays scope s (exit x) e = absurd cc
+outer_stays scope s (state_list states) e = absurd cc
+outer_stays scope s (wait_cycles state cycles usec end) e = absurd cc
+outer_stays scope s (wait_usec state usec end) e = absurd cc
+outer_stays scope s (frequency hertz) e = absurd cc
 outer_stays scope s _ e = refl
 
 -- the code of pieces begins with the turn of one of them
@@ -103,7 +109,7 @@ module _ (program : Played) where
       Behind place Entries These All scope (Turn q ∷ code)
   behind_turn scope q code within e =
       let next : suc (All - suc (length (Turn q ∷ code))) ≡ All - length (Turn q ∷ code) = omega (arith, within) in
-      record { falls_on = λ t. ap (λ n. Leads [] n t) e; is_behind = next ∙ e }
+      record { falls_on = λ t k. ap (λ n. let h : Happened = Led [] n t k in h) e; is_behind = next ∙ e }
 
   -- what follows a piece that is not the last of its procedure
   behind_piece : (i : ℕ) (sts : List StmtTree) → drop (i + 1) program.pieces ≡ sts → suc (length (From (i + 1) sts)) ≤ All → GoesOn sts →
@@ -117,8 +123,8 @@ module _ (program : Played) where
       subst (Behind place Entries These All (scope_at program i)) (sym is) (behind_turn (scope_at program i) (i + 1 + 1) code (omega (arith, within, ap length is)) at')
 
   module _ (closed : IsClosed program.pieces) (short : All ≤ nowhere) where
-    none_there : (s : State) → code_turn Entries These Code nowhere s ≡ NoTurn []
-    none_there s = ap (λ c. begins Entries These All c s) (drop_all nowhere Code short)
+    none_there : (s : State) (k : Chain) → code_turn Entries These Code nowhere s k ≡ Lacks []
+    none_there s k = ap (λ c. begins Entries These All c s k) (drop_all nowhere Code short)
 
     -- the code behind a piece of a procedure is not all
     not_all : (i : ℕ) (st : StmtTree) (rest : List StmtTree) → drop i program.pieces ≡ st ∷ rest → is_outer st.body ≡ false → suc (length (From (i + 1) rest)) ≤ All
@@ -139,71 +145,77 @@ module _ (program : Played) where
           length-append own more,
         )
 
-    inner_follows : (i : ℕ) (s : State) (st : StmtTree) (rest : List StmtTree) → drop i program.pieces ≡ st ∷ rest → is_outer st.body ≡ false →
-        code_turn Entries These Code (place i) (placed_state place s) ≡ placed place (turn program i s)
-    inner_follows i s st rest e inner =
+    -- the turn of the code that begins at the place of a piece is that of the piece
+    abbrev IsSame : ℕ → State → Chain → Type 0
+    IsSame i s k = code_turn Entries These Code (place i) (placed_state place s) k ≡ happens k (placed place (turn program i s))
+
+    inner_follows : (i : ℕ) (s : State) (k : Chain) (st : StmtTree) (rest : List StmtTree) → drop i program.pieces ≡ st ∷ rest → is_outer st.body ≡ false → IsSame i s k
+    inner_follows i s k st rest e inner =
         let at : slice_get program.pieces i ≡ Some st = get_head i program.pieces ∙ ap head_of e in
         let next : drop (i + 1) program.pieces ≡ rest = rw add-one (drop_tail i program.pieces ∙ ap (drop 1) e) in
         let c : IsClosed (st ∷ rest) = subst IsClosed e (closed_drop i program.pieces closed) in
         let scope = scope_at program i in
         let first = firsts_at program i in
         let body = body_code scope place first st.body (From (i + 1) rest) in
-        ap (λ d. begins Entries These All d (placed_state place s)) (code_from program i st at inner ∙ ap (From i) e)
-        ∙ ap (λ b. begins Entries These All (cond b (From (i + 1) rest) (Turn (i + 1) ∷ body)) (placed_state place s)) inner
-        ∙ ap (turn_of_piece (i + 1))
-        (body_follows place Entries These All scope s first st.body (From (i + 1) rest) (entry_is program)
+        ap (λ d. begins Entries These All d (placed_state place s) k) (code_from program i st at inner ∙ ap (From i) e)
+        ∙ ap (λ b. begins Entries These All (cond b (From (i + 1) rest) (Turn (i + 1) ∷ body)) (placed_state place s) k) inner
+        ∙ ap (happened_in_piece (i + 1))
+        (body_follows place Entries These All scope s k first st.body (From (i + 1) rest) (entry_is program)
         (λ f. behind_piece i rest next (not_all i st rest e inner) (c.0 inner f)) (constants_at i program st rest e))
-        ∙ piece_placed place (i + 1) (done scope s st.body)
-        ∙ ap (λ o. placed place (turn_of (scope_at program i) (i + 1) s o)) (sym at)
+        ∙ sym (happens_in_piece k (i + 1) (placed place (done scope s st.body)))
+        ∙ ap (happens k) (piece_placed place (i + 1) (done scope s st.body) ∙ ap (λ o. placed place (turn_of (scope_at program i) (i + 1) s o)) (sym at))
 
-    by_piece : (i : ℕ) (s : State) (sts : List StmtTree) → drop i program.pieces ≡ sts →
-        code_turn Entries These Code (place i) (placed_state place s) ≡ placed place (turn program i s)
-    by_piece i s [] e =
+    by_piece : (i : ℕ) (s : State) (k : Chain) (sts : List StmtTree) → drop i program.pieces ≡ sts → IsSame i s k
+    by_piece i s k [] e =
         let at : slice_get program.pieces i ≡ None = get_head i program.pieces ∙ ap head_of e in
-        ap (λ n. code_turn Entries These Code n (placed_state place s)) (start_none program i at)
-        ∙ none_there (placed_state place s)
-        ∙ ap (λ o. placed place (turn_of (scope_at program i) (i + 1) s o)) (sym at)
-    by_piece i s (st ∷ rest) e = by_outer (is_outer st.body) refl
+        ap (λ n. code_turn Entries These Code n (placed_state place s) k) (start_none program i at)
+        ∙ none_there (placed_state place s) k
+        ∙ ap (λ o. happens k (placed place (turn_of (scope_at program i) (i + 1) s o))) (sym at)
+    by_piece i s k (st ∷ rest) e = by_outer (is_outer st.body) refl
       where
         at : slice_get program.pieces i ≡ Some st
         at = get_head i program.pieces ∙ ap head_of e
 
-        by_outer : (b : Bool) → is_outer st.body ≡ b → code_turn Entries These Code (place i) (placed_state place s) ≡ placed place (turn program i s)
+        by_outer : (b : Bool) → is_outer st.body ≡ b → IsSame i s k
         by_outer true h =
-            ap (λ n. code_turn Entries These Code n (placed_state place s)) (start_head program i st at h)
-            ∙ none_there (placed_state place s)
-            ∙ ap (placed place) (sym (ap (turn_of (scope_at program i) (i + 1) s) at ∙ ap (turn_of_piece (i + 1)) (outer_stays (scope_at program i) s st.body h)))
-        by_outer false h = inner_follows i s st rest e h
+            ap (λ n. code_turn Entries These Code n (placed_state place s) k) (start_head program i st at h)
+            ∙ none_there (placed_state place s) k
+            ∙ ap (λ t. happens k (placed place t)) (sym (ap (turn_of (scope_at program i) (i + 1) s) at ∙ ap (turn_of_piece (i + 1)) (outer_stays (scope_at program i) s st.body h)))
+        by_outer false h = inner_follows i s k st rest e h
 
-    pub turn_follows : (i : ℕ) (s : State) → code_turn Entries These Code (place i) (placed_state place s) ≡ placed place (turn program i s)
-    turn_follows i s = by_piece i s (drop i program.pieces) refl
+    pub turn_follows : (i : ℕ) (s : State) (k : Chain) → IsSame i s k
+    turn_follows i s k = by_piece i s k (drop i program.pieces) refl
 
-    goes_follows : (n : ℕ) → ((i : ℕ) (s : State) → code_run Entries These Code n (place i) (placed_state place s) ≡ placed_run place (run program n i s)) → (t : Turned) (s : State) →
-        goes_on (placed place t) (placed_state place s) (code_run Entries These Code n) ≡ placed_run place (goes_on t s (run program n))
-    goes_follows n rest (Leads events i t) s = ap (after events) (rest i t)
-    goes_follows n rest (Over events e t) s = refl
-    goes_follows n rest (Broken events k t) s = refl
-    goes_follows n rest (NoTurn events) s = refl
+    -- so many turns of the code from the place of a piece on are those of the program
+    abbrev RunsSame : ℕ → Type 0
+    RunsSame n = (i : ℕ) (s : State) (k : Chain) → code_run Entries These Code n (place i) (placed_state place s) k ≡ placed_run place (run program n i s k)
 
-    run_follows : (n : ℕ) (i : ℕ) (s : State) → code_run Entries These Code n (place i) (placed_state place s) ≡ placed_run place (run program n i s)
-    run_follows zero i s = refl
-    run_follows (suc n) i s =
-        ap (λ t. goes_on t (placed_state place s) (code_run Entries These Code n)) (turn_follows i s)
-        ∙ goes_follows n (run_follows n) (turn program i s) s
+    goes_follows : (n : ℕ) → RunsSame n → (t : Turned) (s : State) (k : Chain) →
+        goes_on (happens k (placed place t)) (placed_state place s) k (code_run Entries These Code n) ≡ placed_run place (goes_on (happens k t) s k (run program n))
+    goes_follows n rest (Leads deeds i t) s k = ap (after (deeds_events k deeds)) (rest i t (deeds_chain k deeds))
+    goes_follows n rest (Over deeds e t) s k = refl
+    goes_follows n rest (Broken deeds f t) s k = refl
+    goes_follows n rest (NoTurn deeds) s k = refl
+
+    run_follows : (n : ℕ) → RunsSame n
+    run_follows zero i s k = refl
+    run_follows (suc n) i s k =
+        ap (λ h. goes_on h (placed_state place s) k (code_run Entries These Code n)) (turn_follows i s k)
+        ∙ goes_follows n (run_follows n) (turn program i s) s k
 
     module _ (start_all : AllStart program.presets) (some : From 0 program.pieces ≢ []) where
       first_turn : BeginsWithTurn program (From 0 program.pieces)
       first_turn = pieces_begin program 0 program.pieces refl some
 
       -- behind the prologue stands the turn of a piece
-      turn_behind : (t : State) → stretch Entries These All (From 0 program.pieces) [] t ≡ Leads [] (place first_turn.first) t
-      turn_behind t =
-          ap (λ c. stretch Entries These All c [] t) first_turn.is
-          ∙ ap (λ n. Leads [] n t) (ap (λ c. All - length c) (sym first_turn.is) ∙ sym first_turn.starts)
+      turn_behind : (t : State) (k : Chain) → stretch Entries These All (From 0 program.pieces) [] t k ≡ Led [] (place first_turn.first) t k
+      turn_behind t k =
+          ap (λ c. stretch Entries These All c [] t k) first_turn.is
+          ∙ ap (λ n. let h : Happened = Led [] n t k in h) (ap (λ c. All - length c) (sym first_turn.is) ∙ sym first_turn.starts)
 
       pub stands : Stands program place Entries These Code (zeros_of program)
-      stands chosen n =
+      stands chosen n k =
           let s : State = start chosen (zeros_of program) in
-          ap (λ t. goes_on t s (code_run Entries These Code n))
-          (begins_alike program place Entries These All (entry_is program) first_turn.first at_first (From 0 program.pieces) s (presets_known program) start_all turn_behind)
-          ∙ goes_follows n (run_follows n) (beginning program s) s
+          ap (λ h. goes_on h s k (code_run Entries These Code n))
+          (begins_alike program place Entries These All (entry_is program) first_turn.first at_first (From 0 program.pieces) s k (presets_known program) start_all turn_behind)
+          ∙ goes_follows n (run_follows n) (beginning program s) s k

@@ -8,13 +8,14 @@ use Rattle.std.proofs.lemmas.List.Elements.{All-head, All-tail}
 use Rattle.std.proofs.lemmas.List.Sums.{sum_by-cons}
 use Rattle.stapl_syntax.specs.Kinds.{expr_kind}
 use Rattle.stapl_syntax.specs.Statements.{is_outer}
-use Rattle.stapl_syntax.specs.Trees.{ExprTree, number, scalar, element, unary, binary, abs, int, ArrayTree, literal, whole, range, of_int, PartTree, string, value, character, BodyTree, boolean, boolean_array, integer, integer_array, assign, assign_element, assign_array, assign_range, call, goto, if_then, for_loop, next, push, pop, print, exported_value, exported_array, export, exit, StmtTree}
+use Rattle.stapl_syntax.specs.Trees.{ExprTree, number, scalar, element, unary, binary, abs, int, ArrayTree, literal, whole, range, of_int, PartTree, string, value, character, BodyTree, boolean, boolean_array, integer, integer_array, assign, assign_element, assign_array, assign_range, call, goto, if_then, for_loop, next, push, pop, print, exported_value, exported_array, export, exit, state_list, wait_cycles, wait_usec, frequency, StmtTree}
 use Rattle.stapl_built.specs.Built.{is_built_simple, IsBuilt}
-use Rattle.stapl_built.specs.Sizes.{expr_size, array_size, part_size, step_size, body_size, statements_size}
+use Rattle.stapl_built.specs.Sizes.{expr_size, array_size, part_size, given_size, body_size, statements_size}
 use Rattle.stapl_meaning.specs.declared.values.ValueKind.{ValueKind}
 use Rattle.stapl_meaning.specs.declared.values.ValueKind.TheVariants as kinds
 use Rattle.stapl_meaning.specs.Values.{Lookup, unary_side, sides}
 use Rattle.stapl_meaning.specs.Operands.{Operand, a_range, array_operands, bit_number, given_kind, printed_kind, step_or_one, part_operands}
+use Rattle.stapl_meaning.specs.Turns.{integer_given}
 use Rattle.stapl_meaning.specs.Scopes.{has_initial_value, Preset, Scope, Played, scope_at, preset_scope}
 use Rattle.stapl_meaning.specs.Typed.{IsTypedPreset}
 use Rattle.stapl_meaning.proofs.Resolved.{built_is_inner}
@@ -77,6 +78,11 @@ module _ (look : Lookup) where
       let more = parts_length list rest in
       omega (arith, sum_by-cons part_size (character e) list, one, more)
 
+  -- an expression that may be left out
+  given_length : (o : Option ExprTree) (rest : List Instr) → length (operands_code look (integer_given o) rest) ≤ given_size o + length rest
+  given_length None rest = omega arith
+  given_length (Some e) rest = let one = expr_length kinds.Int e rest in omega (arith, one)
+
 module _ (scope : Scope) (place : ℕ → ℕ) where
   simple_length : (first : Firsts) (b : BodyTree) (rest : List Instr) → is_built_simple b ≡ true → length (body_code scope place first b rest) ≤ body_size b + length rest
   simple_length first (assign name e) rest built =
@@ -108,7 +114,7 @@ module _ (scope : Scope) (place : ℕ → ℕ) where
       let one = expr_length scope.look kinds.Int (step_or_one step) begin in
       omega (arith, one, two, three, one_step step)
     where
-      one_step : (step : Option ExprTree) → expr_size (step_or_one step) ≤ step_size step + 1
+      one_step : (step : Option ExprTree) → expr_size (step_or_one step) ≤ given_size step + 1
       one_step None = omega arith
       one_step (Some e) = omega arith
   simple_length first (next name) rest built = omega arith
@@ -129,6 +135,16 @@ module _ (scope : Scope) (place : ℕ → ℕ) where
       let one = array_length scope.look a (last scope place first (export key (exported_array a)) ∷ rest) in omega (arith, one)
   simple_length first (print list) rest built = let one = parts_length scope.look list (Print (print_parts scope.look first.text list) ∷ rest) in omega (arith, one)
   simple_length first (exit e) rest built = let one = expr_length scope.look kinds.Int e (Exit ∷ rest) in omega (arith, one)
+  simple_length first (state_list states) rest built = omega arith
+  simple_length first (wait_cycles state cycles usec end) rest built =
+      let waits : List Instr = last scope place first (wait_cycles state cycles usec end) ∷ rest in
+      let two = expr_length scope.look kinds.Int cycles (operands_code scope.look (integer_given usec) waits) in
+      let one = given_length scope.look usec waits in
+      omega (arith, one, two)
+  simple_length first (wait_usec state usec end) rest built =
+      let one = expr_length scope.look kinds.Int usec (last scope place first (wait_usec state usec end) ∷ rest) in omega (arith, one)
+  simple_length first (frequency hertz) rest built =
+      let one = given_length scope.look hertz (last scope place first (frequency hertz) ∷ rest) in omega (arith, one)
   simple_length first _ rest built = absurd cc
 
   inner_length : (first : Firsts) (b : BodyTree) → IsInner b → (rest : List Instr) → length (body_code scope place first b rest) ≤ body_size b + length rest

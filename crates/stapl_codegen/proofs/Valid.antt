@@ -16,6 +16,7 @@ use Rattle.stapl_meaning.proofs.Entries.{all_at}
 use Rattle.std.specs.List.{AllByRecursion}
 use Rattle.stapl_syntax.specs.Kinds.{operands_suit}
 use Rattle.stapl_syntax.specs.Mentions.{labels_named}
+use Rattle.stapl_syntax.specs.Rules.{stops_unstable}
 use Rattle.stapl_codegen.specs.Generated.{variable_def}
 use Rattle.stapl_code.specs.declared.instr.Instr.{Instr}
 use Rattle.stapl_code.specs.declared.instr.Instr.TheVariants.{Turn, EndProc}
@@ -278,6 +279,7 @@ module _ (program : Played) (built : All IsBuilt program.pieces) (typed : IsType
     record IsTypedIn (j : ℕ) (st : StmtTree) : Type 0 where
       is_inner : is_built_inner st.body ≡ true
       suits : operands_suit (scope_at program j).look.kind st.body ≡ true
+      stable : stops_unstable st.body ≡ false
       leads : AllByRecursion (Leads j) (labels_named st.body)
       declares : IfSome (declaration st.body) (λ (d : Declaration). (scope_at program j).look.kind d.name ≡ Some d.kind)
 
@@ -294,6 +296,7 @@ module _ (program : Played) (built : All IsBuilt program.pieces) (typed : IsType
         record {
           is_inner = built_is_inner st (all_at IsBuilt program.pieces j st built at) inner;
           suits = t.suits;
+          stable = t.stable;
           leads = subst (λ (b : List ℕ). AllByRecursion (λ label. IsInBlock program b ((scope_at program j).label label)) (labels_named st.body)) same t.leads;
           declares = kind_declared j t.block (declaration st.body) t.declares;
         }
@@ -325,7 +328,7 @@ module _ (program : Played) (built : All IsBuilt program.pieces) (typed : IsType
         (turn_stands defs entry procedure_code must (j + 1) (is_last body)
         (body_last defs entry procedure_code (Leads j) scope (start_of program) (agrees j) (leads_to j) next_is first st.body after some))
         (body_fine defs entry procedure_code (Leads j) scope (start_of program) (agrees j) (leads_to j) next_is first st.body after
-        t.is_inner t.suits t.leads t.declares (own_goes_on own k st next rest are e) follows))
+        t.is_inner t.suits t.stable t.leads t.declares (own_goes_on own k st next rest are e) follows))
 
     -- the last piece is ENDPROC
     last_fine : (k j : ℕ) (st : StmtTree) → drop k own ≡ st ∷ [] → (must : Bool) → FineFrom must (From j (st ∷ []))

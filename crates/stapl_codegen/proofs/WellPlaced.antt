@@ -10,25 +10,29 @@ use Rattle.stapl_syntax.specs.declared.names.VarKind.{VarKind}
 use Rattle.stapl_syntax.specs.declared.names.VarKind.TheVariants as variables
 use Rattle.stapl_syntax.specs.Kinds.{expr_kind, is_array, is_int, is_bit, is_bit_array, is_integer, number_kind, scalar_kind, element_kind, indexed_kind, VarKinds, wants_int, suits, if_given, operands_suit}
 use Rattle.stapl_syntax.specs.Mentions.{labels_named}
+use Rattle.stapl_syntax.specs.Rules.{stops_unstable}
 use Rattle.stapl_syntax.specs.Names.{declaration}
 use Rattle.stapl_syntax.specs.Statements.{ends_procedure}
-use Rattle.stapl_syntax.specs.Trees.{ExprTree, number, ArrayTree, literal, whole, range, of_int, BodyTree, boolean, boolean_array, integer, integer_array, assign, assign_element, assign_array, assign_range, call, goto, if_then, for_loop, next, push, scalar, element, pop, print, exported_value, exported_array, export, exit}
+use Rattle.stapl_syntax.specs.Trees.{ExprTree, number, ArrayTree, literal, whole, range, of_int, BodyTree, boolean, boolean_array, integer, integer_array, assign, assign_element, assign_array, assign_range, call, goto, if_then, for_loop, next, push, scalar, element, pop, print, exported_value, exported_array, export, exit, state_list, wait_cycles, wait_usec, frequency}
 use Rattle.stapl_built.specs.Built.{is_built_simple, is_built_inner}
 use Rattle.stapl_meaning.specs.declared.values.ValueKind.{ValueKind}
 use Rattle.stapl_meaning.specs.declared.values.ValueKind.TheVariants as kinds
+use Rattle.stapl_meaning.specs.Values.{Lookup}
 use Rattle.stapl_meaning.specs.Operands.{array_operands, given_kind, printed_kind, step_or_one, bit_number}
 use Rattle.stapl_meaning.specs.Scopes.{Scope}
-use Rattle.stapl_meaning.specs.Turns.{rows}
+use Rattle.tap_states.specs.declared.Tap.{Tap}
+use Rattle.stapl_meaning.specs.Turns.{tap_or_idle, kind_of_wait, integer_given, rows}
 use Rattle.stapl_code.specs.declared.instr.Instr.{Instr}
-use Rattle.stapl_code.specs.declared.instr.Instr.TheVariants.{Turn, Store, StoreAt, SetBits, SetInts, For, Next, PushRecord, Jump, JumpIfZero, Export}
+use Rattle.stapl_code.specs.declared.instr.Instr.TheVariants.{Turn, Store, StoreAt, SetBits, SetInts, For, Next, PushRecord, Jump, JumpIfZero, Export, Wait, Frequency}
 use Rattle.stapl_code.specs.declared.raw.VarDef.{VarDef}
 use Rattle.stapl_code.specs.Machine.{source_slots, source_wants, wants}
 use Rattle.stapl_code.specs.Kinds.{off, then_kinds, taken_off, variable_kind, element_kind as element_kind_of, is_met, all_off, kinds_moved, kinds_behind}
 use Rattle.stapl_code.specs.Valid.{is_last, is_target, stands_well}
 use Rattle.stapl_codegen.specs.Emit.{export_part, source_code, Firsts, last, body_code}
 use Rattle.stapl_codegen.proofs.Views.{IsInner, an_end, a_bit, some_bits, an_integer, no_integers, some_integers, a_simple, inner_view}
+use Rattle.stapl_codegen.proofs.Stable.{last_stable, both_stable}
 use Rattle.stapl_codegen.proofs.Sides.{fits, held_kind, item_kind}
-use Rattle.stapl_codegen.proofs.WellKinded.{kinds_onto, Agrees, scalar_agrees, element_agrees, bits_agree, integer_agrees, integers_agree, printed_fits, one_typed, parts_typed, range_typed, array_typed, parts_off, Fine, Follows, IsGood, row_fine, pop_fine, rows_last}
+use Rattle.stapl_codegen.proofs.WellKinded.{kinds_onto, Agrees, scalar_agrees, element_agrees, bits_agree, integer_agrees, integers_agree, printed_fits, AllTyped, one_typed, parts_typed, range_typed, array_typed, parts_off, Fine, Follows, IsGood, row_fine, pop_fine, rows_last}
 
 -- what is given to a scalar fits the kind that the scalar holds
 pub given_fits : (v : Option VarKind) (k : Option Kind) → suits (scalar_kind v) k ≡ true → (fits (given_kind v) k ≡ true) × (held_kind v ≡ Some (given_kind v))
@@ -82,6 +86,11 @@ pub step_fits : (kind : VarKinds) (step : Option ExprTree) → if_given (wants_i
 step_fits kind None h = refl
 step_fits kind (Some e) h = h
 
+-- an expression that may be left out is an integer if it is there
+pub given_typed : (variables : List VarDef) (look : Lookup) (ks : List ValueKind) (o : Option ExprTree) → if_given (wants_int look.kind) o ≡ true → AllTyped variables look ks (integer_given o)
+given_typed variables look ks None h = tt
+given_typed variables look ks (Some e) h = one_typed variables look ks kinds.Int e h
+
 off_same : (kind : ValueKind) (ks : List ValueKind) → off kind (kind ∷ ks) ≡ Some ks
 off_same kinds.Int ks = refl
 off_same kinds.Bit ks = refl
@@ -97,6 +106,15 @@ module _ (variables : List VarDef) where
   export_finds : (key : ℕ) (kind : ValueKind) → kinds_behind variables (Export key (export_part kind)) (kind ∷ []) ≡ Some []
   export_finds key kinds.Int = refl
   export_finds key kinds.Bit = refl
+
+  -- the counts of a WAIT, and a frequency
+  wait_finds : (at end : Tap) (usec : Option ExprTree) → kinds_behind variables (Wait at (kind_of_wait usec) end) (kinds_onto (integer_given usec) (kinds.Int ∷ [])) ≡ Some []
+  wait_finds at end None = refl
+  wait_finds at end (Some e) = refl
+
+  frequency_finds : (hertz : Option ExprTree) → kinds_behind variables (Frequency (is_some hertz)) (kinds_onto (integer_given hertz) []) ≡ Some []
+  frequency_finds None = refl
+  frequency_finds (Some e) = refl
 
   pub wanted : (x : Instr) (ks after : List ValueKind) → list_all (is_met variables) (wants x) ≡ true → kinds_moved variables x ks ≡ Some after → kinds_behind variables x ks ≡ Some after
   wanted x ks after met moved = ap (λ b. if b then kinds_moved variables x ks else None) met ∙ moved
@@ -200,9 +218,9 @@ module _ (variables : List VarDef) (entry : ℕ) (code : List Instr) where
         }
 
     -- a statement that may stand after THEN
-    simple_fine : (first : Firsts) (b : BodyTree) (rest : List Instr) → is_built_simple b ≡ true → operands_suit scope.look.kind b ≡ true → AllByRecursion Leads (labels_named b) →
+    simple_fine : (first : Firsts) (b : BodyTree) (rest : List Instr) → is_built_simple b ≡ true → operands_suit scope.look.kind b ≡ true → stops_unstable b ≡ false → AllByRecursion Leads (labels_named b) →
         Follows variables entry code rest → Fine variables entry code false [] (body_code scope place first b rest)
-    simple_fine first (assign name e) rest built suit leads follows =
+    simple_fine first (assign name e) rest built suit stable leads follows =
         let t = given_fits (scope.look.kind name) (expr_kind scope.look.kind e) suit in
         let kind : ValueKind = given_kind (scope.look.kind name) in
         let good : Good first (assign name e) = record {
@@ -211,7 +229,7 @@ module _ (variables : List VarDef) (entry : ℕ) (code : List Instr) where
           stands = refl;
         } in
         row_fine variables entry code scope place first (assign name e) rest agrees (λ l. refl) good follows.some (follows.fine false)
-    simple_fine first (assign_element name index e) rest built suit leads follows =
+    simple_fine first (assign_element name index e) rest built suit stable leads follows =
         let are = and_parts (is_int (expr_kind scope.look.kind index)) (suits (element_kind (scope.look.kind name)) (expr_kind scope.look.kind e)) suit in
         let t = item_given (scope.look.kind name) (expr_kind scope.look.kind e) are.1 in
         let kind : ValueKind = given_kind (scope.look.kind name) in
@@ -222,28 +240,28 @@ module _ (variables : List VarDef) (entry : ℕ) (code : List Instr) where
           stands = refl;
         } in
         row_fine variables entry code scope place first (assign_element name index e) rest agrees (λ l. refl) good follows.some (follows.fine false)
-    simple_fine first (assign_array name a) rest built suit leads follows =
+    simple_fine first (assign_array name a) rest built suit stable leads follows =
         row_fine variables entry code scope place first (assign_array name a) rest agrees (λ l. refl) (array_good first name a suit) follows.some (follows.fine false)
-    simple_fine first (assign_range name high low a) rest built suit leads follows =
+    simple_fine first (assign_range name high low a) rest built suit stable leads follows =
         row_fine variables entry code scope place first (assign_range name high low a) rest agrees (λ l. refl) (range_good first name high low a suit) follows.some (follows.fine false)
-    simple_fine first (goto name) rest built suit leads follows =
+    simple_fine first (goto name) rest built suit stable leads follows =
         let good : Good first (goto name) = record { typed = tt; finds = refl; stands = jump_stands (place (scope.label name)) (target name leads.0) } in
         row_fine variables entry code scope place first (goto name) rest agrees (λ l. refl) good follows.some (follows.fine true)
-    simple_fine first (if_then e b) rest built suit leads follows =
+    simple_fine first (if_then e b) rest built suit stable leads follows =
         let suits = and_parts (is_bit (expr_kind scope.look.kind e)) (operands_suit scope.look.kind b) suit in
         let good : Good first (if_then e b) = record { typed = one_typed variables scope.look [] kinds.Bit e suits.0; finds = refl; stands = branch_stands (place scope.follow) onward } in
         row_fine variables entry code scope place first (if_then e b) (body_code scope place first b rest) agrees (λ l. refl) good
-        (body_last first b rest follows.some) (simple_fine first b rest built suits.1 leads follows)
-    simple_fine first (call name) rest built suit leads follows =
+        (body_last first b rest follows.some) (simple_fine first b rest built suits.1 stable leads follows)
+    simple_fine first (call name) rest built suit stable leads follows =
         let good : Good first (call name) = record { typed = tt; finds = refl; stands = refl } in
         row_fine variables entry code scope place first (call name) rest agrees (λ l. refl) good follows.some (follows.fine true)
-    simple_fine first (for_loop name from to step) rest built suit leads follows =
+    simple_fine first (for_loop name from to step) rest built suit stable leads follows =
         row_fine variables entry code scope place first (for_loop name from to step) rest agrees (λ l. refl) (loop_good first name from to step suit) follows.some (follows.fine true)
-    simple_fine first (next name) rest built suit leads follows =
+    simple_fine first (next name) rest built suit stable leads follows =
         let met = ap (λ b. b && true) (integer_agrees variables scope.look agrees name suit) in
         let good : Good first (next name) = record { typed = tt; finds = wanted variables (Next (scope.look.variable name)) [] [] met refl; stands = refl } in
         row_fine variables entry code scope place first (next name) rest agrees (λ l. refl) good follows.some (follows.fine true)
-    simple_fine first (push e) rest built suit leads follows =
+    simple_fine first (push e) rest built suit stable leads follows =
         let kind : ValueKind = printed_kind (expr_kind scope.look.kind e) in
         let good : Good first (push e) = record {
           typed = one_typed variables scope.look [] kind e (printed_fits variables scope.look (expr_kind scope.look.kind e) suit);
@@ -251,18 +269,18 @@ module _ (variables : List VarDef) (entry : ℕ) (code : List Instr) where
           stands = refl;
         } in
         row_fine variables entry code scope place first (push e) rest agrees (λ l. refl) good follows.some (follows.fine false)
-    simple_fine first (pop (scalar name)) rest built suit leads follows =
+    simple_fine first (pop (scalar name)) rest built suit stable leads follows =
         let kind : ValueKind = given_kind (scope.look.kind name) in
         let found = scalar_agrees variables scope.look agrees name kind (scalar_popped (scope.look.kind name) suit) in
         pop_fine variables entry code scope place first (scalar name) kind rest agrees (λ l. refl) tt (store_finds variables (scope.look.variable name) kind found) refl
         follows.some (follows.fine false)
-    simple_fine first (pop (element name index)) rest built suit leads follows =
+    simple_fine first (pop (element name index)) rest built suit stable leads follows =
         let kind : ValueKind = given_kind (scope.look.kind name) in
         let t = item_popped (scope.look.kind name) (expr_kind scope.look.kind index) suit in
         let found = element_agrees variables scope.look agrees name kind t.1 in
         pop_fine variables entry code scope place first (element name index) kind rest agrees (λ l. refl) (record { fits = t.0; test = (refl, ap is_some found) }, tt)
         (store_at_finds (scope.look.variable name) kind found) refl follows.some (follows.fine false)
-    simple_fine first (export key (exported_value e)) rest built suit leads follows =
+    simple_fine first (export key (exported_value e)) rest built suit stable leads follows =
         let kind : ValueKind = printed_kind (expr_kind scope.look.kind e) in
         let good : Good first (export key (exported_value e)) = record {
           typed = one_typed variables scope.look [] kind e (printed_fits variables scope.look (expr_kind scope.look.kind e) suit);
@@ -270,54 +288,71 @@ module _ (variables : List VarDef) (entry : ℕ) (code : List Instr) where
           stands = refl;
         } in
         row_fine variables entry code scope place first (export key (exported_value e)) rest agrees (λ l. refl) good follows.some (follows.fine false)
-    simple_fine first (export key (exported_array a)) rest built suit leads follows =
+    simple_fine first (export key (exported_array a)) rest built suit stable leads follows =
         row_fine variables entry code scope place first (export key (exported_array a)) rest agrees (λ l. refl) (export_good first key a suit) follows.some (follows.fine false)
-    simple_fine first (print list) rest built suit leads follows =
+    simple_fine first (print list) rest built suit stable leads follows =
         let good : Good first (print list) = record {
           typed = parts_typed variables scope.look [] list suit;
           finds = ap (λ o. then_kinds o (λ below. then_kinds (Some below) Some)) (parts_off variables scope.look list first.text []);
           stands = refl;
         } in
         row_fine variables entry code scope place first (print list) rest agrees (λ l. refl) good follows.some (follows.fine false)
-    simple_fine first (exit e) rest built suit leads follows =
+    simple_fine first (exit e) rest built suit stable leads follows =
         let good : Good first (exit e) = record { typed = one_typed variables scope.look [] kinds.Int e suit; finds = refl; stands = refl } in
         row_fine variables entry code scope place first (exit e) rest agrees (λ l. refl) good follows.some (follows.fine true)
-    simple_fine first _ rest built suit leads follows = absurd cc
+    simple_fine first (state_list states) rest built suit stable leads follows =
+        let good : Good first (state_list states) = record { typed = tt; finds = refl; stands = last_stable states stable } in
+        row_fine variables entry code scope place first (state_list states) rest agrees (λ l. refl) good follows.some (follows.fine false)
+    simple_fine first (wait_cycles state cycles usec end) rest built suit stable leads follows =
+        let suits = and_parts (is_int (expr_kind scope.look.kind cycles)) (if_given (wants_int scope.look.kind) usec) suit in
+        let good : Good first (wait_cycles state cycles usec end) = record {
+          typed = (record { fits = suits.0; test = tt }, given_typed variables scope.look (kinds.Int ∷ []) usec suits.1);
+          finds = wait_finds variables (tap_or_idle state) (tap_or_idle end) usec;
+          stands = both_stable state end stable;
+        } in
+        row_fine variables entry code scope place first (wait_cycles state cycles usec end) rest agrees (λ l. refl) good follows.some (follows.fine false)
+    simple_fine first (wait_usec state usec end) rest built suit stable leads follows =
+        let good : Good first (wait_usec state usec end) = record { typed = one_typed variables scope.look [] kinds.Int usec suit; finds = refl; stands = both_stable state end stable } in
+        row_fine variables entry code scope place first (wait_usec state usec end) rest agrees (λ l. refl) good follows.some (follows.fine false)
+    simple_fine first (frequency hertz) rest built suit stable leads follows =
+        let good : Good first (frequency hertz) = record { typed = given_typed variables scope.look [] hertz suit; finds = frequency_finds variables hertz; stands = refl } in
+        row_fine variables entry code scope place first (frequency hertz) rest agrees (λ l. refl) good follows.some (follows.fine false)
+    simple_fine first _ rest built suit stable leads follows = absurd cc
 
     -- a statement other than ENDPROC
-    inner_fine : (first : Firsts) (b : BodyTree) → IsInner b → (rest : List Instr) → operands_suit scope.look.kind b ≡ true → AllByRecursion Leads (labels_named b) → IsDeclared b → ends_procedure b ≡ false →
+    inner_fine : (first : Firsts) (b : BodyTree) → IsInner b → (rest : List Instr) → operands_suit scope.look.kind b ≡ true → stops_unstable b ≡ false → AllByRecursion Leads (labels_named b) → IsDeclared b → ends_procedure b ≡ false →
         Follows variables entry code rest → Fine variables entry code false [] (body_code scope place first b rest)
-    inner_fine first _ an_end rest suit leads is between follows = absurd cc
-    inner_fine first _ (a_bit name None) rest suit leads is between follows = follows.fine false
-    inner_fine first _ (a_bit name (Some b)) rest suit leads is between follows =
+    inner_fine first _ an_end rest suit stable leads is between follows = absurd cc
+    inner_fine first _ (a_bit name None) rest suit stable leads is between follows = follows.fine false
+    inner_fine first _ (a_bit name (Some b)) rest suit stable leads is between follows =
         let good : Good first (boolean name (Some b)) = record {
           typed = one_typed variables scope.look [] kinds.Bit (number (bit_number b)) (bit_fits b);
           finds = store_finds variables (scope.look.variable name) kinds.Bit (scalar_agrees variables scope.look agrees name kinds.Bit (ap held_kind is));
           stands = refl;
         } in
         row_fine variables entry code scope place first (boolean name (Some b)) rest agrees (λ l. refl) good follows.some (follows.fine false)
-    inner_fine first _ (some_bits name size None) rest suit leads is between follows = follows.fine false
-    inner_fine first _ (some_bits name size (Some bits)) rest suit leads is between follows =
+    inner_fine first _ (some_bits name size None) rest suit stable leads is between follows = follows.fine false
+    inner_fine first _ (some_bits name size (Some bits)) rest suit stable leads is between follows =
         let set : Instr = SetBits (scope.look.variable name) first.literal in
         let met = ap (λ b. b && true) (bits_agree variables scope.look agrees name (ap is_bit_array is)) in
         let good : Good first (boolean_array name size (Some bits)) = record { typed = tt; finds = wanted variables set [] [] met refl; stands = refl } in
         row_fine variables entry code scope place first (boolean_array name size (Some bits)) rest agrees (λ l. refl) good follows.some (follows.fine false)
-    inner_fine first _ (an_integer name None) rest suit leads is between follows = follows.fine false
-    inner_fine first _ (an_integer name (Some z)) rest suit leads is between follows =
+    inner_fine first _ (an_integer name None) rest suit stable leads is between follows = follows.fine false
+    inner_fine first _ (an_integer name (Some z)) rest suit stable leads is between follows =
         let good : Good first (integer name (Some z)) = record {
           typed = one_typed variables scope.look [] kinds.Int (number z) (number_fits z);
           finds = store_finds variables (scope.look.variable name) kinds.Int (scalar_agrees variables scope.look agrees name kinds.Int (ap held_kind is));
           stands = refl;
         } in
         row_fine variables entry code scope place first (integer name (Some z)) rest agrees (λ l. refl) good follows.some (follows.fine false)
-    inner_fine first _ (no_integers name size) rest suit leads is between follows = follows.fine false
-    inner_fine first _ (some_integers name size zs some) rest suit leads is between follows =
+    inner_fine first _ (no_integers name size) rest suit stable leads is between follows = follows.fine false
+    inner_fine first _ (some_integers name size zs some) rest suit stable leads is between follows =
         let set : Instr = SetInts (scope.look.variable name) zs in
         let met = ap (λ b. b && true) (integers_agree variables scope.look agrees name is) in
         let good : Good first (integer_array name size (Some zs)) = record { typed = tt; finds = wanted variables set [] [] met refl; stands = refl } in
         row_fine variables entry code scope place first (integer_array name size (Some zs)) rest agrees (λ l. refl) good follows.some (follows.fine false)
-    inner_fine first _ (a_simple b built) rest suit leads is between follows = simple_fine first b rest built suit leads follows
+    inner_fine first _ (a_simple b built) rest suit stable leads is between follows = simple_fine first b rest built suit stable leads follows
 
-    pub body_fine : (first : Firsts) (b : BodyTree) (rest : List Instr) → is_built_inner b ≡ true → operands_suit scope.look.kind b ≡ true → AllByRecursion Leads (labels_named b) → IsDeclared b → ends_procedure b ≡ false →
+    pub body_fine : (first : Firsts) (b : BodyTree) (rest : List Instr) → is_built_inner b ≡ true → operands_suit scope.look.kind b ≡ true → stops_unstable b ≡ false → AllByRecursion Leads (labels_named b) → IsDeclared b → ends_procedure b ≡ false →
         Follows variables entry code rest → Fine variables entry code false [] (body_code scope place first b rest)
     body_fine first b rest built = inner_fine first b (inner_view b built) rest

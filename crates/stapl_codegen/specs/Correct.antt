@@ -5,8 +5,9 @@ use Rattle.stapl_syntax.specs.Statements.{is_outer}
 use Rattle.stapl_meaning.specs.declared.values.Held.{Held}
 use Rattle.stapl_meaning.specs.declared.records.Record.{Record}
 use Rattle.stapl_meaning.specs.declared.records.Record.TheVariants.{Pushed, Called, Looped}
+use Rattle.stapl_meaning.specs.Deeds.{Chain}
 use Rattle.stapl_meaning.specs.States.{State}
-use Rattle.stapl_meaning.specs.Plays.{Outcome, Ended, Going, Stopped, Run, play}
+use Rattle.stapl_meaning.specs.Plays.{Outcome, Ended, Going, Stopped, Run, procedures_run}
 use Rattle.stapl_code.specs.declared.instr.Instr.{Instr}
 use Rattle.stapl_code.specs.Machine.{Constants, code_play, nowhere}
 use Rattle.stapl_meaning.specs.Scopes.{has_initial_value, Preset, Played, zeros_of}
@@ -47,14 +48,16 @@ placed_outcome place (Going i) = Going (place i)
 placed_outcome place Stopped = Stopped
 
 abbrev pub placed_run : (ℕ → ℕ) → Run → Run
-placed_run place r = record { events = r.events; outcome = placed_outcome place r.outcome; state = placed_state place r.state }
+placed_run place r =
+    record { events = r.events; outcome = placed_outcome place r.outcome; state = placed_state place r.state; chain = r.chain }
 
--- The code stands for the program, if the pieces begin at these places of the code: for each choice of procedures and
--- each number of turns, its play is that of the program. The code is told by where its procedures begin, its constants,
--- its instructions, and what its variables hold at first.
+-- The code stands for the program, if the pieces begin at these places of the code: for each choice of procedures, each
+-- number of turns and each chain, its run is that of the program. The code is told by where its procedures begin, its
+-- constants, its instructions, and what its variables hold at first.
 abbrev pub Stands : Played → (ℕ → ℕ) → List ℕ → Constants → List Instr → List Held → Type 0
 Stands program place entries constants code variables =
-    (chosen : List ℕ) (n : ℕ) → code_play entries constants code chosen variables n ≡ placed_run place (play program chosen n)
+    (chosen : List ℕ) (n : ℕ) (k : Chain) →
+    code_play entries constants code chosen variables n k ≡ placed_run place (procedures_run program chosen n k)
 
 -- each declaration of a DATA block that is set has an initial value
 abbrev pub AllStart : List Preset → Type 0

@@ -1,9 +1,9 @@
 -- The code of a program. How statements are written as instructions is this profile's.
-use Rattle.std.specs.Prelude.{ℕ, zero, suc, ℤ, pos, ◌+◌, ◌-◌, Bool, List, [], ◌∷◌, ◌++◌, length, take, drop, map, Option, Some, None, if◌then◌else◌, slice_get}
+use Rattle.std.specs.Prelude.{ℕ, zero, suc, ℤ, pos, ◌+◌, ◌-◌, Bool, List, [], ◌∷◌, ◌++◌, length, take, drop, map, Option, Some, None, is_some, if◌then◌else◌, slice_get}
 use Rattle.bit_list.specs.Integers.{int_of}
 use Rattle.stapl_lexer.specs.declared.terminal.BinOp.{BinOp}
 use Rattle.stapl_lexer.specs.declared.terminal.BinOp.TheVariants as operators
-use Rattle.stapl_syntax.specs.Trees.{ExprTree, number, scalar, element, unary, binary, abs, int, ArrayTree, literal, whole, range, of_int, PartTree, string, value, character, ItemTree, BodyTree, action, procedure, end_procedure, boolean, boolean_array, integer, integer_array, assign, assign_element, assign_array, assign_range, call, goto, if_then, for_loop, next, push, pop, print, exported_value, exported_array, export, exit, StmtTree}
+use Rattle.stapl_syntax.specs.Trees.{ExprTree, number, scalar, element, unary, binary, abs, int, ArrayTree, literal, whole, range, of_int, PartTree, string, value, character, ItemTree, BodyTree, action, procedure, end_procedure, boolean, boolean_array, integer, integer_array, assign, assign_element, assign_array, assign_range, call, goto, if_then, for_loop, next, push, pop, print, exported_value, exported_array, export, exit, state_list, wait_cycles, wait_usec, frequency, StmtTree}
 use Rattle.stapl_syntax.specs.declared.statement.ItemChoice.{ItemChoice}
 use Rattle.stapl_syntax.specs.declared.statement.ItemChoice.TheVariants as choices
 use Rattle.stapl_syntax.specs.declared.signs.UnOp.{UnOp}
@@ -15,7 +15,8 @@ use Rattle.stapl_meaning.specs.declared.values.ValueKind.TheVariants as kinds
 use Rattle.stapl_meaning.specs.Values.{Lookup, unary_side, sides}
 use Rattle.stapl_meaning.specs.Operands.{Test, Plain, Character, Index, Range, Operand, printed_kind, given_kind}
 use Rattle.stapl_meaning.specs.Scopes.{Scope, Preset, Played, scope_at, preset_scope, procedure_number}
-use Rattle.stapl_meaning.specs.Turns.{operands, rows}
+use Rattle.stapl_meaning.specs.declared.waits.WaitKind.TheVariants as waits
+use Rattle.stapl_meaning.specs.Turns.{tap_of, tap_or_idle, kind_of_wait, operands, rows}
 use Rattle.stapl_code.specs.declared.instr.PrintPart.{PrintPart}
 use Rattle.stapl_code.specs.declared.instr.PrintPart.TheVariants as parts
 use Rattle.stapl_code.specs.declared.instr.ExportPart.{ExportPart}
@@ -24,7 +25,7 @@ use Rattle.stapl_code.specs.declared.instr.Source.{Source}
 use Rattle.stapl_code.specs.declared.instr.Source.TheVariants as sources
 use Rattle.stapl_code.specs.declared.instr.Dest.TheVariants as dests
 use Rattle.stapl_code.specs.declared.instr.Instr.{Instr}
-use Rattle.stapl_code.specs.declared.instr.Instr.TheVariants.{Turn, Push, PushBit, Load, LoadAt, CheckIndex, CheckRange, Store, StoreAt, Unary, Binary, ToInt, CopyBits, SetBits, SetInts, For, Next, PushRecord, PopRecord, Call, Jump, JumpIfZero, EndProc, Print, Export, CheckChar, Exit}
+use Rattle.stapl_code.specs.declared.instr.Instr.TheVariants.{Turn, Push, PushBit, Load, LoadAt, CheckIndex, CheckRange, Store, StoreAt, Unary, Binary, ToInt, CopyBits, SetBits, SetInts, For, Next, PushRecord, PopRecord, Call, Jump, JumpIfZero, EndProc, Print, Export, CheckChar, Exit, State as GoThrough, Wait, Frequency}
 use Rattle.stapl_code.specs.declared.raw.ProcDef.{ProcDef}
 use Rattle.stapl_code.specs.declared.raw.ItemDef.{ItemDef}
 use Rattle.stapl_code.specs.declared.raw.ActionDef.{ActionDef}
@@ -177,6 +178,10 @@ last scope place first (export key (exported_value e)) = Export first.text (expo
 last scope place first (export key (exported_array a)) =
     Export first.text (exports.Array (source_code scope.look first.literal a))
 last scope place first (exit e) = Exit
+last scope place first (state_list states) = GoThrough (map tap_of states)
+last scope place first (wait_cycles state cycles usec end) = Wait (tap_or_idle state) (kind_of_wait usec) (tap_or_idle end)
+last scope place first (wait_usec state usec end) = Wait (tap_or_idle state) waits.Usec (tap_or_idle end)
+last scope place first (frequency hertz) = Frequency (is_some hertz)
 last scope place first _ = Binary no_operator
 
 -- what stands between the operands of a row and its last instruction: a POP takes its record off behind its index

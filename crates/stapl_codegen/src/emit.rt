@@ -27,7 +27,7 @@ use std::marker::Model;
 /// What is written so far of the code of a program, and where the next piece stands.
 #[derive(Drop)]
 pub(crate) struct Emitter<'a> {
-    alloc: Global,
+    pub(crate) alloc: Global,
     code: Vec<Instr>,
     texts: Vec<Text>,
     literals: Vec<Bits>,
@@ -572,6 +572,22 @@ impl<'a> Emitter<'a> {
             Body::Exit(e) => {
                 self.expr(ValueKind::Int, e)?;
                 self.put(Instr::Exit)?;
+                Ok(())
+            }
+            Body::State(states) => {
+                self.state(states.as_slice())?;
+                Ok(())
+            }
+            Body::WaitCycles(state, cycles, usec, last) => {
+                self.wait_cycles(*state, cycles, usec, *last)?;
+                Ok(())
+            }
+            Body::WaitUsec(state, usec, last) => {
+                self.wait_usec(*state, usec, *last)?;
+                Ok(())
+            }
+            Body::Frequency(hertz) => {
+                self.frequency(hertz)?;
                 Ok(())
             }
             _ => self.put(Instr::Binary(NO_OPERATOR)),

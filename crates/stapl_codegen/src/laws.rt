@@ -39,8 +39,8 @@ pub fn accepted_code_is_valid()
     ensures code { (program : Played) → IsAccepted program → IsCodeOf program (lists_of program) }
 {}
 
-/// No play of an accepted program gets stuck: it has an ending after its turns, or it still goes on, and then there is
-/// exactly one turn.
+/// No run of an accepted program gets stuck, on whichever chain: it has an ending after its turns, or it still goes on,
+/// and then there is exactly one turn.
 pub fn programs_are_not_stuck()
     ensures { ProgramsAreNotStuck }
 {
