@@ -11,3 +11,7 @@ pub mod TryLemmas
 pub mod RunLemmas
 pub mod Machines
 pub mod ArrayLemmas
+pub mod FarLemmas
+pub mod DeedLemmas
+pub mod ResetLemmas
+pub mod PlayLemmas

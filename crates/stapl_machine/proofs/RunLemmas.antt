@@ -1,233 +1,410 @@
 -- On the turns of a run, one after another.
-use Rattle.std.proofs.Common.{◌≡◌, ◌≤◌, ◌<◌, ℕ, suc, ◌+◌, ◌-◌, List, [], ◌++◌, refl, sym, ap, ◌∙◌, append_assoc, arith, Option, Some, None, subst, length, reverse}
-use Rattle.std.specs.List.{flat_map}
-use Rattle.std.proofs.lemmas.Grind.{flat_map-append}
-use Rattle.tool_io.specs.declared.lines.Lines.{Lines}
-use Rattle.tool_io.proofs.PutLemmas.{put_then, puts_nothing, front_with, put_then_front}
+use Rattle.std.proofs.Common.{◌≡◌, ◌≤◌, ◌<◌, ℕ, suc, ◌+◌, ◌-◌, Bool, List, [], ◌++◌, refl, sym, ap, ◌∙◌, append_assoc, arith, Option, Some, None, subst, length, reverse}
+use Rattle.std.proofs.lemmas.List.{append-nil}
+use Rattle.dev_card.specs.Card.{Card}
+use Rattle.dev_card.specs.Board.{Clock, tdos}
+use Rattle.scan_paths.specs.Cables.{Breakage, whole}
 use Rattle.stapl_meaning.specs.declared.events.Event.{Event}
 use Rattle.stapl_meaning.specs.declared.events.Ending.{Ending}
+use Rattle.stapl_meaning.specs.declared.events.Ending.TheVariants.{Spent}
 use Rattle.stapl_meaning.specs.declared.records.Record.{Record}
 use Rattle.stapl_meaning.specs.declared.values.Value.{Value}
-use Rattle.stapl_meaning.specs.States.{State, Turned, Leads, Over, Broken, NoTurn, preceded, turn_of_piece, next_chosen, begun}
+use Rattle.stapl_meaning.specs.Deeds.{Chain}
+use Rattle.stapl_meaning.specs.States.{State, Happened, Led, Finished, Broke, Lacks, happens, with_events, happened_in_piece, next_chosen}
 use Rattle.stapl_meaning.specs.Plays.{Run, after, goes_on, ending_of, start}
-use Rattle.stapl_meaning.specs.Texts.{event_line}
-use Rattle.stapl_code.specs.Machine.{Constants, entry_of, stretch}
-use Rattle.stapl_code.proofs.Preceded.{begun_preceded}
-use Rattle.stapl_code.specs.Safe.{entries_of, constants_of}
-use Rattle.stapl_code.specs.Ticks.{ticks, ticks_then}
 use Rattle.stapl_code.specs.declared.raw.CodeLists.{CodeLists}
+use Rattle.stapl_code.specs.Machine.{entry_of, begins_chosen, stretch}
+use Rattle.stapl_code.specs.Safe.{entries_of, constants_of}
+use Rattle.stapl_code.specs.Ticks.{ticks, counted_then}
+use Rattle.stapl_code.proofs.Preceded.{begins_with, with_nothing}
 use Rattle.stapl_machine.specs.declared.act.Workspace.{Workspace}
 use Rattle.stapl_machine.specs.declared.moves.Went.{Went}
 use Rattle.stapl_machine.specs.declared.moves.Went.TheVariants as went
+use Rattle.stapl_machine.specs.declared.pin_cable.PinCable.{PinCable}
 use Rattle.stapl_machine.specs.Acts.{state_with, state_of, operands_of}
-use Rattle.stapl_machine.specs.Moves.{led_to}
-use Rattle.stapl_machine.specs.Turns.{rest_of, ticks_from, turn_at, ticks_at, Does, DoesFront}
-use Rattle.stapl_machine.specs.Runs.{run_of, run_ticks_of, chosen_run, chosen_ticks, begun_run, begun_ticks, play_from, play_ticks_from, Runs, RunsTo, RunsFront, LeavesState}
+use Rattle.stapl_machine.specs.Moves.{led_to, led_on}
+use Rattle.stapl_machine.specs.Papers.{Shown}
+use Rattle.stapl_machine.specs.Pins.{cable_of, port_chain}
+use Rattle.stapl_machine.specs.Ports.{chain_before, Does, DoesFront, Runs, LeavesSo, RunsTo, RunsFront}
+use Rattle.stapl_machine.specs.Turns.{rest_of, ticks_from, no_ticks}
+use Rattle.stapl_machine.specs.Runs.{run_of, run_ticks_of, chosen_run, chosen_ticks, begun_run, begun_ticks, play_from, play_ticks_from}
+use Rattle.stapl_machine.proofs.DeedLemmas.{passes_none, passes_both, passes_both_front, before_both}
 
--- events in front of a turn are events in front of its run
-pub goes_after : (seen : List Event) (t : Turned) (s : State) (go : ℕ → State → Run) → goes_on (preceded seen t) s go ≡ after seen (goes_on t s go)
-goes_after seen (Leads events place u) s go = ap (λ (l : List Event). let r : Run = record (go place u) { events = l } in r) (append_assoc seen events (go place u).events)
-goes_after seen (Over events ending u) s go = refl
-goes_after seen (Broken events k u) s go = refl
-goes_after seen (NoTurn events) s go = refl
+-- events in front of a turn are events in front of its run, and do not count
+pub goes_after : (seen : List Event) (h : Happened) (s : State) (k : Chain) (go : ℕ → State → Chain → Run) → goes_on (with_events seen h) s k go ≡ after seen (goes_on h s k go)
+goes_after seen (Led events place u l) s k go = ap (λ (es : List Event). let r : Run = record (go place u l) { events = es } in r) (append_assoc seen events (go place u l).events)
+goes_after seen (Finished events ending u l) s k go = refl
+goes_after seen (Broke events f u l) s k go = refl
+goes_after seen (Lacks events) s k go = refl
 
 pub after_twice : (first second : List Event) (r : Run) → after first (after second r) ≡ after (first ++ second) r
 after_twice first second r = ap (λ (l : List Event). let q : Run = record r { events = l } in q) (sym (append_assoc first second r.events))
 
--- events do not count
-pub ticks_preceded : (seen : List Event) (t : Turned) (go : ℕ → State → ℕ) → ticks_then (preceded seen t) go ≡ ticks_then t go
-ticks_preceded seen (Leads events place u) go = refl
-ticks_preceded seen (Over events ending u) go = refl
-ticks_preceded seen (Broken events k u) go = refl
-ticks_preceded seen (NoTurn events) go = refl
+pub counted_with : (seen : List Event) (h : Happened) (go : ℕ → State → Chain → ℕ) → counted_then (with_events seen h) go ≡ counted_then h go
+counted_with seen (Led events place u l) go = refl
+counted_with seen (Finished events ending u l) go = refl
+counted_with seen (Broke events f u l) go = refl
+counted_with seen (Lacks events) go = refl
 
-module _ {K : Type 0} {written : K → Option (List ℕ)} where
-  pub runs_start : (whole : Run) (lines : Lines K) → Runs written whole lines whole lines
-  runs_start whole lines = record { events = []; put = puts_nothing written lines; runs = refl }
+-- What a run tells does not depend on the state and the chain that it stands in if nothing is found to do.
+module _ (h : Happened) (s t : State) (k l : Chain) (go : ℕ → State → Chain → Run) where
+  alike_events : (goes_on h s k go).events ≡ (goes_on h t l go).events
+  alike_events = by h
+    where
+      by : (h : Happened) → (goes_on h s k go).events ≡ (goes_on h t l go).events
+      by (Led events place u c) = refl
+      by (Finished events ending u c) = refl
+      by (Broke events f u c) = refl
+      by (Lacks events) = refl
 
-  -- what is left, by another name
-  pub runs_same : {whole rest other : Run} {a b : Lines K} → rest ≡ other → Runs written whole a rest b → Runs written whole a other b
-  runs_same e r = record { events = r.events; put = r.put; runs = r.runs ∙ ap (after r.events) e }
+  alike_ends : ending_of (goes_on h s k go).outcome ≡ ending_of (goes_on h t l go).outcome
+  alike_ends = by h
+    where
+      by : (h : Happened) → ending_of (goes_on h s k go).outcome ≡ ending_of (goes_on h t l go).outcome
+      by (Led events place u c) = refl
+      by (Finished events ending u c) = refl
+      by (Broke events f u c) = refl
+      by (Lacks events) = refl
 
-  -- one turn more
-  pub runs_more : {whole : Run} {a b c : Lines K} (turn rest : Turned) (s : State) (go : ℕ → State → Run) →
-      Runs written whole a (goes_on turn s go) b → Does written turn b rest c → Runs written whole a (goes_on rest s go) c
-  runs_more turn rest s go first second = record {
-    events = first.events ++ second.events;
-    put = rw (flat_map-append event_line first.events second.events) (put_then first.put second.put);
-    runs = first.runs ∙ ap (after first.events) (ap (λ (t : Turned). goes_on t s go) second.does ∙ goes_after second.events rest s go)
-        ∙ after_twice first.events second.events (goes_on rest s go);
-  }
+  alike_leaves : (ending : Option Ending) (u : State) (c : Chain) → ending_of (goes_on h t l go).outcome ≡ ending →
+      LeavesSo (goes_on h t l go) ending u c → LeavesSo (goes_on h s k go) ending u c
+  alike_leaves ending u c = by h ending
+    where
+      by : (h : Happened) (ending : Option Ending) → ending_of (goes_on h t l go).outcome ≡ ending → LeavesSo (goes_on h t l go) ending u c → LeavesSo (goes_on h s k go) ending u c
+      by h None e m = tt
+      by (Led events place v d) (Some ending) e m = m
+      by (Finished events last v d) (Some ending) e m = m
+      by (Broke events f v d) (Some ending) e m = absurd cc
+      by (Lacks events) (Some ending) e m = absurd cc
 
-  -- the state behind the run
-  pub runs_state : {whole rest : Run} {a b : Lines K} → Runs written whole a rest b → whole.state ≡ rest.state
-  runs_state r = ap (λ (q : Run). q.state) r.runs
+ticked_both : (a s n all here turn more : ℕ) → s + here ≡ a + all → here ≡ turn + more → n + 0 ≡ s + turn → n + more ≡ a + all
+ticked_both a s n all here turn more e f g = omega arith
 
-  -- a turn that was broken off
-  pub runs_front : {whole : Run} {a b c : Lines K} (turn : Turned) (s : State) (go : ℕ → State → Run) →
-      Runs written whole a (goes_on turn s go) b → DoesFront written turn b c → RunsFront written whole a c
-  runs_front {whole = whole} turn s go first second =
-      let all : whole.events ≡ first.events ++ (second.events ++ (goes_on second.rest s go).events) =
-      ap (λ (r : Run). r.events) (first.runs ∙ ap (after first.events) (ap (λ (t : Turned). goes_on t s go) second.does ∙ goes_after second.events second.rest s go)) in
-      record {
-        front = rw (all, flat_map-append event_line first.events (second.events ++ (goes_on second.rest s go).events), flat_map-append event_line second.events (goes_on second.rest s go).events)
-            (put_then_front first.put (front_with (flat_map event_line (goes_on second.rest s go).events) second.front));
-      }
+ticked_end : (a s n all here turn more : ℕ) → s + here ≡ a + all → here ≡ turn + more → more ≡ 0 → n + 0 ≡ s + turn → n ≡ a + all
+ticked_end a s n all here turn more e f h g = omega arith
 
--- one turn of a run of a code
-module _ {K : Type 0} {written : K → Option (List ℕ)} (code : CodeLists) (left more place : ℕ) (s u : State) where
-  -- the turn leads on
-  pub run_on : {whole : Run} {a b c : Lines K} (to : ℕ) → left ≡ suc more → Runs written whole a (run_of code left place s) b →
-      Does written (turn_at code place s) b (led_to (went.On to) u) c → Runs written whole a (run_of code more to u) c
-  run_on to e r d =
-      runs_more (turn_at code place s) (led_to (went.On to) u) s (run_of code more) (runs_same (ap (λ n. run_of code n place s) e) r) d
+ticked_front : (a s n all here turn more : ℕ) → s + here ≡ a + all → here ≡ turn + more → n ≤ s + turn → n ≤ a + all
+ticked_front a s n all here turn more e f g = omega arith
 
-  -- it ends the run
-  pub run_over : {whole : Run} {a b c : Lines K} (ending : Option Ending) → left ≡ suc more → Runs written whole a (run_of code left place s) b →
-      Does written (turn_at code place s) b (led_to (went.Over ending) u) c → Runs written whole a (goes_on (led_to (went.Over ending) u) s (run_of code more)) c
-  run_over ending e r d =
-      runs_more (turn_at code place s) (led_to (went.Over ending) u) s (run_of code more) (runs_same (ap (λ n. run_of code n place s) e) r) d
-
-  -- it is broken off
-  pub run_front : {whole : Run} {a b c : Lines K} → left ≡ suc more → Runs written whole a (run_of code left place s) b →
-      DoesFront written (turn_at code place s) b c → RunsFront written whole a c
-  run_front e r d =
-      runs_front (turn_at code place s) s (run_of code more) (runs_same (ap (λ n. run_of code n place s) e) r) d
-
-  -- nothing is done yet
-  pub run_start : (lines : Lines K) → Runs written (run_of code left place s) lines (run_of code (left - 0) place s) lines
-  run_start lines = let same : left ≡ left - 0 = omega arith in runs_same (ap (λ n. run_of code n place s) same) (runs_start (run_of code left place s) lines)
-
--- how many instructions a run takes
-module _ (code : CodeLists) (left more place : ℕ) (s : State) (e : left ≡ suc more) where
-  pub run_ticks_is : run_ticks_of code left place s ≡ ticks_at code place s + ticks_then (turn_at code place s) (run_ticks_of code more)
-  run_ticks_is = ap (λ n. run_ticks_of code n place s) e
-
-  pub run_ticks_on : (events : List Event) (w : Went) (u : State) → turn_at code place s ≡ preceded events (led_to w u) →
-      run_ticks_of code left place s ≡ ticks_at code place s + ticks_then (led_to w u) (run_ticks_of code more)
-  run_ticks_on events w u d =
-      run_ticks_is
-      ∙ ap (λ (t : Turned). ticks_at code place s + ticks_then t (run_ticks_of code more)) d
-      ∙ ap (λ (n : ℕ). ticks_at code place s + n) (ticks_preceded events (led_to w u) (run_ticks_of code more))
-
-pub none_left : (code : CodeLists) (first all place : ℕ) (s : State) → first + run_ticks_of code (all - 0) place s ≡ first + run_ticks_of code all place s
-none_left code first all place s = let same : all - 0 ≡ all = omega arith in ap (λ (n : ℕ). first + run_ticks_of code n place s) same
+plus_none : (n a m : ℕ) → n + m ≡ a → m ≡ 0 → n ≡ a
+plus_none n a m e f = omega arith
 
 pub one_left : (all i : ℕ) → i < all → all - i ≡ suc (all - (i + 1))
 one_left all i h = omega arith
 
--- the count behind a turn, where the turn leads on or ends the run
-pub ticked_on : (first before now turn left more all : ℕ) → now ≡ before + turn → before + left ≡ first + all → left ≡ turn + more → now + more ≡ first + all
-ticked_on first before now turn left more all e f g = omega arith
+pub none_left : (all i : ℕ) → all ≤ i → all - i ≡ 0
+none_left all i h = omega arith
 
-pub ticked_end : (first before now turn left more all : ℕ) → now ≡ before + turn → before + left ≡ first + all → left ≡ turn + more → more ≡ 0 → now ≡ first + all
-ticked_end first before now turn left more all e f g h = omega arith
+module _ {C O : Type 0} (breakage : PinCable C O → Breakage) (board : C → Option (List Card)) (makes : C → List Clock → C → Type 0) (shown : O → Shown) where
+  -- no turn yet
+  pub runs_none : (a : PinCable C O) (all rest : Chain → Run) (count left : Chain → ℕ) (steps : ℕ) → makes (cable_of a) [] (cable_of a) → breakage a ≡ whole →
+      ((k : Chain) → all k ≡ rest k) → ((k : Chain) → steps + left k ≡ steps + count k) → Runs breakage board makes shown all count a steps rest left a steps
+  runs_none a all rest count left steps m w same n = record {
+    events = [];
+    clocks = [];
+    passed = passes_none breakage board makes shown a m w;
+    runs = λ more. same (port_chain board a more);
+    ticked = λ more. n (port_chain board a more);
+  }
 
-pub ticked_most : (first before now turn left more all : ℕ) → now ≤ before + turn → before + left ≡ first + all → left ≡ turn + more → now ≤ first + all
-ticked_most first before now turn left more all e f g = omega arith
+  -- what is left, by another name
+  pub runs_same : (a b : PinCable C O) (all rest other : Chain → Run) (count left counted : Chain → ℕ) (steps now : ℕ) → ((k : Chain) → rest k ≡ other k) → ((k : Chain) → left k ≡ counted k) →
+      Runs breakage board makes shown all count a steps rest left b now → Runs breakage board makes shown all count a steps other counted b now
+  runs_same a b all rest other count left counted steps now e n r = record {
+    events = r.events;
+    clocks = r.clocks;
+    passed = r.passed;
+    runs = λ more. r.runs more ∙ ap (after r.events) (e (port_chain board b more));
+    ticked = λ more. ap (λ (m : ℕ). now + m) (sym (n (port_chain board b more))) ∙ r.ticked more;
+  }
 
--- the state behind a run, by another name
-pub leaves_same : {a b : Run} (ending : Option Ending) (s : State) → a ≡ b → LeavesState a ending s → LeavesState b ending s
-leaves_same ending s e l = subst (λ (r : Run). LeavesState r ending s) e l
+  -- the whole, by another name
+  pub to_same : (a b : PinCable C O) (all other : Chain → Run) (count counted : Chain → ℕ) (steps now : ℕ) (ending : Option Ending) (u : State) → ((k : Chain) → all k ≡ other k) → ((k : Chain) → count k ≡ counted k) →
+      RunsTo breakage board makes shown all count a steps ending u b now → RunsTo breakage board makes shown other counted a steps ending u b now
+  to_same a b all other count counted steps now ending u e n r = record {
+    events = r.events;
+    clocks = r.clocks;
+    passed = r.passed;
+    runs = λ more. ap (λ (q : Run). q.events) (sym (e (chain_before breakage board makes shown a r.clocks more))) ∙ r.runs more;
+    ended = λ more. ap (λ (q : Run). ending_of q.outcome) (sym (e (chain_before breakage board makes shown a r.clocks more))) ∙ r.ended more;
+    leaves = λ more. subst (λ (q : Run). LeavesSo q ending u (port_chain board b more)) (e (chain_before breakage board makes shown a r.clocks more)) (r.leaves more);
+    ticked = λ more. r.ticked more ∙ ap (λ (m : ℕ). steps + m) (n (chain_before breakage board makes shown a r.clocks more));
+  }
+
+  pub front_same : (a b : PinCable C O) (all other : Chain → Run) (count counted : Chain → ℕ) (steps now : ℕ) → ((k : Chain) → all k ≡ other k) → ((k : Chain) → count k ≡ counted k) →
+      RunsFront breakage board makes shown all count a steps b now → RunsFront breakage board makes shown other counted a steps b now
+  front_same a b all other count counted steps now e n r = record {
+    events = r.events;
+    clocks = r.clocks;
+    passed = r.passed;
+    rest = r.rest;
+    runs = λ more. ap (λ (q : Run). q.events) (sym (e (chain_before breakage board makes shown a r.clocks more))) ∙ r.runs more;
+    most = λ more. subst (λ (m : ℕ). now ≤ steps + m) (n (chain_before breakage board makes shown a r.clocks more)) (r.most more);
+  }
+
+  -- a run that stands where it is
+  pub runs_still : (a : PinCable C O) (all : Chain → Run) (count : Chain → ℕ) (steps : ℕ) (ending : Option Ending) (u : State) → makes (cable_of a) [] (cable_of a) → breakage a ≡ whole →
+      ((k : Chain) → (all k).events ≡ []) → ((k : Chain) → ending_of (all k).outcome ≡ ending) → ((k : Chain) → LeavesSo (all k) ending u k) → ((k : Chain) → count k ≡ 0) →
+      RunsTo breakage board makes shown all count a steps ending u a steps
+  runs_still a all count steps ending u m w none ended leaves n = record {
+    events = [];
+    clocks = [];
+    passed = passes_none breakage board makes shown a m w;
+    runs = λ more. none (port_chain board a more);
+    ended = λ more. ended (port_chain board a more);
+    leaves = λ more. leaves (port_chain board a more);
+    ticked = λ more. (let zero = n (port_chain board a more) in omega arith);
+  }
+
+  -- a turn of a run, and what follows it
+  module _ (both : (x y z : C) (front back : List Clock) → makes x front y → makes y back z → makes x (front ++ back) z)
+      (a b c : PinCable C O) (all : Chain → Run) (count : Chain → ℕ) (s : State) (go : ℕ → State → Chain → Run) (counts : ℕ → State → Chain → ℕ)
+      (turn : Chain → Happened) (turn_count : Chain → ℕ) (here : Chain → Run) (here_count : Chain → ℕ) (steps then now : ℕ)
+      (opened : (k : Chain) → here k ≡ goes_on (turn k) s k go) (opened_count : (k : Chain) → here_count k ≡ turn_count k + counted_then (turn k) counts)
+      (first : Runs breakage board makes shown all count a steps here here_count b then) where
+    -- the run, with the events so far in front
+    all_is : (rest : Happened) (events : List Event) (clocks : List Clock) (more : List Bool) → turn (chain_before breakage board makes shown b clocks more) ≡ with_events events rest →
+        all (chain_before breakage board makes shown a (first.clocks ++ clocks) more) ≡ after (first.events ++ events) (goes_on rest s (chain_before breakage board makes shown b clocks more) go)
+    all_is rest events clocks more e =
+        let k = chain_before breakage board makes shown b clocks more in
+        ap all (before_both breakage board makes shown both a first.clocks clocks more) ∙ first.runs (tdos clocks ++ more)
+        ∙ ap (after first.events) (opened k ∙ ap (λ (h : Happened). goes_on h s k go) e ∙ goes_after events rest s k go)
+        ∙ after_twice first.events events (goes_on rest s k go)
+
+    count_is : (rest : Happened) (events : List Event) (clocks : List Clock) (more : List Bool) → turn (chain_before breakage board makes shown b clocks more) ≡ with_events events rest →
+        here_count (chain_before breakage board makes shown b clocks more) ≡ turn_count (chain_before breakage board makes shown b clocks more) + counted_then rest counts
+    count_is rest events clocks more e =
+        let k = chain_before breakage board makes shown b clocks more in
+        opened_count k ∙ ap (λ (n : ℕ). turn_count k + n) (ap (λ (h : Happened). counted_then h counts) e ∙ counted_with events rest counts)
+
+    -- what was counted before the turn
+    counted_so : (clocks : List Clock) (more : List Bool) → then + here_count (chain_before breakage board makes shown b clocks more) ≡ steps + count (chain_before breakage board makes shown a (first.clocks ++ clocks) more)
+    counted_so clocks more = first.ticked (tdos clocks ++ more) ∙ ap (λ (k : Chain). steps + count k) (sym (before_both breakage board makes shown both a first.clocks clocks more))
+
+    -- the turn leads on
+    pub turn_on : (place : ℕ) (u : State) → Does breakage board makes shown turn turn_count b then (led_on (went.On place) u) no_ticks c now →
+        Runs breakage board makes shown all count a steps (go place u) (counts place u) c now
+    turn_on place u d = record {
+      events = first.events ++ d.events;
+      clocks = first.clocks ++ d.clocks;
+      passed = passes_both breakage board makes shown both a b c first.events d.events first.clocks d.clocks first.passed d.passed;
+      runs = λ more. all_is (led_on (went.On place) u (port_chain board c more)) d.events d.clocks more (d.does more);
+      ticked = λ more.
+          ticked_both steps then now _ _ _ _ (counted_so d.clocks more)
+          (count_is (led_on (went.On place) u (port_chain board c more)) d.events d.clocks more (d.does more)) (d.ticked more);
+    }
+
+    -- it ends the run, or finds nothing to do
+    pub turn_over : (ending : Option Ending) (u : State) → Does breakage board makes shown turn turn_count b then (led_on (went.Over ending) u) no_ticks c now →
+        RunsTo breakage board makes shown all count a steps ending u c now
+    turn_over ending u d =
+        let is = λ (more : List Bool). all_is (led_on (went.Over ending) u (port_chain board c more)) d.events d.clocks more (d.does more) in
+        record {
+          events = first.events ++ d.events;
+          clocks = first.clocks ++ d.clocks;
+          passed = passes_both breakage board makes shown both a b c first.events d.events first.clocks d.clocks first.passed d.passed;
+          runs = λ more.
+              ap (λ (q : Run). q.events) (is more)
+              ∙ ap (λ (es : List Event). (first.events ++ d.events) ++ es) (over_events ending u (port_chain board c more) (chain_before breakage board makes shown b d.clocks more))
+              ∙ append-nil (first.events ++ d.events);
+          ended = λ more. ap (λ (q : Run). ending_of q.outcome) (is more) ∙ over_ends ending u (port_chain board c more) (chain_before breakage board makes shown b d.clocks more);
+          leaves = λ more.
+              subst (λ (q : Run). LeavesSo q ending u (port_chain board c more)) (sym (is more))
+              (over_leaves ending u (port_chain board c more) (chain_before breakage board makes shown b d.clocks more));
+          ticked = λ more.
+              ticked_end steps then now _ _ _ _ (counted_so d.clocks more)
+              (count_is (led_on (went.Over ending) u (port_chain board c more)) d.events d.clocks more (d.does more)) (over_count ending u (port_chain board c more)) (d.ticked more);
+        }
+      where
+        over_events : (ending : Option Ending) (u : State) (l k : Chain) → (goes_on (led_on (went.Over ending) u l) s k go).events ≡ []
+        over_events (Some ending) u l k = refl
+        over_events None u l k = refl
+
+        over_ends : (ending : Option Ending) (u : State) (l k : Chain) → ending_of (goes_on (led_on (went.Over ending) u l) s k go).outcome ≡ ending
+        over_ends (Some ending) u l k = refl
+        over_ends None u l k = refl
+
+        over_leaves : (ending : Option Ending) (u : State) (l k : Chain) → LeavesSo (after (first.events ++ d.events) (goes_on (led_on (went.Over ending) u l) s k go)) ending u l
+        over_leaves (Some ending) u l k = (refl, refl)
+        over_leaves None u l k = tt
+
+        over_count : (ending : Option Ending) (u : State) (l : Chain) → counted_then (led_on (went.Over ending) u l) counts ≡ 0
+        over_count (Some ending) u l = refl
+        over_count None u l = refl
+
+    -- it is broken off
+    pub turn_front : DoesFront breakage board makes shown turn turn_count b then c now → RunsFront breakage board makes shown all count a steps c now
+    turn_front d =
+        let left = λ (more : List Bool). (goes_on (d.rest more) s (chain_before breakage board makes shown b d.clocks more) go).events in
+        record {
+          events = first.events ++ d.events;
+          clocks = first.clocks ++ d.clocks;
+          passed = passes_both_front breakage board makes shown both a b c first.events d.events first.clocks d.clocks first.passed d.passed;
+          rest = left;
+          runs = λ more. ap (λ (q : Run). q.events) (all_is (d.rest more) d.events d.clocks more (d.does more));
+          most = λ more. ticked_front steps then now _ _ _ _ (counted_so d.clocks more) (opened_count (chain_before breakage board makes shown b d.clocks more)) (d.most more);
+        }
+
+    -- it is done, and then a run that begins with what it led to
+    pub turn_then : (w : Chain → Happened) (u t : State) (end : PinCable C O) (last : ℕ) (ending : Option Ending) (after_it : Chain → Run) (after_count : Chain → ℕ) →
+        Does breakage board makes shown turn turn_count b then w no_ticks c now →
+        ((k : Chain) → after_it k ≡ goes_on (w k) u k go) → ((k : Chain) → after_count k ≡ counted_then (w k) counts) →
+        RunsTo breakage board makes shown after_it after_count c now ending t end last → RunsTo breakage board makes shown all count a steps ending t end last
+    turn_then w u t end last ending after_it after_count d is counted r =
+        let clocks : List Clock = d.clocks ++ r.clocks in
+        let mid = λ (more : List Bool). tdos r.clocks ++ more in
+        let k = λ (more : List Bool). chain_before breakage board makes shown b d.clocks (mid more) in
+        let l = λ (more : List Bool). chain_before breakage board makes shown c r.clocks more in
+        let whole_clocks : List Clock = (first.clocks ++ d.clocks) ++ r.clocks in
+        let opened_whole = λ (more : List Bool). ap all (before_both breakage board makes shown both a (first.clocks ++ d.clocks) r.clocks more) ∙ all_is (w (l more)) d.events d.clocks (mid more) (d.does (mid more)) in
+        let same = λ (more : List Bool). is (l more) in
+        record {
+          events = (first.events ++ d.events) ++ r.events;
+          clocks = whole_clocks;
+          passed =
+              passes_both breakage board makes shown both a c end (first.events ++ d.events) r.events (first.clocks ++ d.clocks) r.clocks
+              (passes_both breakage board makes shown both a b c first.events d.events first.clocks d.clocks first.passed d.passed) r.passed;
+          runs = λ more.
+              ap (λ (q : Run). q.events) (opened_whole more)
+              ∙ ap (λ (es : List Event). (first.events ++ d.events) ++ es)
+              (alike_events (w (l more)) s u (k more) (l more) go ∙ ap (λ (q : Run). q.events) (sym (same more)) ∙ r.runs more);
+          ended = λ more.
+              ap (λ (q : Run). ending_of q.outcome) (opened_whole more) ∙ alike_ends (w (l more)) s u (k more) (l more) go
+              ∙ ap (λ (q : Run). ending_of q.outcome) (sym (same more)) ∙ r.ended more;
+          leaves = λ more.
+              subst (λ (q : Run). LeavesSo q ending t (port_chain board end more)) (sym (opened_whole more))
+              (kept_after ending (first.events ++ d.events) (goes_on (w (l more)) s (k more) go) t (port_chain board end more)
+              (alike_leaves (w (l more)) s u (k more) (l more) go ending t (port_chain board end more)
+              (ap (λ (q : Run). ending_of q.outcome) (sym (same more)) ∙ r.ended more)
+              (subst (λ (q : Run). LeavesSo q ending t (port_chain board end more)) (same more) (r.leaves more))));
+          ticked = λ more.
+              (let so = counted_so d.clocks (mid more) in
+              let turn_is = count_is (w (l more)) d.events d.clocks (mid more) (d.does (mid more)) in
+              let done = d.ticked (mid more) in
+              let rest_is = r.ticked more in
+              let rest_count = counted (l more) in
+              let before = ap (λ (x : Chain). steps + count x) (before_both breakage board makes shown both a (first.clocks ++ d.clocks) r.clocks more) in
+              omega (arith, so, turn_is, done, rest_is, rest_count, before));
+        }
+      where
+        kept_after : (ending : Option Ending) (events : List Event) (q : Run) (t : State) (x : Chain) → LeavesSo q ending t x → LeavesSo (after events q) ending t x
+        kept_after None events q t x h = tt
+        kept_after (Some ending) events q t x h = h
+
+    pub turn_then_front : (w : Chain → Happened) (u : State) (end : PinCable C O) (last : ℕ) (after_it : Chain → Run) (after_count : Chain → ℕ) →
+        Does breakage board makes shown turn turn_count b then w no_ticks c now →
+        ((k : Chain) → after_it k ≡ goes_on (w k) u k go) → ((k : Chain) → after_count k ≡ counted_then (w k) counts) →
+        RunsFront breakage board makes shown after_it after_count c now end last → RunsFront breakage board makes shown all count a steps end last
+    turn_then_front w u end last after_it after_count d is counted r =
+        let mid = λ (more : List Bool). tdos r.clocks ++ more in
+        let k = λ (more : List Bool). chain_before breakage board makes shown b d.clocks (mid more) in
+        let l = λ (more : List Bool). chain_before breakage board makes shown c r.clocks more in
+        let opened_whole = λ (more : List Bool). ap all (before_both breakage board makes shown both a (first.clocks ++ d.clocks) r.clocks more) ∙ all_is (w (l more)) d.events d.clocks (mid more) (d.does (mid more)) in
+        record {
+          events = (first.events ++ d.events) ++ r.events;
+          clocks = (first.clocks ++ d.clocks) ++ r.clocks;
+          passed =
+              passes_both_front breakage board makes shown both a c end (first.events ++ d.events) r.events (first.clocks ++ d.clocks) r.clocks
+              (passes_both breakage board makes shown both a b c first.events d.events first.clocks d.clocks first.passed d.passed) r.passed;
+          rest = r.rest;
+          runs = λ more.
+              ap (λ (q : Run). q.events) (opened_whole more)
+              ∙ ap (λ (es : List Event). (first.events ++ d.events) ++ es)
+              (alike_events (w (l more)) s u (k more) (l more) go ∙ ap (λ (q : Run). q.events) (sym (is (l more))) ∙ r.runs more)
+              ∙ sym (append_assoc (first.events ++ d.events) r.events (r.rest more));
+          most = λ more.
+              (let so = counted_so d.clocks (mid more) in
+              let turn_is = count_is (w (l more)) d.events d.clocks (mid more) (d.does (mid more)) in
+              let done = d.ticked (mid more) in
+              let rest_is = r.most more in
+              let rest_count = counted (l more) in
+              let before = ap (λ (x : Chain). steps + count x) (before_both breakage board makes shown both a (first.clocks ++ d.clocks) r.clocks more) in
+              omega (arith, so, turn_is, done, rest_is, rest_count, before));
+        }
+
+  -- no turn is left
+  pub run_spent : (a b : PinCable C O) (code : CodeLists) (all : Chain → Run) (count : Chain → ℕ) (left place : ℕ) (u : State) (steps now : ℕ) → left ≡ 0 →
+      Runs breakage board makes shown all count a steps (run_of code left place u) (run_ticks_of code left place u) b now → RunsTo breakage board makes shown all count a steps (Some Spent) u b now
+  run_spent a b code all count left place u steps now e p =
+      let is = λ (more : List Bool). p.runs more ∙ ap (λ (n : ℕ). after p.events (run_of code n place u (port_chain board b more))) e in
+      record {
+        events = p.events;
+        clocks = p.clocks;
+        passed = p.passed;
+        runs = λ more. ap (λ (q : Run). q.events) (is more) ∙ append-nil p.events;
+        ended = λ more. ap (λ (q : Run). ending_of q.outcome) (is more);
+        leaves = λ more. (ap (λ (q : Run). q.state) (is more), ap (λ (q : Run). q.chain) (is more));
+        ticked = λ more. plus_none now _ _ (p.ticked more) (ap (λ (n : ℕ). run_ticks_of code n place u (port_chain board b more)) e);
+      }
 
 -- the first chosen procedure begins, or none is left
 module _ (code : CodeLists) (n : ℕ) (s u : State) where
-  abbrev begins : State → Turned
-  begins v = next_chosen (entry_of (entries_of code.procedures)) v v.chosen
+  abbrev begins : Chain → Happened
+  begins k = happens k (next_chosen (entry_of (entries_of code.procedures)) s s.chosen)
 
-  pub chosen_on : (start : ℕ) (before : State) → begins s ≡ Leads [] start u → run_of code n start u ≡ chosen_run code n s before
-  chosen_on start before e = sym (ap (λ (t : Turned). goes_on t before (run_of code n)) e)
+  -- where it led
+  led_is : (w : Went) → next_chosen (entry_of (entries_of code.procedures)) s s.chosen ≡ led_to w u → (k : Chain) → begins k ≡ led_on w u k
+  led_is (went.On place) e k = ap (happens k) e
+  led_is (went.Over (Some ending)) e k = ap (happens k) e
+  led_is (went.Over None) e k = ap (happens k) e
 
-  pub chosen_ticks_on : (start : ℕ) → begins s ≡ Leads [] start u → run_ticks_of code n start u ≡ chosen_ticks code n s
-  chosen_ticks_on start e = sym (ap (λ (t : Turned). ticks_then t (run_ticks_of code n)) e)
+  pub chosen_on : (place : ℕ) → next_chosen (entry_of (entries_of code.procedures)) s s.chosen ≡ led_to (went.On place) u → (k : Chain) → run_of code n place u k ≡ chosen_run code n s k
+  chosen_on place e k = sym (ap (λ (h : Happened). goes_on h s k (run_of code n)) (led_is (went.On place) e k))
 
-  pub chosen_none : (ending : Option Ending) (before : State) → begins s ≡ led_to (went.Over ending) u →
-      goes_on (led_to (went.Over ending) u) before (run_of code n) ≡ chosen_run code n s before
-  chosen_none ending before e = sym (ap (λ (t : Turned). goes_on t before (run_of code n)) e)
+  pub chosen_ticks_on : (place : ℕ) → next_chosen (entry_of (entries_of code.procedures)) s s.chosen ≡ led_to (went.On place) u → (k : Chain) → run_ticks_of code n place u k ≡ chosen_ticks code n s k
+  chosen_ticks_on place e k = sym (ap (λ (h : Happened). counted_then h (run_ticks_of code n)) (led_is (went.On place) e k))
 
-  pub chosen_ticks_none : (ending : Option Ending) → begins s ≡ led_to (went.Over ending) u → 0 ≡ chosen_ticks code n s
-  chosen_ticks_none (Some ending) e = sym (ap (λ (t : Turned). ticks_then t (run_ticks_of code n)) e)
-  chosen_ticks_none None e = sym (ap (λ (t : Turned). ticks_then t (run_ticks_of code n)) e)
+  module _ (ending : Option Ending) (e : next_chosen (entry_of (entries_of code.procedures)) s s.chosen ≡ led_to (went.Over ending) u) (k : Chain) where
+    over_is : chosen_run code n s k ≡ goes_on (led_on (went.Over ending) u k) s k (run_of code n)
+    over_is = ap (λ (h : Happened). goes_on h s k (run_of code n)) (led_is (went.Over ending) e k)
 
--- a run that is over with its turn
-module _ (u before : State) (go : ℕ → State → Run) where
-  abbrev pub over : Option Ending → Run
-  over ending = goes_on (led_to (went.Over ending) u) before go
+    pub chosen_none_events : (chosen_run code n s k).events ≡ []
+    chosen_none_events = ap (λ (q : Run). q.events) over_is ∙ by ending
+      where
+        by : (ending : Option Ending) → (goes_on (led_on (went.Over ending) u k) s k (run_of code n)).events ≡ []
+        by (Some ending) = refl
+        by None = refl
 
-  pub over_events : (ending : Option Ending) → (over ending).events ≡ []
-  over_events (Some ending) = refl
-  over_events None = refl
+    pub chosen_none_ends : ending_of (chosen_run code n s k).outcome ≡ ending
+    chosen_none_ends = ap (λ (q : Run). ending_of q.outcome) over_is ∙ by ending
+      where
+        by : (ending : Option Ending) → ending_of (goes_on (led_on (went.Over ending) u k) s k (run_of code n)).outcome ≡ ending
+        by (Some ending) = refl
+        by None = refl
 
-  pub over_ends : (ending : Option Ending) → ending_of (over ending).outcome ≡ ending
-  over_ends (Some ending) = refl
-  over_ends None = refl
+    pub chosen_none_leaves : LeavesSo (chosen_run code n s k) ending u k
+    chosen_none_leaves = subst (λ (q : Run). LeavesSo q ending u k) (sym over_is) (by ending)
+      where
+        by : (ending : Option Ending) → LeavesSo (goes_on (led_on (went.Over ending) u k) s k (run_of code n)) ending u k
+        by (Some ending) = (refl, refl)
+        by None = tt
 
-  pub over_leaves : (ending : Option Ending) → LeavesState (over ending) ending u
-  over_leaves (Some ending) = refl
-  over_leaves None = tt
+    pub chosen_none_ticks : chosen_ticks code n s k ≡ 0
+    chosen_none_ticks = ap (λ (h : Happened). counted_then h (run_ticks_of code n)) (led_is (went.Over ending) e k) ∙ by ending
+      where
+        by : (ending : Option Ending) → counted_then (led_on (went.Over ending) u k) (run_ticks_of code n) ≡ 0
+        by (Some ending) = refl
+        by None = refl
 
-pub over_ticks : (ending : Option Ending) (u : State) (go : ℕ → State → ℕ) → ticks_then (led_to (went.Over ending) u) go ≡ 0
-over_ticks (Some ending) u go = refl
-over_ticks None u go = refl
+-- a prologue that did not come to its end
+pub over_lacks : (code : CodeLists) (n : ℕ) (ending : Option Ending) (u : State) (k : Chain) → begins_chosen (entry_of (entries_of code.procedures)) (led_on (went.Over ending) u k) ≡ Lacks []
+over_lacks code n (Some ending) u k = refl
+over_lacks code n None u k = refl
 
-module _ {K : Type 0} {written : K → Option (List ℕ)} where
-  pub runs_to_same : {a b : Run} {old new : Lines K} {ending : Option Ending} → a ≡ b → RunsTo written a old ending new → RunsTo written b old ending new
-  runs_to_same e r = record { put = rw (← e) r.put; ended = rw (← e) r.ended }
+-- one that did
+module _ (code : CodeLists) (n place : ℕ) (s : State) (k : Chain) where
+  pub begun_on : chosen_run code n s k ≡ begun_run code n (led_on (went.On place) s) s k
+  begun_on = ap (λ (h : Happened). goes_on h s k (run_of code n)) (with_nothing (happens k (next_chosen (entry_of (entries_of code.procedures)) s s.chosen)))
 
-  pub runs_front_same : {a b : Run} {old new : Lines K} → a ≡ b → RunsFront written a old new → RunsFront written b old new
-  runs_front_same e r = record { front = rw (← e) r.front }
-
-  -- a play that is over before its first turn
-  pub over_to : (u before : State) (go : ℕ → State → Run) (ending : Option Ending) (lines : Lines K) → RunsTo written (over u before go ending) lines ending lines
-  over_to u before go ending lines = record { put = rw (over_events u before go ending) (puts_nothing written lines); ended = over_ends u before go ending }
-
-  -- a run, and then what is left of it
-  pub runs_then : {whole rest : Run} {a b c : Lines K} {ending : Option Ending} → Runs written whole a rest b → RunsTo written rest b ending c → RunsTo written whole a ending c
-  runs_then {whole = whole} {rest = rest} first second =
-      let all : whole.events ≡ first.events ++ rest.events = ap (λ (q : Run). q.events) first.runs in
-      record {
-        put = rw (all, flat_map-append event_line first.events rest.events) (put_then first.put second.put);
-        ended = ap (λ (q : Run). ending_of q.outcome) first.runs ∙ second.ended;
-      }
-
-  pub runs_then_front : {whole rest : Run} {a b c : Lines K} → Runs written whole a rest b → RunsFront written rest b c → RunsFront written whole a c
-  runs_then_front {whole = whole} {rest = rest} first second =
-      let all : whole.events ≡ first.events ++ rest.events = ap (λ (q : Run). q.events) first.runs in
-      record { front = rw (all, flat_map-append event_line first.events rest.events) (put_then_front first.put second.front) }
-
-  pub runs_then_leaves : {whole rest : Run} {a b : Lines K} (ending : Option Ending) (s : State) → Runs written whole a rest b → LeavesState rest ending s →
-      LeavesState whole ending s
-  runs_then_leaves None s first l = tt
-  runs_then_leaves (Some ending) s first l = runs_state first ∙ l
-
-  -- the prologue was played
-  pub play_does : {whole rest : Turned} {a b : Lines K} (code : CodeLists) (n : ℕ) (s : State) → Does written whole a rest b →
-      Runs written (begun_run code n whole s) a (begun_run code n rest s) b
-  play_does {rest = rest} code n s d = record {
-    events = d.events;
-    put = d.put;
-    runs = ap (λ (t : Turned). goes_on t s (run_of code n))
-        (ap (begun (entry_of (entries_of code.procedures))) d.does ∙ begun_preceded (entry_of (entries_of code.procedures)) d.events rest)
-        ∙ goes_after d.events (begun (entry_of (entries_of code.procedures)) rest) s (run_of code n);
-  }
-
-  -- it was broken off
-  pub play_front : {whole : Turned} {a b : Lines K} (code : CodeLists) (n : ℕ) (s : State) → DoesFront written whole a b →
-      RunsFront written (begun_run code n whole s) a b
-  play_front {whole = whole} code n s d =
-      let left : Run = begun_run code n d.rest s in
-      let all : (begun_run code n whole s).events ≡ d.events ++ left.events =
-      ap (λ (r : Run). r.events) (ap (λ (t : Turned). goes_on t s (run_of code n))
-      (ap (begun (entry_of (entries_of code.procedures))) d.does ∙ begun_preceded (entry_of (entries_of code.procedures)) d.events d.rest)
-      ∙ goes_after d.events (begun (entry_of (entries_of code.procedures)) d.rest) s (run_of code n)) in
-      record { front = rw (all, flat_map-append event_line d.events left.events) (front_with (flat_map event_line left.events) d.front) }
+  pub begun_ticks_on : chosen_ticks code n s k ≡ begun_ticks code n (led_on (went.On place) s) k
+  begun_ticks_on = ap (λ (h : Happened). counted_then h (run_ticks_of code n)) (with_nothing (happens k (next_chosen (entry_of (entries_of code.procedures)) s s.chosen)))
 
 -- the prologue has no piece
-begun_piece : (entries : List ℕ) (constants : Constants) (piece : ℕ) (t : Turned) → begun (entry_of entries) (turn_of_piece piece t) ≡ begun (entry_of entries) t
-begun_piece entries constants piece (Leads events place s) = refl
-begun_piece entries constants piece (Over events ending s) = refl
-begun_piece entries constants piece (Broken events k s) = refl
-begun_piece entries constants piece (NoTurn events) = refl
+begun_piece : (entry : ℕ → ℕ) (piece : ℕ) (h : Happened) → begins_chosen entry (happened_in_piece piece h) ≡ begins_chosen entry h
+begun_piece entry piece (Led events place s k) = refl
+begun_piece entry piece (Finished events ending s k) = refl
+begun_piece entry piece (Broke events f s k) = refl
+begun_piece entry piece (Lacks events) = refl
 
 -- a play from registers with neither operand nor record, where no chosen procedure has begun
 module _ (code : CodeLists) (chosen : List ℕ) (work : Workspace) (n : ℕ) (none : work.operands.items ≡ []) (no_record : work.memory.records.items ≡ []) where
@@ -238,40 +415,54 @@ module _ (code : CodeLists) (chosen : List ℕ) (work : Workspace) (n : ℕ) (no
   abbrev pub started : State
   started = start chosen work.memory.variables.items
 
-  pub starts : state_of chosen at_first ≡ started
+  starts : state_of chosen at_first ≡ started
   starts = ap (λ (l : List Record). state_with chosen (reverse l) work.memory.variables.items) no_record
 
-  abbrev prologue : List Value → State → Turned
-  prologue ops s = stretch (entries_of code.procedures) (constants_of code) (length code.instrs) code.instrs ops s
+  abbrev prologue : List Value → State → Chain → Happened
+  prologue ops s k = stretch (entries_of code.procedures) (constants_of code) (length code.instrs) code.instrs ops s k
 
-  abbrev prologue_ticks : List Value → State → ℕ
-  prologue_ticks ops s = ticks (entries_of code.procedures) (constants_of code) (length code.instrs) code.instrs ops s
+  -- its beginning, over the prologue
+  abbrev pub begun_by : Chain → Happened
+  begun_by k = begins_chosen (entry_of (entries_of code.procedures)) (rest_of code 0 chosen at_first k)
 
-  first_begun : begun (entry_of (entries_of code.procedures)) (rest_of code 0 chosen at_first) ≡ begun (entry_of (entries_of code.procedures)) (prologue [] started)
-  first_begun =
-      begun_piece (entries_of code.procedures) (constants_of code) work.piece (prologue (operands_of work) (state_of chosen at_first))
-      ∙ ap (λ (ops : List Value). begun (entry_of (entries_of code.procedures)) (prologue (reverse ops) (state_of chosen at_first))) none
-      ∙ ap (λ (s : State). begun (entry_of (entries_of code.procedures)) (prologue [] s)) starts
+  first_begun : (k : Chain) → begun_by k ≡ begins_chosen (entry_of (entries_of code.procedures)) (prologue [] started k)
+  first_begun k =
+      begun_piece (entry_of (entries_of code.procedures)) work.piece (prologue (operands_of work) (state_of chosen at_first) k)
+      ∙ ap (λ (ops : List Value). begins_chosen (entry_of (entries_of code.procedures)) (prologue (reverse ops) (state_of chosen at_first) k)) none
+      ∙ ap (λ (s : State). begins_chosen (entry_of (entries_of code.procedures)) (prologue [] s k)) starts
 
-  pub play_is : begun_run code n (rest_of code 0 chosen at_first) started ≡ play_from code chosen work.memory.variables.items n
-  play_is = ap (λ (t : Turned). goes_on t started (run_of code n)) first_begun
+  pub play_is : (k : Chain) → play_from code chosen work.memory.variables.items n k ≡ goes_on (begun_by k) started k (run_of code n)
+  play_is k = sym (ap (λ (h : Happened). goes_on h started k (run_of code n)) (first_begun k))
 
-  pub play_ticks_is : ticks_from code 0 chosen at_first + begun_ticks code n (rest_of code 0 chosen at_first) ≡ play_ticks_from code chosen work.memory.variables.items n
-  play_ticks_is =
-      ap (λ (ops : List Value). prologue_ticks (reverse ops) (state_of chosen at_first) + begun_ticks code n (rest_of code 0 chosen at_first)) none
-      ∙ ap (λ (s : State). prologue_ticks [] s + begun_ticks code n (rest_of code 0 chosen at_first)) starts
-      ∙ ap (λ (t : Turned). prologue_ticks [] started + ticks_then t (run_ticks_of code n)) first_begun
+  pub play_ticks_is : (k : Chain) → play_ticks_from code chosen work.memory.variables.items n k ≡ ticks_from code 0 chosen at_first k + counted_then (begun_by k) (run_ticks_of code n)
+  play_ticks_is k =
+      let whole = ticks_from code 0 chosen at_first k in
+      let first : ticks (entries_of code.procedures) (constants_of code) (length code.instrs) code.instrs [] started k ≡ whole =
+      sym (ap (λ (ops : List Value). ticks (entries_of code.procedures) (constants_of code) (length code.instrs) code.instrs (reverse ops) (state_of chosen at_first) k) none
+      ∙ ap (λ (s : State). ticks (entries_of code.procedures) (constants_of code) (length code.instrs) code.instrs [] s k) starts) in
+      ap (λ (m : ℕ). m + counted_then (begins_chosen (entry_of (entries_of code.procedures)) (prologue [] started k)) (run_ticks_of code n)) first
+      ∙ ap (λ (h : Happened). whole + counted_then h (run_ticks_of code n)) (sym (first_begun k))
 
-pub play_ticks_does : (code : CodeLists) (n : ℕ) (whole rest : Turned) (events : List Event) → whole ≡ preceded events rest → begun_ticks code n whole ≡ begun_ticks code n rest
-play_ticks_does code n whole rest events e =
-    ap (λ (t : Turned). ticks_then t (run_ticks_of code n)) (ap (begun (entry_of (entries_of code.procedures))) e ∙ begun_preceded (entry_of (entries_of code.procedures)) events rest)
-    ∙ ticks_preceded events (begun (entry_of (entries_of code.procedures)) rest) (run_ticks_of code n)
+-- what the prologue did, and the first chosen procedure behind it
+pub begun_does : {C O : Type 0} (breakage : PinCable C O → Breakage) (board : C → Option (List Card)) (makes : C → List Clock → C → Type 0) (shown : O → Shown) (a b : PinCable C O) (entry : ℕ → ℕ)
+    (turn rest : Chain → Happened) (count left : Chain → ℕ) (steps now : ℕ) → Does breakage board makes shown turn count a steps rest left b now →
+    Does breakage board makes shown (λ k. begins_chosen entry (turn k)) count a steps (λ k. begins_chosen entry (rest k)) left b now
+begun_does breakage board makes shown a b entry turn rest count left steps now d = record {
+  events = d.events;
+  clocks = d.clocks;
+  passed = d.passed;
+  does = λ more. ap (begins_chosen entry) (d.does more) ∙ begins_with entry d.events (rest (port_chain board b more));
+  ticked = d.ticked;
+}
 
-pub ticked_twice : (a b c x y z all : ℕ) → b ≡ a + x → c ≡ b + y → z ≡ y → x + z ≡ all → c ≡ a + all
-ticked_twice a b c x y z all e f g h = omega arith
-
-pub ticked_twice_most : (a b c x y z all : ℕ) → b ≡ a + x → c ≤ b + y → z ≡ y → x + z ≡ all → c ≤ a + all
-ticked_twice_most a b c x y z all e f g h = omega arith
-
-pub ticked_once_most : (a b x z all : ℕ) → b ≤ a + x → x + z ≡ all → b ≤ a + all
-ticked_once_most a b x z all e h = omega arith
+pub begun_front : {C O : Type 0} (breakage : PinCable C O → Breakage) (board : C → Option (List Card)) (makes : C → List Clock → C → Type 0) (shown : O → Shown) (a b : PinCable C O) (entry : ℕ → ℕ)
+    (turn : Chain → Happened) (count : Chain → ℕ) (steps now : ℕ) → DoesFront breakage board makes shown turn count a steps b now →
+    DoesFront breakage board makes shown (λ k. begins_chosen entry (turn k)) count a steps b now
+begun_front breakage board makes shown a b entry turn count steps now d = record {
+  events = d.events;
+  clocks = d.clocks;
+  passed = d.passed;
+  rest = λ more. begins_chosen entry (d.rest more);
+  does = λ more. ap (begins_chosen entry) (d.does more) ∙ begins_with entry d.events (d.rest more);
+  most = d.most;
+}

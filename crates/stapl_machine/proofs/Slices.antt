@@ -5,10 +5,9 @@ use Rattle.std.specs.Prelude.{Ok, Err}
 use Rattle.stapl_meaning.specs.declared.values.Value.{Value}
 use Rattle.stapl_meaning.specs.Values.{Got}
 use Rattle.stapl_meaning.specs.States.{State, Leads, Over, jumps_to, next_chosen}
-use Rattle.stapl_meaning.specs.declared.events.Event.TheVariants.{Print}
 use Rattle.stapl_code.specs.declared.instr.Instr.{Instr}
 use Rattle.stapl_code.specs.declared.raw.CodeLists.{CodeLists}
-use Rattle.stapl_code.specs.Machine.{Step, Falls, Emits, Stops, Faulted, Wrong, taken, taken_onto, on_taken, on_made, takes, lands, made, entry_of}
+use Rattle.stapl_code.specs.Machine.{Step, Falls, Stops, Faulted, Wrong, taken, taken_onto, on_taken, on_made, takes, lands, made, entry_of}
 use Rattle.stapl_code.specs.Machine as machine
 use Rattle.stapl_code.specs.Safe.{entries_of, constants_of}
 use Rattle.stapl_machine.specs.declared.operate.Stop.{Stop}
@@ -16,8 +15,7 @@ use Rattle.stapl_machine.specs.declared.operate.Stop.TheVariants as stops
 use Rattle.stapl_machine.specs.declared.effects.Made.{Made}
 use Rattle.stapl_machine.specs.declared.effects.Made.TheVariants as mades
 use Rattle.stapl_machine.specs.declared.act.Workspace.{Workspace}
-use Rattle.stapl_machine.specs.Exports.{export_event}
-use Rattle.stapl_machine.specs.Acts.{IsMade, IsActed, told_by, operands_of, state_of, step_of, stepped}
+use Rattle.stapl_machine.specs.Acts.{IsMade, IsActed, RestsAfter, told_by, deeds_told, operands_of, state_of, step_of, stepped}
 
 -- these values put on one after another
 abbrev onto : List Value → List Value → List Value
@@ -77,36 +75,35 @@ module _ (code : CodeLists) (i : Instr) (old : Workspace) (chosen : List ℕ) (h
       ∙ ap (λ t. on_taken t acted) (slice_taken xs front back (take_drop (len - n) xs))
 
 -- what was made, above the operands that are left
-module _ (code : CodeLists) (to : Option ℕ) (chosen : List ℕ) (old : State) (new : Workspace) (below : List Value) (st : Step) (g : Got machine.Made) where
+module _ (code : CodeLists) (i : Instr) (to : Option ℕ) (chosen : List ℕ) (old : State) (new : Workspace) (below : List Value) (st : Step) (g : Got machine.Made) where
   abbrev from_made : Got machine.Made → Step
   from_made g = on_made (entries_of code.procedures) to below old g
 
   abbrev Above : Made → Type 0
-  Above m = IsMade (Ok m) (told_by code new.memory) old (state_of chosen new) g → from_made g ≡ stepped code to chosen m new
+  Above m = IsMade (Ok m) (told_by code i new.memory) old (state_of chosen new) g → (from_made g ≡ stepped code i to chosen m new) × RestsAfter m
 
   above : below ≡ operands_of new → (m : Made) → Above m
   above e (mades.Put v) h =
-      ap from_made h.0 ∙ ap (λ b. Falls (v ∷ b) old) e ∙ ap (λ s. Falls (v ∷ operands_of new) s) (sym h.1)
+      (ap from_made h.0 ∙ ap (λ b. Falls (v ∷ b) old) e ∙ ap (λ s. Falls (v ∷ operands_of new) s) (sym h.1), tt)
   above e (mades.PutTwo v w) h =
-      ap from_made h.0 ∙ ap (λ b. Falls (w ∷ v ∷ b) old) e ∙ ap (λ s. Falls (w ∷ v ∷ operands_of new) s) (sym h.1)
-  above e (mades.Popped v) h = ap from_made h ∙ ap (λ b. Falls (v ∷ b) (state_of chosen new)) e
-  above e mades.On h = ap from_made h ∙ ap (λ b. Falls b (state_of chosen new)) e
-  above e mades.Printed h = ap from_made h ∙ ap (λ b. Emits (Print new.memory.text.items ∷ []) b (state_of chosen new)) e
-  above e (mades.Exported x) h =
-      ap from_made h ∙ ap (λ b. Emits (export_event (constants_of code) new.memory.variables.items x ∷ []) b (state_of chosen new)) e
-  above e mades.Jump h = ap from_made h ∙ ap (λ b. Stops b (jumps_to to (state_of chosen new))) e
-  above e (mades.Resume place) h = ap from_made h ∙ ap (λ b. Stops b (Leads [] place (state_of chosen new))) e
+      (ap from_made h.0 ∙ ap (λ b. Falls (w ∷ v ∷ b) old) e ∙ ap (λ s. Falls (w ∷ v ∷ operands_of new) s) (sym h.1), tt)
+  above e (mades.Popped v) h = (ap from_made h ∙ ap (λ b. Falls (v ∷ b) (state_of chosen new)) e, tt)
+  above e mades.On h = (ap from_made h ∙ ap (λ b. Falls b (state_of chosen new)) e, tt)
+  above e (mades.Acts d) h =
+      (ap from_made h.0 ∙ ap (λ b. machine.acted (deeds_told (told_by code i new.memory) new.memory.variables.items d) b (state_of chosen new)) e, h.1)
+  above e mades.Jump h = (ap from_made h ∙ ap (λ b. Stops b (jumps_to to (state_of chosen new))) e, tt)
+  above e (mades.Resume place) h = (ap from_made h ∙ ap (λ b. Stops b (Leads [] place (state_of chosen new))) e, tt)
   above e mades.Returned h =
-      ap from_made h ∙ ap (λ b. Stops b (next_chosen (entry_of (entries_of code.procedures)) (state_of chosen new) (drop new.next chosen))) e
-  above e (mades.Over ending) h = ap from_made h ∙ ap (λ b. Stops b (Over [] ending (state_of chosen new))) e
+      (ap from_made h ∙ ap (λ b. Stops b (next_chosen (entry_of (entries_of code.procedures)) (state_of chosen new) (drop new.next chosen))) e, tt)
+  above e (mades.Over ending) h = (ap from_made h ∙ ap (λ b. Stops b (Over [] ending (state_of chosen new))) e, tt)
 
-  stopped : (stop : Stop) → IsMade (Err stop) (told_by code new.memory) old (state_of chosen new) g → IsActed (Err stop) code to chosen new (from_made g)
+  stopped : (stop : Stop) → IsMade (Err stop) (told_by code i new.memory) old (state_of chosen new) g → IsActed (Err stop) code i to chosen new (from_made g)
   stopped (stops.Fault k) h = ap from_made h.0 ∙ ap (Faulted k) (sym h.1)
   stopped stops.Wrong h = ap from_made h
   stopped stops.Memory h = tt
 
-  pub acts : (m : Made) → below ≡ operands_of new → st ≡ from_made g → IsMade (Ok m) (told_by code new.memory) old (state_of chosen new) g → st ≡ stepped code to chosen m new
-  acts m e same h = same ∙ above e m h
+  pub acts : (m : Made) → below ≡ operands_of new → st ≡ from_made g → IsMade (Ok m) (told_by code i new.memory) old (state_of chosen new) g → IsActed (Ok m) code i to chosen new st
+  acts m e same h = let a = above e m h in (same ∙ a.0, a.1)
 
-  pub acts_not : (stop : Stop) → st ≡ from_made g → IsMade (Err stop) (told_by code new.memory) old (state_of chosen new) g → IsActed (Err stop) code to chosen new st
-  acts_not stop same h = subst (λ s. IsActed (Err stop) code to chosen new s) (sym same) (stopped stop h)
+  pub acts_not : (stop : Stop) → st ≡ from_made g → IsMade (Err stop) (told_by code i new.memory) old (state_of chosen new) g → IsActed (Err stop) code i to chosen new st
+  acts_not stop same h = subst (λ s. IsActed (Err stop) code i to chosen new s) (sym same) (stopped stop h)

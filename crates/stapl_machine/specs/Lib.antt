@@ -1,6 +1,12 @@
 pub mod Found
 pub mod Prints
 pub mod Exports
+pub mod Papers
+pub mod PaperLaws
+pub mod Pins
+pub mod PinLaws
+pub mod Ports
+pub mod Resets
 pub mod Records
 pub mod Acts
 pub mod Tries

@@ -1,18 +1,28 @@
 -- The machine, and what a code does from zeros.
-use Rattle.std.specs.Prelude.{◌≡◌, ℕ, List, [], reverse}
+use Rattle.std.specs.Prelude.{◌≡◌, ◌≤◌, ℕ, ◌+◌, Bool, List, [], ◌++◌, reverse, Option, Some}
+use Rattle.tap_states.specs.declared.Tap.TheVariants.{Reset}
+use Rattle.dev_card.specs.Card.{Card}
+use Rattle.dev_card.specs.Board.{Clock, tdos}
+use Rattle.dev_card.specs.FarEnds.{far_end}
+use Rattle.stapl_meaning.specs.declared.events.Event.{Event}
+use Rattle.stapl_meaning.specs.declared.events.Ending.{Ending}
 use Rattle.stapl_meaning.specs.declared.records.Record.{Record}
 use Rattle.stapl_meaning.specs.declared.values.Held.{Held}
-use Rattle.stapl_meaning.specs.Plays.{Run}
+use Rattle.stapl_meaning.specs.Deeds.{Chain}
+use Rattle.stapl_meaning.specs.Plays.{Run, ending_of}
+use Rattle.stapl_meaning.specs.Texts.{events_text}
 use Rattle.stapl_code.specs.declared.raw.CodeLists.{CodeLists}
 use Rattle.stapl_machine.specs.declared.running.Machine.{Machine}
+use Rattle.stapl_machine.specs.Papers.{Shown, Puts, PutsFront}
+use Rattle.stapl_machine.specs.Resets.{kept_digits}
 use Rattle.stapl_machine.specs.Zeros.{zeros_of_code}
 use Rattle.stapl_machine.specs.Runs.{play_from, play_ticks_from}
 
 -- the play of a code, for at most n turns of the chosen procedures, and how many instructions it takes
-abbrev pub play_of : CodeLists → List ℕ → ℕ → Run
+abbrev pub play_of : CodeLists → List ℕ → ℕ → Chain → Run
 play_of code chosen n = play_from code chosen (zeros_of_code code) n
 
-abbrev pub play_ticks_of : CodeLists → List ℕ → ℕ → ℕ
+abbrev pub play_ticks_of : CodeLists → List ℕ → ℕ → Chain → ℕ
 play_ticks_of code chosen n = play_ticks_from code chosen (zeros_of_code code) n
 
 -- what the variables of a machine hold
@@ -23,8 +33,44 @@ variables_in machine = machine.work.memory.variables.items
 abbrev pub records_in : Machine → List Record
 records_in machine = reverse machine.work.memory.records.items
 
+-- the digits of the first clocks
+abbrev pub digits_in : Machine → List ℕ
+digits_in machine = machine.digits
+
 -- the machine is ready for a run of this code
-pub record IsPrepared (code : CodeLists) (machine : Machine) : Type 0 where
+pub record IsReady (code : CodeLists) (machine : Machine) : Type 0 where
   pub variables_are : variables_in machine ≡ zeros_of_code code
   pub none : machine.work.operands.items ≡ []
   pub no_record : machine.work.memory.records.items ≡ []
+
+-- the same, and it has made no clock yet
+pub record IsPrepared (code : CodeLists) (machine : Machine) : Type 0 where
+  pub ready : IsReady code machine
+  pub no_digit : digits_in machine ≡ []
+
+-- the chain over a cable with all controllers in the reset state, with TDO bits that are still to be heard where no board is told
+abbrev pub chain_at : {C : Type 0} → (C → Option (List Card)) → C → List Bool → Chain
+chain_at board cable heard = record { tap = Reset; far = far_end (board cable) heard }
+
+-- A run on the far end that the cable is: its board, where that is told, else the TDO bits of the clocks that were made, with
+-- any that may follow.
+module _ {C O : Type 0} (board : C → Option (List Card)) (makes : C → List Clock → C → Type 0) (shown : O → Shown) (pins : Bool) (digits : List ℕ) (run : Chain → Run) (count : Chain → ℕ) where
+  -- The whole text of the run was put, and the run, the cable and the machine stand so.
+  pub record IsPlayed (old : C) (out : O) (steps : ℕ) (ending : Ending) (new : C) (new_out : O) (now : ℕ) (machine : Machine) : Type 0 where
+    pub events : List Event
+    pub clocks : List Clock
+    pub made : makes old clocks new
+    pub put : Puts shown out (events_text pins (kept_digits pins digits) events) new_out
+    pub runs : (more : List Bool) → (run (chain_at board old (tdos clocks ++ more))).events ≡ events
+    pub ended : (more : List Bool) → ending_of (run (chain_at board old (tdos clocks ++ more))).outcome ≡ Some ending
+    pub far : (more : List Bool) → (run (chain_at board old (tdos clocks ++ more))).chain.far ≡ far_end (board new) more
+    pub variables : (more : List Bool) → (run (chain_at board old (tdos clocks ++ more))).state.store.variables ≡ variables_in machine
+    pub records : (more : List Bool) → (run (chain_at board old (tdos clocks ++ more))).state.records ≡ records_in machine
+    pub ticked : (more : List Bool) → now ≡ steps + count (chain_at board old (tdos clocks ++ more))
+
+  -- A front of its text was put.
+  pub record IsPlayedFront (old : C) (out : O) (steps : ℕ) (new : C) (new_out : O) (now : ℕ) : Type 0 where
+    pub clocks : List Clock
+    pub made : makes old clocks new
+    pub front : (more : List Bool) → PutsFront shown out (events_text pins (kept_digits pins digits) (run (chain_at board old (tdos clocks ++ more))).events) new_out
+    pub most : (more : List Bool) → now ≤ steps + count (chain_at board old (tdos clocks ++ more))

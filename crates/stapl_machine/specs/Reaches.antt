@@ -1,6 +1,7 @@
 -- What follows instructions that were tried without the general machine.
 use Rattle.std.specs.Prelude.{◌≡◌, ◌<◌, ◌≤◌, ℕ, ◌+◌, List, []}
-use Rattle.stapl_meaning.specs.States.{Turned, Leads, NoTurn}
+use Rattle.stapl_meaning.specs.Deeds.{Chain}
+use Rattle.stapl_meaning.specs.States.{Happened, Led, Lacks}
 use Rattle.stapl_code.specs.declared.raw.CodeLists.{CodeLists}
 use Rattle.stapl_machine.specs.declared.act.Workspace.{Workspace}
 use Rattle.stapl_machine.specs.declared.tries.Tried.{Tried}
@@ -8,17 +9,17 @@ use Rattle.stapl_machine.specs.declared.tries.Tried.TheVariants as tried
 use Rattle.stapl_machine.specs.declared.turns.Reached.{Reached}
 use Rattle.stapl_machine.specs.declared.turns.Reached.TheVariants as reached
 use Rattle.stapl_machine.specs.Acts.{state_of}
-use Rattle.stapl_machine.specs.Turns.{rest_of, ticks_from}
+use Rattle.stapl_machine.specs.Turns.{rest_of, ticks_from, no_ticks}
 
 -- the rest of the turn behind instruction i, which was tried, and how many instructions it takes
-abbrev pub behind_try : CodeLists → ℕ → List ℕ → Tried → Workspace → Turned
+abbrev pub behind_try : CodeLists → ℕ → List ℕ → Tried → Workspace → Chain → Happened
 behind_try code i chosen tried.On work = rest_of code (i + 1) chosen work
-behind_try code i chosen (tried.To place) work = Leads [] place (state_of chosen work)
+behind_try code i chosen (tried.To place) work = Led [] place (state_of chosen work)
 behind_try code i chosen tried.Not work = rest_of code i chosen work
 
-abbrev pub ticks_behind_try : CodeLists → ℕ → List ℕ → Tried → Workspace → ℕ
+abbrev pub ticks_behind_try : CodeLists → ℕ → List ℕ → Tried → Workspace → Chain → ℕ
 ticks_behind_try code i chosen tried.On work = ticks_from code (i + 1) chosen work
-ticks_behind_try code i chosen (tried.To place) work = 0
+ticks_behind_try code i chosen (tried.To place) work = no_ticks
 ticks_behind_try code i chosen tried.Not work = ticks_from code i chosen work
 
 abbrev pub IsCleanTry : Tried → Workspace → Type 0
@@ -26,15 +27,15 @@ IsCleanTry (tried.To place) work = work.operands.items ≡ []
 IsCleanTry _ work = Unit {0}
 
 -- the same behind some instructions
-abbrev pub behind_reached : CodeLists → List ℕ → Reached → Workspace → Turned
+abbrev pub behind_reached : CodeLists → List ℕ → Reached → Workspace → Chain → Happened
 behind_reached code chosen (reached.Within i) work = rest_of code i chosen work
-behind_reached code chosen (reached.Turn place) work = Leads [] place (state_of chosen work)
-behind_reached code chosen reached.End work = NoTurn []
+behind_reached code chosen (reached.Turn place) work = Led [] place (state_of chosen work)
+behind_reached code chosen reached.End work = λ k. Lacks []
 
-abbrev pub ticks_behind_reached : CodeLists → List ℕ → Reached → Workspace → ℕ
+abbrev pub ticks_behind_reached : CodeLists → List ℕ → Reached → Workspace → Chain → ℕ
 ticks_behind_reached code chosen (reached.Within i) work = ticks_from code i chosen work
-ticks_behind_reached code chosen (reached.Turn place) work = 0
-ticks_behind_reached code chosen reached.End work = 0
+ticks_behind_reached code chosen (reached.Turn place) work = no_ticks
+ticks_behind_reached code chosen reached.End work = no_ticks
 
 -- an instruction that is reached is one of so many, and none before the first one; before a turn no operand is left
 abbrev pub IsReached : Reached → ℕ → ℕ → Workspace → Type 0

@@ -1,6 +1,6 @@
 //! What the machine does at an instruction.
 ghost use Rattle.std.specs.Prelude.{◌≡◌, ◌<◌, ◌≤◌, ◌+◌, ◌^◌, List, ℕ, Option, length, drop};
-ghost use Rattle.stapl_code.specs.Machine.{made, takes, lands, Slot, source_slots, dest_slots, export_slots};
+ghost use Rattle.stapl_code.specs.Machine.{made, takes, lands, Slot, source_slots, dest_slots, export_slots, wait_slots};
 ghost use Rattle.stapl_code.specs.declared.raw.CodeLists.{CodeLists};
 ghost use Rattle.stapl_code.specs.Safe.{entries_of, constants_of};
 ghost use Rattle.stapl_machine.specs.Acts.{IsMade, IsActed, told_by, state_in, step_of};
@@ -17,8 +17,9 @@ use crate::operate::Stop;
 use crate::parts::check_range;
 use crate::printing::{count_operands, print};
 use crate::records::{call, end_procedure, pop_value, push_value};
+use crate::waiting::{go_through, tune, wait};
 use stapl_code::{CodeLists, Dest, ExportPart, Instr, Source, operator_of, unary_kind};
-use stapl_meaning::Value;
+use stapl_meaning::{Value, WaitKind};
 
 /// What a run keeps: the memory, the operands in the order in which they were put on, how many of the chosen procedures
 /// have begun, and the piece of the turn.
@@ -39,7 +40,7 @@ fn make(
     memory: &mut Memory,
 ) -> Result<Made, Stop>
     requires { here + 1 < 2 ^ 32 }
-    ensures { (entries chosen : List ℕ) → IsMade result (told_by code.now memory.new)
+    ensures { (entries chosen : List ℕ) → IsMade result (told_by code.now instr.now memory.new)
         (state_in chosen memory.old) (state_in chosen memory.new)
         (made entries (constants_of code.now) here instr.now values.now (state_in chosen memory.old)) }
 {
@@ -90,6 +91,9 @@ fn make(
         Instr::Export(key, part) => export(code, *key, *part, values, &memory.variables),
         Instr::CheckChar => check_character(values),
         Instr::Exit => exit(values),
+        Instr::State(_) => go_through(values),
+        Instr::Wait(at, kind, last) => wait(*at, *kind, *last, values),
+        Instr::Frequency(_) => tune(values),
     }
 }
 
@@ -113,6 +117,16 @@ fn dest_takes(dest: Dest) -> usize
     match dest {
         Dest::Whole(_) => 0,
         Dest::Range(_) => 2,
+    }
+}
+
+// How many operands a Wait takes.
+fn wait_takes(kind: WaitKind) -> usize
+    ensures { result ≡ length (wait_slots kind) }
+{
+    match kind {
+        WaitKind::Cycles | WaitKind::Usec => 1,
+        WaitKind::Both => 2,
     }
 }
 
@@ -141,7 +155,10 @@ fn takes(instr: &Instr) -> usize
         | Instr::PopRecord(_)
         | Instr::Call(_)
         | Instr::Jump(_)
-        | Instr::EndProc => 0,
+        | Instr::EndProc
+        | Instr::State(_) => 0,
+        Instr::Wait(_, kind, _) => wait_takes(*kind),
+        Instr::Frequency(stated) => usize::from(*stated),
         Instr::LoadAt(_)
         | Instr::CheckIndex(_)
         | Instr::Store(_)
@@ -178,7 +195,7 @@ fn behind(items: &[Value], at: usize) -> &[Value]
 pub fn act(code: &CodeLists, here: u32, instr: &Instr, work: &mut Workspace) -> Result<Made, Stop>
     requires { here + 1 < 2 ^ 32 }
     ensures acts { (chosen : List ℕ) →
-        IsActed result code.now (lands (entries_of code.now.procedures) here instr.now) chosen work.new
+        IsActed result code.now instr.now (lands (entries_of code.now.procedures) here instr.now) chosen work.new
         (step_of code.now here instr.now chosen work.old) }
     ensures piece { work.new.piece ≡ work.old.piece }
 {

@@ -15,6 +15,7 @@ use crate::parts::Part;
 use stapl_code::operator_of;
 use stapl_meaning::{Ending, Held, RunFault, Value};
 use stapl_syntax::UnOp;
+use tap_states::Tap;
 
 /// Where bits lie.
 #[derive(Clone, Copy, Debug, PartialEq, Eq)]
@@ -43,6 +44,30 @@ pub struct Export {
     pub value: Exported,
 }
 
+/// What a WAIT does: where it waits, for how many clocks, for how many microseconds, and where it goes then.
+#[derive(Clone, Copy, Debug, PartialEq, Eq)]
+pub struct Wait {
+    pub at: Tap,
+    pub cycles: Option<u32>,
+    pub usec: Option<u32>,
+    pub last: Tap,
+}
+
+/// What is still to be done to the outside.
+#[derive(Clone, Copy, Debug, PartialEq, Eq)]
+pub enum Doing {
+    /// The text of the last Print is printed.
+    Prints,
+    /// Something is exported.
+    Exports(Export),
+    /// The chain moves through the states of the instruction.
+    Moves,
+    /// The chain waits.
+    Waits(Wait),
+    /// A frequency is stated in hertz, or none by 0.
+    Tunes(u32),
+}
+
 /// What an instruction made.
 #[derive(Clone, Copy, Debug, PartialEq, Eq)]
 pub enum Made {
@@ -54,10 +79,8 @@ pub enum Made {
     Popped(Value),
     /// It goes on to the next instruction.
     On,
-    /// It goes on, with a text to be written.
-    Printed,
-    /// It goes on, with an export to be written.
-    Exported(Export),
+    /// It goes on, with something that is still to be done to the outside.
+    Acts(Doing),
     /// It goes to its target.
     Jump,
     /// It goes to the place that a record kept.

@@ -3,6 +3,7 @@ ghost use Rattle.std.specs.Prelude.{◌≡◌, ◌≢◌, ◌∷◌, [], IfErr, 
 ghost use Rattle.stapl_meaning.specs.declared.events.Event.TheVariants as events;
 ghost use Rattle.stapl_meaning.specs.declared.records.Record.{Record};
 ghost use Rattle.stapl_meaning.specs.Values.{Known, Whole, Range, OfInt, then_get, source_bits};
+ghost use Rattle.stapl_meaning.specs.Deeds.{Says};
 ghost use Rattle.stapl_meaning.specs.States.{State, Falls};
 ghost use Rattle.stapl_meaning.specs.Effects.{exported, bits_exported};
 ghost use Rattle.stapl_code.specs.Machine.{known_text, known_literal, known_source, part_exported, does};
@@ -11,7 +12,7 @@ ghost use Rattle.stapl_machine.specs.Found.{IsSure};
 ghost use Rattle.stapl_machine.specs.Exports.{bits_at, value_exported};
 ghost use Rattle.stapl_machine.specs.Acts.{IsMade, state_with};
 
-use crate::effects::{BitsAt, Export, Exported, Made};
+use crate::effects::{BitsAt, Doing, Export, Exported, Made};
 use crate::operate::Stop;
 use crate::parts::{range, whole};
 use bit_list::Bits;
@@ -96,7 +97,8 @@ fn find_bits(
 
 fn one_value(literals: &[Bits], values: &[Value], variables: &[Held]) -> Result<Exported, Stop>
     ensures is { (key : List ℕ) (s : State) → IsSure
-        (λ value g. g ≡ Known (Falls (events.Export key (value_exported literals.now variables.now value) ∷ []) s))
+        (λ value g. g
+        ≡ Known (Falls (Says (events.Export key (value_exported literals.now variables.now value)) ∷ []) s))
         result (exported key values.now s) }
     ensures sure { IfErr result (λ stop. stop ≢ Stop.Memory) }
 {
@@ -113,7 +115,7 @@ fn array_value(
     variables: &[Held],
 ) -> Result<Exported, Stop>
     ensures is { (key chosen : List ℕ) (records : List Record) → IsSure
-        (λ value g. g ≡ Known (Falls (events.Export key (value_exported literals.now variables.now value) ∷ [])
+        (λ value g. g ≡ Known (Falls (Says (events.Export key (value_exported literals.now variables.now value)) ∷ [])
         (state_with chosen records variables.now))) result
         (then_get (known_source literals.now source)
         (λ from. bits_exported key from values.now (state_with chosen records variables.now))) }
@@ -130,7 +132,7 @@ fn exported(
     variables: &[Held],
 ) -> Result<Exported, Stop>
     ensures is { (key chosen : List ℕ) (records : List Record) → IsSure
-        (λ value g. g ≡ Known (Falls (events.Export key (value_exported literals.now variables.now value) ∷ [])
+        (λ value g. g ≡ Known (Falls (Says (events.Export key (value_exported literals.now variables.now value)) ∷ [])
         (state_with chosen records variables.now))) result
         (part_exported literals.now part key values.now (state_with chosen records variables.now)) }
     ensures sure { IfErr result (λ stop. stop ≢ Stop.Memory) }
@@ -150,7 +152,7 @@ pub fn export(
     variables: &[Held],
 ) -> Result<Made, Stop>
     ensures made { (text chosen : List ℕ) (records : List Record) →
-        IsMade result (record { text = text; constants = constants_of code.now })
+        IsMade result (record { text = text; constants = constants_of code.now; states = [] })
         (state_with chosen records variables.now) (state_with chosen records variables.now)
         (does (then_get (known_text (slice_get code.now.texts key))
         (λ bytes. part_exported code.now.literals part bytes values.now (state_with chosen records variables.now)))) }
@@ -160,5 +162,5 @@ pub fn export(
         return Err(Stop::Wrong);
     }
     let value = exported(code.literals.as_slice(), part, values, variables)?;
-    Ok(Made::Exported(Export { key, value }))
+    Ok(Made::Acts(Doing::Exports(Export { key, value })))
 }

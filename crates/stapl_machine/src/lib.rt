@@ -4,6 +4,7 @@
 mod act;
 mod arrays;
 mod copying;
+mod digits;
 mod effects;
 mod exporting;
 mod loops;
@@ -11,13 +12,17 @@ mod memory;
 mod moves;
 mod operands;
 mod operate;
+mod paper;
 mod parts;
+mod pin_cable;
 mod printing;
 mod records;
+mod reset;
 mod running;
 mod runs;
 mod tries;
 mod turns;
+mod waiting;
 mod writing;
 mod zeros;
 

@@ -3,15 +3,16 @@ ghost use Rattle.std.specs.Prelude.{◌≡◌, ◌<◌, ◌+◌, ◌^◌, ◌∷
 ghost use Rattle.stapl_meaning.specs.declared.records.Record.{Record};
 ghost use Rattle.stapl_meaning.specs.declared.values.Held.{Held};
 ghost use Rattle.stapl_meaning.specs.declared.values.Value.{Value};
-ghost use Rattle.stapl_meaning.specs.States.{State, Turned, next_chosen, jumps_to, turn_of_piece};
+ghost use Rattle.stapl_meaning.specs.Deeds.{Chain};
+ghost use Rattle.stapl_meaning.specs.States.{State, next_chosen, jumps_to, Happened, happens, happened_in_piece};
 ghost use Rattle.stapl_code.specs.Machine.{lands, entry_of, at_end, continues};
-ghost use Rattle.stapl_code.specs.Ticks.{ticks_behind};
+ghost use Rattle.stapl_code.specs.Ticks.{counted_behind};
 ghost use Rattle.stapl_code.specs.Safe.{entries_of};
-ghost use Rattle.stapl_machine.specs.Acts.{state_with, step_of, stepped};
-ghost use Rattle.stapl_machine.specs.Moves.{led_to, IsClean, moved_to, moved_ticks, IsCleanMove};
+ghost use Rattle.stapl_machine.specs.Acts.{state_with, step_of, stepped, RestsAfter};
+ghost use Rattle.stapl_machine.specs.Moves.{led_to, led_on, IsClean, moved_to, moved_ticks, IsCleanMove, RestsBehind};
 
 use crate::act::{Workspace, act};
-use crate::effects::{Export, Made};
+use crate::effects::{Doing, Made};
 use crate::operate::Stop;
 use stapl_code::{CodeLists, Instr, ProcDef};
 use stapl_meaning::{Ending, Value};
@@ -31,10 +32,8 @@ pub enum Went {
 pub enum Moved {
     /// On to the next one.
     On,
-    /// On to the next one, with a text to be written.
-    Printed,
-    /// On to the next one, with an export to be written.
-    Exported(Export),
+    /// On to the next one, with something that is still to be done to the outside.
+    Acts(Doing),
     /// To the end of the turn.
     Ends(Went),
 }
@@ -103,8 +102,8 @@ pub fn begin_next(code: &CodeLists, chosen: &[u32], next: &mut usize) -> Went
 
 // The end of a turn, which must find no operand left.
 fn end_turn(operands: &[Value], went: Went) -> Went
-    ensures ends { (piece : ℕ) (s : State) →
-        turn_of_piece piece (at_end (reverse operands.now) (led_to went s)) ≡ led_to result s }
+    ensures ends { (piece : ℕ) (s : State) (k : Chain) →
+        happened_in_piece piece (at_end (reverse operands.now) (happens k (led_to went s))) ≡ led_on result s k }
     ensures clean { IsClean result operands.now }
 {
     if operands.len() != 0 {
@@ -122,16 +121,18 @@ fn lead(
     made: Made,
     work: &mut Workspace,
 ) -> Result<Moved, AllocError>
-    ensures leads { IfOk result (λ moved. (go : List Value → State → Turned) →
-        turn_of_piece work.old.piece
-        (continues (stepped code.now (lands (entries_of code.now.procedures) here instr.now) chosen.now made
+    requires { RestsAfter made }
+    ensures leads { IfOk result (λ moved. (k : Chain) (go : List Value → State → Chain → Happened) →
+        happened_in_piece work.old.piece
+        (continues k (stepped code.now instr.now (lands (entries_of code.now.procedures) here instr.now) chosen.now made
         work.old) go)
-        ≡ moved_to code.now moved chosen.now work.new go) }
-    ensures ticks { IfOk result (λ moved. (go : List Value → State → ℕ) →
-        ticks_behind (stepped code.now (lands (entries_of code.now.procedures) here instr.now) chosen.now made
-        work.old) go
-        ≡ moved_ticks moved chosen.now work.new go) }
+        ≡ moved_to code.now instr.now moved chosen.now work.new k go) }
+    ensures ticks { IfOk result (λ moved. (k : Chain) (go : List Value → State → Chain → ℕ) →
+        counted_behind k (stepped code.now instr.now (lands (entries_of code.now.procedures) here instr.now) chosen.now
+        made work.old) go
+        ≡ moved_ticks code.now instr.now moved chosen.now work.new k go) }
     ensures clean { IfOk result (λ moved. IsCleanMove moved work.new) }
+    ensures rests { IfOk result RestsBehind }
 {
     match made {
         Made::Put(value) => match push(&mut work.operands, value) {
@@ -147,8 +148,7 @@ fn lead(
             Err(error) => Err(error),
         },
         Made::On => Ok(Moved::On),
-        Made::Printed => Ok(Moved::Printed),
-        Made::Exported(export) => Ok(Moved::Exported(export)),
+        Made::Acts(doing) => Ok(Moved::Acts(doing)),
         Made::Jump => {
             let went = jump_to(target(code, here, instr));
             Ok(Moved::Ends(end_turn(&work.operands, went)))
@@ -176,13 +176,14 @@ pub fn advance(
     work: &mut Workspace,
 ) -> Result<Moved, AllocError>
     requires { here + 1 < 2 ^ 32 }
-    ensures leads { IfOk result (λ moved. (go : List Value → State → Turned) →
-        turn_of_piece work.old.piece (continues (step_of code.now here instr.now chosen.now work.old) go)
-        ≡ moved_to code.now moved chosen.now work.new go) }
-    ensures ticks { IfOk result (λ moved. (go : List Value → State → ℕ) →
-        ticks_behind (step_of code.now here instr.now chosen.now work.old) go
-        ≡ moved_ticks moved chosen.now work.new go) }
+    ensures leads { IfOk result (λ moved. (k : Chain) (go : List Value → State → Chain → Happened) →
+        happened_in_piece work.old.piece (continues k (step_of code.now here instr.now chosen.now work.old) go)
+        ≡ moved_to code.now instr.now moved chosen.now work.new k go) }
+    ensures ticks { IfOk result (λ moved. (k : Chain) (go : List Value → State → Chain → ℕ) →
+        counted_behind k (step_of code.now here instr.now chosen.now work.old) go
+        ≡ moved_ticks code.now instr.now moved chosen.now work.new k go) }
     ensures clean { IfOk result (λ moved. IsCleanMove moved work.new) }
+    ensures rests { IfOk result RestsBehind }
 {
     match act(code, here, instr, work) {
         Ok(made) => lead(code, chosen, here, instr, made, work),

@@ -28,8 +28,8 @@ pub struct Part {
     pub span: Span,
 }
 
-// Whether it is an index of a list of so many items.
-fn is_index(index: i32, count: u32) -> bool
+/// Whether it is an index of a list of so many items.
+pub fn is_index(index: i32, count: u32) -> bool
     ensures { result ≡ is_index index count }
 {
     index >= 0 && index.cast_unsigned() < count

@@ -1,5 +1,5 @@
 //! How the text of a Print is joined.
-ghost use Rattle.std.specs.Prelude.{◌≡◌, ◌≤◌, ◌+◌, ◌∷◌, ◌++◌, List, ℕ, pos, length, drop, slice_get, OnOk, IfErr};
+ghost use Rattle.std.specs.Prelude.{◌≡◌, ◌≤◌, ◌+◌, ◌∷◌, ◌++◌, [], List, ℕ, pos, length, drop, slice_get, OnOk, IfErr};
 ghost use Rattle.std.specs.Fmt.{signed_decimal};
 ghost use Rattle.stapl_meaning.specs.Values.{Got, Known, then_get, integer_of};
 ghost use Rattle.stapl_meaning.specs.Operands.{character_of};
@@ -11,7 +11,7 @@ ghost use Rattle.stapl_machine.specs.Found.{IsGot, IsSure};
 ghost use Rattle.stapl_machine.specs.Prints.{IsPut, Follows};
 ghost use Rattle.stapl_machine.specs.Acts.{IsMade};
 
-use crate::effects::{Made, character};
+use crate::effects::{Doing, Made, character};
 use crate::operate::Stop;
 use itoa::Buffer;
 use stapl_code::{CodeLists, PrintPart};
@@ -187,11 +187,11 @@ pub fn print(
     text: &mut Vec<u8>,
 ) -> Result<Made, Stop>
     ensures { (entries : List ℕ) (s : State) →
-        IsMade result (record { text = text.new.items; constants = constants_of code.now }) s s
+        IsMade result (record { text = text.new.items; constants = constants_of code.now; states = [] }) s s
         (does (printed (parts_text entries (constants_of code.now) parts.now values.now) s)) }
 {
     match join(code, parts, values, text) {
-        Ok(()) => Ok(Made::Printed),
+        Ok(()) => Ok(Made::Acts(Doing::Prints)),
         Err(stop) => Err(stop),
     }
 }

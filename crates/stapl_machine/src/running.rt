@@ -1,32 +1,42 @@
 //! The machine.
-ghost use Rattle.std.specs.Prelude.{◌≡◌, ◌≤◌, ◌+◌, ◌*◌, length, OnOk, OnErr, IfOk, IfErr, Some};
-ghost use Rattle.std.specs.List.{flat_map};
-ghost use Rattle.tool_io.specs.Causes.{HasRisen};
-ghost use Rattle.tool_io.specs.Lines.{IsWhole, IsOverSame, SinkNeverFalls, sink_of, Puts, PutsFront};
-ghost use Rattle.stapl_meaning.specs.Plays.{ending_of};
-ghost use Rattle.stapl_meaning.specs.Texts.{event_line};
+ghost use Rattle.std.specs.Prelude.{◌≡◌, ◌≢◌, ◌≤◌, ◌+◌, ◌*◌, [], false, length, OnOk, OnErr, IfOk, IfErr};
+ghost use Rattle.tool_io.specs.Causes.{HasCause, HasRisen, NeverFalls};
+ghost use Rattle.tool_io.specs.Lines.{IsWhole, SinkNeverFalls, sink_of};
+ghost use Rattle.tool_io.specs.Lines as io;
+ghost use Rattle.tap_states.specs.declared.Tap.TheVariants as taps;
+ghost use Rattle.dev_card.specs.Board.{AllIn};
+ghost use Rattle.scan_paths.specs.Cables.{whole, line, pins, WhereTold, HasPartCause, HasMadeFront, cable_faults, IsCableLast};
+ghost use Rattle.stapl_meaning.specs.Plays.{reset_inputs};
 ghost use Rattle.stapl_code.specs.Safe.{AllBelow};
-ghost use Rattle.stapl_machine.specs.Turns.{IfFault, IfMemory};
-ghost use Rattle.stapl_machine.specs.Machines.{play_of, play_ticks_of, IsPrepared, variables_in, records_in};
+ghost use Rattle.stapl_machine.specs.Papers.{IsOverSame, shown_of};
+ghost use Rattle.stapl_machine.specs.Resets.{IsReset, kept_digits};
+ghost use Rattle.stapl_machine.specs.Ports.{IfFault, IfMemory};
+ghost use Rattle.stapl_machine.specs.Machines.{play_of, play_ticks_of, IsPrepared, IsReady, digits_in, IsPlayed, IsPlayedFront};
 
 use crate::act::Workspace;
+use crate::digits::Digits;
 use crate::memory::Memory;
+use crate::paper::Paper;
+use crate::pin_cable::PinCable;
 use crate::records::RECORD_LIMIT;
-use crate::runs::play;
+use crate::reset::five_ones;
+use crate::runs::play_out;
 use crate::turns::Trouble;
 use crate::zeros::zeros;
 use base::Steps;
+use scan_paths::Cable;
 use stapl_code::Code;
 use stapl_code::laws::{never_stuck, plays_are_bounded};
 use stapl_meaning::Ending;
 use std::alloc::{AllocError, Global};
 use std::sync::ledger::Ledger;
-use tool_io::{Lines, Sink};
+use tool_io::{Failed, Lines, Sink};
 
 /// The stack machine, for one run of a code.
 #[derive(Drop)]
 pub struct Machine {
     work: Workspace,
+    digits: Digits,
 }
 
 impl Machine {
@@ -50,50 +60,128 @@ impl Machine {
                 next: 0,
                 piece: 0,
             },
+            digits: Digits::none(),
         })
     }
 
-    /// Runs the prologue of the code, and then at most so many turns of the chosen procedures, which are told by their
-    /// numbers. It puts the lines of the events, and answers how the run ended: with `Spent` where it still goes on
-    /// after these turns. Each instruction is one step.
+    /// Makes five clocks with TMS 1, which lead any controller to its reset state (IEEE 1149.1, TAP controller state
+    /// diagram), and keeps their digits for the run.
     ///
-    /// `WriteFault` comes only where the count of faults of the sink rose, or stands at its last value, and `Memory`
-    /// only for want of memory, before any call on the lines has failed.
-    pub fn run<K: Sink, L: Ledger>(
+    /// `Failed` only if the count of the part of the cable that is broken then rose, or stands at its last value.
+    pub fn reset_chain<C: Cable>(&mut self, cable: &mut C) -> Result<(), Failed>
+        requires whole { C.breakage cable.old ≡ whole }
+        requires no_digit { digits_in self.old ≡ [] }
+        ensures ready { (code : _) → IsReady code self.old → IsReady code self.new }
+        ensures in_reset { OnOk result (WhereTold (C.board cable.new) (AllIn taps.Reset)) }
+        ensures reset { OnOk result (IsReset C.board C.made cable.old cable.new (digits_in self.new)) }
+        ensures front { OnErr result (HasMadeFront C.board C.made cable.old cable.new reset_inputs) }
+        ensures unbroken { OnOk result (C.breakage cable.new ≡ whole) }
+        ensures broken { OnErr result (C.breakage cable.new ≢ whole) }
+        ensures line { HasPartCause line C.line_faults C.is_line_last C.breakage cable.old cable.new }
+        ensures pins { HasPartCause pins C.pin_faults C.is_pin_last C.breakage cable.old cable.new }
+        ensures cause { HasCause (cable_faults C.line_faults C.pin_faults)
+            (IsCableLast C.is_line_last C.is_pin_last) cable.old cable.new result }
+    {
+        five_ones(cable, &mut self.digits)
+    }
+
+    // The digits that a run begins with.
+    fn first_digits(&self, pins: bool) -> Digits
+        ensures { result ≡ kept_digits pins (digits_in self.now) }
+    {
+        if pins {
+            return self.digits.copied();
+        }
+        Digits::none()
+    }
+
+    // The run over any paper.
+    fn run_on<C: Cable, O: Paper, L: Ledger>(
         &mut self,
         code: &Code,
         chosen: &[u32],
-        out: &mut Lines<K>,
+        cable: &mut C,
+        out: &mut O,
+        pins: bool,
         turns: u32,
         steps: &mut Steps<L>,
     ) -> Result<Ending, Trouble>
-        requires prepared { IsPrepared code.now self.old }
+        requires ready { IsReady code.now self.old }
         requires chosen { AllBelow (length code.now.procedures) chosen.now }
-        requires whole { IsWhole out.old }
-        ensures same_sink { IsOverSame out.old out.new }
-        ensures whole { OnOk result (IsWhole out.new) }
-        ensures ended { IfOk result (λ ending. ending_of (play_of code.now chosen.now turns).outcome ≡ Some ending) }
-        ensures put { OnOk result (Puts K.written out.old (flat_map event_line
-            (play_of code.now chosen.now turns).events) out.new) }
-        ensures variables { OnOk result
-            ((play_of code.now chosen.now turns).state.store.variables ≡ variables_in self.new) }
-        ensures records { OnOk result ((play_of code.now chosen.now turns).state.records ≡ records_in self.new) }
-        ensures front { OnErr result (PutsFront K.written out.old (flat_map event_line
-            (play_of code.now chosen.now turns).events) out.new) }
-        ensures ticks { OnOk result (steps.new ≡ steps.old + play_ticks_of code.now chosen.now turns) }
-        ensures most { OnErr result (steps.new ≤ steps.old + play_ticks_of code.now chosen.now turns) }
+        requires reset { WhereTold (C.board cable.old) (AllIn taps.Reset) }
+        requires whole_cable { C.breakage cable.old ≡ whole }
+        requires whole { O.failed out.old ≡ false }
+        ensures same_paper { IsOverSame O.shown out.old out.new }
+        ensures whole { OnOk result (O.failed out.new ≡ false) }
+        ensures whole_cable { OnOk result (C.breakage cable.new ≡ whole) }
+        ensures played { IfOk result (λ ending. IsPlayed C.board C.made O.shown pins (digits_in self.old)
+            (play_of code.now chosen.now turns) (play_ticks_of code.now chosen.now turns)
+            cable.old out.old steps.old ending cable.new out.new steps.new self.new) }
+        ensures front { OnErr result (IsPlayedFront C.board C.made O.shown pins (digits_in self.old)
+            (play_of code.now chosen.now turns) (play_ticks_of code.now chosen.now turns)
+            cable.old out.old steps.old cable.new out.new steps.new) }
         ensures bounded { steps.new ≤ steps.old + (turns + 1) * length code.now.instrs }
-        ensures kept { SinkNeverFalls K.faults K.is_last out.old out.new }
-        ensures fault { IfErr result (λ trouble.
-            IfFault trouble (HasRisen K.faults K.is_last (sink_of out.old) (sink_of out.new))) }
-        ensures memory { IfErr result (λ trouble. IfMemory trouble (IsWhole out.new)) }
+        ensures kept_cable { NeverFalls (cable_faults C.line_faults C.pin_faults)
+            (IsCableLast C.is_line_last C.is_pin_last) cable.old cable.new }
+        ensures kept { NeverFalls O.faults O.is_last out.old out.new }
+        ensures fault { IfErr result (λ trouble. IfFault trouble
+            (HasRisen (cable_faults C.line_faults C.pin_faults) (IsCableLast C.is_line_last C.is_pin_last)
+            cable.old cable.new) (HasRisen O.faults O.is_last out.old out.new)) }
+        ensures memory { IfErr result (λ trouble. IfMemory trouble (O.failed out.new ≡ false)) }
     {
         never_stuck();
         plays_are_bounded();
         let lists = code.raw().lists();
-        match play(lists, chosen, &mut self.work, out, turns, steps) {
+        let mut port = PinCable::over(cable, out, self.first_digits(pins), pins);
+        match play_out(lists, chosen, &mut self.work, &mut port, turns, steps) {
             Ok(Some(ending)) => Ok(ending),
             Ok(None) => unreachable!(),
+            Err(trouble) => Err(trouble),
+        }
+    }
+
+    /// Runs the prologue of the code, and then at most so many turns of the chosen procedures, which are told by their
+    /// numbers, over a cable whose controllers are all in the reset state. It puts the lines of the events, with those
+    /// of the clocks if `pins` is true, and answers how the run ended: with `Spent` if it still goes on after these
+    /// turns. Each instruction is one step.
+    ///
+    /// `CableFault` comes only if the count of faults of the cable rose, or stands at its last value, `WriteFault` only
+    /// if that of the sink did, and `Memory` only for want of memory, before any call on the lines has failed.
+    pub fn run<C: Cable, K: Sink, L: Ledger>(
+        &mut self,
+        code: &Code,
+        chosen: &[u32],
+        cable: &mut C,
+        out: &mut Lines<K>,
+        pins: bool,
+        turns: u32,
+        steps: &mut Steps<L>,
+    ) -> Result<Ending, Trouble>
+        requires ready { IsReady code.now self.old }
+        requires chosen { AllBelow (length code.now.procedures) chosen.now }
+        requires reset { WhereTold (C.board cable.old) (AllIn taps.Reset) }
+        requires whole_cable { C.breakage cable.old ≡ whole }
+        requires whole { IsWhole out.old }
+        ensures same_sink { io.IsOverSame out.old out.new }
+        ensures whole { OnOk result (IsWhole out.new) }
+        ensures whole_cable { OnOk result (C.breakage cable.new ≡ whole) }
+        ensures played { IfOk result (λ ending. IsPlayed C.board C.made (shown_of K.written) pins (digits_in self.old)
+            (play_of code.now chosen.now turns) (play_ticks_of code.now chosen.now turns)
+            cable.old out.old steps.old ending cable.new out.new steps.new self.new) }
+        ensures front { OnErr result (IsPlayedFront C.board C.made (shown_of K.written) pins (digits_in self.old)
+            (play_of code.now chosen.now turns) (play_ticks_of code.now chosen.now turns)
+            cable.old out.old steps.old cable.new out.new steps.new) }
+        ensures bounded { steps.new ≤ steps.old + (turns + 1) * length code.now.instrs }
+        ensures kept_cable { NeverFalls (cable_faults C.line_faults C.pin_faults)
+            (IsCableLast C.is_line_last C.is_pin_last) cable.old cable.new }
+        ensures kept { SinkNeverFalls K.faults K.is_last out.old out.new }
+        ensures fault { IfErr result (λ trouble. IfFault trouble
+            (HasRisen (cable_faults C.line_faults C.pin_faults) (IsCableLast C.is_line_last C.is_pin_last)
+            cable.old cable.new) (HasRisen K.faults K.is_last (sink_of out.old) (sink_of out.new))) }
+        ensures memory { IfErr result (λ trouble. IfMemory trouble (IsWhole out.new)) }
+    {
+        match self.run_on(code, chosen, cable, out, pins, turns, steps) {
+            Ok(ending) => Ok(ending),
             Err(trouble) => Err(trouble),
         }
     }

@@ -1,48 +1,51 @@
 //! Runs of turns, and whole plays of a code.
-ghost use Rattle.std.specs.Prelude.{◌≡◌, ◌<◌, ◌≤◌, ◌+◌, ◌^◌, [], length, OnOk, OnErr, IfOk, IfErr};
-ghost use Rattle.tool_io.specs.Causes.{HasRisen};
-ghost use Rattle.tool_io.specs.Lines.{IsWhole, IsOverSame, SinkNeverFalls, sink_of};
-ghost use Rattle.stapl_meaning.specs.States.{State};
+ghost use Rattle.std.specs.Prelude.{◌≡◌, ◌<◌, ◌^◌, [], false, length, OnOk, OnErr, IfOk, IfErr};
+ghost use Rattle.tool_io.specs.Causes.{HasRisen, NeverFalls};
+ghost use Rattle.scan_paths.specs.Cables.{whole, cable_faults, IsCableLast};
 ghost use Rattle.stapl_machine.specs.Acts.{state_of};
-ghost use Rattle.stapl_machine.specs.Moves.{led_to, IsClean};
-ghost use Rattle.stapl_machine.specs.Turns.{IsCounted, Keeps};
-ghost use Rattle.stapl_machine.specs.Runs.{run_of, run_ticks_of, chosen_run, chosen_ticks, begun_run, begun_ticks, play_from, play_ticks_from, IsRun, LeavesState};
+ghost use Rattle.stapl_machine.specs.Moves.{led_on, IsClean};
+ghost use Rattle.stapl_machine.specs.Papers.{IsOverSame};
+ghost use Rattle.stapl_machine.specs.Pins.{cable_of, lines_of, port_breakage, IsSameCable, IsSameOut};
+ghost use Rattle.stapl_machine.specs.Ports.{IsInStep, IsRun, Keeps, PlaysTo, PlaysFront, IfFault, IfMemory};
+ghost use Rattle.stapl_machine.specs.Runs.{run_of, run_ticks_of, chosen_run, chosen_ticks, begun_run, begun_ticks, play_from, play_ticks_from};
 
 use crate::act::Workspace;
 use crate::moves::{Went, begin_next};
-use crate::turns::{Trouble, rest_of_turn, turn};
+use crate::paper::Paper;
+use crate::pin_cable::PinCable;
+use crate::turns::{Trouble, rest_of_turn, trouble_of, turn};
 use base::Steps;
+use scan_paths::Cable;
 use stapl_code::CodeLists;
 use stapl_meaning::Ending;
 use std::sync::ledger::Ledger;
-use tool_io::{Lines, Sink};
 
 // At most so many turns from a place on, and how the run stands then. There is no ending where it met what no valid
 // code meets.
 #[inline(never)]
-fn run_turns<K: Sink, L: Ledger>(
+fn run_turns<C: Cable, O: Paper, L: Ledger>(
     code: &CodeLists,
     chosen: &[u32],
     start: u32,
     work: &mut Workspace,
-    out: &mut Lines<K>,
+    port: &mut PinCable<C, O>,
     turns: u32,
     steps: &mut Steps<L>,
 ) -> Result<Option<Ending>, Trouble>
     requires countable { length code.now.instrs < 2 ^ 32 }
     requires none { work.old.operands.items ≡ [] }
-    requires whole { IsWhole out.old }
-    ensures runs { IsRun K.written (run_of code.now turns start (state_of chosen.now work.old)) out.old result out.new }
-    ensures state { IfOk result (λ ending.
-        LeavesState (run_of code.now turns start (state_of chosen.now work.old)) ending
-        (state_of chosen.now work.new)) }
-    ensures ticks { IsCounted result steps.old steps.new
-        (run_ticks_of code.now turns start (state_of chosen.now work.old)) }
-    ensures sink { Keeps K.faults K.is_last out.old out.new result }
+    requires whole { port_breakage C.breakage O.failed port.old ≡ whole }
+    requires in_step { IsInStep C.board port.old }
+    ensures runs { IsRun (port_breakage C.breakage O.failed) C.board C.made O.shown
+        (run_of code.now turns start (state_of chosen.now work.old))
+        (run_ticks_of code.now turns start (state_of chosen.now work.old))
+        port.old steps.old result (state_of chosen.now work.new) port.new steps.new }
+    ensures keeps { Keeps (port_breakage C.breakage O.failed) C.board C.line_faults C.is_line_last
+        C.pin_faults C.is_pin_last O.shown O.faults O.is_last port.old port.new result }
 {
     let mut place = start;
     for _turn in 0..turns {
-        match turn(code, chosen, place, work, out, steps) {
+        match turn(code, chosen, place, work, port, steps) {
             Ok(Went::On(to)) => place = to,
             Ok(Went::Over(ending)) => return Ok(ending),
             Err(trouble) => return Err(trouble),
@@ -52,28 +55,27 @@ fn run_turns<K: Sink, L: Ledger>(
 }
 
 // The turns of a play, behind its prologue.
-fn run_chosen<K: Sink, L: Ledger>(
+fn run_chosen<C: Cable, O: Paper, L: Ledger>(
     code: &CodeLists,
     chosen: &[u32],
     work: &mut Workspace,
-    out: &mut Lines<K>,
+    port: &mut PinCable<C, O>,
     turns: u32,
     steps: &mut Steps<L>,
 ) -> Result<Option<Ending>, Trouble>
     requires countable { length code.now.instrs < 2 ^ 32 }
     requires none { work.old.operands.items ≡ [] }
-    requires whole { IsWhole out.old }
-    ensures runs { (s : State) →
-        IsRun K.written (chosen_run code.now turns (state_of chosen.now work.old) s) out.old result out.new }
-    ensures state { IfOk result (λ ending. (s : State) →
-        LeavesState (chosen_run code.now turns (state_of chosen.now work.old) s) ending
-        (state_of chosen.now work.new)) }
-    ensures ticks { IsCounted result steps.old steps.new
-        (chosen_ticks code.now turns (state_of chosen.now work.old)) }
-    ensures sink { Keeps K.faults K.is_last out.old out.new result }
+    requires whole { port_breakage C.breakage O.failed port.old ≡ whole }
+    requires in_step { IsInStep C.board port.old }
+    ensures runs { IsRun (port_breakage C.breakage O.failed) C.board C.made O.shown
+        (chosen_run code.now turns (state_of chosen.now work.old))
+        (chosen_ticks code.now turns (state_of chosen.now work.old))
+        port.old steps.old result (state_of chosen.now work.new) port.new steps.new }
+    ensures keeps { Keeps (port_breakage C.breakage O.failed) C.board C.line_faults C.is_line_last
+        C.pin_faults C.is_pin_last O.shown O.faults O.is_last port.old port.new result }
 {
     match begin_next(code, chosen, &mut work.next) {
-        Went::On(start) => match run_turns(code, chosen, start, work, out, turns, steps) {
+        Went::On(start) => match run_turns(code, chosen, start, work, port, turns, steps) {
             Ok(ending) => Ok(ending),
             Err(trouble) => Err(trouble),
         },
@@ -82,29 +84,28 @@ fn run_chosen<K: Sink, L: Ledger>(
 }
 
 // What follows the prologue of a play, which led there.
-fn run_behind<K: Sink, L: Ledger>(
+fn run_behind<C: Cable, O: Paper, L: Ledger>(
     code: &CodeLists,
     chosen: &[u32],
     went: Went,
     work: &mut Workspace,
-    out: &mut Lines<K>,
+    port: &mut PinCable<C, O>,
     turns: u32,
     steps: &mut Steps<L>,
 ) -> Result<Option<Ending>, Trouble>
     requires countable { length code.now.instrs < 2 ^ 32 }
     requires none { IsClean went work.old.operands.items }
-    requires whole { IsWhole out.old }
-    ensures runs { (s : State) → IsRun K.written
-        (begun_run code.now turns (led_to went (state_of chosen.now work.old)) s) out.old result out.new }
-    ensures state { IfOk result (λ ending. (s : State) →
-        LeavesState (begun_run code.now turns
-        (led_to went (state_of chosen.now work.old)) s) ending (state_of chosen.now work.new)) }
-    ensures ticks { IsCounted result steps.old steps.new
-        (begun_ticks code.now turns (led_to went (state_of chosen.now work.old))) }
-    ensures sink { Keeps K.faults K.is_last out.old out.new result }
+    requires whole { port_breakage C.breakage O.failed port.old ≡ whole }
+    requires in_step { IsInStep C.board port.old }
+    ensures runs { IsRun (port_breakage C.breakage O.failed) C.board C.made O.shown
+        (begun_run code.now turns (led_on went (state_of chosen.now work.old)) (state_of chosen.now work.old))
+        (begun_ticks code.now turns (led_on went (state_of chosen.now work.old)))
+        port.old steps.old result (state_of chosen.now work.new) port.new steps.new }
+    ensures keeps { Keeps (port_breakage C.breakage O.failed) C.board C.line_faults C.is_line_last
+        C.pin_faults C.is_pin_last O.shown O.faults O.is_last port.old port.new result }
 {
     match went {
-        Went::On(_) => match run_chosen(code, chosen, work, out, turns, steps) {
+        Went::On(_) => match run_chosen(code, chosen, work, port, turns, steps) {
             Ok(ending) => Ok(ending),
             Err(trouble) => Err(trouble),
         },
@@ -112,34 +113,79 @@ fn run_behind<K: Sink, L: Ledger>(
     }
 }
 
-/// The prologue of a code and at most so many turns of the chosen procedures, and how the play stands then. There is no
-/// ending where it met what no valid code meets.
-pub fn play<K: Sink, L: Ledger>(
+// The prologue of a code and at most so many turns of the chosen procedures, and how the play stands then. There is no
+// ending where it met what no valid code meets.
+fn play<C: Cable, O: Paper, L: Ledger>(
     code: &CodeLists,
     chosen: &[u32],
     work: &mut Workspace,
-    out: &mut Lines<K>,
+    port: &mut PinCable<C, O>,
     turns: u32,
     steps: &mut Steps<L>,
 ) -> Result<Option<Ending>, Trouble>
     requires countable { length code.now.instrs < 2 ^ 32 }
     requires none { work.old.operands.items ≡ [] }
     requires no_record { work.old.memory.records.items ≡ [] }
-    requires whole { IsWhole out.old }
-    ensures runs { IsRun K.written
-        (play_from code.now chosen.now work.old.memory.variables.items turns) out.old result out.new }
-    ensures state { IfOk result (λ ending.
-        LeavesState
-        (play_from code.now chosen.now work.old.memory.variables.items turns) ending (state_of chosen.now work.new)) }
-    ensures ticks { IsCounted result steps.old steps.new
-        (play_ticks_from code.now chosen.now work.old.memory.variables.items turns) }
-    ensures sink { Keeps K.faults K.is_last out.old out.new result }
+    requires whole { port_breakage C.breakage O.failed port.old ≡ whole }
+    requires in_step { IsInStep C.board port.old }
+    ensures runs { IsRun (port_breakage C.breakage O.failed) C.board C.made O.shown
+        (play_from code.now chosen.now work.old.memory.variables.items turns)
+        (play_ticks_from code.now chosen.now work.old.memory.variables.items turns)
+        port.old steps.old result (state_of chosen.now work.new) port.new steps.new }
+    ensures keeps { Keeps (port_breakage C.breakage O.failed) C.board C.line_faults C.is_line_last
+        C.pin_faults C.is_pin_last O.shown O.faults O.is_last port.old port.new result }
 {
     work.next = 0;
-    match rest_of_turn(code, chosen, 0, work, out, steps) {
-        Ok(went) => match run_behind(code, chosen, went, work, out, turns, steps) {
+    match rest_of_turn(code, chosen, 0, work, port, steps) {
+        Ok(went) => match run_behind(code, chosen, went, work, port, turns, steps) {
             Ok(ending) => Ok(ending),
             Err(trouble) => Err(trouble),
+        },
+        Err(trouble) => Err(trouble),
+    }
+}
+
+/// The same, and then the line of the digits that wait.
+#[tactic(auto, using(crate::proofs::PlayLemmas::whole_lines, crate::proofs::PlayLemmas::whole_line, crate::proofs::PlayLemmas::fault_causes, crate::proofs::PlayLemmas::memory_whole))]
+pub fn play_out<C: Cable, O: Paper, L: Ledger>(
+    code: &CodeLists,
+    chosen: &[u32],
+    work: &mut Workspace,
+    port: &mut PinCable<C, O>,
+    turns: u32,
+    steps: &mut Steps<L>,
+) -> Result<Option<Ending>, Trouble>
+    requires countable { length code.now.instrs < 2 ^ 32 }
+    requires none { work.old.operands.items ≡ [] }
+    requires no_record { work.old.memory.records.items ≡ [] }
+    requires whole { port_breakage C.breakage O.failed port.old ≡ whole }
+    requires in_step { IsInStep C.board port.old }
+    ensures plays { IfOk result (λ ending. PlaysTo (port_breakage C.breakage O.failed) C.board C.made O.shown
+        (play_from code.now chosen.now work.old.memory.variables.items turns)
+        (play_ticks_from code.now chosen.now work.old.memory.variables.items turns)
+        port.old steps.old ending (state_of chosen.now work.new) port.new steps.new) }
+    ensures front { OnErr result (PlaysFront (port_breakage C.breakage O.failed) C.board C.made O.shown
+        (play_from code.now chosen.now work.old.memory.variables.items turns)
+        (play_ticks_from code.now chosen.now work.old.memory.variables.items turns)
+        port.old steps.old port.new steps.new) }
+    ensures same_cable { IsSameCable port.old port.new }
+    ensures same_out { IsSameOut port.old port.new }
+    ensures same_paper { IsOverSame O.shown (lines_of port.old) (lines_of port.new) }
+    ensures whole { OnOk result (O.failed (lines_of port.new) ≡ false) }
+    ensures whole_cable { OnOk result (C.breakage (cable_of port.new) ≡ whole) }
+    ensures kept_cable { NeverFalls (cable_faults C.line_faults C.pin_faults)
+        (IsCableLast C.is_line_last C.is_pin_last) (cable_of port.old) (cable_of port.new) }
+    ensures kept { NeverFalls O.faults O.is_last (lines_of port.old) (lines_of port.new) }
+    ensures fault { IfErr result (λ trouble. IfFault trouble
+        (HasRisen (cable_faults C.line_faults C.pin_faults) (IsCableLast C.is_line_last C.is_pin_last)
+        (cable_of port.old) (cable_of port.new))
+        (HasRisen O.faults O.is_last (lines_of port.old) (lines_of port.new))) }
+    ensures memory { IfErr result (λ trouble. IfMemory trouble (O.failed (lines_of port.new) ≡ false)) }
+{
+    match play(code, chosen, work, port, turns, steps) {
+        Ok(ending) => match port.finish() {
+            Ok(()) => Ok(ending),
+            Err(_) => Err(trouble_of(port)),
         },
         Err(trouble) => Err(trouble),
     }

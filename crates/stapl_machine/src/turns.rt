@@ -1,32 +1,36 @@
 //! Turns of a code.
-ghost use Rattle.std.specs.Prelude.{◌≡◌, ◌<◌, ◌≤◌, ◌+◌, ◌^◌, [], List, ℕ, length, slice_get, OnOk, OnErr, IfOk, IfErr};
-ghost use Rattle.tool_io.specs.Causes.{HasRisen};
-ghost use Rattle.tool_io.specs.Lines.{IsWhole, IsOverSame, SinkNeverFalls, sink_of, Puts, PutsFront};
-ghost use Rattle.stapl_meaning.specs.Texts.{event_line};
-ghost use Rattle.stapl_meaning.specs.declared.events.Event.TheVariants.{Print};
+ghost use Rattle.std.specs.Prelude.{◌≡◌, ◌≢◌, ◌<◌, ◌≤◌, ◌+◌, ◌^◌, [], ◌++◌, map, List, ℕ, length, slice_get, IsTrue, OnOk, OnErr, IfOk};
+ghost use Rattle.tap_states.specs.Tap.{is_stable_state};
+ghost use Rattle.scan_paths.specs.Cables.{whole};
+ghost use Rattle.stapl_meaning.specs.Deeds.{Chain, Deed, Goes};
 ghost use Rattle.stapl_code.specs.Ticks.{tick_of};
-ghost use Rattle.stapl_code.specs.Safe.{constants_of};
-ghost use Rattle.stapl_machine.specs.Exports.{export_event};
-ghost use Rattle.stapl_machine.specs.Acts.{state_of};
-ghost use Rattle.stapl_machine.specs.Moves.{led_to, IsClean};
+ghost use Rattle.stapl_machine.specs.Acts.{state_of, states_of, told_by, stays_for, pauses_for, waited_deeds, deeds_told, RestsIn};
+ghost use Rattle.stapl_machine.specs.Moves.{led_on, IsClean};
+ghost use Rattle.stapl_machine.specs.Pins.{tap_of, port_breakage};
+ghost use Rattle.stapl_machine.specs.Ports.{IsInStep, BrokeSo, IsKept, Did, DidFront, IsDone, Keeps};
 ghost use Rattle.stapl_machine.specs.Reaches.{behind_try, ticks_behind_try, IsCleanTry, behind_reached, ticks_behind_reached, IsReached};
-ghost use Rattle.stapl_machine.specs.Turns.{rest_of, ticks_from, behind_it, ticks_behind_it, IsCleanBehind, piece_of, turn_at, ticks_at, IsDone, IsCounted, Keeps};
+ghost use Rattle.stapl_machine.specs.Turns.{rest_of, ticks_from, no_ticks, behind_it, ticks_behind_it, IsCleanBehind, piece_of, turn_at, ticks_at};
 
 use crate::act::Workspace;
-use crate::effects::Export;
+use crate::effects::{Doing, Wait};
+use crate::memory::Memory;
 use crate::moves::{Moved, Went, advance};
+use crate::paper::Paper;
+use crate::pin_cable::PinCable;
 use crate::tries::{Tried, try_step};
-use crate::writing::{put_export, put_print};
 use base::Steps;
+use scan_paths::Cable;
 use stapl_code::{CodeLists, Instr};
-use stapl_meaning::Held;
 use std::sync::ledger::Ledger;
+use tap_states::Tap;
 use thiserror::Error;
-use tool_io::{Lines, Sink};
+use tool_io::Failed;
 
-/// Why a run is broken off: a write failed, or want of memory.
+/// Why a run is broken off: the cable failed, a write failed, or want of memory.
 #[derive(Clone, Copy, PartialEq, Eq, Debug, Error)]
 pub enum Trouble {
+    #[error("the cable failed")]
+    CableFault,
     #[error("a write failed")]
     WriteFault,
     #[error("out of memory")]
@@ -44,75 +48,173 @@ fn count<L: Ledger>(instr: &Instr, steps: &mut Steps<L>)
     }
 }
 
-// Writes the line of a PRINT.
-fn tell<K: Sink>(out: &mut Lines<K>, text: &[u8]) -> Result<(), Trouble>
-    requires { IsWhole out.old }
-    ensures ok { OnOk result (Puts K.written out.old (event_line (Print text.now)) out.new) }
-    ensures front { OnErr result (PutsFront K.written out.old (event_line (Print text.now)) out.new) }
-    ensures sink { Keeps K.faults K.is_last out.old out.new result }
+/// Which part of a broken port is broken.
+pub fn trouble_of<C: Cable, O: Paper>(port: &PinCable<C, O>) -> Trouble
+    requires { port_breakage C.breakage O.failed port.now ≢ whole }
+    ensures { BrokeSo result (port_breakage C.breakage O.failed port.now) }
 {
-    match put_print(out, text) {
-        Ok(()) => Ok(()),
-        Err(_) => Err(Trouble::WriteFault),
+    if port.is_torn() {
+        return Trouble::WriteFault;
+    }
+    Trouble::CableFault
+}
+
+// Keeps the controllers in their state for so many clocks, if any are counted.
+#[tactic(auto, using(crate::proofs::DeedLemmas::kept_none))]
+fn rest_if<C: Cable, O: Paper>(cycles: Option<u32>, port: &mut PinCable<C, O>) -> Result<(), Failed>
+    requires whole { port_breakage C.breakage O.failed port.old ≡ whole }
+    requires in_step { IsInStep C.board port.old }
+    requires stable { IsTrue (is_stable_state (tap_of port.old)) }
+    ensures in_step { OnOk result (IsInStep C.board port.new) }
+    ensures did { OnOk result ((rest : List Deed) → Did (port_breakage C.breakage O.failed) C.board C.made O.shown
+        (stays_for cycles ++ rest) port.old rest port.new) }
+    ensures front { OnErr result ((rest : List Deed) → DidFront (port_breakage C.breakage O.failed) C.board C.made
+        O.shown (stays_for cycles ++ rest) port.old port.new) }
+    ensures unbroken { OnOk result (port_breakage C.breakage O.failed port.new ≡ whole) }
+    ensures broken { OnErr result (port_breakage C.breakage O.failed port.new ≢ whole) }
+    ensures kept { IsKept (port_breakage C.breakage O.failed) C.line_faults C.is_line_last
+        C.pin_faults C.is_pin_last O.shown O.faults O.is_last port.old port.new }
+{
+    match cycles {
+        Some(n) => port.rest(n),
+        None => Ok(()),
     }
 }
 
-// Writes the line of an EXPORT.
-fn tell_export<K: Sink>(
-    out: &mut Lines<K>,
-    code: &CodeLists,
-    variables: &[Held],
-    export: Export,
-) -> Result<(), Trouble>
-    requires { IsWhole out.old }
-    ensures ok { OnOk result (Puts K.written out.old (event_line
-        (export_event (constants_of code.now) variables.now export)) out.new) }
-    ensures front { OnErr result (PutsFront K.written out.old (event_line
-        (export_event (constants_of code.now) variables.now export)) out.new) }
-    ensures sink { Keeps K.faults K.is_last out.old out.new result }
+// Waits for so many microseconds, if any are counted.
+#[tactic(auto, using(crate::proofs::DeedLemmas::kept_none))]
+fn pause_if<C: Cable, O: Paper>(usec: Option<u32>, port: &mut PinCable<C, O>) -> Result<(), Failed>
+    requires whole { port_breakage C.breakage O.failed port.old ≡ whole }
+    requires in_step { IsInStep C.board port.old }
+    ensures in_step { OnOk result (IsInStep C.board port.new) }
+    ensures did { OnOk result ((rest : List Deed) → Did (port_breakage C.breakage O.failed) C.board C.made O.shown
+        (pauses_for usec ++ rest) port.old rest port.new) }
+    ensures front { OnErr result ((rest : List Deed) → DidFront (port_breakage C.breakage O.failed) C.board C.made
+        O.shown (pauses_for usec ++ rest) port.old port.new) }
+    ensures unbroken { OnOk result (port_breakage C.breakage O.failed port.new ≡ whole) }
+    ensures broken { OnErr result (port_breakage C.breakage O.failed port.new ≢ whole) }
+    ensures kept { IsKept (port_breakage C.breakage O.failed) C.line_faults C.is_line_last
+        C.pin_faults C.is_pin_last O.shown O.faults O.is_last port.old port.new }
 {
-    if put_export(out, code, variables, export).is_err() {
-        return Err(Trouble::WriteFault);
+    match usec {
+        Some(n) => port.pause(n),
+        None => Ok(()),
+    }
+}
+
+// Carries out a WAIT.
+#[tactic(auto, using(crate::proofs::DeedLemmas::kept_both))]
+fn wait<C: Cable, O: Paper>(wait: Wait, port: &mut PinCable<C, O>) -> Result<(), Failed>
+    requires whole { port_breakage C.breakage O.failed port.old ≡ whole }
+    requires in_step { IsInStep C.board port.old }
+    requires stable { IsTrue (is_stable_state wait.at) }
+    ensures in_step { OnOk result (IsInStep C.board port.new) }
+    ensures did { OnOk result (Did (port_breakage C.breakage O.failed) C.board C.made O.shown
+        (waited_deeds wait) port.old [] port.new) }
+    ensures front { OnErr result (DidFront (port_breakage C.breakage O.failed) C.board C.made O.shown
+        (waited_deeds wait) port.old port.new) }
+    ensures unbroken { OnOk result (port_breakage C.breakage O.failed port.new ≡ whole) }
+    ensures broken { OnErr result (port_breakage C.breakage O.failed port.new ≢ whole) }
+    ensures kept { IsKept (port_breakage C.breakage O.failed) C.line_faults C.is_line_last
+        C.pin_faults C.is_pin_last O.shown O.faults O.is_last port.old port.new }
+{
+    port.go(wait.at)?;
+    rest_if(wait.cycles, port)?;
+    pause_if(wait.usec, port)?;
+    port.go(wait.last)?;
+    Ok(())
+}
+
+// Moves to one state after another.
+#[tactic(auto, using(crate::proofs::DeedLemmas::kept_both))]
+fn go_through<C: Cable, O: Paper>(states: &[Tap], port: &mut PinCable<C, O>) -> Result<(), Failed>
+    requires whole { port_breakage C.breakage O.failed port.old ≡ whole }
+    requires in_step { IsInStep C.board port.old }
+    ensures in_step { OnOk result (IsInStep C.board port.new) }
+    ensures did { OnOk result (Did (port_breakage C.breakage O.failed) C.board C.made O.shown
+        (map Goes states.now) port.old [] port.new) }
+    ensures front { OnErr result (DidFront (port_breakage C.breakage O.failed) C.board C.made O.shown
+        (map Goes states.now) port.old port.new) }
+    ensures unbroken { OnOk result (port_breakage C.breakage O.failed port.new ≡ whole) }
+    ensures broken { OnErr result (port_breakage C.breakage O.failed port.new ≢ whole) }
+    ensures kept { IsKept (port_breakage C.breakage O.failed) C.line_faults C.is_line_last
+        C.pin_faults C.is_pin_last O.shown O.faults O.is_last port.old port.new }
+{
+    for i in 0..states.len() {
+        port.go(states[i])?;
     }
     Ok(())
 }
 
+// The states that an instruction moves the chain through.
+fn states_of(instr: &Instr) -> &[Tap]
+    ensures { result.now ≡ states_of instr.now }
+{
+    match instr {
+        Instr::State(states) => states.as_slice(),
+        _ => &[],
+    }
+}
+
+// Does what an instruction has left to be done to the outside.
+fn perform<C: Cable, O: Paper>(
+    code: &CodeLists,
+    instr: &Instr,
+    memory: &Memory,
+    doing: Doing,
+    port: &mut PinCable<C, O>,
+) -> Result<(), Failed>
+    requires whole { port_breakage C.breakage O.failed port.old ≡ whole }
+    requires in_step { IsInStep C.board port.old }
+    requires rests { RestsIn doing }
+    ensures in_step { OnOk result (IsInStep C.board port.new) }
+    ensures did { OnOk result (Did (port_breakage C.breakage O.failed) C.board C.made O.shown
+        (deeds_told (told_by code.now instr.now memory.now) memory.now.variables.items doing) port.old [] port.new) }
+    ensures front { OnErr result (DidFront (port_breakage C.breakage O.failed) C.board C.made O.shown
+        (deeds_told (told_by code.now instr.now memory.now) memory.now.variables.items doing) port.old port.new) }
+    ensures unbroken { OnOk result (port_breakage C.breakage O.failed port.new ≡ whole) }
+    ensures broken { OnErr result (port_breakage C.breakage O.failed port.new ≢ whole) }
+    ensures kept { IsKept (port_breakage C.breakage O.failed) C.line_faults C.is_line_last
+        C.pin_faults C.is_pin_last O.shown O.faults O.is_last port.old port.new }
+{
+    match doing {
+        Doing::Prints => port.print(&memory.text),
+        Doing::Exports(export) => port.export(code, &memory.variables, export),
+        Doing::Moves => go_through(states_of(instr), port),
+        Doing::Waits(counts) => wait(counts, port),
+        Doing::Tunes(n) => port.tune(n),
+    }
+}
+
 // Carries out instruction i of a turn by the general machine, and answers where the turn led if it ended.
 #[inline(never)]
-fn carry_out<K: Sink, L: Ledger>(
+fn carry_out<C: Cable, O: Paper, L: Ledger>(
     code: &CodeLists,
     chosen: &[u32],
     i: usize,
     work: &mut Workspace,
-    out: &mut Lines<K>,
+    port: &mut PinCable<C, O>,
     steps: &mut Steps<L>,
 ) -> Result<Option<Went>, Trouble>
     requires inside { i < length code.now.instrs }
     requires countable { length code.now.instrs < 2 ^ 32 }
-    requires whole { IsWhole out.old }
-    ensures does { IsDone K.written (rest_of code.now i chosen.now work.old) out.old result
-        (λ end. behind_it code.now i chosen.now end work.new) out.new }
+    requires whole { port_breakage C.breakage O.failed port.old ≡ whole }
+    requires in_step { IsInStep C.board port.old }
+    ensures does { IsDone (port_breakage C.breakage O.failed) C.board C.made O.shown
+        (rest_of code.now i chosen.now work.old) (ticks_from code.now i chosen.now work.old) port.old steps.old result
+        (behind_it code.now i chosen.now work.new) (ticks_behind_it code.now i chosen.now work.new) port.new steps.new }
     ensures clean { IfOk result (λ end. IsCleanBehind end work.new) }
-    ensures ticks { IfOk result (λ end.
-        steps.new + ticks_behind_it code.now i chosen.now end work.new
-        ≡ steps.old + ticks_from code.now i chosen.now work.old) }
-    ensures most { OnErr result (steps.new ≤ steps.old + ticks_from code.now i chosen.now work.old) }
-    ensures sink { Keeps K.faults K.is_last out.old out.new result }
+    ensures keeps { Keeps (port_breakage C.breakage O.failed) C.board C.line_faults C.is_line_last
+        C.pin_faults C.is_pin_last O.shown O.faults O.is_last port.old port.new result }
 {
     let instr = &code.instrs.as_slice()[i];
     count(instr, steps);
     match advance(code, chosen, i as u32, instr, work) {
         Ok(Moved::On) => Ok(None),
-        Ok(Moved::Printed) => match tell(out, &work.memory.text) {
+        Ok(Moved::Acts(doing)) => match perform(code, instr, &work.memory, doing, port) {
             Ok(()) => Ok(None),
-            Err(trouble) => Err(trouble),
+            Err(_) => Err(trouble_of(port)),
         },
-        Ok(Moved::Exported(export)) => {
-            match tell_export(out, code, &work.memory.variables, export) {
-                Ok(()) => Ok(None),
-                Err(trouble) => Err(trouble),
-            }
-        }
         Ok(Moved::Ends(went)) => Ok(Some(went)),
         Err(_) => Err(Trouble::Memory),
     }
@@ -128,11 +230,11 @@ fn try_at<L: Ledger>(
 ) -> Tried
     requires inside { i < length code.now.instrs }
     requires countable { length code.now.instrs < 2 ^ 32 }
-    ensures does { (chosen : List ℕ) →
-        rest_of code.now i chosen work.old ≡ behind_try code.now i chosen result work.new }
-    ensures ticks { (chosen : List ℕ) →
-        steps.new + ticks_behind_try code.now i chosen result work.new
-        ≡ steps.old + ticks_from code.now i chosen work.old }
+    ensures does { (chosen : List ℕ) (k : Chain) →
+        rest_of code.now i chosen work.old k ≡ behind_try code.now i chosen result work.new k }
+    ensures ticks { (chosen : List ℕ) (k : Chain) →
+        steps.new + ticks_behind_try code.now i chosen result work.new k
+        ≡ steps.old + ticks_from code.now i chosen work.old k }
     ensures clean { IsCleanTry result work.new }
 {
     let instr = &code.instrs.as_slice()[i];
@@ -170,11 +272,11 @@ fn carry_out_common<L: Ledger>(
     steps: &mut Steps<L>,
 ) -> Reached
     requires countable { length code.now.instrs < 2 ^ 32 }
-    ensures does { (chosen : List ℕ) →
-        rest_of code.now from chosen work.old ≡ behind_reached code.now chosen result work.new }
-    ensures ticks { (chosen : List ℕ) →
-        steps.new + ticks_behind_reached code.now chosen result work.new
-        ≡ steps.old + ticks_from code.now from chosen work.old }
+    ensures does { (chosen : List ℕ) (k : Chain) →
+        rest_of code.now from chosen work.old k ≡ behind_reached code.now chosen result work.new k }
+    ensures ticks { (chosen : List ℕ) (k : Chain) →
+        steps.new + ticks_behind_reached code.now chosen result work.new k
+        ≡ steps.old + ticks_from code.now from chosen work.old k }
     ensures reached { IsReached result from (length code.now.instrs) work.new }
 {
     for i in from..code.instrs.len() {
@@ -189,28 +291,30 @@ fn carry_out_common<L: Ledger>(
 
 /// The instructions from a place on, up to the end of the turn.
 #[inline(always)]
-pub fn rest_of_turn<K: Sink, L: Ledger>(
+pub fn rest_of_turn<C: Cable, O: Paper, L: Ledger>(
     code: &CodeLists,
     chosen: &[u32],
     from: usize,
     work: &mut Workspace,
-    out: &mut Lines<K>,
+    port: &mut PinCable<C, O>,
     steps: &mut Steps<L>,
 ) -> Result<Went, Trouble>
     requires countable { length code.now.instrs < 2 ^ 32 }
-    requires whole { IsWhole out.old }
-    ensures does { IsDone K.written (rest_of code.now from chosen.now work.old) out.old result
-        (λ went. led_to went (state_of chosen.now work.new)) out.new }
+    requires whole { port_breakage C.breakage O.failed port.old ≡ whole }
+    requires in_step { IsInStep C.board port.old }
+    ensures does { IsDone (port_breakage C.breakage O.failed) C.board C.made O.shown
+        (rest_of code.now from chosen.now work.old) (ticks_from code.now from chosen.now work.old)
+        port.old steps.old result (λ went. led_on went (state_of chosen.now work.new)) (λ went. no_ticks) port.new steps.new }
     ensures clean { IfOk result (λ went. IsClean went work.new.operands.items) }
-    ensures ticks { IsCounted result steps.old steps.new (ticks_from code.now from chosen.now work.old) }
-    ensures sink { Keeps K.faults K.is_last out.old out.new result }
+    ensures keeps { Keeps (port_breakage C.breakage O.failed) C.board C.line_faults C.is_line_last
+        C.pin_faults C.is_pin_last O.shown O.faults O.is_last port.old port.new result }
 {
     let mut place = from;
     'parts: loop {
         match carry_out_common(code, place, work, steps) {
             Reached::Turn(to) => return Ok(Went::On(to)),
             Reached::End => return Ok(Went::Over(None)),
-            Reached::Within(i) => match carry_out(code, chosen, i, work, out, steps) {
+            Reached::Within(i) => match carry_out(code, chosen, i, work, port, steps) {
                 Ok(None) => place = i + 1,
                 Ok(Some(went)) => return Ok(went),
                 Err(trouble) => return Err(trouble),
@@ -232,28 +336,31 @@ fn piece_at(instrs: &[Instr], i: usize) -> Option<u32>
 
 /// One turn, and the beginning of the next procedure where this one is over.
 #[inline(always)]
-pub fn turn<K: Sink, L: Ledger>(
+pub fn turn<C: Cable, O: Paper, L: Ledger>(
     code: &CodeLists,
     chosen: &[u32],
     place: u32,
     work: &mut Workspace,
-    out: &mut Lines<K>,
+    port: &mut PinCable<C, O>,
     steps: &mut Steps<L>,
 ) -> Result<Went, Trouble>
     requires countable { length code.now.instrs < 2 ^ 32 }
     requires none { work.old.operands.items ≡ [] }
-    requires whole { IsWhole out.old }
-    ensures does { IsDone K.written (turn_at code.now place (state_of chosen.now work.old)) out.old result
-        (λ went. led_to went (state_of chosen.now work.new)) out.new }
+    requires whole { port_breakage C.breakage O.failed port.old ≡ whole }
+    requires in_step { IsInStep C.board port.old }
+    ensures does { IsDone (port_breakage C.breakage O.failed) C.board C.made O.shown
+        (turn_at code.now place (state_of chosen.now work.old)) (ticks_at code.now place (state_of chosen.now work.old))
+        port.old steps.old result
+        (λ went. led_on went (state_of chosen.now work.new)) (λ went. no_ticks) port.new steps.new }
     ensures clean { IfOk result (λ went. IsClean went work.new.operands.items) }
-    ensures ticks { IsCounted result steps.old steps.new (ticks_at code.now place (state_of chosen.now work.old)) }
-    ensures sink { Keeps K.faults K.is_last out.old out.new result }
+    ensures keeps { Keeps (port_breakage C.breakage O.failed) C.board C.line_faults C.is_line_last
+        C.pin_faults C.is_pin_last O.shown O.faults O.is_last port.old port.new result }
 {
     match piece_at(code.instrs.as_slice(), place as usize) {
         Some(piece) => {
             steps.tick();
             work.piece = piece;
-            match rest_of_turn(code, chosen, place as usize + 1, work, out, steps) {
+            match rest_of_turn(code, chosen, place as usize + 1, work, port, steps) {
                 Ok(went) => Ok(went),
                 Err(trouble) => Err(trouble),
             }

@@ -1,13 +1,14 @@
-//! The written text of an event.
-ghost use Rattle.std.specs.Prelude.{◌≡◌, ◌<◌, ◌≤◌, ◌+◌, ◌*◌, ◌/◌, ◌%◌, ◌^◌, ◌++◌, [], OnOk, OnErr, length, slice_get};
+//! The written lines of events and of clocks.
+ghost use Rattle.std.specs.Prelude.{◌≡◌, ◌<◌, ◌≤◌, ◌+◌, ◌*◌, ◌/◌, ◌%◌, ◌^◌, ◌++◌, ◌∷◌, [], pos, codes, OnOk, OnErr, length, slice_get};
+ghost use Rattle.std.specs.Fmt.{signed_decimal};
 ghost use Rattle.std.specs.List.{flat_map};
 ghost use Rattle.tool_io.specs.Lines.{IsWhole, IsOverSame, HasSinkCause, Puts, PutsFront};
 ghost use Rattle.base.specs.Bits.{low_bits, number_of};
 ghost use Rattle.bit_list.specs.Integers.{bits_of_int};
 ghost use Rattle.bit_list.specs.Ranges.{taken};
 ghost use Rattle.stapl_meaning.specs.Effects.{export_of};
-ghost use Rattle.stapl_meaning.specs.Texts.{hex_digit, hex_digits, is_plain, escaped_byte, escaped, export_text, event_line};
-ghost use Rattle.stapl_meaning.specs.declared.events.Event.TheVariants.{Print};
+ghost use Rattle.stapl_meaning.specs.Texts.{hex_digit, hex_digits, is_plain, escaped_byte, escaped, export_text, event_line, pin_line};
+ghost use Rattle.stapl_meaning.specs.declared.events.Event.TheVariants.{Print, Usec, Hertz};
 ghost use Rattle.stapl_meaning.specs.declared.events.Event.TheVariants as events;
 ghost use Rattle.stapl_code.specs.Safe.{constants_of};
 ghost use Rattle.stapl_machine.specs.Arrays.{bits_in};
@@ -70,7 +71,6 @@ pub fn put_escaped<K: Sink>(out: &mut Lines<K>, bytes: &[u8]) -> Result<(), Fail
 /// Puts the line of a PRINT with this text.
 ///
 /// `Failed` as of the sink.
-#[tactic(auto, using(tool_io::proofs::PutLemmas::put_then, tool_io::proofs::PutLemmas::put_then_front, tool_io::proofs::PutLemmas::front_with))]
 pub fn put_print<K: Sink>(out: &mut Lines<K>, bytes: &[u8]) -> Result<(), Failed>
     requires { IsWhole out.old }
     ensures same_sink { IsOverSame out.old out.new }
@@ -364,4 +364,94 @@ pub fn put_export<K: Sink>(
 {
     let key = text_at(code.texts.as_slice(), export.key);
     put_line(out, key, code.literals.as_slice(), variables, export.value)
+}
+
+// Puts a number in decimal.
+fn put_count<K: Sink>(out: &mut Lines<K>, n: u32) -> Result<(), Failed>
+    requires { IsWhole out.old }
+    ensures same_sink { IsOverSame out.old out.new }
+    ensures whole { OnOk result (IsWhole out.new) }
+    ensures ok { OnOk result (Puts K.written out.old (signed_decimal (pos n)) out.new) }
+    ensures front { OnErr result (PutsFront K.written out.old (signed_decimal (pos n)) out.new) }
+    ensures cause { HasSinkCause K.faults K.is_last out.old out.new result }
+{
+    out.put_int(i64::from(n))
+}
+
+// Puts a line with a label and a number.
+fn put_number_line<K: Sink>(out: &mut Lines<K>, label: &[u8], n: u32) -> Result<(), Failed>
+    requires { IsWhole out.old }
+    ensures same_sink { IsOverSame out.old out.new }
+    ensures whole { OnOk result (IsWhole out.new) }
+    ensures ok { OnOk result (Puts K.written out.old
+        ((label.now ++ signed_decimal (pos n)) ++ 10 ∷ []) out.new) }
+    ensures front { OnErr result (PutsFront K.written out.old
+        ((label.now ++ signed_decimal (pos n)) ++ 10 ∷ []) out.new) }
+    ensures cause { HasSinkCause K.faults K.is_last out.old out.new result }
+{
+    out.put(label)?;
+    put_count(out, n)?;
+    out.put(b"\n")?;
+    Ok(())
+}
+
+/// Puts the line of a wait of n microseconds.
+///
+/// `Failed` as of the sink.
+pub fn put_usec<K: Sink>(out: &mut Lines<K>, n: u32) -> Result<(), Failed>
+    requires { IsWhole out.old }
+    ensures same_sink { IsOverSame out.old out.new }
+    ensures whole { OnOk result (IsWhole out.new) }
+    ensures ok { OnOk result (Puts K.written out.old (event_line (Usec n)) out.new) }
+    ensures front { OnErr result (PutsFront K.written out.old (event_line (Usec n)) out.new) }
+    ensures cause { HasSinkCause K.faults K.is_last out.old out.new result }
+{
+    put_number_line(out, b"W ", n)
+}
+
+/// Puts the line of a frequency of n hertz.
+///
+/// `Failed` as of the sink.
+pub fn put_hertz<K: Sink>(out: &mut Lines<K>, n: u32) -> Result<(), Failed>
+    requires { IsWhole out.old }
+    ensures same_sink { IsOverSame out.old out.new }
+    ensures whole { OnOk result (IsWhole out.new) }
+    ensures ok { OnOk result (Puts K.written out.old (event_line (Hertz n)) out.new) }
+    ensures front { OnErr result (PutsFront K.written out.old (event_line (Hertz n)) out.new) }
+    ensures cause { HasSinkCause K.faults K.is_last out.old out.new result }
+{
+    put_number_line(out, b"F ", n)
+}
+
+/// Puts the line of these digits of clocks, and nothing if there is none.
+///
+/// `Failed` as of the sink.
+#[tactic(auto, using(tool_io::proofs::PutLemmas::puts_nothing, tool_io::proofs::PutLemmas::put_then, tool_io::proofs::PutLemmas::put_then_front, tool_io::proofs::PutLemmas::front_with))]
+pub fn put_pins<K: Sink>(out: &mut Lines<K>, digits: &[u8]) -> Result<(), Failed>
+    requires { IsWhole out.old }
+    ensures same_sink { IsOverSame out.old out.new }
+    ensures whole { OnOk result (IsWhole out.new) }
+    ensures ok { OnOk result (Puts K.written out.old (pin_line digits.now) out.new) }
+    ensures front { OnErr result (PutsFront K.written out.old (pin_line digits.now) out.new) }
+    ensures cause { HasSinkCause K.faults K.is_last out.old out.new result }
+{
+    if digits.len() == 0 {
+        return Ok(());
+    }
+    put_pin_line(out, digits)
+}
+
+// Puts the line of these digits of clocks.
+fn put_pin_line<K: Sink>(out: &mut Lines<K>, digits: &[u8]) -> Result<(), Failed>
+    requires { IsWhole out.old }
+    ensures same_sink { IsOverSame out.old out.new }
+    ensures whole { OnOk result (IsWhole out.new) }
+    ensures ok { OnOk result (Puts K.written out.old ((codes "C " ++ digits.now) ++ 10 ∷ []) out.new) }
+    ensures front { OnErr result (PutsFront K.written out.old ((codes "C " ++ digits.now) ++ 10 ∷ []) out.new) }
+    ensures cause { HasSinkCause K.faults K.is_last out.old out.new result }
+{
+    out.put(b"C ")?;
+    out.put(digits)?;
+    out.put(b"\n")?;
+    Ok(())
 }

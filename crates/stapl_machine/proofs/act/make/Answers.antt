@@ -1,10 +1,11 @@
-use Rattle.std.proofs.Common.{rules, ◌≡◌, List, subst, slice_get, Bool, reverse}
+use Rattle.std.proofs.Common.{rules, ◌≡◌, List, [], subst, slice_get, Bool, reverse}
 use Rattle.stapl_meaning.specs.Values.{then_get}
 use Rattle.stapl_meaning.specs.Effects.{copied, IntoWhole}
 use Rattle.stapl_meaning.specs.declared.values.Held.{Held}
 use Rattle.stapl_code.specs.declared.instr.Instr.TheVariants.{Print}
 use Rattle.stapl_code.specs.Machine.{does, known_source, known_literal, known_text, part_exported, target_of}
-use Rattle.stapl_machine.specs.Acts.{IsMade, told_by, state_in, state_with}
+use Rattle.stapl_code.specs.Safe.{constants_of}
+use Rattle.stapl_machine.specs.Acts.{IsMade, Told, state_in, state_with}
 use Rattle.stapl_machine.proofs.act.make.Goals as goal
 
 pub returns-in-Print : goal.returns-in-Print
@@ -14,7 +15,7 @@ returns-in-Print c = λ entries chosen.
 
 pub returns-in-CopyBits : goal.returns-in-CopyBits
 returns-in-CopyBits c = λ entries chosen.
-    let old = c.args.memory.now in let told = told_by c.args.code.now old in let s = state_in chosen old in let records = reverse old.records.items in
+    let old = c.args.memory.now in let told : Told = record { text = old.text.items; constants = constants_of c.args.code.now; states = [] } in let s = state_in chosen old in let records = reverse old.records.items in
     rw c.in-CopyBits.is
     (subst (λ (l : List (List Bool)). IsMade c.copy.result told s (state_with chosen records c.copy.new.variables.items)
     (does (then_get (known_source l c.in-CopyBits.source) (λ from. copied (target_of c.in-CopyBits.dest) from c.args.values.now s))))
@@ -22,7 +23,7 @@ returns-in-CopyBits c = λ entries chosen.
 
 pub returns-in-SetBits : goal.returns-in-SetBits
 returns-in-SetBits c = λ entries chosen.
-    let old = c.args.memory.now in let told = told_by c.args.code.now old in let s = state_in chosen old in let records = reverse old.records.items in
+    let old = c.args.memory.now in let told : Told = record { text = old.text.items; constants = constants_of c.args.code.now; states = [] } in let s = state_in chosen old in let records = reverse old.records.items in
     rw c.in-SetBits.is
     (subst (λ (l : List (List Bool)). IsMade c.copy-in-SetBits.result told s (state_with chosen records c.copy-in-SetBits.new.variables.items)
     (does (then_get (known_literal (slice_get l c.in-SetBits.literal)) (λ from. copied (IntoWhole c.in-SetBits.n) from c.args.values.now s))))
@@ -33,6 +34,11 @@ returns-in-Export c = λ entries chosen.
     let old = c.args.memory.now in let code = c.args.code.now in let records = reverse old.records.items in
     let key = c.in-Export.key in let part = c.in-Export.part in
     rw c.in-Export.is
-    (subst (λ (v : List Held). IsMade c.export.result (told_by code old) (state_with chosen records v) (state_with chosen records v)
+    (subst (λ (v : List Held). IsMade c.export.result (record { text = old.text.items; constants = constants_of code; states = [] }) (state_with chosen records v) (state_with chosen records v)
     (does (then_get (known_text (slice_get code.texts key)) (λ bytes. part_exported code.literals part bytes c.args.values.now (state_with chosen records v)))))
     c.deref-in-Export.ensures.value (c.export.ensures.made old.text.items chosen records))
+
+pub returns-in-State : goal.returns-in-State
+returns-in-State c = λ entries chosen.
+    let old = c.args.memory.now in let told : Told = record { text = old.text.items; constants = constants_of c.args.code.now; states = c.in-State.field-0 } in
+    rw c.in-State.is (c.go_through.ensures told (state_in chosen old))

@@ -3,4 +3,4 @@ use Rattle.stapl_machine.proofs.MoveLemmas.{end_clean}
 use Rattle.stapl_machine.proofs.moves.end_turn.Goals as goal
 
 pub returns-clause-ends : goal.returns-clause-ends
-returns-clause-ends c = λ piece s. end_clean piece c.args.operands.now c.args.went s (omega arith)
+returns-clause-ends c = λ piece s k. end_clean piece c.args.operands.now c.args.went s k (omega arith)

@@ -1,45 +1,58 @@
+use Rattle.std.proofs.Common.{◌+◌, ap, sym, refl}
+use Rattle.stapl_meaning.specs.Deeds.{Chain}
+use Rattle.stapl_meaning.specs.Plays.{goes_on}
+use Rattle.stapl_code.specs.Machine.{entry_of, begins_chosen}
+use Rattle.stapl_code.specs.Safe.{entries_of}
+use Rattle.stapl_code.specs.Ticks.{counted_then}
 use Rattle.stapl_machine.specs.Acts.{state_of}
-use Rattle.stapl_machine.specs.Moves.{led_to}
-use Rattle.stapl_machine.specs.Turns.{rest_of}
-use Rattle.stapl_machine.proofs.RunLemmas.{runs_to_same, runs_front_same, leaves_same, runs_then, runs_then_front, runs_then_leaves, play_does, play_front, at_first, started, play_is, play_ticks_is, play_ticks_does, ticked_twice, ticked_twice_most, ticked_once_most}
+use Rattle.stapl_machine.specs.Moves.{led_on}
+use Rattle.stapl_machine.specs.Pins.{port_breakage}
+use Rattle.stapl_machine.specs.Turns.{rest_of, ticks_from, no_ticks}
+use Rattle.stapl_machine.specs.Runs.{run_of, run_ticks_of, begun_run, begun_ticks, play_from, play_ticks_from}
+use Rattle.stapl_machine.proofs.RunLemmas.{runs_none, turn_then, turn_then_front, turn_front, at_first, started, begun_by, play_is, play_ticks_is, begun_does, begun_front}
 use Rattle.stapl_machine.proofs.runs.play.Goals as goal
 
 pub returns-in-Ok-run_behind-clause-runs : goal.returns-in-Ok-run_behind-clause-runs
 returns-in-Ok-run_behind-clause-runs g c =
-    let code = c.args.code.now in let chosen = c.args.chosen.now in let work = c.args.work.now in let n = c.args.turns in let s = started code chosen work n c.requires.none c.requires.no_record in
-    runs_to_same (play_is code chosen work n c.requires.none c.requires.no_record) (runs_then (play_does code n s c.in-Ok.ensures.does) (c.in-Ok-run_behind.ensures.runs s))
-
-pub returns-in-Ok-run_behind-clause-state : goal.returns-in-Ok-run_behind-clause-state
-returns-in-Ok-run_behind-clause-state g c =
-    let code = c.args.code.now in let chosen = c.args.chosen.now in let work = c.args.work.now in let n = c.args.turns in let s = started code chosen work n c.requires.none c.requires.no_record in
-    leaves_same c.in-Ok-run_behind.ending (state_of chosen c.run_behind.new.work) (play_is code chosen work n c.requires.none c.requires.no_record)
-    (runs_then_leaves c.in-Ok-run_behind.ending (state_of chosen c.run_behind.new.work) (play_does code n s c.in-Ok.ensures.does) (c.in-Ok-run_behind.ensures.state s))
-
-pub returns-in-Ok-run_behind-clause-ticks : goal.returns-in-Ok-run_behind-clause-ticks
-returns-in-Ok-run_behind-clause-ticks g c =
-    let code = c.args.code.now in let chosen = c.args.chosen.now in let work = c.args.work.now in let n = c.args.turns in let s = started code chosen work n c.requires.none c.requires.no_record in
-    let d = c.in-Ok.ensures.does in
-    ticked_twice c.args.steps.now c.rest_of_turn.new.steps c.run_behind.new.steps _ _ _ _ c.in-Ok.ensures.ticks c.in-Ok-run_behind.ensures.ticks
-    (play_ticks_does code n (rest_of code 0 chosen (at_first code chosen work n c.requires.none c.requires.no_record)) (led_to c.in-Ok.went (state_of chosen c.rest_of_turn.new.work)) d.events d.does) (play_ticks_is code chosen work n c.requires.none c.requires.no_record)
+    let m = g.C.Cable in let b = port_breakage m.breakage g.O.Paper.failed in let w = g.O.Paper.shown in let code = c.args.code.now in let chosen = c.args.chosen.now in let n = c.args.turns in
+    let work = c.args.work.now in let none = c.requires.none in let no = c.requires.no_record in let entry = entry_of (entries_of code.procedures) in
+    let first = at_first code chosen work n none no in let s = started code chosen work n none no in let begun = begun_by code chosen work n none no in
+    let all = play_from code chosen work.memory.variables.items n in let count = play_ticks_from code chosen work.memory.variables.items n in
+    let here = λ (k : Chain). goes_on (begun k) s k (run_of code n) in let here_count = λ (k : Chain). ticks_from code 0 chosen first k + counted_then (begun k) (run_ticks_of code n) in
+    let u = state_of chosen c.rest_of_turn.new.work in let led = λ (k : Chain). begins_chosen entry (led_on c.in-Ok.went u k) in
+    turn_then b m.board m.made w g.met.C.Cable.both_made c.args.port.now c.args.port.now c.rest_of_turn.new.port all count s (run_of code n) (run_ticks_of code n) begun (ticks_from code 0 chosen first) here here_count
+    c.args.steps.now c.args.steps.now c.rest_of_turn.new.steps (λ k. refl) (λ k. refl)
+    (runs_none b m.board m.made w c.args.port.now all here count here_count c.args.steps.now (g.met.C.Cable.none_made c.args.port.now.cable.now) c.requires.whole
+    (play_is code chosen work n none no) (λ k. ap (λ t. c.args.steps.now + t) (sym (play_ticks_is code chosen work n none no k))))
+    led u (state_of chosen c.run_behind.new.work) c.run_behind.new.port c.run_behind.new.steps c.in-Ok-run_behind.ending (begun_run code n (led_on c.in-Ok.went u) u) (begun_ticks code n (led_on c.in-Ok.went u))
+    (begun_does b m.board m.made w c.args.port.now c.rest_of_turn.new.port entry (rest_of code 0 chosen first) (led_on c.in-Ok.went u) (ticks_from code 0 chosen first) no_ticks c.args.steps.now c.rest_of_turn.new.steps c.in-Ok.ensures.does)
+    (λ k. refl) (λ k. refl) c.in-Ok-run_behind.ensures.runs
 
 pub returns-in-Err-run_behind-clause-runs : goal.returns-in-Err-run_behind-clause-runs
 returns-in-Err-run_behind-clause-runs g c =
-    let code = c.args.code.now in let chosen = c.args.chosen.now in let work = c.args.work.now in let n = c.args.turns in let s = started code chosen work n c.requires.none c.requires.no_record in
-    runs_front_same (play_is code chosen work n c.requires.none c.requires.no_record) (runs_then_front (play_does code n s c.in-Ok.ensures.does) (c.in-Err-run_behind.ensures.runs s))
-
-pub returns-in-Err-run_behind-clause-ticks : goal.returns-in-Err-run_behind-clause-ticks
-returns-in-Err-run_behind-clause-ticks g c =
-    let code = c.args.code.now in let chosen = c.args.chosen.now in let work = c.args.work.now in let n = c.args.turns in let s = started code chosen work n c.requires.none c.requires.no_record in
-    let d = c.in-Ok.ensures.does in
-    ticked_twice_most c.args.steps.now c.rest_of_turn.new.steps c.run_behind.new.steps _ _ _ _ c.in-Ok.ensures.ticks c.in-Err-run_behind.ensures.ticks
-    (play_ticks_does code n (rest_of code 0 chosen (at_first code chosen work n c.requires.none c.requires.no_record)) (led_to c.in-Ok.went (state_of chosen c.rest_of_turn.new.work)) d.events d.does) (play_ticks_is code chosen work n c.requires.none c.requires.no_record)
+    let m = g.C.Cable in let b = port_breakage m.breakage g.O.Paper.failed in let w = g.O.Paper.shown in let code = c.args.code.now in let chosen = c.args.chosen.now in let n = c.args.turns in
+    let work = c.args.work.now in let none = c.requires.none in let no = c.requires.no_record in let entry = entry_of (entries_of code.procedures) in
+    let first = at_first code chosen work n none no in let s = started code chosen work n none no in let begun = begun_by code chosen work n none no in
+    let all = play_from code chosen work.memory.variables.items n in let count = play_ticks_from code chosen work.memory.variables.items n in
+    let here = λ (k : Chain). goes_on (begun k) s k (run_of code n) in let here_count = λ (k : Chain). ticks_from code 0 chosen first k + counted_then (begun k) (run_ticks_of code n) in
+    let u = state_of chosen c.rest_of_turn.new.work in let led = λ (k : Chain). begins_chosen entry (led_on c.in-Ok.went u k) in
+    turn_then_front b m.board m.made w g.met.C.Cable.both_made c.args.port.now c.args.port.now c.rest_of_turn.new.port all count s (run_of code n) (run_ticks_of code n) begun (ticks_from code 0 chosen first) here here_count
+    c.args.steps.now c.args.steps.now c.rest_of_turn.new.steps (λ k. refl) (λ k. refl)
+    (runs_none b m.board m.made w c.args.port.now all here count here_count c.args.steps.now (g.met.C.Cable.none_made c.args.port.now.cable.now) c.requires.whole
+    (play_is code chosen work n none no) (λ k. ap (λ t. c.args.steps.now + t) (sym (play_ticks_is code chosen work n none no k))))
+    led u c.run_behind.new.port c.run_behind.new.steps (begun_run code n (led_on c.in-Ok.went u) u) (begun_ticks code n (led_on c.in-Ok.went u))
+    (begun_does b m.board m.made w c.args.port.now c.rest_of_turn.new.port entry (rest_of code 0 chosen first) (led_on c.in-Ok.went u) (ticks_from code 0 chosen first) no_ticks c.args.steps.now c.rest_of_turn.new.steps c.in-Ok.ensures.does)
+    (λ k. refl) (λ k. refl) c.in-Err-run_behind.ensures.runs
 
 pub returns-in-Err-clause-runs : goal.returns-in-Err-clause-runs
 returns-in-Err-clause-runs g c =
-    let code = c.args.code.now in let chosen = c.args.chosen.now in let work = c.args.work.now in let n = c.args.turns in let s = started code chosen work n c.requires.none c.requires.no_record in
-    runs_front_same (play_is code chosen work n c.requires.none c.requires.no_record) (play_front code n s c.in-Err.ensures.does)
-
-pub returns-in-Err-clause-ticks : goal.returns-in-Err-clause-ticks
-returns-in-Err-clause-ticks g c =
-    let code = c.args.code.now in let chosen = c.args.chosen.now in let work = c.args.work.now in let n = c.args.turns in let s = started code chosen work n c.requires.none c.requires.no_record in
-    ticked_once_most c.args.steps.now c.rest_of_turn.new.steps _ _ _ c.in-Err.ensures.ticks (play_ticks_is code chosen work n c.requires.none c.requires.no_record)
+    let m = g.C.Cable in let b = port_breakage m.breakage g.O.Paper.failed in let w = g.O.Paper.shown in let code = c.args.code.now in let chosen = c.args.chosen.now in let n = c.args.turns in
+    let work = c.args.work.now in let none = c.requires.none in let no = c.requires.no_record in let entry = entry_of (entries_of code.procedures) in
+    let first = at_first code chosen work n none no in let s = started code chosen work n none no in let begun = begun_by code chosen work n none no in
+    let all = play_from code chosen work.memory.variables.items n in let count = play_ticks_from code chosen work.memory.variables.items n in
+    let here = λ (k : Chain). goes_on (begun k) s k (run_of code n) in let here_count = λ (k : Chain). ticks_from code 0 chosen first k + counted_then (begun k) (run_ticks_of code n) in
+    turn_front b m.board m.made w g.met.C.Cable.both_made c.args.port.now c.args.port.now c.rest_of_turn.new.port all count s (run_of code n) (run_ticks_of code n) begun (ticks_from code 0 chosen first) here here_count
+    c.args.steps.now c.args.steps.now c.rest_of_turn.new.steps (λ k. refl) (λ k. refl)
+    (runs_none b m.board m.made w c.args.port.now all here count here_count c.args.steps.now (g.met.C.Cable.none_made c.args.port.now.cable.now) c.requires.whole
+    (play_is code chosen work n none no) (λ k. ap (λ t. c.args.steps.now + t) (sym (play_ticks_is code chosen work n none no k))))
+    (begun_front b m.board m.made w c.args.port.now c.rest_of_turn.new.port entry (rest_of code 0 chosen first) (ticks_from code 0 chosen first) c.args.steps.now c.rest_of_turn.new.steps c.in-Err.ensures.does)

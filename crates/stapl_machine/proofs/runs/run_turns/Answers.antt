@@ -1,84 +1,71 @@
-use Rattle.std.proofs.Common.{◌≡◌, ◌+◌, ◌-◌, ap, suc, rules}
-use Rattle.tool_io.proofs.CauseLemmas.{kept_start, kept_then}
-use Rattle.stapl_machine.specs.declared.moves.Went.TheVariants as went
+use Rattle.std.proofs.Common.{◌≡◌, ◌+◌, ◌-◌, ap, suc, arith, sym, rules}
 use Rattle.stapl_machine.specs.Acts.{state_of}
-use Rattle.stapl_machine.specs.Moves.{led_to}
+use Rattle.stapl_machine.specs.Moves.{led_on}
+use Rattle.stapl_machine.specs.Pins.{port_breakage}
+use Rattle.stapl_machine.specs.Turns.{no_ticks, turn_at, ticks_at}
 use Rattle.stapl_machine.specs.Runs.{run_of, run_ticks_of}
+use Rattle.stapl_machine.proofs.DeedLemmas.{kept_none, kept_both}
 use Rattle.stapl_machine.proofs.TurnLemmas.{does_same}
-use Rattle.stapl_machine.proofs.RunLemmas.{run_on, run_over, run_front, run_start, run_ticks_is, run_ticks_on, none_left, one_left, ticked_on, ticked_end, ticked_most, over_to, over_leaves, over_ticks, runs_then, runs_then_leaves}
+use Rattle.stapl_machine.proofs.RunLemmas.{runs_none, turn_on, turn_over, turn_front, run_spent, one_left, none_left}
 use Rattle.stapl_machine.proofs.runs.run_turns.Goals as goal
 
 pub loop-turn-init : goal.loop-turn-init
 loop-turn-init g c =
-    let s = state_of c.args.chosen.now c.args.work.now in
+    let m = g.C.Cable in let b = port_breakage m.breakage g.O.Paper.failed in let u = state_of c.args.chosen.now c.args.work.now in
+    let none : c.args.turns - 0 ≡ c.args.turns = omega arith in
+    let all = run_of c.args.code.now c.args.turns c.args.start u in let count = run_ticks_of c.args.code.now c.args.turns c.args.start u in
     record {
-      same_sink = search rules;
-      whole = search rules;
-      none = search rules;
-      runs = run_start c.args.code.now c.args.turns 0 c.args.start s s c.args.out.now;
-      ticked = none_left c.args.code.now c.args.steps.now c.args.turns c.args.start s;
-      kept = kept_start _ _;
+      whole = c.requires.whole;
+      in_step = c.requires.in_step;
+      none = c.requires.none;
+      within = omega arith;
+      runs = runs_none b m.board m.made g.O.Paper.shown c.args.port.now all (run_of c.args.code.now (c.args.turns - 0) c.args.start u) count (run_ticks_of c.args.code.now (c.args.turns - 0) c.args.start u) c.args.steps.now
+          (g.met.C.Cable.none_made c.args.port.now.cable.now) c.requires.whole (λ k. ap (λ n. run_of c.args.code.now n c.args.start u k) (sym none)) (λ k. ap (λ n. c.args.steps.now + run_ticks_of c.args.code.now n c.args.start u k) none);
+      kept = kept_none c.args.port.now c.requires.whole;
     }
 
 pub loop-turn-preserved : goal.loop-turn-preserved
 loop-turn-preserved g c =
-    let code = c.args.code.now in let chosen = c.args.chosen.now in let place = c.loop-turn.place in
-    let s = state_of chosen c.loop-turn.work in let u = state_of chosen c.turn.new.work in
+    let m = g.C.Cable in let b = port_breakage m.breakage g.O.Paper.failed in let w = g.O.Paper.shown in let code = c.args.code.now in let chosen = c.args.chosen.now in let place = c.loop-turn.place in
+    let first = state_of chosen c.args.work.now in let s = state_of chosen c.loop-turn.work in let u = state_of chosen c.turn.new.work in
     let left = c.args.turns - c.loop-turn._turn in let more = c.args.turns - (c.loop-turn._turn + 1) in
     let e : left ≡ suc more = one_left c.args.turns c.loop-turn._turn c.loop-turn-test.true in
-    let d = does_same (ap (λ w. led_to w u) c.in-Ok-On.field-0-is) c.in-Ok-On.ensures.does in
+    let d = does_same b m.board m.made w c.loop-turn.port c.turn.new.port (turn_at code place s) (ticks_at code place s) c.loop-turn.steps c.turn.new.steps (λ v. led_on v u) (λ v. no_ticks) c.in-Ok-On.field-0-is c.in-Ok-On.ensures.does in
     record {
-      same_sink = search rules;
-      whole = search rules;
+      whole = c.in-Ok-On.ensures.keeps.whole_now;
+      in_step = c.in-Ok-On.ensures.keeps.in_step;
       none = search rules;
-      runs = run_on code left more place s u c.in-Ok-On.to e c.loop-turn.invariant.runs d;
-      ticked = ticked_on c.args.steps.now c.loop-turn.steps _ _ _ _ _ c.in-Ok-On.ensures.ticks c.loop-turn.invariant.ticked (run_ticks_on code left more place s e d.events (went.On c.in-Ok-On.to) u d.does);
-      kept = kept_then c.loop-turn.invariant.kept c.in-Ok-On.ensures.sink.kept;
+      within = search rules;
+      runs = turn_on b m.board m.made w g.met.C.Cable.both_made c.args.port.now c.loop-turn.port c.turn.new.port (run_of code c.args.turns c.args.start first) (run_ticks_of code c.args.turns c.args.start first) s
+          (run_of code more) (run_ticks_of code more) (turn_at code place s) (ticks_at code place s) (run_of code left place s) (run_ticks_of code left place s) c.args.steps.now c.loop-turn.steps c.turn.new.steps
+          (λ k. ap (λ n. run_of code n place s k) e) (λ k. ap (λ n. run_ticks_of code n place s k) e) c.loop-turn.invariant.runs c.in-Ok-On.to u d;
+      kept = kept_both c.loop-turn.invariant.kept c.in-Ok-On.ensures.keeps.kept;
     }
 
 pub returns-in-Ok-Over-clause-runs : goal.returns-in-Ok-Over-clause-runs
 returns-in-Ok-Over-clause-runs g c =
-    let code = c.args.code.now in let chosen = c.args.chosen.now in let place = c.loop-turn.place in
-    let s = state_of chosen c.loop-turn.work in let u = state_of chosen c.turn.new.work in
+    let m = g.C.Cable in let b = port_breakage m.breakage g.O.Paper.failed in let w = g.O.Paper.shown in let code = c.args.code.now in let chosen = c.args.chosen.now in let place = c.loop-turn.place in
+    let first = state_of chosen c.args.work.now in let s = state_of chosen c.loop-turn.work in let u = state_of chosen c.turn.new.work in
     let left = c.args.turns - c.loop-turn._turn in let more = c.args.turns - (c.loop-turn._turn + 1) in
     let e : left ≡ suc more = one_left c.args.turns c.loop-turn._turn c.loop-turn-test.true in
-    let d = does_same (ap (λ w. led_to w u) c.in-Ok-Over.field-0-is) c.in-Ok-Over.ensures.does in
-    let ending = c.in-Ok-Over.ending in
-    runs_then (run_over code left more place s u ending e c.loop-turn.invariant.runs d) (over_to u s (run_of code more) ending c.turn.new.out)
-
-pub returns-in-Ok-Over-clause-state : goal.returns-in-Ok-Over-clause-state
-returns-in-Ok-Over-clause-state g c =
-    let code = c.args.code.now in let chosen = c.args.chosen.now in let place = c.loop-turn.place in
-    let s = state_of chosen c.loop-turn.work in let u = state_of chosen c.turn.new.work in
-    let left = c.args.turns - c.loop-turn._turn in let more = c.args.turns - (c.loop-turn._turn + 1) in
-    let e : left ≡ suc more = one_left c.args.turns c.loop-turn._turn c.loop-turn-test.true in
-    let d = does_same (ap (λ w. led_to w u) c.in-Ok-Over.field-0-is) c.in-Ok-Over.ensures.does in
-    let ending = c.in-Ok-Over.ending in
-    runs_then_leaves ending u (run_over code left more place s u ending e c.loop-turn.invariant.runs d) (over_leaves u s (run_of code more) ending)
-
-pub returns-in-Ok-Over-clause-ticks : goal.returns-in-Ok-Over-clause-ticks
-returns-in-Ok-Over-clause-ticks g c =
-    let code = c.args.code.now in let chosen = c.args.chosen.now in let place = c.loop-turn.place in
-    let s = state_of chosen c.loop-turn.work in let u = state_of chosen c.turn.new.work in
-    let left = c.args.turns - c.loop-turn._turn in let more = c.args.turns - (c.loop-turn._turn + 1) in
-    let e : left ≡ suc more = one_left c.args.turns c.loop-turn._turn c.loop-turn-test.true in
-    let d = does_same (ap (λ w. led_to w u) c.in-Ok-Over.field-0-is) c.in-Ok-Over.ensures.does in
-    let ending = c.in-Ok-Over.ending in
-    ticked_end c.args.steps.now c.loop-turn.steps _ _ _ _ _ c.in-Ok-Over.ensures.ticks c.loop-turn.invariant.ticked
-    (run_ticks_on code left more place s e d.events (went.Over ending) u d.does) (over_ticks ending u (run_ticks_of code more))
+    let d = does_same b m.board m.made w c.loop-turn.port c.turn.new.port (turn_at code place s) (ticks_at code place s) c.loop-turn.steps c.turn.new.steps (λ v. led_on v u) (λ v. no_ticks) c.in-Ok-Over.field-0-is c.in-Ok-Over.ensures.does in
+    turn_over b m.board m.made w g.met.C.Cable.both_made c.args.port.now c.loop-turn.port c.turn.new.port (run_of code c.args.turns c.args.start first) (run_ticks_of code c.args.turns c.args.start first) s
+    (run_of code more) (run_ticks_of code more) (turn_at code place s) (ticks_at code place s) (run_of code left place s) (run_ticks_of code left place s) c.args.steps.now c.loop-turn.steps c.turn.new.steps
+    (λ k. ap (λ n. run_of code n place s k) e) (λ k. ap (λ n. run_ticks_of code n place s k) e) c.loop-turn.invariant.runs c.in-Ok-Over.ending u d
 
 pub returns-in-Err-clause-runs : goal.returns-in-Err-clause-runs
 returns-in-Err-clause-runs g c =
-    let code = c.args.code.now in let chosen = c.args.chosen.now in let place = c.loop-turn.place in
-    let s = state_of chosen c.loop-turn.work in let u = state_of chosen c.turn.new.work in
+    let m = g.C.Cable in let b = port_breakage m.breakage g.O.Paper.failed in let w = g.O.Paper.shown in let code = c.args.code.now in let chosen = c.args.chosen.now in let place = c.loop-turn.place in
+    let first = state_of chosen c.args.work.now in let s = state_of chosen c.loop-turn.work in
     let left = c.args.turns - c.loop-turn._turn in let more = c.args.turns - (c.loop-turn._turn + 1) in
     let e : left ≡ suc more = one_left c.args.turns c.loop-turn._turn c.loop-turn-test.true in
-    run_front code left more place s u e c.loop-turn.invariant.runs c.in-Err.ensures.does
+    turn_front b m.board m.made w g.met.C.Cable.both_made c.args.port.now c.loop-turn.port c.turn.new.port (run_of code c.args.turns c.args.start first) (run_ticks_of code c.args.turns c.args.start first) s
+    (run_of code more) (run_ticks_of code more) (turn_at code place s) (ticks_at code place s) (run_of code left place s) (run_ticks_of code left place s) c.args.steps.now c.loop-turn.steps c.turn.new.steps
+    (λ k. ap (λ n. run_of code n place s k) e) (λ k. ap (λ n. run_ticks_of code n place s k) e) c.loop-turn.invariant.runs c.in-Err.ensures.does
 
-pub returns-in-Err-clause-ticks : goal.returns-in-Err-clause-ticks
-returns-in-Err-clause-ticks g c =
-    let code = c.args.code.now in let chosen = c.args.chosen.now in let place = c.loop-turn.place in
-    let s = state_of chosen c.loop-turn.work in let u = state_of chosen c.turn.new.work in
-    let left = c.args.turns - c.loop-turn._turn in let more = c.args.turns - (c.loop-turn._turn + 1) in
-    let e : left ≡ suc more = one_left c.args.turns c.loop-turn._turn c.loop-turn-test.true in
-    ticked_most c.args.steps.now c.loop-turn.steps _ _ _ _ _ c.in-Err.ensures.ticks c.loop-turn.invariant.ticked (run_ticks_is code left more place s e)
+pub returns-clause-runs : goal.returns-clause-runs
+returns-clause-runs g c =
+    let m = g.C.Cable in let b = port_breakage m.breakage g.O.Paper.failed in let code = c.args.code.now in let chosen = c.args.chosen.now in
+    let first = state_of chosen c.args.work.now in let s = state_of chosen c.loop-turn.work in
+    run_spent b m.board m.made g.O.Paper.shown c.args.port.now c.loop-turn.port code (run_of code c.args.turns c.args.start first) (run_ticks_of code c.args.turns c.args.start first) (c.args.turns - c.loop-turn._turn) c.loop-turn.place s
+    c.args.steps.now c.loop-turn.steps (none_left c.args.turns c.loop-turn._turn (omega arith)) c.loop-turn.invariant.runs

@@ -1,45 +1,80 @@
-use Rattle.std.proofs.Common.{rules, ◌+◌, sym, ap, ◌∙◌}
-use Rattle.tool_io.proofs.CauseLemmas.{kept_start, kept_then}
-use Rattle.stapl_machine.specs.Turns.{behind_it, ticks_behind_it}
-use Rattle.stapl_machine.proofs.TurnLemmas.{does_nothing, does_then, does_then_front, does_same, does_of, front_of}
+use Rattle.std.proofs.Common.{refl, ◌+◌, None}
+use Rattle.stapl_machine.specs.declared.moves.Went.TheVariants as went
+use Rattle.stapl_machine.specs.Acts.{state_of}
+use Rattle.stapl_machine.specs.Moves.{led_on}
+use Rattle.stapl_machine.specs.Pins.{port_breakage}
+use Rattle.stapl_machine.specs.Turns.{rest_of, ticks_from, no_ticks, behind_it, ticks_behind_it}
+use Rattle.stapl_machine.proofs.DeedLemmas.{kept_none, kept_both}
+use Rattle.stapl_machine.proofs.TurnLemmas.{does_still, does_same, does_of, front_of, does_both, does_both_front}
 use Rattle.stapl_machine.proofs.turns.rest_of_turn.Goals as goal
 
 pub parts-init : goal.parts-init
-parts-init g c = record {
-  same_sink = search rules;
-  whole = search rules;
-  does = does_nothing c.args.out.now (search rules);
-  ticked = search rules;
-  kept = kept_start _ _;
-}
+parts-init g c =
+    let m = g.C.Cable in let b = port_breakage m.breakage g.O.Paper.failed in let turn = rest_of c.args.code.now c.args.from c.args.chosen.now c.args.work.now in
+    let count = ticks_from c.args.code.now c.args.from c.args.chosen.now c.args.work.now in
+    record {
+      whole = c.requires.whole;
+      in_step = c.requires.in_step;
+      does = does_still b m.board m.made g.O.Paper.shown c.args.port.now turn turn count count c.args.steps.now c.args.steps.now (g.met.C.Cable.none_made c.args.port.now.cable.now) c.requires.whole (λ k. refl) (λ k. refl);
+      kept = kept_none c.args.port.now c.requires.whole;
+    }
 
 pub parts-preserved : goal.parts-preserved
 parts-preserved g c =
-    let code = c.args.code.now in let chosen = c.args.chosen.now in let i = c.in-Within.i in let new = c.carry_out.new.work in
+    let m = g.C.Cable in let b = port_breakage m.breakage g.O.Paper.failed in let s = g.O.Paper.shown in
+    let code = c.args.code.now in let chosen = c.args.chosen.now in let i = c.in-Within.i in let first = c.args.work.now in let old = c.parts.work in let mid = c.carry_out_common.new.work in let new = c.carry_out.new.work in
     record {
-      same_sink = search rules;
-      whole = search rules;
-      does = does_then c.parts.invariant.does
-          (does_of (c.in-Within.ensures.does chosen) (does_same (ap (λ e. behind_it code i chosen e new) c.in-Ok-None.field-0-is) c.in-Ok-None.ensures.does));
-      ticked =
-          sym (ap (λ e. c.carry_out.new.steps + ticks_behind_it code i chosen e new) c.in-Ok-None.field-0-is)
-          ∙ c.in-Ok-None.ensures.ticks ∙ c.in-Within.ensures.ticks chosen ∙ c.parts.invariant.ticked;
-      kept = kept_then c.parts.invariant.kept c.in-Ok-None.ensures.sink.kept;
+      whole = c.in-Ok-None.ensures.keeps.whole_now;
+      in_step = c.in-Ok-None.ensures.keeps.in_step;
+      does =
+          does_both b m.board m.made s g.met.C.Cable.both_made c.args.port.now c.parts.port c.carry_out.new.port (rest_of code c.args.from chosen first) (rest_of code c.parts.place chosen old) (rest_of code (i + 1) chosen new)
+          (ticks_from code c.args.from chosen first) (ticks_from code c.parts.place chosen old) (ticks_from code (i + 1) chosen new) c.args.steps.now c.parts.steps c.carry_out.new.steps c.parts.invariant.does
+          (does_of b m.board m.made s c.parts.port c.carry_out.new.port (rest_of code i chosen mid) (rest_of code c.parts.place chosen old) (rest_of code (i + 1) chosen new)
+          (ticks_from code i chosen mid) (ticks_from code c.parts.place chosen old) (ticks_from code (i + 1) chosen new) c.parts.steps c.carry_out_common.new.steps c.carry_out.new.steps
+          (c.in-Within.ensures.does chosen) (c.in-Within.ensures.ticks chosen)
+          (does_same b m.board m.made s c.parts.port c.carry_out.new.port (rest_of code i chosen mid) (ticks_from code i chosen mid) c.carry_out_common.new.steps c.carry_out.new.steps
+          (λ e. behind_it code i chosen new e) (λ e. ticks_behind_it code i chosen new e) c.in-Ok-None.field-0-is c.in-Ok-None.ensures.does));
+      kept = kept_both c.parts.invariant.kept c.in-Ok-None.ensures.keeps.kept;
     }
 
 pub returns-in-Turn-clause-does : goal.returns-in-Turn-clause-does
-returns-in-Turn-clause-does g c = does_then c.parts.invariant.does (does_nothing c.parts.out (c.in-Turn.ensures.does c.args.chosen.now))
+returns-in-Turn-clause-does g c =
+    let m = g.C.Cable in let b = port_breakage m.breakage g.O.Paper.failed in let s = g.O.Paper.shown in
+    let code = c.args.code.now in let chosen = c.args.chosen.now in let first = c.args.work.now in let old = c.parts.work in let mid = c.carry_out_common.new.work in
+    let led = led_on (went.On c.in-Turn.to) (state_of chosen mid) in
+    does_both b m.board m.made s g.met.C.Cable.both_made c.args.port.now c.parts.port c.parts.port (rest_of code c.args.from chosen first) (rest_of code c.parts.place chosen old) led
+    (ticks_from code c.args.from chosen first) (ticks_from code c.parts.place chosen old) no_ticks c.args.steps.now c.parts.steps c.carry_out_common.new.steps c.parts.invariant.does
+    (does_still b m.board m.made s c.parts.port (rest_of code c.parts.place chosen old) led (ticks_from code c.parts.place chosen old) no_ticks c.parts.steps c.carry_out_common.new.steps
+    (g.met.C.Cable.none_made c.parts.port.cable.now) c.parts.invariant.whole (c.in-Turn.ensures.does chosen) (c.in-Turn.ensures.ticks chosen))
 
 pub returns-in-End-clause-does : goal.returns-in-End-clause-does
-returns-in-End-clause-does g c = does_then c.parts.invariant.does (does_nothing c.parts.out (c.in-End.ensures.does c.args.chosen.now))
+returns-in-End-clause-does g c =
+    let m = g.C.Cable in let b = port_breakage m.breakage g.O.Paper.failed in let s = g.O.Paper.shown in
+    let code = c.args.code.now in let chosen = c.args.chosen.now in let first = c.args.work.now in let old = c.parts.work in let mid = c.carry_out_common.new.work in
+    let led = led_on (went.Over None) (state_of chosen mid) in
+    does_both b m.board m.made s g.met.C.Cable.both_made c.args.port.now c.parts.port c.parts.port (rest_of code c.args.from chosen first) (rest_of code c.parts.place chosen old) led
+    (ticks_from code c.args.from chosen first) (ticks_from code c.parts.place chosen old) no_ticks c.args.steps.now c.parts.steps c.carry_out_common.new.steps c.parts.invariant.does
+    (does_still b m.board m.made s c.parts.port (rest_of code c.parts.place chosen old) led (ticks_from code c.parts.place chosen old) no_ticks c.parts.steps c.carry_out_common.new.steps
+    (g.met.C.Cable.none_made c.parts.port.cable.now) c.parts.invariant.whole (c.in-End.ensures.does chosen) (c.in-End.ensures.ticks chosen))
 
 pub returns-in-Ok-Some-clause-does : goal.returns-in-Ok-Some-clause-does
 returns-in-Ok-Some-clause-does g c =
-    let chosen = c.args.chosen.now in
-    does_then c.parts.invariant.does
-    (does_of (c.in-Within.ensures.does chosen)
-    (does_same (ap (λ e. behind_it c.args.code.now c.in-Within.i chosen e c.carry_out.new.work) c.in-Ok-Some.field-0-is) c.in-Ok-Some.ensures.does))
+    let m = g.C.Cable in let b = port_breakage m.breakage g.O.Paper.failed in let s = g.O.Paper.shown in
+    let code = c.args.code.now in let chosen = c.args.chosen.now in let i = c.in-Within.i in let first = c.args.work.now in let old = c.parts.work in let mid = c.carry_out_common.new.work in let new = c.carry_out.new.work in
+    let led = led_on c.in-Ok-Some.went (state_of chosen new) in
+    does_both b m.board m.made s g.met.C.Cable.both_made c.args.port.now c.parts.port c.carry_out.new.port (rest_of code c.args.from chosen first) (rest_of code c.parts.place chosen old) led
+    (ticks_from code c.args.from chosen first) (ticks_from code c.parts.place chosen old) no_ticks c.args.steps.now c.parts.steps c.carry_out.new.steps c.parts.invariant.does
+    (does_of b m.board m.made s c.parts.port c.carry_out.new.port (rest_of code i chosen mid) (rest_of code c.parts.place chosen old) led
+    (ticks_from code i chosen mid) (ticks_from code c.parts.place chosen old) no_ticks c.parts.steps c.carry_out_common.new.steps c.carry_out.new.steps
+    (c.in-Within.ensures.does chosen) (c.in-Within.ensures.ticks chosen)
+    (does_same b m.board m.made s c.parts.port c.carry_out.new.port (rest_of code i chosen mid) (ticks_from code i chosen mid) c.carry_out_common.new.steps c.carry_out.new.steps
+    (λ e. behind_it code i chosen new e) (λ e. ticks_behind_it code i chosen new e) c.in-Ok-Some.field-0-is c.in-Ok-Some.ensures.does))
 
 pub returns-in-Err-clause-does : goal.returns-in-Err-clause-does
 returns-in-Err-clause-does g c =
-    does_then_front c.parts.invariant.does (front_of (c.in-Within.ensures.does c.args.chosen.now) c.in-Err.ensures.does)
+    let m = g.C.Cable in let b = port_breakage m.breakage g.O.Paper.failed in let s = g.O.Paper.shown in
+    let code = c.args.code.now in let chosen = c.args.chosen.now in let i = c.in-Within.i in let first = c.args.work.now in let old = c.parts.work in let mid = c.carry_out_common.new.work in
+    does_both_front b m.board m.made s g.met.C.Cable.both_made c.args.port.now c.parts.port c.carry_out.new.port (rest_of code c.args.from chosen first) (rest_of code c.parts.place chosen old)
+    (ticks_from code c.args.from chosen first) (ticks_from code c.parts.place chosen old) c.args.steps.now c.parts.steps c.carry_out.new.steps c.parts.invariant.does
+    (front_of b m.board m.made s c.parts.port c.carry_out.new.port (rest_of code i chosen mid) (rest_of code c.parts.place chosen old) (ticks_from code i chosen mid) (ticks_from code c.parts.place chosen old)
+    c.parts.steps c.carry_out_common.new.steps c.carry_out.new.steps (c.in-Within.ensures.does chosen) (c.in-Within.ensures.ticks chosen) c.in-Err.ensures.does)

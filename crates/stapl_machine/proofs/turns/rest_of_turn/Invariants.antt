@@ -1,16 +1,20 @@
-use Rattle.std.proofs.Common.{◌≡◌, ◌+◌, ◌-◌, length}
-use Rattle.tool_io.specs.Lines.{IsWhole, IsOverSame, SinkNeverFalls}
-use Rattle.stapl_machine.specs.Turns.{rest_of, ticks_from, Does}
+use Rattle.std.proofs.Common.{◌≡◌, ◌-◌, length}
+use Rattle.scan_paths.specs.Cables.{whole}
+use Rattle.stapl_machine.specs.Pins.{port_breakage}
+use Rattle.stapl_machine.specs.Ports.{IsInStep, IsKept, Does}
+use Rattle.stapl_machine.specs.Turns.{rest_of, ticks_from}
 use Rattle.stapl_machine.proofs.turns.rest_of_turn.Given as goal
 
 abbrev pub invariant-parts : goal.invariant-parts
-invariant-parts g l = record {
-  same_sink : IsOverSame l.fn.out l.out;
-  whole : IsWhole l.out;
-  does : Does g.K.Sink.written (rest_of l.code l.fn.from l.chosen l.fn.work) l.fn.out (rest_of l.code l.place l.chosen l.work) l.out;
-  ticked : l.steps + ticks_from l.code l.place l.chosen l.work ≡ l.fn.steps + ticks_from l.code l.fn.from l.chosen l.fn.work;
-  kept : SinkNeverFalls g.K.Sink.faults g.K.Sink.is_last l.fn.out l.out;
-}
+invariant-parts g l =
+    let m = g.C.Cable in let b = port_breakage m.breakage g.O.Paper.failed in
+    record {
+      whole : b l.port ≡ whole;
+      in_step : IsInStep m.board l.port;
+      does : Does b m.board m.made g.O.Paper.shown (rest_of l.code l.fn.from l.chosen l.fn.work) (ticks_from l.code l.fn.from l.chosen l.fn.work) l.fn.port l.fn.steps
+          (rest_of l.code l.place l.chosen l.work) (ticks_from l.code l.place l.chosen l.work) l.port l.steps;
+      kept : IsKept b m.line_faults m.is_line_last m.pin_faults m.is_pin_last g.O.Paper.shown g.O.Paper.faults g.O.Paper.is_last l.fn.port l.port;
+    }
 
 abbrev pub decreases-parts : goal.decreases-parts
 decreases-parts g l = length l.code.instrs - l.place

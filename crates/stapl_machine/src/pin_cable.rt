@@ -1,0 +1,317 @@
+//! A cable whose clocks are written, and what a turn does over it.
+ghost use Rattle.std.specs.Prelude.{◌≡◌, ◌≢◌, ◌∷◌, ◌++◌, [], false, List, OnOk, OnErr, IsTrue};
+ghost use Rattle.base.specs.Bits.{bit_value};
+ghost use Rattle.tool_io.specs.Causes.{HasCause};
+ghost use Rattle.tap_states.specs.declared.Tap.TheVariants as taps;
+ghost use Rattle.tap_states.specs.Tap.{is_stable_state};
+ghost use Rattle.scan_paths.specs.Cables.{whole, line, pins, HasPartCause};
+ghost use Rattle.stapl_meaning.specs.declared.events.Event.TheVariants.{Print, Usec, Hertz};
+ghost use Rattle.stapl_meaning.specs.Texts.{pin_digit, pin_line, full_line, with_digit, event_line};
+ghost use Rattle.stapl_meaning.specs.Deeds.{Deed, Says, Goes, Stays};
+ghost use Rattle.stapl_code.specs.Safe.{constants_of};
+ghost use Rattle.stapl_machine.specs.Exports.{export_event};
+ghost use Rattle.stapl_machine.specs.Papers.{IsOverSame, Puts, PutsFront};
+ghost use Rattle.stapl_machine.specs.Ports.{IsInStep, IsKept, Did, DidFront};
+
+use crate::digits::Digits;
+use crate::effects::Export;
+use crate::paper::Paper;
+use scan_paths::{Cable, move_to, stay};
+use stapl_code::CodeLists;
+use stapl_meaning::Held;
+use tap_states::Tap;
+use tool_io::Failed;
+
+/// A cable over another one, which puts the digits of its clocks if that is wanted, and keeps the state of the
+/// controllers. It takes no memory.
+#[derive(Drop)]
+pub struct PinCable<'a, C, O> {
+    cable: &'a mut C,
+    out: &'a mut O,
+    tap: Tap,
+    digits: Digits,
+    pins: bool,
+    torn: bool,
+}
+
+fn bit(b: bool) -> u8
+    ensures { result ≡ bit_value b }
+{
+    if b { 1 } else { 0 }
+}
+
+/// The digit of a clock.
+pub fn digit(tms: bool, tdi: bool, tdo: bool) -> u8
+    ensures { result ≡ pin_digit tms tdi tdo }
+{
+    48 + (4 * bit(tms) + (2 * bit(tdi) + bit(tdo)))
+}
+
+// Puts the line of digits that are full, and adds a digit.
+#[tactic(auto, using(crate::specs::PaperLaws::puts_nothing))]
+fn note<O: Paper>(out: &mut O, digits: &mut Digits, digit: u8) -> Result<(), Failed>
+    requires whole { O.failed out.old ≡ false }
+    ensures same { IsOverSame O.shown out.old out.new }
+    ensures whole { OnOk result (O.failed out.new ≡ false) }
+    ensures ok { OnOk result (Puts O.shown out.old (full_line digits.old) out.new) }
+    ensures digits { OnOk result (digits.new ≡ with_digit digits.old digit) }
+    ensures front { OnErr result (PutsFront O.shown out.old (full_line digits.old) out.new) }
+    ensures cause { HasCause O.faults O.is_last out.old out.new result }
+{
+    if digits.is_full() {
+        out.put_pins(digits.bytes())?;
+        digits.clear();
+        digits.push(digit);
+        return Ok(());
+    }
+    digits.push(digit);
+    Ok(())
+}
+
+impl<'a, C: Cable, O: Paper> PinCable<'a, C, O> {
+    ghost use Rattle.stapl_machine.specs.Pins.{cable_of, lines_of, tap_of, digits_of, writes_pins, port_breakage, is_torn, port_line_faults, IsPortLineLast, port_pin_faults, IsPortPinLast, IsSamePort, IsOverCable, IsOverLines, PutsEvents};
+
+    /// Over this cable, whose controllers are in the reset state, and these lines, where these digits wait.
+    pub fn over(cable: &'a mut C, out: &'a mut O, digits: Digits, pins: bool) -> PinCable<'a, C, O>
+        ensures same_cable { IsOverCable result cable.entry }
+        ensures same_out { IsOverLines result out.entry }
+        ensures cable { cable_of result ≡ cable.old }
+        ensures out { lines_of result ≡ out.old }
+        ensures tap { tap_of result ≡ taps.Reset }
+        ensures digits { digits_of result ≡ digits }
+        ensures pins { writes_pins result ≡ pins }
+        ensures untorn { is_torn result ≡ false }
+    {
+        PinCable {
+            cable,
+            out,
+            tap: Tap::Reset,
+            digits,
+            pins,
+            torn: false,
+        }
+    }
+
+    /// Whether a call on the lines has failed.
+    pub fn is_torn(&self) -> bool
+        ensures { result ≡ is_torn self.now }
+    {
+        self.torn
+    }
+
+    /// Puts the line of the digits that wait.
+    ///
+    /// `Failed` as of the lines.
+    pub fn finish(&mut self) -> Result<(), Failed>
+        requires { port_breakage C.breakage O.failed self.old ≡ whole }
+        ensures same { IsSamePort self.old self.new }
+        ensures tap { tap_of self.new ≡ tap_of self.old }
+        ensures over { IsOverSame O.shown (lines_of self.old) (lines_of self.new) }
+        ensures cable { cable_of self.new ≡ cable_of self.old }
+        ensures put { OnOk result (Puts O.shown (lines_of self.old)
+            (pin_line (digits_of self.old)) (lines_of self.new)) }
+        ensures none { OnOk result (digits_of self.new ≡ []) }
+        ensures front { OnErr result (PutsFront O.shown (lines_of self.old)
+            (pin_line (digits_of self.old)) (lines_of self.new)) }
+        ensures unbroken { OnOk result (port_breakage C.breakage O.failed self.new ≡ whole) }
+        ensures broken { OnErr result (port_breakage C.breakage O.failed self.new ≡ pins) }
+        ensures line { HasPartCause line (port_line_faults C.line_faults C.pin_faults)
+            (IsPortLineLast C.is_line_last C.is_pin_last) (port_breakage C.breakage O.failed) self.old self.new }
+        ensures pins { HasPartCause pins (port_pin_faults O.faults)
+            (IsPortPinLast O.is_last) (port_breakage C.breakage O.failed) self.old self.new }
+    {
+        self.torn = true;
+        self.out.put_pins(self.digits.bytes())?;
+        self.torn = false;
+        self.digits.clear();
+        Ok(())
+    }
+}
+
+impl<C: Cable, O: Paper> Cable for PinCable<'_, C, O> {
+    ghost use Rattle.stapl_machine.specs.Pins.{cable_of, lines_of, port_breakage, port_line_faults, IsPortLineLast, port_pin_faults, IsPortPinLast, HasMadePins};
+    ghost use Rattle.stapl_machine.specs.PinLaws.{made_none, made_both};
+
+    ghost board = { λ p. C.board (cable_of p) };
+
+    ghost made = { HasMadePins (port_breakage C.breakage O.failed) O.shown C.made };
+
+    ghost line_faults = { port_line_faults C.line_faults C.pin_faults };
+
+    ghost is_line_last = { IsPortLineLast C.is_line_last C.is_pin_last };
+
+    ghost pin_faults = { port_pin_faults O.faults };
+
+    ghost is_pin_last = { IsPortPinLast O.is_last };
+
+    ghost breakage = { port_breakage C.breakage O.failed };
+
+    fn clock(&mut self, tms: bool, tdi: bool) -> Result<bool, Failed> {
+        let tdo = self.cable.clock(tms, tdi)?;
+        if !self.pins {
+            return Ok(tdo);
+        }
+        self.torn = true;
+        note(self.out, &mut self.digits, digit(tms, tdi, tdo))?;
+        self.torn = false;
+        Ok(tdo)
+    }
+
+    fn usec(&mut self, n: u32) -> Result<(), Failed> {
+        self.cable.usec(n)?;
+        Ok(())
+    }
+
+    fn hertz(&mut self, n: u32) -> Result<(), Failed> {
+        self.cable.hertz(n)?;
+        Ok(())
+    }
+
+    ghost sound = { λ p cs told. C.sound (cable_of p) cs told };
+
+    ghost none_made = { λ p.
+        made_none (port_breakage C.breakage O.failed) O.shown C.made p (C.none_made (cable_of p)) };
+
+    ghost both_made = { λ a b c front back p q.
+        made_both (port_breakage C.breakage O.failed) O.shown C.made a b c front back
+        (C.both_made (cable_of a) (cable_of b) (cable_of c) front back p.made q.made) p q };
+}
+
+/// What a turn does to the outside. Each call has done its deed after `Ok`, whatever others follow, and a front of what
+/// that comes to after `Failed`, which comes only if the count of the cable or of the lines rose, or stands at its last
+/// value. If the cable tells its board, all its controllers are in the state that is kept here.
+impl<C: Cable, O: Paper> PinCable<'_, C, O> {
+    ghost use Rattle.stapl_machine.specs.Pins.{tap_of, port_breakage};
+
+    /// Moves all controllers to a state.
+    pub fn go(&mut self, to: Tap) -> Result<(), Failed>
+        requires whole { port_breakage C.breakage O.failed self.old ≡ whole }
+        requires in_step { IsInStep C.board self.old }
+        ensures in_step { OnOk result (IsInStep C.board self.new) }
+        ensures did { OnOk result ((rest : List Deed) → Did (port_breakage C.breakage O.failed)
+            C.board C.made O.shown (Goes to ∷ rest) self.old rest self.new) }
+        ensures front { OnErr result ((rest : List Deed) → DidFront (port_breakage C.breakage O.failed)
+            C.board C.made O.shown (Goes to ∷ rest) self.old self.new) }
+        ensures at { OnOk result (tap_of self.new ≡ to) }
+        ensures unbroken { OnOk result (port_breakage C.breakage O.failed self.new ≡ whole) }
+        ensures broken { OnErr result (port_breakage C.breakage O.failed self.new ≢ whole) }
+        ensures kept { IsKept (port_breakage C.breakage O.failed) C.line_faults C.is_line_last
+            C.pin_faults C.is_pin_last O.shown O.faults O.is_last self.old self.new }
+    {
+        let at = self.tap;
+        let _state = move_to(self, at, to)?;
+        self.tap = to;
+        Ok(())
+    }
+
+    /// Keeps all controllers in their state, which is stable, for n clocks.
+    pub fn rest(&mut self, n: u32) -> Result<(), Failed>
+        requires whole { port_breakage C.breakage O.failed self.old ≡ whole }
+        requires in_step { IsInStep C.board self.old }
+        requires stable { IsTrue (is_stable_state (tap_of self.old)) }
+        ensures in_step { OnOk result (IsInStep C.board self.new) }
+        ensures did { OnOk result ((rest : List Deed) → Did (port_breakage C.breakage O.failed)
+            C.board C.made O.shown (Stays n ∷ rest) self.old rest self.new) }
+        ensures front { OnErr result ((rest : List Deed) → DidFront (port_breakage C.breakage O.failed)
+            C.board C.made O.shown (Stays n ∷ rest) self.old self.new) }
+        ensures unbroken { OnOk result (port_breakage C.breakage O.failed self.new ≡ whole) }
+        ensures broken { OnErr result (port_breakage C.breakage O.failed self.new ≢ whole) }
+        ensures kept { IsKept (port_breakage C.breakage O.failed) C.line_faults C.is_line_last
+            C.pin_faults C.is_pin_last O.shown O.faults O.is_last self.old self.new }
+    {
+        let at = self.tap;
+        stay(self, at, n)?;
+        Ok(())
+    }
+
+    /// Prints a text.
+    pub fn print(&mut self, text: &[u8]) -> Result<(), Failed>
+        requires whole { port_breakage C.breakage O.failed self.old ≡ whole }
+        requires in_step { IsInStep C.board self.old }
+        ensures in_step { OnOk result (IsInStep C.board self.new) }
+        ensures did { OnOk result ((rest : List Deed) → Did (port_breakage C.breakage O.failed)
+            C.board C.made O.shown (Says (Print text.now) ∷ rest) self.old rest self.new) }
+        ensures front { OnErr result ((rest : List Deed) → DidFront (port_breakage C.breakage O.failed)
+            C.board C.made O.shown (Says (Print text.now) ∷ rest) self.old self.new) }
+        ensures unbroken { OnOk result (port_breakage C.breakage O.failed self.new ≡ whole) }
+        ensures broken { OnErr result (port_breakage C.breakage O.failed self.new ≢ whole) }
+        ensures kept { IsKept (port_breakage C.breakage O.failed) C.line_faults C.is_line_last
+            C.pin_faults C.is_pin_last O.shown O.faults O.is_last self.old self.new }
+    {
+        self.finish()?;
+        self.torn = true;
+        self.out.put_print(text)?;
+        self.torn = false;
+        Ok(())
+    }
+
+    /// Exports what lies in a code or in variables.
+    pub fn export(
+        &mut self,
+        code: &CodeLists,
+        variables: &[Held],
+        export: Export,
+    ) -> Result<(), Failed>
+        requires whole { port_breakage C.breakage O.failed self.old ≡ whole }
+        requires in_step { IsInStep C.board self.old }
+        ensures in_step { OnOk result (IsInStep C.board self.new) }
+        ensures did { OnOk result ((rest : List Deed) → Did (port_breakage C.breakage O.failed) C.board C.made O.shown
+            (Says (export_event (constants_of code.now) variables.now export) ∷ rest) self.old rest self.new) }
+        ensures front { OnErr result ((rest : List Deed) → DidFront (port_breakage C.breakage O.failed) C.board C.made
+            O.shown (Says (export_event (constants_of code.now) variables.now export) ∷ rest) self.old self.new) }
+        ensures unbroken { OnOk result (port_breakage C.breakage O.failed self.new ≡ whole) }
+        ensures broken { OnErr result (port_breakage C.breakage O.failed self.new ≢ whole) }
+        ensures kept { IsKept (port_breakage C.breakage O.failed) C.line_faults C.is_line_last
+            C.pin_faults C.is_pin_last O.shown O.faults O.is_last self.old self.new }
+    {
+        self.finish()?;
+        self.torn = true;
+        self.out.put_export(code, variables, export)?;
+        self.torn = false;
+        Ok(())
+    }
+
+    /// Waits for n microseconds.
+    pub fn pause(&mut self, n: u32) -> Result<(), Failed>
+        requires whole { port_breakage C.breakage O.failed self.old ≡ whole }
+        requires in_step { IsInStep C.board self.old }
+        ensures in_step { OnOk result (IsInStep C.board self.new) }
+        ensures did { OnOk result ((rest : List Deed) → Did (port_breakage C.breakage O.failed)
+            C.board C.made O.shown (Says (Usec n) ∷ rest) self.old rest self.new) }
+        ensures front { OnErr result ((rest : List Deed) → DidFront (port_breakage C.breakage O.failed)
+            C.board C.made O.shown (Says (Usec n) ∷ rest) self.old self.new) }
+        ensures unbroken { OnOk result (port_breakage C.breakage O.failed self.new ≡ whole) }
+        ensures broken { OnErr result (port_breakage C.breakage O.failed self.new ≢ whole) }
+        ensures kept { IsKept (port_breakage C.breakage O.failed) C.line_faults C.is_line_last
+            C.pin_faults C.is_pin_last O.shown O.faults O.is_last self.old self.new }
+    {
+        self.cable.usec(n)?;
+        self.finish()?;
+        self.torn = true;
+        self.out.put_usec(n)?;
+        self.torn = false;
+        Ok(())
+    }
+
+    /// Sets the frequency of the clocks that follow to n hertz, or states none if n is 0.
+    pub fn tune(&mut self, n: u32) -> Result<(), Failed>
+        requires whole { port_breakage C.breakage O.failed self.old ≡ whole }
+        requires in_step { IsInStep C.board self.old }
+        ensures in_step { OnOk result (IsInStep C.board self.new) }
+        ensures did { OnOk result ((rest : List Deed) → Did (port_breakage C.breakage O.failed)
+            C.board C.made O.shown (Says (Hertz n) ∷ rest) self.old rest self.new) }
+        ensures front { OnErr result ((rest : List Deed) → DidFront (port_breakage C.breakage O.failed)
+            C.board C.made O.shown (Says (Hertz n) ∷ rest) self.old self.new) }
+        ensures unbroken { OnOk result (port_breakage C.breakage O.failed self.new ≡ whole) }
+        ensures broken { OnErr result (port_breakage C.breakage O.failed self.new ≢ whole) }
+        ensures kept { IsKept (port_breakage C.breakage O.failed) C.line_faults C.is_line_last
+            C.pin_faults C.is_pin_last O.shown O.faults O.is_last self.old self.new }
+    {
+        self.cable.hertz(n)?;
+        self.finish()?;
+        self.torn = true;
+        self.out.put_hertz(n)?;
+        self.torn = false;
+        Ok(())
+    }
+}
