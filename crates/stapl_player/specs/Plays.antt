@@ -1,0 +1,44 @@
+-- Plays of a code from the first clocks on. A play begins with five clocks with TMS 1 (IEEE 1149.1, TAP controller state
+-- diagram); that it does so is this profile's rule.
+use Rattle.std.specs.Prelude.{◌≡◌, ◌≤◌, ℕ, ◌+◌, Bool, List, [], ◌++◌, Option, Some}
+use Rattle.dev_card.specs.Card.{Card}
+use Rattle.dev_card.specs.Board.{Clock, tdos}
+use Rattle.dev_card.specs.FarEnds.{FarEnd, far_end}
+use Rattle.stapl_meaning.specs.declared.events.Ending.{Ending}
+use Rattle.stapl_meaning.specs.Plays.{Run, after, ending_of, reset_events, chain_reset}
+use Rattle.stapl_meaning.specs.Texts.{events_text}
+use Rattle.stapl_code.specs.declared.raw.CodeLists.{CodeLists}
+use Rattle.stapl_machine.specs.declared.running.Machine.{Machine}
+use Rattle.stapl_machine.specs.Papers.{Shown, Puts, PutsFront}
+use Rattle.stapl_machine.specs.Machines.{play_of, play_ticks_of, variables_in}
+
+-- the play of a code at the far end of a cable, for at most n turns of the chosen procedures, and how many instructions it
+-- takes
+abbrev pub whole_play : CodeLists → List ℕ → ℕ → FarEnd → Run
+whole_play code chosen n far = after (reset_events far) (play_of code chosen n (chain_reset far))
+
+abbrev pub whole_ticks : CodeLists → List ℕ → ℕ → FarEnd → ℕ
+whole_ticks code chosen n far = play_ticks_of code chosen n (chain_reset far)
+
+-- The far end is the board of the cable, where that is told, else the TDO bits of the clocks that were made, with any that
+-- may follow.
+module _ {C O : Type 0} (board : C → Option (List Card)) (makes : C → List Clock → C → Type 0) (shown : O → Shown) (pins : Bool) (run : FarEnd → Run) (count : FarEnd → ℕ) where
+  abbrev pub far_before : C → List Clock → List Bool → FarEnd
+  far_before cable clocks more = far_end (board cable) (tdos clocks ++ more)
+
+  -- The whole text of the play was put, and the play, the cable and the machine stand so.
+  pub record HasPlayed (old : C) (out : O) (steps : ℕ) (ending : Ending) (new : C) (new_out : O) (now : ℕ) (machine : Machine) : Type 0 where
+    pub clocks : List Clock
+    pub made : makes old clocks new
+    pub put : (more : List Bool) → Puts shown out (events_text pins [] (run (far_before old clocks more)).events) new_out
+    pub ended : (more : List Bool) → ending_of (run (far_before old clocks more)).outcome ≡ Some ending
+    pub far : (more : List Bool) → (run (far_before old clocks more)).chain.far ≡ far_end (board new) more
+    pub variables : (more : List Bool) → (run (far_before old clocks more)).state.store.variables ≡ variables_in machine
+    pub ticked : (more : List Bool) → now ≡ steps + count (far_before old clocks more)
+
+  -- A front of its text was put.
+  pub record HasPlayedFront (old : C) (out : O) (steps : ℕ) (new : C) (new_out : O) (now : ℕ) : Type 0 where
+    pub clocks : List Clock
+    pub made : makes old clocks new
+    pub front : (more : List Bool) → PutsFront shown out (events_text pins [] (run (far_before old clocks more)).events) new_out
+    pub most : (more : List Bool) → now ≤ steps + count (far_before old clocks more)
