@@ -1,11 +1,8 @@
 -- On answers: which relation holds the answers of which.
-use Rattle.std.proofs.Common.{◌≡◌, ◌<◌, ℕ, pos, List, [], ◌∷◌, length, codes, Option, None, Some, Result, Ok, Err, IfOk, IfSome, IsSomeAnd, refl, sym, ap, ◌∙◌, subst, replicate, arith, ◌+◌, true, false}
-use Rattle.std.proofs.lemmas.List.{length-replicate}
+use Rattle.std.proofs.Common.{◌≡◌, ◌<◌, ℕ, pos, List, length, codes, Option, None, Some, Result, Ok, Err, IfOk, IfSome, IsSomeAnd, refl, sym, ap, ◌∙◌, subst, true, false}
 use Rattle.std.proofs.lemmas.Option.{same_Some, none-some}
-use Rattle.std.proofs.lemmas.Slice.Eq.{bytes_eq-Decides}
-use Rattle.std.specs.Prelude.{is_some}
+use Rattle.std.specs.Prelude.{is_some, IsSome}
 use Rattle.tool_io.specs.Bytes.{then_bytes, MovesFront}
-use Rattle.tool_io.specs.Files.{file_of}
 use Rattle.stapl_lexer.specs.Pieces.{text_limit}
 use Rattle.stapl_lexer.specs.declared.reason.Reason.{Reason}
 use Rattle.stapl_lexer.specs.declared.reason.Reason.TheVariants as reasons
@@ -13,6 +10,7 @@ use Rattle.stapl_syntax.specs.Trees.{StmtTree}
 use Rattle.stapl_syntax.specs.Programs.{IsProgram, FirstFault, is_too_long}
 use Rattle.stapl_built.specs.Unbuilt.{IsUnbuiltAt, IsBuiltProgram}
 use Rattle.stapl_checker.proofs.UniqueLemmas.{one_program, no_fault}
+use Rattle.dev_card.specs.declared.desc.Desc.{Desc}
 use Rattle.play_tool.specs.declared.mode.Mode.{Mode}
 use Rattle.play_tool.specs.declared.mode.Mode.TheVariants as modes
 use Rattle.play_tool.specs.declared.words.Request.{Request}
@@ -20,11 +18,11 @@ use Rattle.play_tool.specs.declared.status.Status.{Status}
 use Rattle.play_tool.specs.declared.status.Status.TheVariants.{Refused, Usage}
 use Rattle.play_tool.specs.Texts.{number_line, refusal_line}
 use Rattle.play_tool.specs.declared.mode.WordKey.{WordKey}
-use Rattle.play_tool.specs.declared.mode.WordKey.TheVariants.{Program, Action}
+use Rattle.play_tool.specs.declared.mode.WordKey.TheVariants.{Board, Program, Action}
 use Rattle.play_tool.specs.Words.{needs, has_key, HasNeeded, IsUsage}
 use Rattle.play_tool.specs.Written.{Wrote, WroteFront}
-use Rattle.play_tool.specs.Answers.{PlaysAction, PlaysText, unbuilt, built, Work, TextAnswer, refused, accepted, FileAnswer, NamesFile, Answer, usage, asked, SomeTextAnswer, SomeFilesAnswer}
-use Rattle.play_tool.proofs.OneRequest.{one_request, no_usage}
+use Rattle.play_tool.specs.Answers.{PlaysAction, PlaysText, unbuilt, built, Work, TextAnswer, refused, accepted, FileAnswer, Contents, WordsAnswer, usage, SomeTextAnswer, SomeFilesAnswer}
+use Rattle.play_tool.proofs.BoardLemmas.{long_text}
 use Rattle.play_tool.proofs.WrittenLemmas.{IsWithin, wrote_text, wrote_front}
 
 pub on_ok : {T E : Type 0} {P Q : T → Type 0} (r : Result T E) → ((x : T) → P x → Q x) → IfOk r P → IfOk r Q
@@ -45,6 +43,9 @@ has_action request has e none =
     let some : is_some request.action ≡ true = has_needed request modes.Play has e Action refl in
     let same : is_some request.action ≡ false = ap (λ (a : Option (List ℕ)). is_some a) none in cc
 
+pub has_board : (request : Request) → HasNeeded request → request.mode ≡ modes.Play → IsSome request.board
+has_board request has e = has_needed request modes.Play has e Board refl
+
 program_needed : (mode : Mode) → needs mode Program ≡ true
 program_needed modes.Play = refl
 program_needed modes.Check = refl
@@ -57,9 +58,9 @@ has_program request has none =
 
 -- The play that is asked of a program that is built is that of the action that is named.
 
-pub plays_asked : (request : Request) (bytes : List ℕ) (program : List StmtTree) {action : List ℕ} → request.action ≡ Some action → IsBuiltProgram bytes program →
-    IsWithin (PlaysAction program action request) (PlaysText request bytes program)
-plays_asked request bytes program {action = action} a is = record {
+pub plays_asked : (request : Request) (devices : List Desc) (bytes : List ℕ) (program : List StmtTree) {action : List ℕ} → request.action ≡ Some action → IsBuiltProgram bytes program →
+    IsWithin (PlaysAction program action request devices) (PlaysText request devices bytes program)
+plays_asked request devices bytes program {action = action} a is = record {
   to = λ text status p. built text status is (record { action = action; asked = a; plays = p });
 }
 
@@ -67,127 +68,82 @@ plays_asked request bytes program {action = action} a is = record {
 pub not_both : {bytes : List ℕ} {program : List StmtTree} {piece line : ℕ} → IsBuiltProgram bytes program → IsUnbuiltAt bytes program piece line → ⊥
 not_both is at = none-some at.index (sym is.built ∙ at.is_first)
 
-asked_play : {request : Request} {bytes : List ℕ} {program : List StmtTree} {action text : List ℕ} {status : Status} → request.action ≡ Some action → IsBuiltProgram bytes program →
-    PlaysText request bytes program text status → PlaysAction program action request text status
+asked_play : {request : Request} {devices : List Desc} {bytes : List ℕ} {program : List StmtTree} {action text : List ℕ} {status : Status} → request.action ≡ Some action → IsBuiltProgram bytes program →
+    PlaysText request devices bytes program text status → PlaysAction program action request devices text status
 asked_play a is (unbuilt piece line at) = absurd (not_both is at)
-asked_play {request = request} {program = program} {action = action} a is (built text status own p) =
-    subst (λ (z : List ℕ). PlaysAction program z request text status) (same_Some p.action action (sym p.asked ∙ a)) p.plays
+asked_play {request = request} {devices = devices} {program = program} {action = action} a is (built text status own p) =
+    subst (λ (z : List ℕ). PlaysAction program z request devices text status) (same_Some p.action action (sym p.asked ∙ a)) p.plays
 
-pub asked_plays : (request : Request) (bytes : List ℕ) (program : List StmtTree) {action : List ℕ} → request.action ≡ Some action → IsBuiltProgram bytes program →
-    IsWithin (PlaysText request bytes program) (PlaysAction program action request)
-asked_plays request bytes program a is = record { to = λ text status p. asked_play a is p }
+pub asked_plays : (request : Request) (devices : List Desc) (bytes : List ℕ) (program : List StmtTree) {action : List ℕ} → request.action ≡ Some action → IsBuiltProgram bytes program →
+    IsWithin (PlaysText request devices bytes program) (PlaysAction program action request devices)
+asked_plays request devices bytes program a is = record { to = λ text status p. asked_play a is p }
 
 -- A piece is not built.
 
-pub unbuilt_wrote : {request : Request} {bytes : List ℕ} {program : List StmtTree} {before after : Option (List ℕ)} (piece line : ℕ) → IsUnbuiltAt bytes program piece line →
-    after ≡ then_bytes before (refusal_line piece line reasons.NotYetBuilt) → Wrote (PlaysText request bytes program) before after (Refused piece reasons.NotYetBuilt)
+pub unbuilt_wrote : {request : Request} {devices : List Desc} {bytes : List ℕ} {program : List StmtTree} {before after : Option (List ℕ)} (piece line : ℕ) → IsUnbuiltAt bytes program piece line →
+    after ≡ then_bytes before (refusal_line piece line reasons.NotYetBuilt) → Wrote (PlaysText request devices bytes program) before after (Refused piece reasons.NotYetBuilt)
 unbuilt_wrote piece line at e = wrote_text (refusal_line piece line reasons.NotYetBuilt) (unbuilt piece line at) e
 
-pub unbuilt_front : {request : Request} {bytes : List ℕ} {program : List StmtTree} {before after : Option (List ℕ)} (piece line : ℕ) → IsUnbuiltAt bytes program piece line →
-    MovesFront before (refusal_line piece line reasons.NotYetBuilt) after → WroteFront (PlaysText request bytes program) before after
+pub unbuilt_front : {request : Request} {devices : List Desc} {bytes : List ℕ} {program : List StmtTree} {before after : Option (List ℕ)} (piece line : ℕ) → IsUnbuiltAt bytes program piece line →
+    MovesFront before (refusal_line piece line reasons.NotYetBuilt) after → WroteFront (PlaysText request devices bytes program) before after
 unbuilt_front piece line at m = wrote_front (refusal_line piece line reasons.NotYetBuilt) (Refused piece reasons.NotYetBuilt) (unbuilt piece line at) m
 
 -- The answer for a text that is a program is the work on it.
 
-pub work_answers : (request : Request) (own bytes : List ℕ) (program : List StmtTree) → own ≡ bytes → IsProgram bytes program →
-    IsWithin (Work request own program request.mode) (TextAnswer request bytes)
-work_answers request own bytes program same is =
-    subst (λ (z : List ℕ). IsWithin (Work request z program request.mode) (TextAnswer request bytes)) (sym same)
+pub work_answers : (request : Request) (devices : List Desc) (own bytes : List ℕ) (program : List StmtTree) → own ≡ bytes → IsProgram bytes program →
+    IsWithin (Work request devices own program request.mode) (TextAnswer request devices bytes)
+work_answers request devices own bytes program same is =
+    subst (λ (z : List ℕ). IsWithin (Work request devices z program request.mode) (TextAnswer request devices bytes)) (sym same)
     (record { to = λ text status w. accepted program text status is w })
 
-answer_works : {request : Request} {bytes text : List ℕ} {status : Status} (program : List StmtTree) → IsProgram bytes program →
-    TextAnswer request bytes text status → Work request bytes program request.mode text status
+answer_works : {request : Request} {devices : List Desc} {bytes text : List ℕ} {status : Status} (program : List StmtTree) → IsProgram bytes program →
+    TextAnswer request devices bytes text status → Work request devices bytes program request.mode text status
 answer_works program is (refused piece line reason fault) = absurd (no_fault program is fault)
-answer_works {request = request} {bytes = bytes} program is (accepted other text status other_is w) =
-    subst (λ (z : List StmtTree). Work request bytes z request.mode text status) (one_program bytes other program other_is is) w
+answer_works {request = request} {devices = devices} {bytes = bytes} program is (accepted other text status other_is w) =
+    subst (λ (z : List StmtTree). Work request devices bytes z request.mode text status) (one_program bytes other program other_is is) w
 
-pub answers_work : (request : Request) (own bytes : List ℕ) (program : List StmtTree) → own ≡ bytes → IsProgram bytes program →
-    IsWithin (TextAnswer request bytes) (Work request own program request.mode)
-answers_work request own bytes program same is =
-    subst (λ (z : List ℕ). IsWithin (TextAnswer request bytes) (Work request z program request.mode)) (sym same)
+pub answers_work : (request : Request) (devices : List Desc) (own bytes : List ℕ) (program : List StmtTree) → own ≡ bytes → IsProgram bytes program →
+    IsWithin (TextAnswer request devices bytes) (Work request devices own program request.mode)
+answers_work request devices own bytes program same is =
+    subst (λ (z : List ℕ). IsWithin (TextAnswer request devices bytes) (Work request devices z program request.mode)) (sym same)
     (record { to = λ text status a. answer_works program is a })
 
 -- A text is refused.
 
-pub refused_wrote : {request : Request} {bytes : List ℕ} {before after : Option (List ℕ)} (piece line : ℕ) (reason : Reason) → FirstFault bytes piece line reason →
-    after ≡ then_bytes before (refusal_line piece line reason) → Wrote (TextAnswer request bytes) before after (Refused piece reason)
+pub refused_wrote : {request : Request} {devices : List Desc} {bytes : List ℕ} {before after : Option (List ℕ)} (piece line : ℕ) (reason : Reason) → FirstFault bytes piece line reason →
+    after ≡ then_bytes before (refusal_line piece line reason) → Wrote (TextAnswer request devices bytes) before after (Refused piece reason)
 refused_wrote piece line reason fault e = wrote_text (refusal_line piece line reason) (refused piece line reason fault) e
 
-pub refused_front : {request : Request} {bytes : List ℕ} {before after : Option (List ℕ)} (piece line : ℕ) (reason : Reason) → FirstFault bytes piece line reason →
-    MovesFront before (refusal_line piece line reason) after → WroteFront (TextAnswer request bytes) before after
+pub refused_front : {request : Request} {devices : List Desc} {bytes : List ℕ} {before after : Option (List ℕ)} (piece line : ℕ) (reason : Reason) → FirstFault bytes piece line reason →
+    MovesFront before (refusal_line piece line reason) after → WroteFront (TextAnswer request devices bytes) before after
 refused_front piece line reason fault m = wrote_front (refusal_line piece line reason) (Refused piece reason) (refused piece line reason fault) m
-
--- The answer to the words is that for the file that they name.
-
-pub file_words : {words : List (List ℕ)} {files : List (List ℕ × List ℕ)} {request : Request} {path : List ℕ} → NamesFile words request path →
-    IsWithin (FileAnswer request (file_of files path)) (Answer words files)
-file_words {request = request} {path = path} names = record { to = λ text status a. asked request path text status names a }
-
-words_answer : {words : List (List ℕ)} {files : List (List ℕ × List ℕ)} {request : Request} {path text : List ℕ} {status : Status} → NamesFile words request path →
-    Answer words files text status → FileAnswer request (file_of files path) text status
-words_answer names (usage n u) = absurd (no_usage names.asks u)
-words_answer {files = files} {request = request} {path = path} names (asked other other_path text status other_names a) =
-    let same : other ≡ request = one_request other_names.asks names.asks in
-    let paths : other_path ≡ path =
-    same_Some other_path path (sym other_names.program ∙ ap (λ (r : Request). r.program) same ∙ names.program) in
-    subst (λ (r : Request). FileAnswer r (file_of files path) text status) same
-    (subst (λ (p : List ℕ). FileAnswer other (file_of files p) text status) paths a)
-
-pub words_file : {words : List (List ℕ)} {files : List (List ℕ × List ℕ)} {request : Request} {path : List ℕ} → NamesFile words request path →
-    IsWithin (Answer words files) (FileAnswer request (file_of files path))
-words_file names = record { to = λ text status a. words_answer names a }
 
 -- A text is too long.
 
--- there is a text of each length
-text_of_length : (n : ℕ) → (text : List ℕ) × (length text ≡ n)
-text_of_length n = (replicate n 0, length-replicate n 0)
-
-is_longer : (text : List ℕ) (n : ℕ) → length text ≡ n + 1 → n < length text
-is_longer text n e = omega arith
-
--- and so one that is too long
-long_text : (n : ℕ) → (text : List ℕ) × (n < length text)
-long_text n = let t = text_of_length (n + 1) in (t.0, is_longer t.0 n t.1)
-
-long_answer : {request : Request} {bytes : List ℕ} → text_limit < length bytes →
-    TextAnswer request bytes (refusal_line 0 0 reasons.TooLong) (Refused 0 reasons.TooLong)
+long_answer : {request : Request} {devices : List Desc} {bytes : List ℕ} → text_limit < length bytes →
+    TextAnswer request devices bytes (refusal_line 0 0 reasons.TooLong) (Refused 0 reasons.TooLong)
 long_answer long = refused 0 0 reasons.TooLong (is_too_long long)
 
-pub long_file : (request : Request) (file : Option (List ℕ)) → IsSomeAnd file (λ bytes. text_limit < length bytes) →
-    FileAnswer request file (refusal_line 0 0 reasons.TooLong) (Refused 0 reasons.TooLong)
-long_file request None long = absurd long
-long_file request (Some bytes) long = record { bytes = bytes; held = refl; answer = long_answer long }
+pub long_file : (request : Request) (devices : List Desc) (file : Option (List ℕ)) → IsSomeAnd file (λ bytes. text_limit < length bytes) →
+    FileAnswer request devices file (refusal_line 0 0 reasons.TooLong) (Refused 0 reasons.TooLong)
+long_file request devices None long = absurd long
+long_file request devices (Some bytes) long = record { bytes = bytes; held = refl; answer = long_answer long }
 
-pub some_long_answer : (request : Request) → SomeTextAnswer request (refusal_line 0 0 reasons.TooLong) (Refused 0 reasons.TooLong)
-some_long_answer request = let t = long_text text_limit in record { bytes = t.0; answer = long_answer t.1 }
-
--- The same without a word on what the store tells.
-
--- the file of a store of one
-one_file : (path bytes : List ℕ) → file_of ((path, bytes) ∷ []) path ≡ Some bytes
-one_file path bytes = rw ((bytes_eq-Decides path path).1 refl) refl
-
-pub some_words : {words : List (List ℕ)} {request : Request} {path : List ℕ} → NamesFile words request path → IsWithin (SomeTextAnswer request) (SomeFilesAnswer words)
-some_words {request = request} {path = path} names = record {
-  to = λ text status a. record {
-    files = (path, a.bytes) ∷ [];
-    answer = asked request path text status names (record { bytes = a.bytes; held = one_file path a.bytes; answer = a.answer });
-  };
-}
+pub some_long_answer : (request : Request) (devices : List Desc) → SomeTextAnswer request devices (refusal_line 0 0 reasons.TooLong) (Refused 0 reasons.TooLong)
+some_long_answer request devices = let t = long_text text_limit in record { bytes = t.0; answer = long_answer t.1 }
 
 -- Words are refused.
 
-pub usage_wrote : {words : List (List ℕ)} {files : List (List ℕ × List ℕ)} {before after : Option (List ℕ)} (n : ℕ) → IsUsage words n →
-    after ≡ then_bytes before (number_line (codes "R usage ") (pos n)) → Wrote (Answer words files) before after (Usage n)
+pub usage_wrote : {words : List (List ℕ)} {contents_of : Request → Contents} {before after : Option (List ℕ)} (n : ℕ) → IsUsage words n →
+    after ≡ then_bytes before (number_line (codes "R usage ") (pos n)) → Wrote (WordsAnswer words contents_of) before after (Usage n)
 usage_wrote n u e = wrote_text (number_line (codes "R usage ") (pos n)) (usage n u) e
 
-pub usage_front : {words : List (List ℕ)} {files : List (List ℕ × List ℕ)} {before after : Option (List ℕ)} (n : ℕ) → IsUsage words n →
-    MovesFront before (number_line (codes "R usage ") (pos n)) after → WroteFront (Answer words files) before after
+pub usage_front : {words : List (List ℕ)} {contents_of : Request → Contents} {before after : Option (List ℕ)} (n : ℕ) → IsUsage words n →
+    MovesFront before (number_line (codes "R usage ") (pos n)) after → WroteFront (WordsAnswer words contents_of) before after
 usage_front n u m = wrote_front (number_line (codes "R usage ") (pos n)) (Usage n) (usage n u) m
 
 some_usage : {words : List (List ℕ)} (n : ℕ) → IsUsage words n → SomeFilesAnswer words (number_line (codes "R usage ") (pos n)) (Usage n)
-some_usage n u = record { files = []; answer = usage n u }
+some_usage n u = record { contents = record { board = None; program = None }; answer = usage n u }
 
 pub some_usage_wrote : {words : List (List ℕ)} {before after : Option (List ℕ)} (n : ℕ) → IsUsage words n →
     after ≡ then_bytes before (number_line (codes "R usage ") (pos n)) → Wrote (SomeFilesAnswer words) before after (Usage n)

@@ -6,6 +6,8 @@ pub mod ChoiceLemmas
 pub mod PlayLemmas
 pub mod CheckLemmas
 pub mod ListLemmas
+pub mod BoardLemmas
 pub mod AnswerLemmas
+pub mod RequestLemmas
 pub mod OneAnswer
 pub mod FaultLines

@@ -1,5 +1,5 @@
 -- The words and the files have at most one answer.
-use Rattle.std.proofs.Common.{◌≡◌, ◌+◌, ℕ, pos, List, refl, sym, ap, ◌∙◌, subst, Option, Some, codes}
+use Rattle.std.proofs.Common.{Bool, ◌≡◌, ◌+◌, ℕ, pos, List, refl, sym, ap, ◌∙◌, subst, Option, Some, codes}
 use Rattle.std.proofs.lemmas.Option.{same_Some}
 use Rattle.stapl_lexer.specs.declared.reason.Reason.TheVariants as reasons
 use Rattle.stapl_lexer.proofs.PieceLemmas.{cut_one_way}
@@ -11,20 +11,23 @@ use Rattle.stapl_checker.proofs.UniqueLemmas.{one_first_fault, one_program, no_f
 use Rattle.stapl_meaning.specs.declared.events.Ending.{Ending}
 use Rattle.stapl_meaning.specs.Choices.{Choice}
 use Rattle.stapl_meaning.specs.Choices as choices
-use Rattle.stapl_meaning.specs.Scopes.{Played}
-use Rattle.stapl_meaning.specs.Plays.{play, ending_of}
+use Rattle.stapl_meaning.specs.Plays.{Run, ending_of}
 use Rattle.stapl_meaning.specs.Texts.{text_of}
+use Rattle.dev_card.specs.declared.desc.Desc.{Desc}
+use Rattle.board_text.specs.declared.reason.BoardReason.{BoardReason}
 use Rattle.play_tool.specs.declared.checking.CheckWords.{CheckWords}
 use Rattle.play_tool.specs.declared.mode.Mode.{Mode}
 use Rattle.play_tool.specs.declared.mode.Mode.TheVariants as modes
 use Rattle.play_tool.specs.declared.words.Request.{Request}
 use Rattle.play_tool.specs.declared.status.Status.{Status}
-use Rattle.play_tool.specs.declared.status.Status.TheVariants.{Done, Refused, Usage}
+use Rattle.play_tool.specs.declared.status.Status.TheVariants.{Done, Refused, BoardRefused, Usage}
 use Rattle.play_tool.specs.Checks.{check_text, Checks, checked}
 use Rattle.play_tool.specs.Listings.{Lists, listed}
-use Rattle.play_tool.specs.Texts.{number_line, refusal_line}
-use Rattle.play_tool.specs.Answers.{PlaysText, unbuilt, built, done_with, Plays, no_action, bad_choice, played, PlaysAction, PlaysAsked, Work, TextAnswer, refused, accepted, FileAnswer, Answer, usage, asked}
-use Rattle.play_tool.proofs.AnswerLemmas.{words_file, not_both}
+use Rattle.play_tool.specs.Texts.{number_line, refusal_line, board_refusal_line}
+use Rattle.play_tool.specs.Answers.{PlaysText, unbuilt, built, done_with, Plays, no_action, bad_choice, played, PlaysAction, PlaysAsked, Work, TextAnswer, refused, accepted, FileAnswer, Contents, RequestAnswer, board_refused, board_read, WordsAnswer, Answer, usage, asked}
+use Rattle.play_tool.proofs.AnswerLemmas.{not_both}
+use Rattle.play_tool.proofs.BoardLemmas.{one_held, one_fault, board_or_fault}
+use Rattle.play_tool.proofs.RequestLemmas.{words_request}
 use Rattle.play_tool.proofs.CheckLemmas.{one_word}
 use Rattle.play_tool.proofs.OneRequest.{one_usage, no_usage}
 
@@ -37,15 +40,14 @@ abbrev said : List ℕ → Status → Said
 said text status = record { text = text; status = status }
 
 -- what a play says that ends so
-abbrev said_of : Played → ℕ → List ℕ → Ending → Said
-said_of program turns chosen ending = said (text_of (play program chosen turns).events ending) (done_with ending)
+abbrev said_of : (List ℕ → Run) → Bool → List ℕ → Ending → Said
+said_of plays pins chosen ending = said (text_of pins (plays chosen).events ending) (done_with ending)
 
-same_play : (program : Played) (turns : ℕ) (a b : List ℕ) (e f : Ending) → a ≡ b → e ≡ f → said_of program turns a e ≡ said_of program turns b f
-same_play program turns a b e f p q = rw (p, q) refl
+same_play : (plays : List ℕ → Run) (pins : Bool) (a b : List ℕ) (e f : Ending) → a ≡ b → e ≡ f → said_of plays pins a e ≡ said_of plays pins b f
+same_play plays pins a b e f p q = rw (p, q) refl
 
-one_ending : (program : Played) (turns : ℕ) (a b : List ℕ) (e f : Ending) → a ≡ b → ending_of (play program a turns).outcome ≡ Some e →
-    ending_of (play program b turns).outcome ≡ Some f → e ≡ f
-one_ending program turns a b e f p x y = same_Some e f (sym x ∙ ap (λ (z : List ℕ). ending_of (play program z turns).outcome) p ∙ y)
+one_ending : (plays : List ℕ → Run) (a b : List ℕ) (e f : Ending) → a ≡ b → ending_of (plays a).outcome ≡ Some e → ending_of (plays b).outcome ≡ Some f → e ≡ f
+one_ending plays a b e f p x y = same_Some e f (sym x ∙ ap (λ (z : List ℕ). ending_of (plays z).outcome) p ∙ y)
 
 -- a choice comes to one thing
 none_or_bad : {choice : Choice} → choice ≡ choices.no_action → choice ≡ choices.bad_choice → ⊥
@@ -61,8 +63,8 @@ one_choice : {choice : Choice} (a b : List ℕ) → choice ≡ choices.chosen a 
 one_choice a b e f = cc
 
 -- and so a play gives one answer
-one_play : {program : Played} {choice : Choice} {xs ys : List ℕ} {turns : ℕ} {s t : Status} → Plays program choice turns xs s →
-    Plays program choice turns ys t → said xs s ≡ said ys t
+one_play : {choice : Choice} {plays : List ℕ → Run} {pins : Bool} {xs ys : List ℕ} {s t : Status} → Plays choice plays pins xs s →
+    Plays choice plays pins ys t → said xs s ≡ said ys t
 one_play (no_action e) (no_action f) = refl
 one_play (no_action e) (bad_choice f) = absurd (none_or_bad e f)
 one_play (no_action e) (played chosen ending f g) = absurd (none_or_chosen e f)
@@ -71,15 +73,15 @@ one_play (bad_choice e) (bad_choice f) = refl
 one_play (bad_choice e) (played chosen ending f g) = absurd (bad_or_chosen e f)
 one_play (played chosen ending f g) (no_action e) = absurd (none_or_chosen e f)
 one_play (played chosen ending f g) (bad_choice e) = absurd (bad_or_chosen e f)
-one_play {program = program} {turns = turns} (played chosen a f g) (played other b h k) =
+one_play {plays = plays} {pins = pins} (played chosen a f g) (played other b h k) =
     let same = one_choice chosen other f h in
-    same_play program turns chosen other a b same (one_ending program turns chosen other a b same g k)
+    same_play plays pins chosen other a b same (one_ending plays chosen other a b same g k)
 
 -- a request names one action at most
-one_asked : {program : List StmtTree} {request : Request} {xs ys : List ℕ} {s t : Status} → PlaysAsked program request xs s → PlaysAsked program request ys t →
-    said xs s ≡ said ys t
-one_asked {program = program} {request = request} {ys = ys} {t = t} a b =
-    one_play a.plays (subst (λ (z : List ℕ). PlaysAction program z request ys t) (same_Some b.action a.action (sym b.asked ∙ a.asked)) b.plays)
+one_asked : {program : List StmtTree} {request : Request} {devices : List Desc} {xs ys : List ℕ} {s t : Status} → PlaysAsked program request devices xs s →
+    PlaysAsked program request devices ys t → said xs s ≡ said ys t
+one_asked {program = program} {request = request} {devices = devices} {ys = ys} {t = t} a b =
+    one_play a.plays (subst (λ (z : List ℕ). PlaysAction program z request devices ys t) (same_Some b.action a.action (sym b.asked ∙ a.asked)) b.plays)
 
 -- the first piece that is not built is one
 same_unbuilt : (p l q m : ℕ) → p ≡ q → l ≡ m → said (refusal_line p l reasons.NotYetBuilt) (Refused p reasons.NotYetBuilt) ≡ said (refusal_line q m reasons.NotYetBuilt) (Refused q reasons.NotYetBuilt)
@@ -94,8 +96,8 @@ one_unbuilt {bytes = bytes} {program = program} a b =
     )
 
 -- a program is built or it is not
-one_played : {request : Request} {bytes : List ℕ} {program : List StmtTree} {xs ys : List ℕ} {s t : Status} → PlaysText request bytes program xs s →
-    PlaysText request bytes program ys t → said xs s ≡ said ys t
+one_played : {request : Request} {devices : List Desc} {bytes : List ℕ} {program : List StmtTree} {xs ys : List ℕ} {s t : Status} → PlaysText request devices bytes program xs s →
+    PlaysText request devices bytes program ys t → said xs s ≡ said ys t
 one_played (unbuilt p l a) (unbuilt q m b) = let e = one_unbuilt a b in same_unbuilt p l q m e.0 e.1
 one_played (unbuilt p l a) (built text status is b) = absurd (not_both is a)
 one_played (built text status is a) (unbuilt p l b) = absurd (not_both is b)
@@ -111,37 +113,57 @@ one_list : {program : List StmtTree} {xs ys : List ℕ} {s t : Status} → Lists
 one_list listed listed = refl
 
 -- each mode says one thing of a program
-one_work : (request : Request) (bytes : List ℕ) (program : List StmtTree) (xs ys : List ℕ) (s t : Status) (mode : Mode) → Work request bytes program mode xs s →
-    Work request bytes program mode ys t → said xs s ≡ said ys t
-one_work request bytes program xs ys s t modes.Play a b = one_played a b
-one_work request bytes program xs ys s t modes.Check a b = one_check a b
-one_work request bytes program xs ys s t modes.List a b = one_list a b
+one_work : (request : Request) (devices : List Desc) (bytes : List ℕ) (program : List StmtTree) (xs ys : List ℕ) (s t : Status) (mode : Mode) → Work request devices bytes program mode xs s →
+    Work request devices bytes program mode ys t → said xs s ≡ said ys t
+one_work request devices bytes program xs ys s t modes.Play a b = one_played a b
+one_work request devices bytes program xs ys s t modes.Check a b = one_check a b
+one_work request devices bytes program xs ys s t modes.List a b = one_list a b
 
 same_refusal : (p l q m : ℕ) (r s : Reason) → p ≡ q → l ≡ m → r ≡ s → said (refusal_line p l r) (Refused p r) ≡ said (refusal_line q m s) (Refused q s)
 same_refusal p l q m r s a b c = rw (a, b, c) refl
 
 -- the bytes of a program give one answer
-one_text : {request : Request} {bytes xs ys : List ℕ} {s t : Status} → TextAnswer request bytes xs s → TextAnswer request bytes ys t → said xs s ≡ said ys t
+one_text : {request : Request} {devices : List Desc} {bytes xs ys : List ℕ} {s t : Status} → TextAnswer request devices bytes xs s → TextAnswer request devices bytes ys t →
+    said xs s ≡ said ys t
 one_text {bytes = bytes} (refused p l r f) (refused q m s g) =
     let e = one_first_fault bytes p l q m r s f g in same_refusal p l q m r s e.0 e.1 e.2
 one_text (refused p l r f) (accepted program text status is w) = absurd (no_fault program is f)
 one_text (accepted program text status is w) (refused p l r f) = absurd (no_fault program is f)
-one_text {request = request} {bytes = bytes} (accepted program text status is w) (accepted other text' status' is' w') =
-    one_work request bytes program text text' status status' request.mode w (subst (λ (z : List StmtTree). Work request bytes z request.mode text' status') (sym (one_program bytes program other is is')) w')
+one_text {request = request} {devices = devices} {bytes = bytes} (accepted program text status is w) (accepted other text' status' is' w') =
+    one_work request devices bytes program text text' status status' request.mode w (subst (λ (z : List StmtTree). Work request devices bytes z request.mode text' status') (sym (one_program bytes program other is is')) w')
 
 same_line : (n m : ℕ) → n ≡ m → said (number_line (codes "R usage ") (pos n)) (Usage n) ≡ said (number_line (codes "R usage ") (pos m)) (Usage m)
 same_line n m e = rw e refl
 
-one_file : {request : Request} {file : Option (List ℕ)} {xs ys : List ℕ} {s t : Status} → FileAnswer request file xs s → FileAnswer request file ys t → said xs s ≡ said ys t
-one_file {request = request} {ys = ys} {t = t} a b =
-    one_text a.answer (subst (λ (z : List ℕ). TextAnswer request z ys t) (same_Some b.bytes a.bytes (sym b.held ∙ a.held)) b.answer)
+one_file : {request : Request} {devices : List Desc} {file : Option (List ℕ)} {xs ys : List ℕ} {s t : Status} → FileAnswer request devices file xs s →
+    FileAnswer request devices file ys t → said xs s ≡ said ys t
+one_file {request = request} {devices = devices} {ys = ys} {t = t} a b =
+    one_text a.answer (subst (λ (z : List ℕ). TextAnswer request devices z ys t) (same_Some b.bytes a.bytes (sym b.held ∙ a.held)) b.answer)
+
+same_board_line : (n m : ℕ) (r s : BoardReason) → n ≡ m → r ≡ s → said (board_refusal_line n r) (BoardRefused n r) ≡ said (board_refusal_line m s) (BoardRefused m s)
+same_board_line n m r s e f = rw (e, f) refl
+
+-- a board is refused at one place, or has one list of devices
+one_request_answer : {request : Request} {contents : Contents} {xs ys : List ℕ} {s t : Status} → RequestAnswer request contents xs s → RequestAnswer request contents ys t →
+    said xs s ≡ said ys t
+one_request_answer {request = request} {contents = contents} (board_refused n r f) (board_refused m q g) =
+    let e = one_fault request.board contents.board n m r q f g in same_board_line n m r q e.0 e.1
+one_request_answer {request = request} {contents = contents} (board_refused n r f) (board_read devices text status board a) =
+    absurd (board_or_fault request.board contents.board devices n r board f)
+one_request_answer {request = request} {contents = contents} (board_read devices text status board a) (board_refused n r f) =
+    absurd (board_or_fault request.board contents.board devices n r board f)
+one_request_answer {request = request} {contents = contents} (board_read devices text status board a) (board_read others text2 status2 other b) =
+    let same = one_held request.board contents.board others devices other board in
+    one_file a (subst (λ (ds : List Desc). FileAnswer request ds contents.program text2 status2) same b)
 
 -- there is one answer
-one_said : {words : List (List ℕ)} {files : List (List ℕ × List ℕ)} {xs ys : List ℕ} {s t : Status} → Answer words files xs s → Answer words files ys t → said xs s ≡ said ys t
+one_said : {words : List (List ℕ)} {contents_of : Request → Contents} {xs ys : List ℕ} {s t : Status} → WordsAnswer words contents_of xs s →
+    WordsAnswer words contents_of ys t → said xs s ≡ said ys t
 one_said (usage n u) (usage m v) = same_line n m (one_usage u v)
-one_said (usage n u) (asked request path text status names a) = absurd (no_usage names.asks u)
-one_said (asked request path text status names a) (usage n u) = absurd (no_usage names.asks u)
-one_said (asked request path text status names a) (asked other path2 text2 status2 names2 b) = one_file a ((words_file names).to text2 status2 (asked other path2 text2 status2 names2 b))
+one_said (usage n u) (asked request text status asks a) = absurd (no_usage asks u)
+one_said (asked request text status asks a) (usage n u) = absurd (no_usage asks u)
+one_said {contents_of = contents_of} (asked request text status asks a) (asked other text2 status2 others b) =
+    one_request_answer a ((words_request {contents_of = contents_of} asks).to text2 status2 (asked other text2 status2 others b))
 
 pub one_answer_lem : (words : List (List ℕ)) (files : List (List ℕ × List ℕ)) (xs ys : List ℕ) (s t : Status) → Answer words files xs s → Answer words files ys t → (xs ≡ ys) × (s ≡ t)
 one_answer_lem words files xs ys s t a b = let e = one_said a b in (ap (λ (z : Said). z.text) e, ap (λ (z : Said). z.status) e)

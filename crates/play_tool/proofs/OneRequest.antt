@@ -1,14 +1,14 @@
 -- Words make at most one request, or have one first fault, and not both.
-use Rattle.std.proofs.Common.{◌≡◌, ℕ, List, [], length, refl, ap, ◌∙◌, arith, subst, true, Option, None, Some, inl, inr}
+use Rattle.std.proofs.Common.{◌≡◌, ℕ, Bool, List, [], length, refl, ap, ◌∙◌, arith, subst, true, Option, None, Some, inl, inr}
 use Rattle.std.proofs.lemmas.Bool.{cases_lt}
 use Rattle.std.specs.Prelude.{is_some}
 use Rattle.std.specs.Option.{option_map}
 use Rattle.play_tool.specs.declared.mode.Mode.{Mode}
 use Rattle.play_tool.specs.declared.mode.Mode.TheVariants as modes
 use Rattle.play_tool.specs.declared.mode.WordKey.{WordKey}
-use Rattle.play_tool.specs.declared.mode.WordKey.TheVariants.{Program, Action, Do, Skip, Turns}
+use Rattle.play_tool.specs.declared.mode.WordKey.TheVariants.{Board, Program, Action, Do, Skip, Turns, Pins}
 use Rattle.play_tool.specs.declared.words.Request.{Request}
-use Rattle.play_tool.specs.Words.{HasMode, needs, Part, ProgramIn, ActionNamed, NamesAsked, NamesSkipped, TurnsAtMost, key_of, IsGiven, GiveOf, IsKeyGiven, AskNames, names_given, names_missing, AskTurns, turns_given, turns_usual, AreRead, IsRequest, Lack, lack_mode, lack_key, IsUsage, is_unread, is_missing}
+use Rattle.play_tool.specs.Words.{HasMode, needs, Part, BoardIn, ProgramIn, ActionNamed, NamesAsked, NamesSkipped, TurnsAtMost, PinsWritten, key_of, IsGiven, GiveOf, IsKeyGiven, AskNames, names_given, names_missing, AskTurns, turns_given, turns_usual, AskPins, pins_given, pins_usual, AreRead, IsRequest, Lack, lack_mode, lack_key, IsUsage, is_unread, is_missing}
 use Rattle.play_tool.proofs.WordLemmas.{one_mode, one_given, not_needed}
 
 one_of : (words : List (List ℕ)) (key : WordKey) (a b : Option Part) → AreRead words → GiveOf words (length words) key a → GiveOf words (length words) key b → a ≡ b
@@ -17,6 +17,12 @@ one_of words key None (Some q) read x y = absurd (x q y.0 y.1)
 one_of words key (Some p) None read x y = absurd (y p x.0 x.1)
 one_of words key (Some p) (Some q) read x y =
     let same : key_of p ≡ key_of q = let e = x.0 in let f = y.0 in cc in ap Some (one_given words (length words) p q read same x.1 y.1)
+
+same_board : (a b : Option (List ℕ)) → option_map BoardIn a ≡ option_map BoardIn b → a ≡ b
+same_board None None e = refl
+same_board None (Some q) e = absurd cc
+same_board (Some p) None e = absurd cc
+same_board (Some p) (Some q) e = cc
 
 same_program : (a b : Option (List ℕ)) → option_map ProgramIn a ≡ option_map ProgramIn b → a ≡ b
 same_program None None e = refl
@@ -39,6 +45,15 @@ one_number read (turns_given a x) (turns_usual none) = absurd (none a x)
 one_number read (turns_usual none) (turns_given b y) = absurd (none b y)
 one_number read (turns_usual none) (turns_usual other) = refl
 
+one_sign : (words : List (List ℕ)) (a b : Bool) → AreRead words → IsGiven words (PinsWritten a) → IsGiven words (PinsWritten b) → a ≡ b
+one_sign words a b read x y = let e = one_given words (length words) (PinsWritten a) (PinsWritten b) read refl x y in cc
+
+one_pins : {words : List (List ℕ)} {a b : Bool} → AreRead words → AskPins words a → AskPins words b → a ≡ b
+one_pins {words = words} read (pins_given a x) (pins_given b y) = one_sign words a b read x y
+one_pins read (pins_given a x) (pins_usual none) = absurd (none a x)
+one_pins read (pins_usual none) (pins_given b y) = absurd (none b y)
+one_pins read (pins_usual none) (pins_usual other) = refl
+
 -- a part with a list of names, in which a list is known by its part
 one_list : {words : List (List ℕ)} {part : List (List ℕ) → Part} {a b : List (List ℕ)} → ((x y : List (List ℕ)) → part x ≡ part y → x ≡ y) →
     ((x y : List (List ℕ)) → key_of (part x) ≡ key_of (part y)) → AreRead words → AskNames words part a → AskNames words part b → a ≡ b
@@ -53,18 +68,21 @@ same_asked x y e = cc
 same_skipped : (x y : List (List ℕ)) → NamesSkipped x ≡ NamesSkipped y → x ≡ y
 same_skipped x y e = cc
 
-same_parts : {m k : Mode} {p q n o : Option (List ℕ)} {d e s r : List (List ℕ)} {t u : ℕ} → m ≡ k → p ≡ q → n ≡ o → d ≡ e → s ≡ r → t ≡ u →
-    ◌≡◌ {A = Request} (record { mode = m; program = p; action = n; todo = d; skip = s; turns = t }) (record { mode = k; program = q; action = o; todo = e; skip = r; turns = u })
-same_parts e f g h i j = cc
+same_parts : {m k : Mode} {b c p q n o : Option (List ℕ)} {d e s r : List (List ℕ)} {t u : ℕ} {v w : Bool} → m ≡ k → b ≡ c → p ≡ q → n ≡ o → d ≡ e → s ≡ r → t ≡ u →
+    v ≡ w →
+    ◌≡◌ {A = Request} (record { mode = m; board = b; program = p; action = n; todo = d; skip = s; turns = t; pins = v }) (record { mode = k; board = c; program = q; action = o; todo = e; skip = r; turns = u; pins = w })
+same_parts e f g h i j k l = cc
 
 pub one_request : {words : List (List ℕ)} {a b : Request} → IsRequest words a → IsRequest words b → a ≡ b
 one_request {words = words} {a = a} {b = b} x y =
     same_parts (one_mode words a.mode b.mode x.mode y.mode)
+    (same_board a.board b.board (one_of words Board _ _ x.read x.board y.board))
     (same_program a.program b.program (one_of words Program _ _ x.read x.program y.program))
     (same_action a.action b.action (one_of words Action _ _ x.read x.action_named y.action_named))
     (one_list same_asked (λ p q. refl) x.read x.todo_asked y.todo_asked)
     (one_list same_skipped (λ p q. refl) x.read x.skip_asked y.skip_asked)
     (one_number x.read x.turns_asked y.turns_asked)
+    (one_pins x.read x.pins_asked y.pins_asked)
 
 pub one_usage : {words : List (List ℕ)} {n m : ℕ} → IsUsage words n → IsUsage words m → n ≡ m
 one_usage (is_unread i f) (is_unread j g) =
@@ -91,11 +109,13 @@ some_mapped f None e = e
 some_mapped f (Some x) e = refl
 
 needed_given : (words : List (List ℕ)) (request : Request) (key : WordKey) → IsRequest words request → needs request.mode key ≡ true → IsKeyGiven words key
+needed_given words request Board r e = key_given words Board (option_map BoardIn request.board) r.board (some_mapped BoardIn request.board (r.needed.has Board e))
 needed_given words request Program r e = key_given words Program (option_map ProgramIn request.program) r.program (some_mapped ProgramIn request.program (r.needed.has Program e))
 needed_given words request Action r e = key_given words Action (option_map ActionNamed request.action) r.action_named (some_mapped ActionNamed request.action (r.needed.has Action e))
 needed_given words request Do r e = let none = (not_needed request.mode).0 in absurd cc
 needed_given words request Skip r e = let none = (not_needed request.mode).1 in absurd cc
 needed_given words request Turns r e = let none = (not_needed request.mode).2 in absurd cc
+needed_given words request Pins r e = let none = (not_needed request.mode).3 in absurd cc
 
 no_lack : {words : List (List ℕ)} {request : Request} → IsRequest words request → Lack words → ⊥
 no_lack {request = request} r (lack_mode e) = let none = subst (λ (ws : List (List ℕ)). HasMode ws request.mode) e r.mode in no_word request.mode none

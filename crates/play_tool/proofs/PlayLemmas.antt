@@ -1,7 +1,6 @@
 -- On plays of a program through its code.
-use Rattle.std.proofs.Common.{◌≡◌, ◌≢◌, ℕ, List, [], ◌∷◌, map, refl, sym, ap, ◌∙◌, subst, Option, Some, codes}
-use Rattle.std.specs.List.{flat_map}
-use Rattle.std.specs.Prelude.{nat_abs}
+use Rattle.std.proofs.Common.{◌≡◌, ◌≢◌, ℕ, List, [], ◌∷◌, ◌++◌, Bool, map, refl, sym, ap, ◌∙◌, subst, arith, ◌<◌, ◌⊎◌, inl, inr, Option, None, Some, codes}
+use Rattle.std.specs.Prelude.{nat_abs, IsSome, is_some, Err, IsErrOf}
 use Rattle.tool_io.specs.Bytes.{then_bytes, MovesFront}
 use Rattle.tool_io.specs.declared.lines.Lines.{Lines}
 use Rattle.tool_io.specs.Lines.{gathered, taken, Puts, PutsFront}
@@ -17,9 +16,9 @@ use Rattle.stapl_meaning.specs.Choices.{Choice, chosen}
 use Rattle.stapl_meaning.specs.Choices as choices
 use Rattle.stapl_meaning.specs.Scopes.{Played, zeros_of}
 use Rattle.stapl_meaning.specs.Scopes as scopes
-use Rattle.stapl_meaning.specs.Plays.{Outcome, Ended, Going, Stopped, Run, play, ending_of}
+use Rattle.stapl_meaning.specs.Plays.{Outcome, Ended, Going, Stopped, Run, procedures_run, reset_events, chain_reset, ending_of}
 use Rattle.stapl_meaning.specs.declared.events.Ending.TheVariants.{Spent}
-use Rattle.stapl_meaning.specs.Texts.{event_line, ending_line, text_of}
+use Rattle.stapl_meaning.specs.Texts.{ending_line, events_text, text_of}
 use Rattle.stapl_code.specs.declared.raw.CodeLists.{CodeLists}
 use Rattle.stapl_code.specs.Safe.{AllFit}
 use Rattle.stapl_codegen.specs.Emit.{start_of}
@@ -28,11 +27,19 @@ use Rattle.stapl_codegen.specs.Generated.{kind_number, variable_def, IsCodeOf}
 use Rattle.stapl_codegen.proofs.Unstuck.{variables_fit}
 use Rattle.stapl_machine.specs.Zeros.{zero_of, zeros_of_code}
 use Rattle.stapl_machine.specs.Machines.{play_of}
+use Rattle.dev_card.specs.declared.desc.Desc.{Desc}
+use Rattle.dev_card.specs.Card.{Card, fresh}
+use Rattle.dev_card.specs.FarEnds.{Told, far_end}
+use Rattle.scan_paths.specs.Cables.{cable_faults, IsCableLast}
+use Rattle.stapl_player.specs.Plays.{whole_play}
+use Rattle.stapl_machine.specs.declared.turns.Trouble.{Trouble}
+use Rattle.stapl_machine.specs.declared.turns.Trouble.TheVariants.{CableFault, WriteFault, Memory}
+use Rattle.stapl_machine.specs.Ports.{IfFault, IfMemory}
 use Rattle.play_tool.specs.declared.status.Status.{Status}
 use Rattle.play_tool.specs.declared.status.Status.TheVariants.{NoAction, BadChoice}
 use Rattle.play_tool.specs.Written.{Wrote, WroteFront, IsPrefixOf}
-use Rattle.play_tool.specs.Answers.{done_with, Plays, no_action, bad_choice, played}
-use Rattle.play_tool.specs.CodePlays.{HasEnding, RunWritten, RunFront, PutsRunFront, IsPlayOf}
+use Rattle.play_tool.specs.Answers.{done_with, Plays, no_action, bad_choice, played, play_on}
+use Rattle.play_tool.specs.CodePlays.{NeverRises, HasEnding, RunWritten, RunFront, PutsRunFront, IsPlayOf}
 
 -- The variables of the code of a program begin as the program's do.
 
@@ -65,15 +72,16 @@ ending_placed place (Ended ending) = refl
 ending_placed place (Going i) = refl
 ending_placed place Stopped = refl
 
-pub play_of_chosen : {program : Played} {choice : Choice} {turns : ℕ} (code : CodeLists) (procedures : List ℕ) → IsCodeOf program code → choice ≡ chosen procedures →
-    IsPlayOf program choice turns (play_of code procedures turns)
-play_of_chosen {program = program} {turns = turns} code procedures is e =
-    let same : play_of code procedures turns ≡ placed_run (start_of program) (play program procedures turns) = rw (same_zeros program code is) (is.stands procedures turns) in
+pub play_of_chosen : {program : Played} {choice : Choice} (turns : ℕ) (devices : List Desc) (code : CodeLists) (procedures : List ℕ) → IsCodeOf program code → choice ≡ chosen procedures →
+    IsPlayOf choice (play_on program turns devices) (whole_play code procedures turns (Told (map fresh devices)))
+play_of_chosen {program = program} turns devices code procedures is e =
+    let k = chain_reset (Told (map fresh devices)) in let source = procedures_run program procedures turns k in
+    let same : play_of code procedures turns k ≡ placed_run (start_of program) source = rw (same_zeros program code is) (is.stands procedures turns k) in
     record {
       procedures = procedures;
       are_chosen = e;
-      same_events = ap (λ (r : Run). r.events) same;
-      same_ending = ap (λ (r : Run). ending_of r.outcome) same ∙ ending_placed (start_of program) (play program procedures turns).outcome;
+      same_events = ap (λ (r : Run). reset_events (Told (map fresh devices)) ++ r.events) same;
+      same_ending = ap (λ (r : Run). ending_of r.outcome) same ∙ ending_placed (start_of program) source.outcome;
     }
 
 -- A run that does not stop comes to an ending.
@@ -86,37 +94,37 @@ has_ending run goes = of_outcome run.outcome refl
     of_outcome Stopped e = absurd (goes e)
 
 -- There is no such action, or a name cannot be chosen.
-pub no_such_action : {program : Played} {choice : Choice} {turns : ℕ} {before after : Option (List ℕ)} → choice ≡ choices.no_action →
-    after ≡ then_bytes before (codes "R action\n") → Wrote (Plays program choice turns) before after NoAction
+pub no_such_action : {choice : Choice} {plays : List ℕ → Run} {pins : Bool} {before after : Option (List ℕ)} → choice ≡ choices.no_action →
+    after ≡ then_bytes before (codes "R action\n") → Wrote (Plays choice plays pins) before after NoAction
 no_such_action none e = record { text = codes "R action\n"; answer = no_action none; written = e }
 
-pub no_such_action_front : {program : Played} {choice : Choice} {turns : ℕ} {before after : Option (List ℕ)} → choice ≡ choices.no_action →
-    MovesFront before (codes "R action\n") after → WroteFront (Plays program choice turns) before after
+pub no_such_action_front : {choice : Choice} {plays : List ℕ → Run} {pins : Bool} {before after : Option (List ℕ)} → choice ≡ choices.no_action →
+    MovesFront before (codes "R action\n") after → WroteFront (Plays choice plays pins) before after
 no_such_action_front none m = record { text = codes "R action\n"; status = NoAction; answer = no_action none; front = m }
 
-pub no_such_choice : {program : Played} {choice : Choice} {turns : ℕ} {before after : Option (List ℕ)} → choice ≡ choices.bad_choice →
-    after ≡ then_bytes before (codes "R choice\n") → Wrote (Plays program choice turns) before after BadChoice
+pub no_such_choice : {choice : Choice} {plays : List ℕ → Run} {pins : Bool} {before after : Option (List ℕ)} → choice ≡ choices.bad_choice →
+    after ≡ then_bytes before (codes "R choice\n") → Wrote (Plays choice plays pins) before after BadChoice
 no_such_choice bad e = record { text = codes "R choice\n"; answer = bad_choice bad; written = e }
 
-pub no_such_choice_front : {program : Played} {choice : Choice} {turns : ℕ} {before after : Option (List ℕ)} → choice ≡ choices.bad_choice →
-    MovesFront before (codes "R choice\n") after → WroteFront (Plays program choice turns) before after
+pub no_such_choice_front : {choice : Choice} {plays : List ℕ → Run} {pins : Bool} {before after : Option (List ℕ)} → choice ≡ choices.bad_choice →
+    MovesFront before (codes "R choice\n") after → WroteFront (Plays choice plays pins) before after
 no_such_choice_front bad m = record { text = codes "R choice\n"; status = BadChoice; answer = bad_choice bad; front = m }
 
 -- With a choice, what the run writes is the program's.
-plays_so : {program : Played} {choice : Choice} {turns : ℕ} (run : Run) (ending : Ending) → IsPlayOf program choice turns run → ending_of run.outcome ≡ Some ending →
-    Plays program choice turns (text_of run.events ending) (done_with ending)
-plays_so {program = program} {choice = choice} {turns = turns} run ending p e =
-    subst (λ (events : List Event). Plays program choice turns (text_of events ending) (done_with ending)) (sym p.same_events)
+plays_so : {choice : Choice} {plays : List ℕ → Run} {pins : Bool} (run : Run) (ending : Ending) → IsPlayOf choice plays run → ending_of run.outcome ≡ Some ending →
+    Plays choice plays pins (text_of pins run.events ending) (done_with ending)
+plays_so {choice = choice} {plays = plays} {pins = pins} run ending p e =
+    subst (λ (events : List Event). Plays choice plays pins (text_of pins events ending) (done_with ending)) (sym p.same_events)
     (played p.procedures ending p.are_chosen (sym p.same_ending ∙ e))
 
-pub run_to : {program : Played} {choice : Choice} {turns : ℕ} {before after : Option (List ℕ)} {ending : Ending} (run : Run) → IsPlayOf program choice turns run →
-    RunWritten run before after ending → Wrote (Plays program choice turns) before after (done_with ending)
-run_to {ending = ending} run p w = record { text = text_of run.events ending; answer = plays_so run ending p w.ended; written = w.written }
+pub run_to : {choice : Choice} {plays : List ℕ → Run} {pins : Bool} {before after : Option (List ℕ)} {ending : Ending} (run : Run) → IsPlayOf choice plays run →
+    RunWritten pins run before after ending → Wrote (Plays choice plays pins) before after (done_with ending)
+run_to {pins = pins} {ending = ending} run p w = record { text = text_of pins run.events ending; answer = plays_so run ending p w.ended; written = w.written }
 
-pub run_front : {program : Played} {choice : Choice} {turns : ℕ} {before after : Option (List ℕ)} (run : Run) → IsPlayOf program choice turns run →
-    HasEnding run → RunFront run before after → WroteFront (Plays program choice turns) before after
-run_front run p h f = record {
-  text = text_of run.events h.ending;
+pub run_front : {choice : Choice} {plays : List ℕ → Run} {pins : Bool} {before after : Option (List ℕ)} (run : Run) → IsPlayOf choice plays run →
+    HasEnding run → RunFront pins run before after → WroteFront (Plays choice plays pins) before after
+run_front {pins = pins} run p h f = record {
+  text = text_of pins run.events h.ending;
   status = done_with h.ending;
   answer = plays_so run h.ending p h.comes;
   front = f.front h.ending h.comes;
@@ -131,50 +139,91 @@ not_chosen e f = cc
 not_refused : {choice : Choice} {procedures : List ℕ} → choice ≡ chosen procedures → choice ≡ choices.bad_choice → ⊥
 not_refused e f = cc
 
-same_run_text : {program : Played} {choice : Choice} {text : List ℕ} {turns : ℕ} {before after : Option (List ℕ)} {status : Status} (run : Run) → IsPlayOf program choice turns run →
-    RunFront run before after → Plays program choice turns text status → MovesFront before text after
+same_run_text : {choice : Choice} {plays : List ℕ → Run} {pins : Bool} {text : List ℕ} {before after : Option (List ℕ)} {status : Status} (run : Run) → IsPlayOf choice plays run →
+    RunFront pins run before after → Plays choice plays pins text status → MovesFront before text after
 same_run_text run p f (no_action none) = absurd (not_chosen p.are_chosen none)
 same_run_text run p f (bad_choice bad) = absurd (not_refused p.are_chosen bad)
-same_run_text {program = program} {turns = turns} {before = before} {after = after} run p f (played procedures ending is e) =
+same_run_text {plays = plays} {pins = pins} {before = before} {after = after} run p f (played procedures ending is e) =
     let same : p.procedures ≡ procedures = same_procedures p.procedures procedures (sym p.are_chosen ∙ is) in
-    let events : run.events ≡ (play program procedures turns).events = p.same_events ∙ ap (λ (z : List ℕ). (play program z turns).events) same in
-    let ended : ending_of run.outcome ≡ Some ending = p.same_ending ∙ ap (λ (z : List ℕ). ending_of (play program z turns).outcome) same ∙ e in
-    subst (λ (z : List Event). MovesFront before (text_of z ending) after) events (f.front ending ended)
+    let events : run.events ≡ (plays procedures).events = p.same_events ∙ ap (λ (z : List ℕ). (plays z).events) same in
+    let ended : ending_of run.outcome ≡ Some ending = p.same_ending ∙ ap (λ (z : List ℕ). ending_of (plays z).outcome) same ∙ e in
+    subst (λ (z : List Event). MovesFront before (text_of pins z ending) after) events (f.front ending ended)
 
-pub run_prefix : {program : Played} {choice : Choice} {turns : ℕ} {before after : Option (List ℕ)} (run : Run) → IsPlayOf program choice turns run →
-    RunFront run before after → IsPrefixOf (Plays program choice turns) before after
+pub run_prefix : {choice : Choice} {plays : List ℕ → Run} {pins : Bool} {before after : Option (List ℕ)} (run : Run) → IsPlayOf choice plays run →
+    RunFront pins run before after → IsPrefixOf (Plays choice plays pins) before after
 run_prefix run p f = record { prefix = λ text status plays. same_run_text run p f plays }
 
 -- What was written of a run.
 
-pub front_of_nothing : (run : Run) (before : Option (List ℕ)) → RunFront run before before
-front_of_nothing run before = record { front = λ ending e. moves_front_nothing before (text_of run.events ending) }
+pub front_of_nothing : (pins : Bool) (run : Run) (before : Option (List ℕ)) → RunFront pins run before before
+front_of_nothing pins run before = record { front = λ ending e. moves_front_nothing before (text_of pins run.events ending) }
 
 -- the machine failed
-pub run_failed : {K : Type 0} {written : K → Option (List ℕ)} {a b : Lines K} (run : Run) → PutsFront written a (flat_map event_line run.events) b →
-    PutsRunFront written run a b
-run_failed run front = record { front = λ ending e. front_with (ending_line ending) front }
+pub run_failed : {K : Type 0} {written : K → Option (List ℕ)} {a b : Lines K} (pins : Bool) (run : Run) → PutsFront written a (events_text pins [] run.events) b →
+    PutsRunFront written pins run a b
+run_failed pins run front = record { front = λ ending e. front_with (ending_line ending) front }
 
 one_ending : (outcome : Outcome) (x y : Ending) → ending_of outcome ≡ Some x → ending_of outcome ≡ Some y → x ≡ y
 one_ending outcome x y p q = cc
 
 -- the line of the ending failed
-pub ending_failed : {K : Type 0} {written : K → Option (List ℕ)} {a b c : Lines K} (run : Run) (ending : Ending) → ending_of run.outcome ≡ Some ending →
-    Puts written a (flat_map event_line run.events) b → PutsFront written b (ending_line ending) c → PutsRunFront written run a c
-ending_failed {written = written} {a = a} {c = c} run ending e puts front = record {
+pub ending_failed : {K : Type 0} {written : K → Option (List ℕ)} {a b c : Lines K} (pins : Bool) (run : Run) (ending : Ending) → ending_of run.outcome ≡ Some ending →
+    Puts written a (events_text pins [] run.events) b → PutsFront written b (ending_line ending) c → PutsRunFront written pins run a c
+ending_failed {written = written} {a = a} {c = c} pins run ending e puts front = record {
   front = λ other o.
-      subst (λ (z : Ending). PutsFront written a (text_of run.events z) c) (one_ending run.outcome ending other e o) (put_then_front puts front);
+      subst (λ (z : Ending). PutsFront written a (text_of pins run.events z) c) (one_ending run.outcome ending other e o) (put_then_front puts front);
 }
 
 -- what was put went to the sink
-pub front_of_puts : {K : Type 0} {written : K → Option (List ℕ)} {a b : Lines K} {run : Run} → gathered a ≡ [] → PutsRunFront written run a b →
-    RunFront run (taken written a) (taken written b)
+pub front_of_puts : {K : Type 0} {written : K → Option (List ℕ)} {a b : Lines K} {pins : Bool} {run : Run} → gathered a ≡ [] → PutsRunFront written pins run a b →
+    RunFront pins run (taken written a) (taken written b)
 front_of_puts empty puts = record { front = λ ending e. front_written empty (puts.front ending e) }
 
-pub front_of_finish : {K : Type 0} {written : K → Option (List ℕ)} {a b c : Lines K} (run : Run) (ending : Ending) → gathered a ≡ [] → ending_of run.outcome ≡ Some ending →
-    Puts written a (text_of run.events ending) b → PutsFront written b [] c → RunFront run (taken written a) (taken written c)
-front_of_finish {written = written} {a = a} {c = c} run ending empty e puts front = record {
+pub front_of_finish : {K : Type 0} {written : K → Option (List ℕ)} {a b c : Lines K} (pins : Bool) (run : Run) (ending : Ending) → gathered a ≡ [] → ending_of run.outcome ≡ Some ending →
+    Puts written a (text_of pins run.events ending) b → PutsFront written b [] c → RunFront pins run (taken written a) (taken written c)
+front_of_finish {written = written} {a = a} {c = c} pins run ending empty e puts front = record {
   front = λ other o.
-      subst (λ (z : Ending). MovesFront (taken written a) (text_of run.events z) (taken written c)) (one_ending run.outcome ending other e o)
+      subst (λ (z : Ending). MovesFront (taken written a) (text_of pins run.events z) (taken written c)) (one_ending run.outcome ending other e o)
       (front_written empty (finish_front puts front));
 }
+
+-- A cable that tells its board, and never fails.
+
+pub same_error : {T E : Type 0} (a b : E) → IsErrOf {T = T} (Err a) b → a ≡ b
+same_error a b e = cc
+
+pub told_far : (board : Option (List Card)) (x y : List Bool) → IsSome board → far_end board x ≡ far_end board y
+told_far (Some cards) x y told = refl
+told_far None x y told = absurd cc
+
+-- a count that stays 0, and has no last value, never rises
+pub zero_never : (C : Type 0) → NeverRises {C = C} (cable_faults (λ (c : C). 0) (λ (c : C). 0)) (IsCableLast (λ (c : C). ⊥) (λ (c : C). ⊥))
+zero_never C before after r = by r.risen
+  where
+    by : (0 < 0) ⊎ (⊥ ⊎ ⊥) → ⊥
+    by (inl h) = omega arith
+    by (inr (inl h)) = h
+    by (inr (inr h)) = h
+
+pub no_cable_fault : (cable lines : Type 0) (trouble : Trouble) → (cable → ⊥) → IfFault trouble cable lines → trouble ≢ CableFault
+no_cable_fault cable lines CableFault never h e = never h
+no_cable_fault cable lines WriteFault never h e = cc
+no_cable_fault cable lines Memory never h e = cc
+
+pub write_cause : (cable lines : Type 0) (trouble : Trouble) → trouble ≡ WriteFault → IfFault trouble cable lines → lines
+write_cause cable lines CableFault e h = absurd cc
+write_cause cable lines WriteFault e h = h
+write_cause cable lines Memory e h = absurd cc
+
+pub memory_first : (P : Type 0) (trouble : Trouble) → trouble ≡ Memory → IfMemory trouble P → P
+memory_first P CableFault e h = absurd cc
+memory_first P WriteFault e h = absurd cc
+memory_first P Memory e h = h
+
+-- the chain of the devices at some places, which tells these cards
+pub tells : {o : Option (List Card)} {cards : List Card} → o ≡ Some cards → IsSome o
+tells e = ap is_some e
+
+pub on_cards : (code : CodeLists) (procedures : List ℕ) (turns : ℕ) {o : Option (List Card)} {cards : List Card} → o ≡ Some cards →
+    whole_play code procedures turns (far_end o []) ≡ whole_play code procedures turns (Told cards)
+on_cards code procedures turns e = ap (λ (b : Option (List Card)). whole_play code procedures turns (far_end b [])) e

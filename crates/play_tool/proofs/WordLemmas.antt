@@ -1,5 +1,5 @@
 -- On words that are read from the first one on.
-use Rattle.std.proofs.Common.{◌≡◌, ◌≢◌, ◌<◌, ◌≤◌, ◌+◌, ℕ, List, [], ◌∷◌, ◌++◌, length, sym, refl, ap, ◌∙◌, arith, subst, suc, zero, get_or, map, codes, Option, None, Some, inl, inr, Bool, true, false, ◌&&◌, not}
+use Rattle.std.proofs.Common.{◌≡◌, ◌≢◌, ◌<◌, ◌≤◌, ◌+◌, ◌*◌, ℕ, List, [], ◌∷◌, ◌++◌, length, sym, refl, ap, ◌∙◌, arith, subst, suc, zero, get_or, map, codes, Option, None, Some, inl, inr, Bool, true, false, ◌&&◌, not}
 use Rattle.std.proofs.lemmas.Bool.{and_parts}
 use Rattle.std.proofs.lemmas.List.{get_or-map}
 use Rattle.std.proofs.lemmas.Bool.{cases_lt}
@@ -12,16 +12,22 @@ use Rattle.stapl_lexer.specs.ReservedWords.{is_free_name}
 use Rattle.play_tool.specs.declared.mode.Mode.{Mode}
 use Rattle.play_tool.specs.declared.mode.Mode.TheVariants as modes
 use Rattle.play_tool.specs.declared.mode.WordKey.{WordKey}
-use Rattle.play_tool.specs.declared.mode.WordKey.TheVariants.{Program, Action, Do, Skip, Turns}
+use Rattle.play_tool.specs.declared.mode.WordKey.TheVariants.{Board, Program, Action, Do, Skip, Turns, Pins}
 use Rattle.play_tool.specs.declared.words.Request.{Request}
-use Rattle.play_tool.specs.Words.{mode_word, takes, needs, Part, ProgramIn, ActionNamed, NamesAsked, NamesSkipped, TurnsAtMost, key_of, parts_between_commas, NamesProgram, NamesAction, SpellsNames, AsksFor, LeavesOut, NamesTurns, GivesPart, word_at, HasMode, IsGivenBefore, GivesNew, IsRead, AreReadBefore, IsKeyGiven, GiveOf, AskNames, names_given, names_missing, AskTurns, turns_given, turns_usual, has_key, IsRequest, lack_mode, lack_key, IsFirstUnread, IsUsage, is_unread, is_missing}
-use Rattle.play_tool.specs.GivenParts.{name_spelled, names_in, Values, given_of, with_part, Adds, Refuses, not_taken, given_already, AddsWord, AddsNothing, one_if_some, count_of, AreReadUpTo, lacks, is_complete, names_or_none, turns_or_usual, HasValues}
+use Rattle.play_tool.specs.Words.{mode_word, takes, needs, Part, BoardIn, ProgramIn, ActionNamed, NamesAsked, NamesSkipped, TurnsAtMost, PinsWritten, key_of, parts_between_commas, NamesBoard, NamesProgram, NamesAction, SpellsNames, AsksFor, LeavesOut, NamesTurns, NamesPins, GivesPart, word_at, HasMode, IsGivenBefore, GivesNew, IsRead, AreReadBefore, IsKeyGiven, GiveOf, AskNames, names_given, names_missing, AskTurns, turns_given, turns_usual, AskPins, pins_given, pins_usual, has_key, IsRequest, lack_mode, lack_key, IsFirstUnread, IsUsage, is_unread, is_missing}
+use Rattle.play_tool.specs.GivenParts.{name_spelled, names_in, Values, given_of, with_part, Adds, Refuses, not_taken, given_already, AddsWord, AddsNothing, one_if_some, count_of, AreReadUpTo, lacks, is_complete, names_or_none, turns_or_usual, pins_or_usual, HasValues}
 
 -- A word gives at most one part.
 
 first_byte : List ℕ → ℕ
 first_byte [] = 0
 first_byte (b ∷ bytes) = b
+
+-- the first two bytes as one number
+first_two : List ℕ → ℕ
+first_two [] = 0
+first_two (a ∷ []) = 0
+first_two (a ∷ b ∷ bytes) = 256 * a + b
 
 -- the rest of a word behind its key
 same_rest : (key a b : List ℕ) → key ++ a ≡ key ++ b → a ≡ b
@@ -30,6 +36,9 @@ same_rest (k ∷ ks) a b e = same_rest ks a b cc
 
 one_path : (word a b : List ℕ) → NamesProgram word a → NamesProgram word b → a ≡ b
 one_path word a b x y = same_rest (codes "program=") a b (sym x.0 ∙ y.0)
+
+one_board : (word a b : List ℕ) → NamesBoard word a → NamesBoard word b → a ≡ b
+one_board word a b x y = same_rest (codes "board=") a b (sym x.0 ∙ y.0)
 
 one_name : (word a b : List ℕ) → NamesAction word a → NamesAction word b → a ≡ b
 one_name word a b x y =
@@ -50,29 +59,46 @@ one_asked word a b x y = same_names x.spells y.spells (same_rest (codes "do=") x
 one_left_out : (word : List ℕ) (a b : List (List ℕ)) → LeavesOut word a → LeavesOut word b → a ≡ b
 one_left_out word a b x y = same_names x.spells y.spells (same_rest (codes "skip=") x.spelling y.spelling (sym x.key ∙ y.key))
 
--- the first letter of a key tells it apart
-abbrev letter : WordKey → ℕ
-letter Program = 112
-letter Action = 97
-letter Do = 100
-letter Skip = 115
-letter Turns = 116
+-- yes is not no
+not_both : (word : List ℕ) → word ≡ codes "pins=yes" → word ≡ codes "pins=no" → ⊥
+not_both word x y = let e : ◌≡◌ {A = ℕ} 8 7 = ap (λ (w : List ℕ). length w) (sym x ∙ y) in omega arith
 
-has_letter : (word : List ℕ) (part : Part) → GivesPart word part → first_byte word ≡ letter (key_of part)
-unfolding first_byte
-has_letter word (ProgramIn path) x = ap first_byte x.0
-has_letter word (ActionNamed name) x = ap first_byte x.key
-has_letter word (NamesAsked names) x = ap first_byte x.key
-has_letter word (NamesSkipped names) x = ap first_byte x.key
-has_letter word (TurnsAtMost n) x = ap first_byte x.key
+one_answer : (word : List ℕ) (a b : Bool) → NamesPins word a → NamesPins word b → a ≡ b
+one_answer word true true x y = refl
+one_answer word false false x y = refl
+one_answer word true false x y = absurd (not_both word x y)
+one_answer word false true x y = absurd (not_both word y x)
+
+-- the first two letters of a key tell it apart
+abbrev letters : WordKey → ℕ
+letters Board = 25199
+letters Program = 28786
+letters Action = 24931
+letters Do = 25711
+letters Skip = 29547
+letters Turns = 29813
+letters Pins = 28777
+
+has_letters : (word : List ℕ) (part : Part) → GivesPart word part → first_two word ≡ letters (key_of part)
+unfolding first_two
+has_letters word (BoardIn path) x = ap first_two x.0
+has_letters word (ProgramIn path) x = ap first_two x.0
+has_letters word (ActionNamed name) x = ap first_two x.key
+has_letters word (NamesAsked names) x = ap first_two x.key
+has_letters word (NamesSkipped names) x = ap first_two x.key
+has_letters word (TurnsAtMost n) x = ap first_two x.key
+has_letters word (PinsWritten true) x = ap first_two x
+has_letters word (PinsWritten false) x = ap first_two x
 
 one_part : (word : List ℕ) (a b : Part) → GivesPart word a → GivesPart word b → a ≡ b
+one_part word (BoardIn p) (BoardIn q) x y = ap BoardIn (one_board word p q x y)
 one_part word (ProgramIn p) (ProgramIn q) x y = ap ProgramIn (one_path word p q x y)
 one_part word (ActionNamed p) (ActionNamed q) x y = ap ActionNamed (one_name word p q x y)
 one_part word (NamesAsked p) (NamesAsked q) x y = ap NamesAsked (one_asked word p q x y)
 one_part word (NamesSkipped p) (NamesSkipped q) x y = ap NamesSkipped (one_left_out word p q x y)
 one_part word (TurnsAtMost p) (TurnsAtMost q) x y = ap TurnsAtMost (one_number word p q x y)
-one_part word a b x y = let e = has_letter word a x in let f = has_letter word b y in absurd (omega arith)
+one_part word (PinsWritten p) (PinsWritten q) x y = ap PinsWritten (one_answer word p q x y)
+one_part word a b x y = let e = has_letters word a x in let f = has_letters word b y in absurd (omega arith)
 
 -- Names that are spelled between commas are those that are read.
 
@@ -100,19 +126,21 @@ pub adds_refused : {word : List ℕ} {values : Values} (part : Part) → GivesPa
 adds_refused {word = word} {values = values} part gives r =
     record { refused = λ other given. subst (Refuses values) (one_part word part other gives given) r }
 
-no_part : (word : List ℕ) (values : Values) → ((path : List ℕ) → NamesProgram word path → ⊥) → ((name : List ℕ) → NamesAction word name → ⊥) →
+no_part : (word : List ℕ) (values : Values) → ((path : List ℕ) → NamesBoard word path → ⊥) → ((path : List ℕ) → NamesProgram word path → ⊥) → ((name : List ℕ) → NamesAction word name → ⊥) →
     ((names : List (List ℕ)) → AsksFor word names → ⊥) → ((names : List (List ℕ)) → LeavesOut word names → ⊥) →
-    ((n : ℕ) → NamesTurns word n → ⊥) → (part : Part) → GivesPart word part → Refuses values part
-no_part word values p a d s t (ProgramIn path) g = absurd (p path g)
-no_part word values p a d s t (ActionNamed name) g = absurd (a name g)
-no_part word values p a d s t (NamesAsked names) g = absurd (d names g)
-no_part word values p a d s t (NamesSkipped names) g = absurd (s names g)
-no_part word values p a d s t (TurnsAtMost n) g = absurd (t n g)
+    ((n : ℕ) → NamesTurns word n → ⊥) → ((written : Bool) → NamesPins word written → ⊥) → (part : Part) → GivesPart word part → Refuses values part
+no_part word values b p a d s t w (BoardIn path) g = absurd (b path g)
+no_part word values b p a d s t w (ProgramIn path) g = absurd (p path g)
+no_part word values b p a d s t w (ActionNamed name) g = absurd (a name g)
+no_part word values b p a d s t w (NamesAsked names) g = absurd (d names g)
+no_part word values b p a d s t w (NamesSkipped names) g = absurd (s names g)
+no_part word values b p a d s t w (TurnsAtMost n) g = absurd (t n g)
+no_part word values b p a d s t w (PinsWritten written) g = absurd (w written g)
 
-pub adds_no_part : {word : List ℕ} {values : Values} → ((path : List ℕ) → NamesProgram word path → ⊥) → ((name : List ℕ) → NamesAction word name → ⊥) →
+pub adds_no_part : {word : List ℕ} {values : Values} → ((path : List ℕ) → NamesBoard word path → ⊥) → ((path : List ℕ) → NamesProgram word path → ⊥) → ((name : List ℕ) → NamesAction word name → ⊥) →
     ((names : List (List ℕ)) → AsksFor word names → ⊥) → ((names : List (List ℕ)) → LeavesOut word names → ⊥) →
-    ((n : ℕ) → NamesTurns word n → ⊥) → AddsNothing values word
-adds_no_part {word = word} {values = values} p a d s t = record { refused = no_part word values p a d s t }
+    ((n : ℕ) → NamesTurns word n → ⊥) → ((written : Bool) → NamesPins word written → ⊥) → AddsNothing values word
+adds_no_part {word = word} {values = values} b p a d s t w = record { refused = no_part word values b p a d s t w }
 
 -- The first word is that of at most one mode.
 
@@ -161,9 +189,9 @@ one_given words n p q read same x y =
 
 -- One word more is read.
 
-pub nothing_read : (words : List (List ℕ)) (values : Values) → HasMode words values.mode → values.program ≡ None → values.action ≡ None → values.todo ≡ None →
-    values.skip ≡ None → values.turns ≡ None → AreReadUpTo words 1 values
-nothing_read words values mode p a d s t = record {
+pub nothing_read : (words : List (List ℕ)) (values : Values) → HasMode words values.mode → values.board ≡ None → values.program ≡ None → values.action ≡ None →
+    values.todo ≡ None → values.skip ≡ None → values.turns ≡ None → values.pins ≡ None → AreReadUpTo words 1 values
+nothing_read words values mode b p a d s t w = record {
   mode = mode;
   read = first_is;
   give = none_given;
@@ -175,14 +203,16 @@ nothing_read words values mode p a d s t = record {
     first_is (suc place) lt = absurd (omega arith)
 
     not_given : (part : Part) → IsGivenBefore words 1 part → ⊥
-    not_given part g = let b = g.behind in let w = g.before in omega arith
+    not_given part g = let behind = g.behind in let before = g.before in omega arith
 
     none_given : (key : WordKey) → GiveOf words 1 key (given_of values key)
+    none_given Board = rw b (λ part e g. not_given part g)
     none_given Program = rw p (λ part e g. not_given part g)
     none_given Action = rw a (λ part e g. not_given part g)
     none_given Do = rw d (λ part e g. not_given part g)
     none_given Skip = rw s (λ part e g. not_given part g)
     none_given Turns = rw t (λ part e g. not_given part g)
+    none_given Pins = rw w (λ part e g. not_given part g)
 
 -- what is known of a key where another part is read
 keeps : (words : List (List ℕ)) (n : ℕ) (key : WordKey) (part : Part) (found : Option Part) → GivesPart (word_at words n) part → key_of part ≢ key →
@@ -202,11 +232,13 @@ keeps words n key part (Some p) gives other found =
 gives_key : (words : List (List ℕ)) (n : ℕ) (values : Values) (part : Part) → IsGivenBefore words (n + 1) part →
     ((key : WordKey) → key_of part ≢ key → GiveOf words (n + 1) key (given_of values key)) →
     (key : WordKey) → GiveOf words (n + 1) key (given_of (with_part values part) key)
+gives_key words n values (BoardIn path) here keep Board = (refl, here)
 gives_key words n values (ProgramIn path) here keep Program = (refl, here)
 gives_key words n values (ActionNamed name) here keep Action = (refl, here)
 gives_key words n values (NamesAsked names) here keep Do = (refl, here)
 gives_key words n values (NamesSkipped names) here keep Skip = (refl, here)
 gives_key words n values (TurnsAtMost k) here keep Turns = (refl, here)
+gives_key words n values (PinsWritten written) here keep Pins = (refl, here)
 gives_key words n values part here keep key = keep key (λ e. cc)
 
 none_back : {A B : Type 0} (f : A → B) (found : Option A) → option_map f found ≡ None → one_if_some found ≡ 0
@@ -214,11 +246,13 @@ none_back f None e = refl
 none_back f (Some x) e = absurd cc
 
 counted : (values : Values) (part : Part) → given_of values (key_of part) ≡ None → count_of (with_part values part) ≡ count_of values + 1
+counted values (BoardIn path) e = let none = none_back BoardIn values.board e in omega arith
 counted values (ProgramIn path) e = let none = none_back ProgramIn values.program e in omega arith
 counted values (ActionNamed name) e = let none = none_back ActionNamed values.action e in omega arith
 counted values (NamesAsked names) e = let none = none_back NamesAsked values.todo e in omega arith
 counted values (NamesSkipped names) e = let none = none_back NamesSkipped values.skip e in omega arith
 counted values (TurnsAtMost n) e = let none = none_back TurnsAtMost values.turns e in omega arith
+counted values (PinsWritten written) e = let none = none_back PinsWritten values.pins e in omega arith
 
 read_new : (words : List (List ℕ)) (mode : Mode) (place : ℕ) → 0 < place → HasMode words mode → GivesNew mode words place → IsRead words place
 read_new words mode zero behind has new = absurd (omega arith)
@@ -238,11 +272,13 @@ new_part words n part values give free taken gives =
     record { part = part; gives = gives; taken = taken; new = λ other g e. none other e g }
 
 same_mode : (values : Values) (part : Part) → (with_part values part).mode ≡ values.mode
+same_mode values (BoardIn path) = refl
 same_mode values (ProgramIn path) = refl
 same_mode values (ActionNamed name) = refl
 same_mode values (NamesAsked names) = refl
 same_mode values (NamesSkipped names) = refl
 same_mode values (TurnsAtMost n) = refl
+same_mode values (PinsWritten written) = refl
 
 one_part_more : (words : List (List ℕ)) (n : ℕ) (part : Part) (old new : Values) → 0 < n → AreReadUpTo words n old → GivesPart (word_at words n) part → Adds old part new →
     AreReadUpTo words (n + 1) new
@@ -263,15 +299,17 @@ pub one_word_more : (words : List (List ℕ)) (n : ℕ) (old new : Values) → 0
     AreReadUpTo words (n + 1) new
 one_word_more words n old new behind r adds = one_part_more words n adds.part old new behind r adds.gives adds.adds
 
--- at most five values are given
-pub few_read : {words : List (List ℕ)} {n : ℕ} {values : Values} → AreReadUpTo words n values → n ≤ 6
+-- at most seven values are given
+pub few_read : {words : List (List ℕ)} {n : ℕ} {values : Values} → AreReadUpTo words n values → n ≤ 8
 few_read {values = values} r =
     let f = r.few in
+    let b = at_most_one values.board in
     let p = at_most_one values.program in
     let a = at_most_one values.action in
     let d = at_most_one values.todo in
     let s = at_most_one values.skip in
     let t = at_most_one values.turns in
+    let w = at_most_one values.pins in
     omega arith
   where
     at_most_one : {A : Type 0} (found : Option A) → one_if_some found ≤ 1
@@ -308,6 +346,10 @@ turns_read : (words : List (List ℕ)) (turns : Option ℕ) → GiveOf words (le
 turns_read words None none = turns_usual (λ n g. none (TurnsAtMost n) refl g)
 turns_read words (Some n) give = turns_given n give.1
 
+pins_read : (words : List (List ℕ)) (pins : Option Bool) → GiveOf words (length words) Pins (option_map PinsWritten pins) → AskPins words (pins_or_usual pins)
+pins_read words None none = pins_usual (λ written g. none (PinsWritten written) refl g)
+pins_read words (Some written) give = pins_given written give.1
+
 names_read : (words : List (List ℕ)) (part : List (List ℕ) → Part) (key : WordKey) (names : Option (List (List ℕ))) → ((list : List (List ℕ)) → key_of (part list) ≡ key) →
     GiveOf words (length words) key (option_map part names) → AskNames words part (names_or_none names)
 names_read words part key None of_key none = names_missing (λ list g. none (part list) (of_key list) g)
@@ -327,26 +369,30 @@ not_lacking true false h e = absurd cc
 not_lacking false some h e = absurd cc
 
 -- no mode needs any of these keys
-pub not_needed : (mode : Mode) → (needs mode Do ≡ false) × (needs mode Skip ≡ false) × (needs mode Turns ≡ false)
-not_needed modes.Play = (refl, refl, refl)
-not_needed modes.Check = (refl, refl, refl)
-not_needed modes.List = (refl, refl, refl)
+pub not_needed : (mode : Mode) → (needs mode Do ≡ false) × (needs mode Skip ≡ false) × (needs mode Turns ≡ false) × (needs mode Pins ≡ false)
+not_needed modes.Play = (refl, refl, refl, refl)
+not_needed modes.Check = (refl, refl, refl, refl)
+not_needed modes.List = (refl, refl, refl, refl)
 
 -- if no needed key is missing, each needed key is given
 is_there : (values : Values) (key : WordKey) → is_complete values ≡ true → needs values.mode key ≡ true → is_some (given_of values key) ≡ true
-is_there values Program h e = not_lacking _ _ (and_parts (not (lacks values Program)) _ h).0 e
-is_there values Action h e = not_lacking _ _ (and_parts (not (lacks values Program)) _ h).1 e
+is_there values Board h e = not_lacking _ _ (and_parts (not (lacks values Board)) _ h).0 e
+is_there values Program h e = not_lacking _ _ (and_parts (not (lacks values Program)) _ (and_parts (not (lacks values Board)) _ h).1).0 e
+is_there values Action h e = not_lacking _ _ (and_parts (not (lacks values Program)) _ (and_parts (not (lacks values Board)) _ h).1).1 e
 is_there values Do h e = let none = (not_needed values.mode).0 in absurd cc
 is_there values Skip h e = let none = (not_needed values.mode).1 in absurd cc
 is_there values Turns h e = let none = (not_needed values.mode).2 in absurd cc
+is_there values Pins h e = let none = (not_needed values.mode).3 in absurd cc
 
 -- and so the request has it
 request_has : (values : Values) (request : Request) (key : WordKey) → HasValues values request → is_some (given_of values key) ≡ true → has_key request key ≡ true
+request_has values request Board h e = ap (λ (p : Option (List ℕ)). is_some p) h.board ∙ mapped_some BoardIn values.board e
 request_has values request Program h e = ap (λ (p : Option (List ℕ)). is_some p) h.program ∙ mapped_some ProgramIn values.program e
 request_has values request Action h e = ap (λ (p : Option (List ℕ)). is_some p) h.action_named ∙ mapped_some ActionNamed values.action e
 request_has values request Do h e = refl
 request_has values request Skip h e = refl
 request_has values request Turns h e = refl
+request_has values request Pins h e = refl
 
 pub request_read : {words : List (List ℕ)} {request : Request} (values : Values) → AreReadUpTo words (length words) values → is_complete values ≡ true →
     HasValues values request → IsRequest words request
@@ -356,11 +402,13 @@ request_read {words = words} {request = request} values r complete h = record {
   needed = record {
     has = λ key e. request_has values request key h (is_there values key complete (ap (λ (m : Mode). needs m key) (sym h.mode) ∙ e));
   };
+  board = subst (λ (p : Option (List ℕ)). GiveOf words (length words) Board (option_map BoardIn p)) (sym h.board) (r.give Board);
   program = subst (λ (p : Option (List ℕ)). GiveOf words (length words) Program (option_map ProgramIn p)) (sym h.program) (r.give Program);
   action_named = subst (λ (p : Option (List ℕ)). GiveOf words (length words) Action (option_map ActionNamed p)) (sym h.action_named) (r.give Action);
   todo_asked = subst (AskNames words NamesAsked) (sym h.todo_are) (names_read words NamesAsked Do values.todo (λ list. refl) (r.give Do));
   skip_asked = subst (AskNames words NamesSkipped) (sym h.skip_are) (names_read words NamesSkipped Skip values.skip (λ list. refl) (r.give Skip));
   turns_asked = subst (AskTurns words) (sym h.turns_are) (turns_read words values.turns (r.give Turns));
+  pins_asked = subst (AskPins words) (sym h.pins_are) (pins_read words values.pins (r.give Pins));
 }
 
 -- a needed key is missing
@@ -379,14 +427,16 @@ lack_of values key h =
     let l = is_lacking (needs values.mode key) (is_some (given_of values key)) h in
     record { key = key; needed = l.0; absent = l.1 }
 
-one_lacks : (values : Values) (a b : Bool) → lacks values Program ≡ a → lacks values Action ≡ b → (not a && not b) ≡ false → LackKey values
-one_lacks values true b p q h = lack_of values Program p
-one_lacks values false true p q h = lack_of values Action q
-one_lacks values false false p q h = absurd cc
+one_lacks : (values : Values) (a b c : Bool) → lacks values Board ≡ a → lacks values Program ≡ b → lacks values Action ≡ c →
+    (not a && (not b && not c)) ≡ false → LackKey values
+one_lacks values true b c p q r h = lack_of values Board p
+one_lacks values false true c p q r h = lack_of values Program q
+one_lacks values false false true p q r h = lack_of values Action r
+one_lacks values false false false p q r h = absurd cc
 
 pub key_lacks : {words : List (List ℕ)} (values : Values) → AreReadUpTo words (length words) values → is_complete values ≡ false → IsUsage words (length words + 1)
 key_lacks {words = words} values r h =
-    let l = one_lacks values (lacks values Program) (lacks values Action) refl refl h in
+    let l = one_lacks values (lacks values Board) (lacks values Program) (lacks values Action) refl refl refl h in
     is_missing r.read (lack_key values.mode l.key r.mode l.needed (key_missing words l.key (given_of values l.key) (r.give l.key) l.absent))
 
 -- Words that do not begin with a mode.

@@ -1,7 +1,6 @@
--- What the tool answers: a text and a status, by the words and the files. It is defined where the file that the words
--- name is held.
-use Rattle.std.specs.Prelude.{◌≡◌, ℕ, pos, List, codes, Option, Some}
-use Rattle.tool_io.specs.Files.{file_of}
+-- What the tool answers: a text and a status, by the words and the files. It is defined where the files are held that
+-- are read before the answer is found: the board first, and the program after a board that is right.
+use Rattle.std.specs.Prelude.{◌≡◌, ℕ, pos, Bool, List, map, codes, Option, Some}
 use Rattle.stapl_lexer.specs.declared.reason.Reason.{Reason}
 use Rattle.stapl_lexer.specs.declared.reason.Reason.TheVariants as reasons
 use Rattle.stapl_syntax.specs.Trees.{StmtTree}
@@ -12,17 +11,22 @@ use Rattle.stapl_meaning.specs.declared.events.Ending.TheVariants as endings
 use Rattle.stapl_meaning.specs.Choices.{Choice, choice_of}
 use Rattle.stapl_meaning.specs.Choices as choices
 use Rattle.stapl_meaning.specs.Scopes.{Played, as_played}
-use Rattle.stapl_meaning.specs.Plays.{play, ending_of}
+use Rattle.stapl_meaning.specs.Plays.{Run, play, ending_of}
 use Rattle.stapl_meaning.specs.Texts.{text_of}
+use Rattle.dev_card.specs.declared.desc.Desc.{Desc}
+use Rattle.dev_card.specs.Card.{fresh}
+use Rattle.dev_card.specs.FarEnds.{Told}
+use Rattle.board_text.specs.declared.reason.BoardReason.{BoardReason}
 use Rattle.play_tool.specs.declared.mode.Mode.{Mode}
 use Rattle.play_tool.specs.declared.mode.Mode.TheVariants as modes
 use Rattle.play_tool.specs.declared.words.Request.{Request}
 use Rattle.play_tool.specs.declared.status.Status.{Status}
-use Rattle.play_tool.specs.declared.status.Status.TheVariants.{Done, Fault, Spent, Refused, NoAction, BadChoice, Usage, ReadFault, WriteFault, Memory}
+use Rattle.play_tool.specs.declared.status.Status.TheVariants.{Done, Fault, Spent, Refused, BoardRefused, NoAction, BadChoice, Usage, ReadFault, WriteFault, Memory}
 use Rattle.play_tool.specs.Checks.{Checks}
 use Rattle.play_tool.specs.Listings.{Lists}
-use Rattle.play_tool.specs.Texts.{number_line, refusal_line}
+use Rattle.play_tool.specs.Texts.{number_line, refusal_line, board_refusal_line}
 use Rattle.play_tool.specs.Words.{IsRequest, IsUsage}
+use Rattle.play_tool.specs.Boards.{file_named, HasBoard, HasBoardFault}
 
 -- the status of a play that ends so
 abbrev pub done_with : Ending → Status
@@ -31,72 +35,100 @@ done_with (endings.Fault k piece) = Fault k piece
 done_with endings.Spent = Spent
 
 -- What is written of a play, and the status, by what a choice came to: the program has no such action, a name cannot be
--- chosen, or the chosen procedures are played for at most so many turns. A play that still goes on after them is spent.
-pub data Plays (program : Played) (choice : Choice) (turns : ℕ) : List ℕ → Status → Type 0 where
-  no_action : choice ≡ choices.no_action → Plays program choice turns (codes "R action\n") NoAction
-  bad_choice : choice ≡ choices.bad_choice → Plays program choice turns (codes "R choice\n") BadChoice
-  played : (chosen : List ℕ) (ending : Ending) → choice ≡ choices.chosen chosen → ending_of (play program chosen turns).outcome ≡ Some ending →
-      Plays program choice turns (text_of (play program chosen turns).events ending) (done_with ending)
+-- chosen, or the chosen procedures are played, with the clocks in the text if they are asked for. A play that still goes
+-- on after its turns is spent.
+pub data Plays (choice : Choice) (plays : List ℕ → Run) (pins : Bool) : List ℕ → Status → Type 0 where
+  no_action : choice ≡ choices.no_action → Plays choice plays pins (codes "R action\n") NoAction
+  bad_choice : choice ≡ choices.bad_choice → Plays choice plays pins (codes "R choice\n") BadChoice
+  played : (chosen : List ℕ) (ending : Ending) → choice ≡ choices.chosen chosen → ending_of (plays chosen).outcome ≡ Some ending →
+      Plays choice plays pins (text_of pins (plays chosen).events ending) (done_with ending)
 
--- the play of the action of this name, if the request asks for these names and leaves these out
-abbrev pub PlaysAction : List StmtTree → List ℕ → Request → (List ℕ → Status → Type 0)
-PlaysAction program action request =
-    Plays (as_played program) (choice_of (as_played program) action request.todo request.skip) request.turns
+-- the play of chosen procedures for at most so many turns, on a board of these devices after power-up
+abbrev pub play_on : Played → ℕ → List Desc → List ℕ → Run
+play_on program turns devices chosen = play program chosen turns (Told (map fresh devices))
+
+-- The play of the action of this name on a board of these devices, if the request asks for these names and leaves these
+-- out.
+abbrev pub PlaysAction : List StmtTree → List ℕ → Request → List Desc → (List ℕ → Status → Type 0)
+PlaysAction program action request devices =
+    Plays (choice_of (as_played program) action request.todo request.skip) (play_on (as_played program) request.turns devices) request.pins
 
 -- the play of the action that a request names
-pub record PlaysAsked (program : List StmtTree) (request : Request) (text : List ℕ) (status : Status) : Type 0 where
+pub record PlaysAsked (program : List StmtTree) (request : Request) (devices : List Desc) (text : List ℕ) (status : Status) : Type 0 where
   pub action : List ℕ
   pub asked : request.action ≡ Some action
-  pub plays : PlaysAction program action request text status
+  pub plays : PlaysAction program action request devices text status
 
--- The play that a request asks for, of a text that is a program: a piece of it is not built yet, or the action that is
--- named is played.
-pub data PlaysText (request : Request) (bytes : List ℕ) (program : List StmtTree) : List ℕ → Status → Type 0 where
+-- The play that a request asks for, on a board of these devices, of a text that is a program: a piece of it is not built
+-- yet, or the action that is named is played.
+pub data PlaysText (request : Request) (devices : List Desc) (bytes : List ℕ) (program : List StmtTree) : List ℕ → Status → Type 0 where
   unbuilt : (piece line : ℕ) → IsUnbuiltAt bytes program piece line →
-      PlaysText request bytes program (refusal_line piece line reasons.NotYetBuilt) (Refused piece reasons.NotYetBuilt)
-  built : (text : List ℕ) (status : Status) → IsBuiltProgram bytes program → PlaysAsked program request text status →
-      PlaysText request bytes program text status
+      PlaysText request devices bytes program (refusal_line piece line reasons.NotYetBuilt) (Refused piece reasons.NotYetBuilt)
+  built : (text : List ℕ) (status : Status) → IsBuiltProgram bytes program → PlaysAsked program request devices text status →
+      PlaysText request devices bytes program text status
 
 -- What each mode does with a text that is a program.
-abbrev pub Work : Request → List ℕ → List StmtTree → Mode → (List ℕ → Status → Type 0)
-Work request bytes program modes.Play = PlaysText request bytes program
-Work request bytes program modes.Check = Checks bytes program
-Work request bytes program modes.List = Lists program
+abbrev pub Work : Request → List Desc → List ℕ → List StmtTree → Mode → (List ℕ → Status → Type 0)
+Work request devices bytes program modes.Play = PlaysText request devices bytes program
+Work request devices bytes program modes.Check = Checks bytes program
+Work request devices bytes program modes.List = Lists program
 
 -- What is written for a text, and the status: it is refused at its first fault, or it is a program, and the mode's work
 -- is done.
-pub data TextAnswer (request : Request) (bytes : List ℕ) : List ℕ → Status → Type 0 where
+pub data TextAnswer (request : Request) (devices : List Desc) (bytes : List ℕ) : List ℕ → Status → Type 0 where
   refused : (piece line : ℕ) (reason : Reason) → FirstFault bytes piece line reason →
-      TextAnswer request bytes (refusal_line piece line reason) (Refused piece reason)
+      TextAnswer request devices bytes (refusal_line piece line reason) (Refused piece reason)
   accepted : (program : List StmtTree) (text : List ℕ) (status : Status) → IsProgram bytes program →
-      Work request bytes program request.mode text status → TextAnswer request bytes text status
+      Work request devices bytes program request.mode text status → TextAnswer request devices bytes text status
 
 -- The same for a file, where it is held.
-pub record FileAnswer (request : Request) (file : Option (List ℕ)) (text : List ℕ) (status : Status) : Type 0 where
+pub record FileAnswer (request : Request) (devices : List Desc) (file : Option (List ℕ)) (text : List ℕ) (status : Status) : Type 0 where
   pub bytes : List ℕ
   pub held : file ≡ Some bytes
-  pub answer : TextAnswer request bytes text status
+  pub answer : TextAnswer request devices bytes text status
 
--- The words name this file.
-pub record NamesFile (words : List (List ℕ)) (request : Request) (path : List ℕ) : Type 0 where
-  pub asks : IsRequest words request
-  pub program : request.program ≡ Some path
+-- The bytes of the two files of a request, each where it is held.
+pub record Contents : Type 0 where
+  pub board : Option (List ℕ)
+  pub program : Option (List ℕ)
 
--- The answer to the words: they are refused, or what they ask is done with the file that they name.
-pub data Answer (words : List (List ℕ)) (files : List (List ℕ × List ℕ)) : List ℕ → Status → Type 0 where
-  usage : (n : ℕ) → IsUsage words n → Answer words files (number_line (codes "R usage ") (pos n)) (Usage n)
-  asked : (request : Request) (path text : List ℕ) (status : Status) → NamesFile words request path → FileAnswer request (file_of files path) text status →
-      Answer words files text status
+-- those that a store holds
+abbrev pub contents_in : List (List ℕ × List ℕ) → Request → Contents
+contents_in files request = record { board = file_named files request.board; program = file_named files request.program }
+
+-- The answer to a request: its board is refused at its first fault, or is of these devices, and the answer is that for
+-- the program. A request that names no board has no devices.
+pub data RequestAnswer (request : Request) (contents : Contents) : List ℕ → Status → Type 0 where
+  board_refused : (line : ℕ) (reason : BoardReason) → HasBoardFault request.board contents.board line reason →
+      RequestAnswer request contents (board_refusal_line line reason) (BoardRefused line reason)
+  board_read : (devices : List Desc) (text : List ℕ) (status : Status) → HasBoard request.board contents.board devices →
+      FileAnswer request devices contents.program text status → RequestAnswer request contents text status
+
+-- The answer to the words, with these contents of the files of each request: they are refused, or what they ask is
+-- answered.
+pub data WordsAnswer (words : List (List ℕ)) (contents_of : Request → Contents) : List ℕ → Status → Type 0 where
+  usage : (n : ℕ) → IsUsage words n → WordsAnswer words contents_of (number_line (codes "R usage ") (pos n)) (Usage n)
+  asked : (request : Request) (text : List ℕ) (status : Status) → IsRequest words request → RequestAnswer request (contents_of request) text status →
+      WordsAnswer words contents_of text status
+
+-- The answer to the words and the files of a store.
+abbrev pub Answer : List (List ℕ) → List (List ℕ × List ℕ) → (List ℕ → Status → Type 0)
+Answer words files = WordsAnswer words (contents_in files)
 
 -- The answer for some text: that which the file gave, whether the store tells it or not.
-pub record SomeTextAnswer (request : Request) (text : List ℕ) (status : Status) : Type 0 where
+pub record SomeTextAnswer (request : Request) (devices : List Desc) (text : List ℕ) (status : Status) : Type 0 where
   pub bytes : List ℕ
-  pub answer : TextAnswer request bytes text status
+  pub answer : TextAnswer request devices bytes text status
 
--- The answer to the words and some files: those that the store gave, whether it tells them or not.
+-- The answer to a request for some contents of its files: those that the store gave, whether it tells them or not.
+pub record SomeRequestAnswer (request : Request) (text : List ℕ) (status : Status) : Type 0 where
+  pub contents : Contents
+  pub answer : RequestAnswer request contents text status
+
+-- The same for words.
 pub record SomeFilesAnswer (words : List (List ℕ)) (text : List ℕ) (status : Status) : Type 0 where
-  pub files : List (List ℕ × List ℕ)
-  pub answer : Answer words files text status
+  pub contents : Contents
+  pub answer : WordsAnswer words (λ request. contents) text status
 
 -- the status is a fault of reading or writing, or want of memory
 abbrev pub IsFault : Status → Type 0
@@ -107,6 +139,7 @@ IsFault (Done code) = ⊥
 IsFault (Fault k piece) = ⊥
 IsFault Spent = ⊥
 IsFault (Refused piece reason) = ⊥
+IsFault (BoardRefused line reason) = ⊥
 IsFault NoAction = ⊥
 IsFault BadChoice = ⊥
 IsFault (Usage n) = ⊥

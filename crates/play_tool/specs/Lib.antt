@@ -6,4 +6,6 @@ pub mod Written
 pub mod CodePlays
 pub mod Checks
 pub mod Listings
+pub mod Boards
 pub mod Answers
+pub mod Racks

@@ -3,6 +3,8 @@ use Rattle.std.specs.Prelude.{ℕ, ℤ, pos, List, [], ◌∷◌, ◌++◌, code
 use Rattle.std.specs.Fmt.{signed_decimal}
 use Rattle.stapl_lexer.specs.declared.reason.Reason.{Reason}
 use Rattle.stapl_lexer.specs.Reasons.{reason_name}
+use Rattle.board_text.specs.declared.reason.BoardReason.{BoardReason}
+use Rattle.board_text.specs.Reasons as boards
 
 -- a label and a number
 abbrev pub labelled : List ℕ → ℤ → List ℕ
@@ -23,3 +25,7 @@ place_text piece line = labelled (codes "R program ") (pos piece) ++ labelled (c
 -- the line of a refused program: its piece, the line of that, and the reason
 abbrev pub refusal_line : ℕ → ℕ → Reason → List ℕ
 refusal_line piece line reason = place_text piece line ++ codes " " ++ word_line (reason_name reason)
+
+-- the line of a refused board: its line, and the reason
+abbrev pub board_refusal_line : ℕ → BoardReason → List ℕ
+board_refusal_line line reason = labelled (codes "R board ") (pos line) ++ codes " " ++ word_line (boards.reason_name reason)

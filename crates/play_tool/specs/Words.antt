@@ -9,7 +9,7 @@ use Rattle.stapl_lexer.specs.ReservedWords.{is_free_name}
 use Rattle.play_tool.specs.declared.mode.Mode.{Mode}
 use Rattle.play_tool.specs.declared.mode.Mode.TheVariants as modes
 use Rattle.play_tool.specs.declared.mode.WordKey.{WordKey}
-use Rattle.play_tool.specs.declared.mode.WordKey.TheVariants.{Program, Action, Do, Skip, Turns}
+use Rattle.play_tool.specs.declared.mode.WordKey.TheVariants.{Board, Program, Action, Do, Skip, Turns, Pins}
 use Rattle.play_tool.specs.declared.words.Request.{Request}
 use Rattle.play_tool.specs.declared.words.WordsRefused.{WordsRefused}
 use Rattle.play_tool.specs.declared.words.WordsRefused.TheVariants as refusals
@@ -22,22 +22,24 @@ mode_word modes.List = codes "list"
 
 -- the keys that a mode takes
 abbrev pub keys_taken : Mode → List WordKey
-keys_taken modes.Play = Program ∷ Action ∷ Do ∷ Skip ∷ Turns ∷ []
+keys_taken modes.Play = Board ∷ Program ∷ Action ∷ Do ∷ Skip ∷ Turns ∷ Pins ∷ []
 keys_taken modes.Check = Program ∷ []
 keys_taken modes.List = Program ∷ []
 
 -- the keys that a mode cannot do without
 abbrev pub keys_needed : Mode → List WordKey
-keys_needed modes.Play = Program ∷ Action ∷ []
+keys_needed modes.Play = Board ∷ Program ∷ Action ∷ []
 keys_needed modes.Check = Program ∷ []
 keys_needed modes.List = Program ∷ []
 
 abbrev pub is_same_key : WordKey → WordKey → Bool
+is_same_key Board Board = true
 is_same_key Program Program = true
 is_same_key Action Action = true
 is_same_key Do Do = true
 is_same_key Skip Skip = true
 is_same_key Turns Turns = true
+is_same_key Pins Pins = true
 is_same_key _ _ = false
 
 -- the mode takes this key
@@ -50,18 +52,22 @@ needs mode key = list_any (is_same_key key) (keys_needed mode)
 
 -- What a word behind the mode gives: a part of the request.
 pub data Part : Type 0 where
+  BoardIn : (path : List ℕ) → Part
   ProgramIn : (path : List ℕ) → Part
   ActionNamed : (name : List ℕ) → Part
   NamesAsked : (names : List (List ℕ)) → Part
   NamesSkipped : (names : List (List ℕ)) → Part
   TurnsAtMost : (n : ℕ) → Part
+  PinsWritten : (written : Bool) → Part
 
 abbrev pub key_of : Part → WordKey
+key_of (BoardIn path) = Board
 key_of (ProgramIn path) = Program
 key_of (ActionNamed name) = Action
 key_of (NamesAsked names) = Do
 key_of (NamesSkipped names) = Skip
 key_of (TurnsAtMost n) = Turns
+key_of (PinsWritten written) = Pins
 
 -- the most turns that words may ask for, and how many there are where they ask for none
 abbrev pub most_turns : ℕ
@@ -74,6 +80,10 @@ usual_turns = 100000000
 abbrev pub is_decimal : List ℕ → Bool
 is_decimal spelling =
     not (length spelling == 0) && list_all is_ascii_digit spelling && ((length spelling == 1) || not (slice_index spelling 0 == 48))
+
+-- the word names this file as the board
+abbrev pub NamesBoard : List ℕ → List ℕ → Type 0
+NamesBoard word path = (word ≡ codes "board=" ++ path) × (path ≢ [])
 
 -- the word names this file as the program
 abbrev pub NamesProgram : List ℕ → List ℕ → Type 0
@@ -123,13 +133,20 @@ pub record NamesTurns (word : List ℕ) (turns : ℕ) : Type 0 where
   pub key : word ≡ codes "turns=" ++ spelling
   pub number : SpellsTurns spelling turns
 
+-- the word says whether the pins are to be written
+abbrev pub NamesPins : List ℕ → Bool → Type 0
+NamesPins word true = word ≡ codes "pins=yes"
+NamesPins word false = word ≡ codes "pins=no"
+
 -- the word gives this part
 abbrev pub GivesPart : List ℕ → Part → Type 0
+GivesPart word (BoardIn path) = NamesBoard word path
 GivesPart word (ProgramIn path) = NamesProgram word path
 GivesPart word (ActionNamed name) = NamesAction word name
 GivesPart word (NamesAsked names) = AsksFor word names
 GivesPart word (NamesSkipped names) = LeavesOut word names
 GivesPart word (TurnsAtMost n) = NamesTurns word n
+GivesPart word (PinsWritten written) = NamesPins word written
 
 -- the word at a place, counted from 0
 abbrev pub word_at : List (List ℕ) → ℕ → List ℕ
@@ -186,18 +203,26 @@ pub data AskTurns (words : List (List ℕ)) : ℕ → Type 0 where
   turns_given : (n : ℕ) → IsGiven words (TurnsAtMost n) → AskTurns words n
   turns_usual : ((n : ℕ) → IsGiven words (TurnsAtMost n) → ⊥) → AskTurns words usual_turns
 
+-- The words say whether the pins are to be written, or they do not say it, and the pins are not.
+pub data AskPins (words : List (List ℕ)) : Bool → Type 0 where
+  pins_given : (written : Bool) → IsGiven words (PinsWritten written) → AskPins words written
+  pins_usual : ((written : Bool) → IsGiven words (PinsWritten written) → ⊥) → AskPins words false
+
 -- The words give these names, as a part of this form, or they give none.
 pub data AskNames (words : List (List ℕ)) (part : List (List ℕ) → Part) : List (List ℕ) → Type 0 where
   names_given : (names : List (List ℕ)) → IsGiven words (part names) → AskNames words part names
   names_missing : ((names : List (List ℕ)) → IsGiven words (part names) → ⊥) → AskNames words part []
 
--- what a request has of a key; it always has a number of turns, and lists of names, which may be empty
+-- what a request has of a key; it always has a number of turns, lists of names, which may be empty, and an answer on the
+-- pins
 abbrev pub has_key : Request → WordKey → Bool
+has_key request Board = is_some request.board
 has_key request Program = is_some request.program
 has_key request Action = is_some request.action
 has_key request Do = true
 has_key request Skip = true
 has_key request Turns = true
+has_key request Pins = true
 
 -- The request has each key that its mode needs.
 pub record HasNeeded (request : Request) : Type 0 where
@@ -209,11 +234,13 @@ pub record IsRequest (words : List (List ℕ)) (request : Request) : Type 0 wher
   pub read : AreRead words
   pub mode : HasMode words request.mode
   pub needed : HasNeeded request
+  pub board : GiveOf words (length words) Board (option_map BoardIn request.board)
   pub program : GiveOf words (length words) Program (option_map ProgramIn request.program)
   pub action_named : GiveOf words (length words) Action (option_map ActionNamed request.action)
   pub todo_asked : AskNames words NamesAsked request.todo
   pub skip_asked : AskNames words NamesSkipped request.skip
   pub turns_asked : AskTurns words request.turns
+  pub pins_asked : AskPins words request.pins
 
 -- The words lack the mode, or a key that it needs.
 pub data Lack (words : List (List ℕ)) : Type 0 where

@@ -1,6 +1,7 @@
 //! The tool: its words, its answers, and its top call.
 #![tactic(auto)]
 
+mod boards;
 mod checking;
 mod file_name;
 pub mod laws;
@@ -8,6 +9,7 @@ mod listing;
 mod mode;
 mod playing;
 mod status;
+mod told;
 mod top;
 mod words;
 mod writing;

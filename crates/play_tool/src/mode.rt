@@ -15,6 +15,8 @@ pub enum Mode {
 /// The keys of the words behind the mode.
 #[derive(Clone, Copy, Debug, PartialEq, Eq)]
 pub(crate) enum WordKey {
+    /// The file of the board.
+    Board,
     /// The file of the program.
     Program,
     /// The name of the action.
@@ -25,6 +27,8 @@ pub(crate) enum WordKey {
     Skip,
     /// The most turns of the play.
     Turns,
+    /// Whether the pins are to be written.
+    Pins,
 }
 
 impl Mode {
@@ -46,8 +50,8 @@ impl Mode {
     {
         match key {
             WordKey::Program => true,
-            WordKey::Action => matches!(self, Mode::Play),
-            WordKey::Do | WordKey::Skip | WordKey::Turns => false,
+            WordKey::Board | WordKey::Action => matches!(self, Mode::Play),
+            WordKey::Do | WordKey::Skip | WordKey::Turns | WordKey::Pins => false,
         }
     }
 }

@@ -2,10 +2,9 @@
 ghost use Rattle.std.specs.Prelude.{◌≡◌};
 ghost use Rattle.play_tool.specs.Codes.{exit_code_of};
 ghost use Rattle.play_tool.specs.declared.status.NoAnswer.TheVariants.{Write, Memory};
-ghost use Rattle.play_tool.specs.CodePlays.{no_answer_of};
 
+use board_text::BoardReason;
 use stapl_lexer::Reason;
-use stapl_machine::Trouble;
 use stapl_meaning::RunFault;
 use std::alloc::AllocError;
 use thiserror::Error;
@@ -23,6 +22,9 @@ pub enum Status {
     /// The program is refused: the piece, counted from 1, of its first fault, or 0 where the text is too long, and the
     /// reason.
     Refused(u32, Reason),
+    /// The board is refused: the first faulty line, counted from 1, or 0 where the text is too long, and the reason.
+    /// The end of a board without a device is the line behind the last.
+    BoardRefused(u32, BoardReason),
     /// The program has no action of the name that the words give.
     NoAction,
     /// A name of `do` is not that of an OPTIONAL procedure of the action, or a name of `skip` not that of a RECOMMENDED
@@ -68,17 +70,6 @@ impl From<AllocError> for NoAnswer {
     }
 }
 
-impl From<Trouble> for NoAnswer {
-    ghost from_gives = { λ trouble no_answer. no_answer ≡ no_answer_of trouble };
-
-    fn from(trouble: Trouble) -> NoAnswer {
-        match trouble {
-            Trouble::WriteFault => NoAnswer::Write,
-            Trouble::Memory => NoAnswer::Memory,
-        }
-    }
-}
-
 impl Status {
     /// The exit code of the process: 0 for work that is done and for a play that ended with code 0, 1 for a play that
     /// ended with another, 2 for one that a fault ended, 3 for one whose turns are spent, and from 4 on one for each
@@ -92,6 +83,7 @@ impl Status {
             Status::Fault(_, _) => 2,
             Status::Spent => 3,
             Status::Refused(_, _) => 4,
+            Status::BoardRefused(_, _) => 5,
             Status::NoAction | Status::BadChoice => 6,
             Status::Usage(_) => 7,
             Status::ReadFault => 9,

@@ -1,10 +1,10 @@
 //! The words of a command.
-ghost use Rattle.std.specs.Prelude.{◌≡◌, ◌≤◌, ◌<◌, ◌+◌, ℕ, List, [], length, map, codes, string_bytes, is_some, None, IfSome, IfNone, IfOk, IfErr};
+ghost use Rattle.std.specs.Prelude.{◌≡◌, ◌≤◌, ◌<◌, ◌+◌, ℕ, Bool, List, [], length, map, codes, string_bytes, is_some, None, IfSome, IfNone, IfOk, IfErr};
 ghost use Rattle.std.specs.Char.{is_ascii_digit};
 ghost use Rattle.std.specs.List.{list_all};
 ghost use Rattle.std.specs.Option.{option_map};
 ghost use Rattle.stapl_lexer.specs.ReservedWords.{is_free_name};
-ghost use Rattle.play_tool.specs.Words.{mode_word, ProgramIn, ActionNamed, NamesAsked, NamesSkipped, TurnsAtMost, is_decimal, parts_between_commas, NamesProgram, NamesAction, SpellsNames, AsksFor, LeavesOut, SpellsTurns, NamesTurns, HasMode, IsRequest, IsFirstUnread, IsWordsRefused};
+ghost use Rattle.play_tool.specs.Words.{mode_word, BoardIn, ProgramIn, ActionNamed, NamesAsked, NamesSkipped, TurnsAtMost, PinsWritten, is_decimal, parts_between_commas, NamesBoard, NamesProgram, NamesAction, SpellsNames, AsksFor, LeavesOut, SpellsTurns, NamesTurns, NamesPins, HasMode, IsRequest, IsFirstUnread, IsWordsRefused};
 ghost use Rattle.play_tool.specs.GivenParts.{name_spelled, names_in, values_of, given_of, Adds, Refuses, AddsWord, AddsNothing, AreReadUpTo, lacks, is_complete, names_or_none, HasValues};
 ghost use Rattle.play_tool.specs.declared.mode.Mode.{Mode};
 
@@ -25,7 +25,9 @@ const USUAL_TURNS: u32 = 100_000_000;
 #[derive(Drop)]
 pub struct Request {
     pub mode: Mode,
-    /// The file of the program, which is not empty.
+    /// The file of the board, whose name is not empty.
+    pub board: Option<FileName>,
+    /// The file of the program, whose name is not empty.
     pub program: Option<FileName>,
     /// The name of the action.
     pub action: Option<Name>,
@@ -35,6 +37,8 @@ pub struct Request {
     pub skip: ItemList<Name>,
     /// The most turns that the play may take, or the usual number if the words say none.
     pub turns: u32,
+    /// Whether the clocks are to be written, as the pins see them; no if the words do not say it.
+    pub pins: bool,
 }
 
 /// Why words are no request.
@@ -53,29 +57,51 @@ pub enum WordsRefused {
 #[derive(Clone, Copy)]
 struct Given<'a> {
     mode: Mode,
+    board: Option<&'a str>,
     program: Option<&'a str>,
     action: Option<Name>,
     todo: Option<&'a str>,
     skip: Option<&'a str>,
     turns: Option<u32>,
+    pins: Option<bool>,
 }
 
 impl<'a> Given<'a> {
     fn nothing(mode: Mode) -> Given<'a>
         ensures mode { result.mode ≡ mode }
+        ensures board { result.board ≡ None }
         ensures program { result.program ≡ None }
         ensures action { result.action ≡ None }
         ensures todo { result.todo ≡ None }
         ensures skip { result.skip ≡ None }
         ensures turns { result.turns ≡ None }
+        ensures pins { result.pins ≡ None }
     {
         Given {
             mode,
+            board: None,
             program: None,
             action: None,
             todo: None,
             skip: None,
             turns: None,
+            pins: None,
+        }
+    }
+
+    fn with_board(&self, path: &'a str) -> Option<Given<'a>>
+        ensures some { IfSome result (λ next. Adds (values_of self.now) (BoardIn path.now) (values_of next)) }
+        ensures none { IfNone result (Refuses (values_of self.now) (BoardIn path.now)) }
+    {
+        if !self.mode.takes(WordKey::Board) {
+            return None;
+        }
+        match self.board {
+            Some(_) => None,
+            None => Some(Given {
+                board: Some(path),
+                ..*self
+            }),
         }
     }
 
@@ -89,12 +115,8 @@ impl<'a> Given<'a> {
         match self.program {
             Some(_) => None,
             None => Some(Given {
-                mode: self.mode,
                 program: Some(path),
-                action: self.action,
-                todo: self.todo,
-                skip: self.skip,
-                turns: self.turns,
+                ..*self
             }),
         }
     }
@@ -109,12 +131,8 @@ impl<'a> Given<'a> {
         match self.action {
             Some(_) => None,
             None => Some(Given {
-                mode: self.mode,
-                program: self.program,
                 action: Some(name),
-                todo: self.todo,
-                skip: self.skip,
-                turns: self.turns,
+                ..*self
             }),
         }
     }
@@ -130,12 +148,8 @@ impl<'a> Given<'a> {
         match self.todo {
             Some(_) => None,
             None => Some(Given {
-                mode: self.mode,
-                program: self.program,
-                action: self.action,
                 todo: Some(spelling),
-                skip: self.skip,
-                turns: self.turns,
+                ..*self
             }),
         }
     }
@@ -151,12 +165,8 @@ impl<'a> Given<'a> {
         match self.skip {
             Some(_) => None,
             None => Some(Given {
-                mode: self.mode,
-                program: self.program,
-                action: self.action,
-                todo: self.todo,
                 skip: Some(spelling),
-                turns: self.turns,
+                ..*self
             }),
         }
     }
@@ -171,12 +181,24 @@ impl<'a> Given<'a> {
         match self.turns {
             Some(_) => None,
             None => Some(Given {
-                mode: self.mode,
-                program: self.program,
-                action: self.action,
-                todo: self.todo,
-                skip: self.skip,
                 turns: Some(turns),
+                ..*self
+            }),
+        }
+    }
+
+    fn with_pins(&self, written: bool) -> Option<Given<'a>>
+        ensures some { IfSome result (λ next. Adds (values_of self.now) (PinsWritten written) (values_of next)) }
+        ensures none { IfNone result (Refuses (values_of self.now) (PinsWritten written)) }
+    {
+        if !self.mode.takes(WordKey::Pins) {
+            return None;
+        }
+        match self.pins {
+            Some(_) => None,
+            None => Some(Given {
+                pins: Some(written),
+                ..*self
             }),
         }
     }
@@ -187,6 +209,9 @@ impl<'a> Given<'a> {
         ensures some { IfSome result (λ next. AddsWord (values_of self.now) word.now (values_of next)) }
         ensures none { IfNone result (AddsNothing (values_of self.now) word.now) }
     {
+        if let Some(path) = board_path(word) {
+            return self.with_board(path);
+        }
         if let Some(path) = program_path(word) {
             return self.with_program(path);
         }
@@ -202,6 +227,9 @@ impl<'a> Given<'a> {
         if let Some(turns) = turn_count(word) {
             return self.with_turns(turns);
         }
+        if let Some(written) = pins_written(word) {
+            return self.with_pins(written);
+        }
         None
     }
 
@@ -209,11 +237,13 @@ impl<'a> Given<'a> {
         ensures { result ≡ is_some (given_of (values_of self.now) key) }
     {
         match key {
+            WordKey::Board => self.board.is_some(),
             WordKey::Program => self.program.is_some(),
             WordKey::Action => self.action.is_some(),
             WordKey::Do => self.todo.is_some(),
             WordKey::Skip => self.skip.is_some(),
             WordKey::Turns => self.turns.is_some(),
+            WordKey::Pins => self.pins.is_some(),
         }
     }
 
@@ -228,32 +258,47 @@ impl<'a> Given<'a> {
     fn is_complete(&self) -> bool
         ensures { result ≡ is_complete (values_of self.now) }
     {
-        !self.lacks(WordKey::Program) && !self.lacks(WordKey::Action)
-    }
-
-    // The name of the program's file.
-    fn file_name(&self, alloc: Global) -> Result<Option<FileName>, AllocError>
-        ensures { IfOk result (λ name. name ≡ (values_of self.now).program) }
-    {
-        match self.program {
-            Some(path) => Ok(Some(FileName::of(alloc, path)?)),
-            None => Ok(None),
-        }
+        !self.lacks(WordKey::Board)
+            && (!self.lacks(WordKey::Program) && !self.lacks(WordKey::Action))
     }
 
     // The request with the values.
     fn request(&self, alloc: Global) -> Result<Request, AllocError>
         ensures { IfOk result (HasValues (values_of self.now)) }
     {
-        let program = self.file_name(alloc)?;
+        let board = file_named(alloc, self.board)?;
+        let program = file_named(alloc, self.program)?;
         Ok(Request {
             mode: self.mode,
+            board,
             program,
             action: self.action,
             todo: names_given(alloc, self.todo)?,
             skip: names_given(alloc, self.skip)?,
             turns: self.turns.unwrap_or(USUAL_TURNS),
+            pins: self.pins.unwrap_or(false),
         })
+    }
+}
+
+// The name of a file at a path, if there is one.
+fn file_named(alloc: Global, path: Option<&str>) -> Result<Option<FileName>, AllocError>
+    ensures { IfOk result (λ name. name ≡ option_map (λ text. text.now) path.entry) }
+{
+    match path {
+        Some(path) => Ok(Some(FileName::of(alloc, path)?)),
+        None => Ok(None),
+    }
+}
+
+// The path that a word gives for the board.
+fn board_path(word: &str) -> Option<&str>
+    ensures some { IfSome result (λ path. NamesBoard word.now path.now) }
+    ensures none { IfNone result ((path : List ℕ) → NamesBoard word.now path → ⊥) }
+{
+    match word.strip_prefix("board=") {
+        Some(path) if !path.is_empty() => Some(path),
+        _ => None,
     }
 }
 
@@ -383,6 +428,20 @@ fn turn_count(word: &str) -> Option<u32>
     }
 }
 
+// What a word says of the pins.
+fn pins_written(word: &str) -> Option<bool>
+    ensures some { IfSome result (NamesPins word.now) }
+    ensures none { IfNone result ((written : Bool) → NamesPins word.now written → ⊥) }
+{
+    if word == "pins=yes" {
+        return Some(true);
+    }
+    if word == "pins=no" {
+        return Some(false);
+    }
+    None
+}
+
 // The mode that a word names.
 fn mode_named(word: &str) -> Option<Mode>
     ensures some { IfSome result (λ mode. word.now ≡ mode_word mode) }
@@ -419,7 +478,7 @@ fn read_parts(mode: Mode, words: &[String]) -> Result<Given<'_>, usize>
     ensures read { IfOk result (λ given.
         AreReadUpTo (map string_bytes words.now) (length words.now) (values_of given)) }
     ensures unread { IfErr result (IsFirstUnread (map string_bytes words.now)) }
-    ensures few { IfErr result (λ place. place ≤ 6) }
+    ensures few { IfErr result (λ place. place ≤ 8) }
 {
     let mut given = Given::nothing(mode);
     for place in 1..words.len() {

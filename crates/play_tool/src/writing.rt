@@ -4,10 +4,12 @@ ghost use Rattle.tool_io.specs.Causes.{HasCause};
 ghost use Rattle.tool_io.specs.Bytes.{then_bytes, MovesFront};
 ghost use Rattle.tool_io.specs.Lines.{IsWhole, IsOverSame, HasSinkCause, Puts, PutsFront};
 ghost use Rattle.stapl_lexer.specs.Reasons.{reason_name};
+ghost use Rattle.board_text.specs.Reasons as boards;
 ghost use Rattle.stapl_meaning.specs.Texts.{ending_line};
 ghost use Rattle.stapl_meaning.specs.declared.events.Ending.TheVariants.{Exit, Fault};
-ghost use Rattle.play_tool.specs.Texts.{labelled, word_line, number_line, place_text, refusal_line};
+ghost use Rattle.play_tool.specs.Texts.{labelled, word_line, number_line, place_text, refusal_line, board_refusal_line};
 
+use board_text::BoardReason;
 use stapl_lexer::Reason;
 use stapl_meaning::{Ending, RunFault};
 use tool_io::{Failed, Lines, Sink};
@@ -106,6 +108,26 @@ fn put_refusal<K: Sink>(
     Ok(())
 }
 
+// Puts the line of a refused board.
+#[tactic(auto, using(tool_io::proofs::PutLemmas::put_then, tool_io::proofs::PutLemmas::put_then_front, tool_io::proofs::PutLemmas::front_with))]
+fn put_board_refusal<K: Sink>(
+    lines: &mut Lines<K>,
+    line: u32,
+    reason: BoardReason,
+) -> Result<(), Failed>
+    requires { IsWhole lines.old }
+    ensures same_sink { IsOverSame lines.old lines.new }
+    ensures whole { OnOk result (IsWhole lines.new) }
+    ensures ok { OnOk result (Puts K.written lines.old (board_refusal_line line reason) lines.new) }
+    ensures front { OnErr result (PutsFront K.written lines.old (board_refusal_line line reason) lines.new) }
+    ensures cause { HasSinkCause K.faults K.is_last lines.old lines.new result }
+{
+    put_count(lines, b"R board ", line)?;
+    lines.put(b" ")?;
+    put_word_line(lines, reason.name())?;
+    Ok(())
+}
+
 // Puts the line of an exit.
 fn put_exit<K: Sink>(lines: &mut Lines<K>, code: i32) -> Result<(), Failed>
     requires { IsWhole lines.old }
@@ -178,6 +200,23 @@ pub fn write_refusal<K: Sink>(
 {
     let mut lines = Lines::new(out);
     put_refusal(&mut lines, piece, line, reason)?;
+    lines.finish()?;
+    Ok(())
+}
+
+/// Writes the line of a refused board and nothing else.
+#[tactic(auto, using(tool_io::proofs::PutLemmas::front_written, tool_io::proofs::PutLemmas::finish_front))]
+pub fn write_board_refusal<K: Sink>(
+    out: &mut K,
+    line: u32,
+    reason: BoardReason,
+) -> Result<(), Failed>
+    ensures ok { OnOk result (K.written out.new ≡ then_bytes (K.written out.old) (board_refusal_line line reason)) }
+    ensures front { OnErr result (MovesFront (K.written out.old) (board_refusal_line line reason) (K.written out.new)) }
+    ensures cause { HasCause K.faults K.is_last out.old out.new result }
+{
+    let mut lines = Lines::new(out);
+    put_board_refusal(&mut lines, line, reason)?;
     lines.finish()?;
     Ok(())
 }

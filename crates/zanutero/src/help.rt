@@ -10,19 +10,23 @@ const HELP: &[u8] = b"zanutero: checks, lists and plays STAPL programs (JEDEC JE
       first fault, and says whether its CRC is that of the text
   zanutero list program=PATH
       lists the notes of the program, and its actions with their procedures
-  zanutero play program=PATH action=NAME [do=NAME,..] [skip=NAME,..] [turns=N]
-      plays the action NAME of the program, and writes what it prints and how it
-      ends
+  zanutero play board=PATH program=PATH action=NAME [do=NAME,..] [skip=NAME,..]
+      [turns=N] [pins=yes|no]
+      plays the action NAME of the program on the board in the file board=PATH,
+      and writes what it prints and how it ends
+      board=PATH    the devices of the chain, a line for each: plain NAME IRLEN;
+                    the first is nearest TDO
       do=NAME,..    runs these OPTIONAL procedures, too
       skip=NAME,..  leaves out these RECOMMENDED procedures
       turns=N       the most turns of the play, 0 to 1000000000, or 100000000 if
                     it is missing; each statement that is played takes one
+      pins=yes      writes the clocks, too; no statement makes one yet
   zanutero --help
   zanutero --version
 
 The keys stand in any order. For example:
   zanutero check program=examples/hello.stp
-  zanutero play program=examples/hello.stp action=A
+  zanutero play board=examples/one.board program=examples/hello.stp action=A
 
 Exit codes:
   0  the program is checked or listed, or the play ended with code 0
@@ -30,10 +34,11 @@ Exit codes:
   2  a fault ended the play
   3  the play still went on after its turns
   4  the program is refused: the line R program PIECE line LINE REASON
+  5  the board is refused: the line R board LINE REASON
   6  the program has no such action: the line R action; or a name of do or skip
      is not that of such a procedure of the action: the line R choice
   7  the words are refused: the line R usage WORD
-  9  the program could not be read
+  9  the board or the program could not be read
   10 the output could not be written
   11 there was no memory, or a word is not UTF-8
 ";

@@ -4,12 +4,35 @@
 mod command;
 mod help;
 
+use chain_sim::is_rack;
+use dev_card::{Device, MOST_DEVICES};
+use dev_kinds::{Flash, Plain, Regs};
+use play_tool::Status;
+use std::alloc::AllocError;
 use std::process::ExitCode;
 use std::{env, io};
 use tool_io::{FileShelf, StdSink};
 
 /// The exit code where the words cannot be had: there is no memory for them, or one is not UTF-8.
 const NO_WORDS: u8 = 11;
+
+// Makes the devices of the rack, of each kind as many as a board may have, and runs the command with them.
+fn run(rt: &HostRuntime, words: &[String]) -> Result<Status, AllocError> {
+    let alloc = rt.alloc();
+    let mut rack: Vec<Box<dyn Device>> = Vec::new(alloc);
+    for _place in 0..MOST_DEVICES {
+        rack.push(Box::new(alloc, Plain::unfitted())?)?;
+        rack.push(Box::new(alloc, Regs::unfitted())?)?;
+        rack.push(Box::new(alloc, Flash::unfitted())?)?;
+    }
+    // It is one, which tells the proofs so.
+    if !is_rack(&rack) {
+        return Err(AllocError);
+    }
+    let mut shelf = FileShelf::new(rt);
+    let mut out = StdSink::new(io::writer(rt));
+    Ok(command::run_command(alloc, words, &mut shelf, &mut rack, &mut out))
+}
 
 fn main(rt: HostRuntime) -> ExitCode {
     let Ok(mut args) = env::args(&rt) else {
@@ -19,8 +42,6 @@ fn main(rt: HostRuntime) -> ExitCode {
     let Ok(words) = args.collect::<Vec<String>>(rt.alloc()) else {
         return ExitCode::from(NO_WORDS);
     };
-    let mut shelf = FileShelf::new(&rt);
-    let mut out = StdSink::new(io::writer(&rt));
-    let status = command::run_command(rt.alloc(), &words, &mut shelf, &mut out);
+    let status = run(&rt, &words).unwrap_or(Status::Memory);
     ExitCode::from(status.exit_code())
 }

@@ -4,12 +4,12 @@ use Rattle.play_tool.proofs.top.answer_text.Goals as goal
 
 pub returns-in-Ok-clause-ok : goal.returns-in-Ok-clause-ok
 returns-in-Ok-clause-ok g c =
-    on_ok c.work.result (λ status. wrote_within (work_answers c.args.request.now _ c.args.bytes.now _ c.in-Ok.ensures.text c.in-Ok.ensures.program)) c.work.ensures.ok
+    on_ok c.work.result (λ status. wrote_within (work_answers c.args.task.now.request.now c.args.task.now.devices.now _ c.args.bytes.now _ c.in-Ok.ensures.text c.in-Ok.ensures.program)) c.work.ensures.ok
 
 pub returns-in-Ok-clause-front : goal.returns-in-Ok-clause-front
 returns-in-Ok-clause-front g c = λ e.
-    front_within (work_answers c.args.request.now _ c.args.bytes.now _ c.in-Ok.ensures.text c.in-Ok.ensures.program) (c.work.ensures.front e)
+    front_within (work_answers c.args.task.now.request.now c.args.task.now.devices.now _ c.args.bytes.now _ c.in-Ok.ensures.text c.in-Ok.ensures.program) (c.work.ensures.front e)
 
 pub returns-in-Ok-clause-memory : goal.returns-in-Ok-clause-memory
 returns-in-Ok-clause-memory g c = λ e.
-    prefix_within (answers_work c.args.request.now _ c.args.bytes.now _ c.in-Ok.ensures.text c.in-Ok.ensures.program) (c.work.ensures.memory e)
+    prefix_within (answers_work c.args.task.now.request.now c.args.task.now.devices.now _ c.args.bytes.now _ c.in-Ok.ensures.text c.in-Ok.ensures.program) (c.work.ensures.memory e)

@@ -1,5 +1,5 @@
 use Rattle.std.proofs.Common.{Option, None, Some, IfNone}
-use Rattle.play_tool.specs.Words.{ProgramIn, ActionNamed, NamesAsked, NamesSkipped, TurnsAtMost}
+use Rattle.play_tool.specs.Words.{BoardIn, ProgramIn, ActionNamed, NamesAsked, NamesSkipped, TurnsAtMost, PinsWritten}
 use Rattle.play_tool.specs.GivenParts.{names_in}
 use Rattle.play_tool.proofs.WordLemmas.{adds_refused}
 use Rattle.play_tool.proofs.words.Given.with_word.Goals as goal
@@ -10,7 +10,11 @@ on_none (Some x) f p = tt
 
 pub returns-in-Some-clause-none : goal.returns-in-Some-clause-none
 returns-in-Some-clause-none c =
-    on_none c.with_program.result (adds_refused (ProgramIn c.in-Some.path.now) c.in-Some.ensures.some) c.with_program.ensures.none
+    on_none c.with_board.result (adds_refused (BoardIn c.in-Some.path.now) c.in-Some.ensures.some) c.with_board.ensures.none
+
+pub returns-in-Some-program_path-clause-none : goal.returns-in-Some-program_path-clause-none
+returns-in-Some-program_path-clause-none c =
+    on_none c.with_program.result (adds_refused (ProgramIn c.in-Some-program_path.path.now) c.in-Some-program_path.ensures.some) c.with_program.ensures.none
 
 pub returns-in-Some-action_name-clause-none : goal.returns-in-Some-action_name-clause-none
 returns-in-Some-action_name-clause-none c =
@@ -27,3 +31,7 @@ returns-in-Some-names_skipped-clause-none c =
 pub returns-in-Some-turn_count-clause-none : goal.returns-in-Some-turn_count-clause-none
 returns-in-Some-turn_count-clause-none c =
     on_none c.with_turns.result (adds_refused (TurnsAtMost c.in-Some-turn_count.turns) c.in-Some-turn_count.ensures.some) c.with_turns.ensures.none
+
+pub returns-in-Some-pins_written-clause-none : goal.returns-in-Some-pins_written-clause-none
+returns-in-Some-pins_written-clause-none c =
+    on_none c.with_pins.result (adds_refused (PinsWritten c.in-Some-pins_written.written) c.in-Some-pins_written.ensures.some) c.with_pins.ensures.none
