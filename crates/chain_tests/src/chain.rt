@@ -9,12 +9,12 @@ ghost use Rattle.dev_card.specs.Board.{AllIn, board_after};
 ghost use Rattle.dev_card.specs.Clocks.{move_inputs, with_zero};
 ghost use Rattle.scan_paths.specs.Cables.{whole, WhereTold};
 ghost use Rattle.chain_sim.specs.Places.{cards_at, IsAbsent, is_chain};
-ghost use Rattle.chain_sim.specs.Rack.{IsRack, IsPlain};
+ghost use Rattle.chain_sim.specs.Rack.{IsRack};
 
 use base::ItemList;
-use chain_sim::{Chain, fit_board};
-use dev_card::{Desc, Device, IdCode, Kind};
-use dev_kinds::Plain;
+use chain_sim::{Chain, fit_board, is_rack};
+use dev_card::{Desc, Device, FlashDesc, IdCode, Kind, MOST_DEVICES, RegDesc};
+use dev_kinds::{Flash, Plain, Regs};
 use scan_paths::{Cable, move_to, reset_chain};
 use stapl_lexer::Name;
 use std::alloc::{AllocError, Global};
@@ -22,11 +22,12 @@ use std::test::Fail;
 use tap_states::Tap;
 use tool_io::Failed;
 
-/// Chains by the identities of their devices, where 0 stands for none, and clocks on them as IEEE 1149.1 gives them, from idle on behind reset. A
-/// clock is a digit: TMS counts 4, TDI counts 2 and TDO counts 1. TDO is 1 outside the shift states. Instruction registers have 4 bits, and the
-/// opcode of the identification register is 0010.
+/// Chains by the identities of their devices, where 0 stands for none, and clocks on them as IEEE 1149.1 gives them,
+/// from idle on behind reset. A clock is a digit: TMS counts 4, TDI counts 2 and TDO counts 1. TDO is 1 outside the
+/// shift states. Instruction registers have 4 bits, and the opcode of the identification register is 0010.
 const CASES: [(&[u32], &[u8]); 8] = [
-    // Without identities all have BYPASS selected in reset, which captures 0 and delays by one clock: 101100 through one device and through two.
+    // Without identities all have BYPASS selected in reset, which captures 0 and delays by one clock: 101100 through
+    // one device and through two.
     (&[0], b"511212310"),
     (&[0, 0], b"511203211"),
     // The same through sixteen devices: 1011 comes out behind sixteen zeros.
@@ -34,42 +35,30 @@ const CASES: [(&[u32], &[u8]); 8] = [
         &[0, 0, 0, 0, 0, 0, 0, 0, 0, 0, 0, 0, 0, 0, 0, 0],
         b"51120220000000000001011",
     ),
-    // In reset the identification register is selected where there is one: 0x80000003 of the first device, its lowest bit first, and behind it the
-    // 0 of the second one's BYPASS, and 1 that came in first.
+    // In reset the identification register is selected where there is one: 0x80000003 of the first device, its lowest
+    // bit first, and behind it the 0 of the second one's BYPASS, and 1 that came in first.
     (&[0x8000_0003, 0], b"5113300000000000000000000000000000101"),
     // Two identities, 0x80000003 and 0x40000005.
     (
         &[0x8000_0003, 0x4000_0005],
         b"5111100000000000000000000000000000110100000000000000000000000000010",
     ),
-    // The instruction registers capture 01 in their two lowest bits, here with zeros above, and ones come through behind them.
+    // The instruction registers capture 01 in their two lowest bits, here with zeros above, and ones come through
+    // behind them.
     (&[0], b"551132223"),
     (&[0x8000_0003, 0], b"5511322232223"),
-    // BYPASS to the first device, and the opcode of its identification register to the second: their instructions are captured in the one scan
-    // of both, and then the one bit of BYPASS stands before the identity 0x40000005.
+    // BYPASS to the first device, and the opcode of its identification register to the second: their instructions are
+    // captured in the one scan of both, and then the one bit of BYPASS stands before the identity 0x40000005.
     (
         &[0x8000_0003, 0x4000_0005],
         b"5511322212045511010100000000000000000000000000010",
     ),
 ];
 
-// Whether the rack is as `fit_board` wants it: sixteen devices of kind `Plain`.
-fn is_rack<D: Device>(rack: &[D]) -> bool
-    ensures { IsTrue result → IsRack (map D.kind_of rack.now) }
-{
-    for i in 0..rack.len() {
-        if rack[i].kind() != Kind::Plain {
-            return false;
-        }
-    }
-    rack.len() == 16
-}
-
 // A description of a `Plain` with this identity, and with none where it is even.
-fn described(alloc: Global, name: Name, identity: u32) -> Desc
+fn plain(alloc: Global, name: Name, identity: u32) -> Desc
     requires { IsUpperName name }
-    ensures good { IsGood result }
-    ensures plain { IsPlain result }
+    ensures { IsGood result }
 {
     let mut id = None;
     if identity % 2 == 1 {
@@ -88,17 +77,87 @@ fn described(alloc: Global, name: Name, identity: u32) -> Desc
     }
 }
 
-// Descriptions for these identities.
-fn board(alloc: Global, name: Name, identities: &[u32]) -> Result<Vec<Desc>, AllocError>
+// A description of a `Regs` without an identity.
+fn registers(alloc: Global, name: Name) -> Result<Desc, AllocError>
     requires { IsUpperName name }
-    ensures good { IfOk result (λ v. All IsGood v.items) }
-    ensures plain { IfOk result (λ v. All IsPlain v.items) }
+    ensures { IfOk result IsGood }
+{
+    let register = RegDesc {
+        name,
+        op: 0b0100,
+        len: 8,
+        constant: None,
+    };
+    Ok(Desc {
+        kind: Kind::Regs,
+        name,
+        ir_len: 4,
+        id: None,
+        registers: ItemList::of(vec![in alloc; register]?),
+        flash: None,
+    })
+}
+
+// A description of a `Flash` without an identity.
+fn flash(alloc: Global, name: Name) -> Desc
+    requires { IsUpperName name }
+    ensures { IsGood result }
+{
+    Desc {
+        kind: Kind::Flash,
+        name,
+        ir_len: 4,
+        id: None,
+        registers: ItemList::of(Vec::new(alloc)),
+        flash: Some(FlashDesc {
+            erase: 0b0100,
+            addr: 0b0101,
+            prog: 0b0110,
+            read: 0b0111,
+            words: 2,
+            width: 4,
+            busy: 2,
+            fill: true,
+        }),
+    }
+}
+
+// Device i of a board: a `Plain` where it has an identity, and else of the kinds in turn.
+fn described(alloc: Global, name: Name, identity: u32, i: usize) -> Result<Desc, AllocError>
+    requires { IsUpperName name }
+    ensures { IfOk result IsGood }
+{
+    if identity % 2 == 1 || i % 3 == 0 {
+        return Ok(plain(alloc, name, identity));
+    }
+    if i % 3 == 1 {
+        return registers(alloc, name);
+    }
+    Ok(flash(alloc, name))
+}
+
+/// Descriptions for these identities, where 0 stands for none.
+pub fn board(alloc: Global, name: Name, identities: &[u32]) -> Result<Vec<Desc>, AllocError>
+    requires { IsUpperName name }
+    ensures { IfOk result (λ v. All IsGood v.items) }
 {
     let mut descs = Vec::new(alloc);
-    for identity in identities {
-        descs.push(described(alloc, name, *identity))?;
+    for i in 0..identities.len() {
+        let desc = described(alloc, name, identities[i], i)?;
+        descs.push(desc)?;
     }
     Ok(descs)
+}
+
+/// The devices of a rack.
+pub fn devices(alloc: Global) -> Result<Vec<Box<dyn Device>>, AllocError> {
+    let mut rack: Vec<Box<dyn Device>> = Vec::new(alloc);
+    for _place in 0..MOST_DEVICES {
+        rack.push(Box::new(alloc, Plain::unfitted())?)?;
+        rack.push(Box::new(alloc, Regs::unfitted())?)?;
+        rack.push(Box::new(alloc, Flash::unfitted())?)?;
+    }
+    Ok(rack)
 }
 
 // Whether these clocks have the TDO that their digits say.
@@ -169,7 +228,6 @@ fn fits_and_gives(
     requires some { 1 ≤ length descs.now }
     requires most { length descs.now ≤ 16 }
     requires good { All IsGood descs.now }
-    requires plain { All IsPlain descs.now }
 {
     let places = fit_board(alloc, rack, descs)?;
     let woken = wake_twice(rack, &places);
@@ -181,10 +239,7 @@ fn fits_and_gives(
 fn clocks_chains_as_the_standard_says(rt: HostRuntime) -> Result<(), Fail> {
     let alloc = rt.alloc();
     let name = Name::read(b"U1").ok_or("no name")?;
-    let mut rack: Vec<Box<dyn Device>> = Vec::new(alloc);
-    for _turn in 0..16u32 {
-        rack.push(Box::new(alloc, Plain::unfitted())?)?;
-    }
+    let mut rack = devices(alloc)?;
     for (identities, clocks) in CASES {
         let descs = board(alloc, name, identities)?;
         assert!(rt; !descs.is_empty() && descs.len() <= 16);

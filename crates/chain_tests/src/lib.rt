@@ -5,3 +5,5 @@
 mod cable;
 #[cfg(test)]
 mod chain;
+#[cfg(test)]
+mod scan;

@@ -5,9 +5,10 @@ use stapl_code::{
     VarDef, validate,
 };
 use stapl_lexer::Name;
-use stapl_meaning::ValueKind;
+use stapl_meaning::{ValueKind, WaitKind};
 use std::alloc::Global;
 use std::test::Fail;
+use tap_states::Tap;
 
 // An instruction of a table. A print is told by its parts, where true stands for the first text and false for an integer.
 #[derive(Clone, Copy)]
@@ -29,11 +30,14 @@ pub enum Op {
     Print(&'static [bool]),
     Export(ExportPart),
     Exit,
+    State(&'static [Tap]),
+    Wait(Tap, WaitKind, Tap),
+    Frequency(bool),
 }
 
 pub use Op::{
-    Binary, Call, EndProc, Exit, Export, For, Jump, JumpIfZero, Load, Next, PopRecord, Print, Push,
-    PushBit, PushRecord, Store, Turn,
+    Binary, Call, EndProc, Exit, Export, For, Frequency, Jump, JumpIfZero, Load, Next, PopRecord,
+    Print, Push, PushBit, PushRecord, State, Store, Turn, Wait,
 };
 
 const ADD: Op = Binary(0);
@@ -78,6 +82,9 @@ fn instr_of(alloc: Global, op: Op) -> Result<Instr, Fail> {
         }
         Export(part) => Instr::Export(0, part),
         Exit => Instr::Exit,
+        State(states) => Instr::State(ItemList::of(states.to_vec(alloc)?)),
+        Wait(at, kind, last) => Instr::Wait(at, kind, last),
+        Frequency(stated) => Instr::Frequency(stated),
     })
 }
 

@@ -5,3 +5,5 @@
 mod codes;
 #[cfg(test)]
 mod machines;
+#[cfg(test)]
+mod wire;

@@ -2,16 +2,18 @@
 ghost use Rattle.std.specs.Prelude.{◌≡◌, ◌<◌};
 
 use crate::codes::{
-    Binary, Call, EndProc, Exit, Export, For, INTEGER, Load, Next, Op, Print, Push, Store, Turn,
-    VARIABLES, lists,
+    Binary, Call, EndProc, Exit, Export, For, Frequency, INTEGER, Load, Next, Op, Print, Push,
+    State, Store, Turn, VARIABLES, Wait, lists,
 };
+use crate::wire::Wire;
 use base::Steps;
 use stapl_code::{Code, ExportPart, RawCode, Source, validate};
-use stapl_machine::Machine;
-use stapl_meaning::Ending;
+use stapl_machine::{Machine, Trouble};
+use stapl_meaning::{Ending, WaitKind};
 use std::marker::Brand;
 use std::sync::ledger::{Blank, Ledger};
 use std::test::Fail;
+use tap_states::Tap;
 use tool_io::{Lines, MemSink};
 
 // The code of these instructions, with procedures at these two entries.
@@ -26,13 +28,16 @@ fn code(rt: &HostRuntime, entries: &[u32; 2], ops: &[Op]) -> Result<Code, Fail> 
     Ok(code)
 }
 
-// How the run of the second procedure and then the first one ends, and what it writes.
+// How the run of the second procedure and then the first one ends over a cable that fails after so many calls, and what
+// it writes if it is not broken off, with its clocks if they are asked for.
 fn run<L: Ledger>(
     rt: &HostRuntime,
     code: &Code,
+    calls: u32,
+    pins: bool,
     turns: u32,
     blank: Blank,
-) -> Result<(Ending, Vec<u8>), Fail>
+) -> Result<(Result<Ending, Trouble>, Vec<u8>), Fail>
     requires name { blank.name ≡ L.name }
     requires parts { blank.parts ≡ L.parts }
     requires some { 0 < L.parts }
@@ -45,9 +50,25 @@ fn run<L: Ledger>(
     let mut machine = Machine::prepare(alloc, code)?;
     let mut steps = Steps::<L>::none(blank);
     let mut lines = Lines::new(&mut sink);
-    let Ok(ending) = machine.run(code, &[1, 0], &mut lines, turns, &mut steps) else {
-        return Err("broken off".into());
+    let mut wire = Wire {
+        left: calls,
+        is_broken: false,
     };
+    if machine.reset_chain(&mut wire).is_err() {
+        return Err("broken off before the run".into());
+    }
+    let ending = machine.run(
+        code,
+        &[1, 0],
+        &mut wire,
+        &mut lines,
+        pins,
+        turns,
+        &mut steps,
+    );
+    if ending.is_err() {
+        return Ok((ending, Vec::new(alloc)));
+    }
     if lines.finish().is_err() {
         return Err("not written".into());
     }
@@ -113,9 +134,54 @@ fn runs_the_prologue_and_chosen_procedures(rt: HostRuntime) -> Result<(), Fail> 
         (&loops, 100, Ending::Exit(0), exports.as_slice()),
     ];
     for (code, turns, ending, text) in table {
-        let (ended, written) = run::<Brand>(&rt, code, turns, Blank::new(1))?;
-        assert_eq!(rt; ended, ending, "after {turns} turns");
+        let (ended, written) = run::<Brand>(&rt, code, 5, false, turns, Blank::new(1))?;
+        assert_eq!(rt; ended, Ok(ending), "after {turns} turns");
         assert_eq!(rt; written.as_slice(), text, "after {turns} turns");
+    }
+    Ok(())
+}
+
+// A code that clocks a cable with TDO 1. Its clocks are those of the state diagram of IEEE 1149.1, as digits: TMS counts
+// 4 and TDO counts 1.
+#[test]
+fn clocks_the_chain(rt: HostRuntime) -> Result<(), Fail> {
+    let instructions = [
+        Turn(3),
+        Push(66),
+        Wait(Tap::Idle, WaitKind::Cycles, Tap::Idle),
+        Turn(4),
+        EndProc,
+        Turn(7),
+        State(&[Tap::IrPause, Tap::Reset]),
+        Turn(8),
+        Push(2),
+        Push(5),
+        Wait(Tap::Idle, WaitKind::Both, Tap::Idle),
+        Turn(9),
+        Push(1_000_000),
+        Frequency(true),
+        Turn(10),
+        EndProc,
+    ];
+    let chain = code(&rt, &[0, 5], &instructions)?;
+    let clocks =
+        b"C 5555515515155555111\nW 5\nF 1000000\nC 1111111111111111111111111111111111111111111111111111111111111111\nC 11\n";
+    let table = [
+        (100, true, Ok(Ending::Exit(0)), clocks.as_slice()),
+        (
+            100,
+            false,
+            Ok(Ending::Exit(0)),
+            b"W 5\nF 1000000\n".as_slice(),
+        ),
+        // Behind the five first clocks and fourteen others stands the wait of 5 microseconds, and then the frequency.
+        (19, true, Err(Trouble::CableFault), b"".as_slice()),
+        (20, true, Err(Trouble::CableFault), b"".as_slice()),
+    ];
+    for (calls, pins, ending, text) in table {
+        let (ended, written) = run::<Brand>(&rt, &chain, calls, pins, 10, Blank::new(1))?;
+        assert_eq!(rt; ended, ending, "with {calls} calls");
+        assert_eq!(rt; written.as_slice(), text, "with {calls} calls");
     }
     Ok(())
 }

@@ -1,10 +1,10 @@
 //! Tests of the kinds of device.
-ghost use Rattle.std.specs.Prelude.{◌≡◌, IsSome, IfOk};
+ghost use Rattle.std.specs.Prelude.{◌≡◌, IfOk};
 ghost use Rattle.stapl_lexer.specs.Names.{IsUpperName};
 ghost use Rattle.dev_card.specs.declared.desc.Kind.TheVariants as kinds;
 ghost use Rattle.dev_card.specs.Descriptions.{IsGood};
-ghost use Rattle.dev_card.specs.Sound.{card_in};
 
+use crate::scans::answers;
 use base::ItemList;
 use dev_card::{Desc, Device, FitRefused, IdCode, Kind, RegDesc};
 use dev_kinds::Plain;
@@ -56,36 +56,6 @@ fn registers(name: Name, alloc: Global) -> Result<Desc, Fail>
     })
 }
 
-// A Plain that was fitted.
-#[derive(Drop)]
-struct Fitted {
-    device: Plain,
-    ghost fitted: { IsSome (card_in (⟦<Plain as Device>⟧.fitted device)) },
-}
-
-impl Fitted {
-    // TDO, and then a clock.
-    fn answer(&mut self, tms: bool, tdi: bool) -> bool {
-        let tdo = self.device.tdo();
-        self.device.clock(tms, tdi);
-        tdo
-    }
-
-    // Whether the device answers these values at TDO, each before a clock with these values at TMS and TDI.
-    fn answers(&mut self, tms: &str, tdi: &str, tdo: &str) -> bool {
-        let (tms, tdi, tdo) = (tms.as_bytes(), tdi.as_bytes(), tdo.as_bytes());
-        if tms.len() != tdi.len() || tdi.len() != tdo.len() {
-            return false;
-        }
-        for i in 0..tms.len() {
-            if self.answer(tms[i] == b'1', tdi[i] == b'1') != (tdo[i] == b'1') {
-                return false;
-            }
-        }
-        true
-    }
-}
-
 // Each row: whether the device has an identity, and from power-up on the values at TMS and TDI, a clock each, with TDO before each clock, written
 // out from IEEE 1149.1. Outside the shift states TDO is 1.
 #[test]
@@ -134,10 +104,9 @@ fn answers_as_the_standard_says(rt: HostRuntime) -> Result<(), Fail> {
         let mut device = Plain::unfitted();
         let desc = plain(name, id, rt.alloc());
         device.fit(rt.alloc(), &desc).expect(&rt, "fitted");
-        let mut fitted = Fitted { device };
-        assert!(rt; fitted.answers(tms, tdi, tdo), "at {tms}");
-        fitted.device.blank();
-        assert!(rt; fitted.answers(tms, tdi, tdo), "at {tms}, blanked");
+        assert!(rt; answers(&mut device, tms, tdi, tdo), "at {tms}");
+        device.blank();
+        assert!(rt; answers(&mut device, tms, tdi, tdo), "at {tms}, blanked");
     }
     Ok(())
 }

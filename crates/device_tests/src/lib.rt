@@ -5,3 +5,7 @@
 mod cards;
 #[cfg(test)]
 mod devices;
+#[cfg(test)]
+mod kinds;
+#[cfg(test)]
+mod scans;

@@ -1,16 +1,20 @@
 //! What the tool answers to its words, over a store and a sink in memory.
+use board_text::BoardReason;
+use chain_sim::is_rack;
+use dev_card::{Device, MOST_DEVICES};
+use dev_kinds::{Flash, Plain, Regs};
 use play_tool::{Mode, Status, read_words, run_tool};
 use stapl_lexer::Reason;
 use stapl_meaning::RunFault;
 use std::test::Fail;
 use tool_io::{MemShelf, MemSink};
 
-// What the tool writes, and its status, for these words, where the store has the one file `p` and the sink takes `bite` bytes a
-// write, of which the numbered one fails.
+// What the tool writes, and its status, for these words, where the store has this board in the file `b` and this
+// program in `p`, and the sink takes `bite` bytes a write, of which the numbered one fails.
 fn answer(
     rt: &HostRuntime,
     words: &[&str],
-    program: Vec<u8>,
+    files: [&str; 2],
     bite: u32,
     failing: u32,
 ) -> Result<(Status, Vec<u8>), Fail> {
@@ -19,22 +23,41 @@ fn answer(
     for word in words {
         owned.push(String::from_str(alloc, word)?)?;
     }
-    let names = vec![in alloc; String::from_str(alloc, "p")?]?;
-    let files = vec![in alloc; program]?;
-    let mut shelf = MemShelf::new(alloc, names, files, Vec::new(alloc))?;
+    let names = vec![in alloc;
+        String::from_str(alloc, "b")?,
+        String::from_str(alloc, "p")?,
+    ]?;
+    let board = files[0].as_bytes().to_vec(alloc)?;
+    let program = files[1].as_bytes().to_vec(alloc)?;
+    let mut shelf = MemShelf::new(
+        alloc,
+        names,
+        vec![in alloc; board, program]?,
+        Vec::new(alloc),
+    )?;
     let mut out = MemSink::new(alloc, 1000, bite.max(1), vec![in alloc; failing]?)?;
-    let status = run_tool(alloc, &owned, &mut shelf, &mut out);
+    let mut rack: Vec<Box<dyn Device>> = Vec::new(alloc);
+    for _place in 0..MOST_DEVICES {
+        rack.push(Box::new(alloc, Plain::unfitted())?)?;
+        rack.push(Box::new(alloc, Regs::unfitted())?)?;
+        rack.push(Box::new(alloc, Flash::unfitted())?)?;
+    }
+    if !is_rack(&rack) {
+        return Err(Fail::from("no rack"));
+    }
+    let status = run_tool(alloc, &owned, &mut shelf, &mut rack, &mut out);
     Ok((status, out.written().to_vec(alloc)?))
 }
 
+const BOARD: &str = "plain U1 4\n";
+
 const HELLO: &str = "ACTION A=P;PROCEDURE P;PRINT \"HELLO\";EXIT 0;ENDPROC;";
 
-const PLAY: [&str; 3] = ["play", "program=p", "action=A"];
+const PLAY: [&str; 4] = ["play", "board=b", "program=p", "action=A"];
 
 #[test]
 fn prints_and_exits(rt: HostRuntime) -> Result<(), Fail> {
-    let program = HELLO.as_bytes().to_vec(rt.alloc())?;
-    let (status, written) = answer(&rt, &PLAY, program, 100, 0)?;
+    let (status, written) = answer(&rt, &PLAY, [BOARD, HELLO], 100, 0)?;
     assert_eq!(rt; status, Status::Done(0));
     assert_eq!(rt; written.as_slice(), b"P HELLO\nE exit 0\n".as_slice());
     assert_eq!(rt; status.exit_code(), 0);
@@ -42,12 +65,32 @@ fn prints_and_exits(rt: HostRuntime) -> Result<(), Fail> {
 }
 
 #[test]
+fn writes_the_clocks(rt: HostRuntime) -> Result<(), Fail> {
+    let program =
+        "ACTION A=P;PROCEDURE P;STATE IRPAUSE,RESET;WAIT 2 CYCLES,5 USEC;FREQUENCY 1E6 HZ;ENDPROC;";
+    let words = ["play", "board=b", "program=p", "action=A", "pins=yes"];
+    let (status, written) = answer(&rt, &words, [BOARD, program], 100, 0)?;
+    assert_eq!(rt; status, Status::Done(0));
+    let text = b"C 5555515515155555111\nW 5\nF 1000000\nE exit 0\n".as_slice();
+    assert_eq!(rt; written.as_slice(), text);
+    Ok(())
+}
+
+#[test]
 fn keeps_a_prefix_where_the_third_write_fails(rt: HostRuntime) -> Result<(), Fail> {
-    let program = HELLO.as_bytes().to_vec(rt.alloc())?;
-    let (status, written) = answer(&rt, &PLAY, program, 4, 3)?;
+    let (status, written) = answer(&rt, &PLAY, [BOARD, HELLO], 4, 3)?;
     assert_eq!(rt; status, Status::WriteFault);
     assert_eq!(rt; written.as_slice(), b"P HELLO\n".as_slice());
     assert_eq!(rt; status.exit_code(), 10);
+    Ok(())
+}
+
+#[test]
+fn refuses_a_board(rt: HostRuntime) -> Result<(), Fail> {
+    let (status, written) = answer(&rt, &PLAY, ["plain U1 4\nplain U1 4\n", HELLO], 100, 0)?;
+    assert_eq!(rt; status, Status::BoardRefused(2, BoardReason::Duplicate));
+    assert_eq!(rt; written.as_slice(), b"R board 2 Duplicate\n".as_slice());
+    assert_eq!(rt; status.exit_code(), 5);
     Ok(())
 }
 
@@ -61,7 +104,9 @@ fn reads_words(rt: HostRuntime) -> Result<(), Fail> {
         "action=a",
         "do=b,c",
         "program=p",
+        "pins=yes",
         "skip=d",
+        "board=q",
     ] {
         words.push(String::from_str(alloc, word)?)?;
     }
@@ -70,8 +115,13 @@ fn reads_words(rt: HostRuntime) -> Result<(), Fail> {
     };
     assert_eq!(rt; request.mode, Mode::Play);
     assert_eq!(rt; request.turns, 7);
+    assert!(rt; request.pins);
     assert_eq!(rt; request.todo.len(), 2);
     assert_eq!(rt; request.skip.len(), 1);
+    match &request.board {
+        Some(board) => assert_eq!(rt; board.as_str(), "q"),
+        None => panic!(rt; "no board"),
+    }
     match &request.program {
         Some(program) => assert_eq!(rt; program.as_str(), "p"),
         None => panic!(rt; "no program"),
@@ -86,13 +136,14 @@ fn reads_words(rt: HostRuntime) -> Result<(), Fail> {
 // The exit code of each status.
 #[test]
 fn gives_exit_codes(rt: HostRuntime) -> Result<(), Fail> {
-    let table: [(Status, u8); 12] = [
+    let table: [(Status, u8); 13] = [
         (Status::Done(0), 0),
         (Status::Done(-1), 1),
         (Status::Done(256), 1),
         (Status::Fault(RunFault::ShiftCount, 4), 2),
         (Status::Spent, 3),
         (Status::Refused(1, Reason::NotYetBuilt), 4),
+        (Status::BoardRefused(1, BoardReason::Empty), 5),
         (Status::NoAction, 6),
         (Status::BadChoice, 6),
         (Status::Usage(1), 7),
