@@ -72,6 +72,8 @@ class Bench:
         self.folder = tempfile.TemporaryDirectory()
         self.path = pathlib.Path(self.folder.name) / "text.stp"
         self.path.write_bytes(b"")
+        self.board = pathlib.Path(self.folder.name) / "board"
+        self.board.write_bytes(b"plain U1 4\n")
         self.shortest(4, 1)  # builds the program if that is needed
         self.start = self.shortest(4, 3 * self.runs)
         print(f"An empty text: {self.start:.4f} s. The seconds below are above that.\n")
@@ -83,8 +85,8 @@ class Bench:
     def play(self, code, *more, top=TOP):
         """The time of a run on the text of the program of a checkout, which ends with this code."""
         begun = self.clock()
-        action = ["action=A"] if self.mode == "play" else []
-        words = [top / "zanutero", self.mode, f"program={self.path}", *action, *more]
+        played = [f"board={self.board}", "action=A"] if self.mode == "play" else []
+        words = [top / "zanutero", self.mode, f"program={self.path}", *played, *more]
         done = subprocess.run(words, stdout=subprocess.DEVNULL)
         took = self.clock() - begun
         if done.returncode != code:
