@@ -59,7 +59,7 @@ fn names_are_keys_without_case(rt: HostRuntime) -> Result<(), Fail> {
 
 #[test]
 fn numbers_and_names_reasons(rt: HostRuntime) -> Result<(), Fail> {
-    assert_eq!(rt; Reason::NotYetBuilt.number(), 0);
+    assert_eq!(rt; Reason::TooManyPieces.number(), 1);
     assert_eq!(rt; Reason::TooLong.number(), 21);
     assert_eq!(rt; Reason::TooManyPieces.name(), b"TooManyPieces".as_slice());
     Ok(())

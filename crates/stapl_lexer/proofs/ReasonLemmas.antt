@@ -1,5 +1,5 @@
 -- The smallest of the reasons that lie in the bytes and the tokens of a piece.
-use Rattle.std.proofs.Common.{◌≡◌, ◌≤◌, ◌+◌, ℕ, List, [], ◌∷◌, get_or, refl, sym, ap, ◌∙◌, Bool, true, false, arith, subst, None, inl, inr, slice_range, lit≤}
+use Rattle.std.proofs.Common.{◌≡◌, ◌≤◌, ◌+◌, ◌-◌, ℕ, List, [], ◌∷◌, get_or, refl, sym, ap, ◌∙◌, Bool, true, false, arith, subst, None, inl, inr, slice_range, lit≤}
 use Rattle.std.proofs.lemmas.Bool.{cases_order}
 use Rattle.std.specs.List.{list_all, list_any}
 use Rattle.stapl_lexer.specs.declared.piece.Piece.{Piece}
@@ -15,19 +15,18 @@ use Rattle.stapl_lexer.specs.TokenReading.{AreSearched, HasNoReasonBelow, IsRead
 use Rattle.stapl_lexer.proofs.PieceTokenLemmas.{clash, same_lexemes}
 use Rattle.stapl_lexer.proofs.Unique.{one_way}
 
--- the reasons by their numbers
+-- the reasons by their numbers, from 1 on
 abbrev all_reasons : List Reason
 all_reasons =
-    reasons.NotYetBuilt ∷ reasons.TooManyPieces ∷ reasons.Unterminated ∷ reasons.BadByte ∷ reasons.OpenString ∷ reasons.Compressed ∷
+    reasons.TooManyPieces ∷ reasons.Unterminated ∷ reasons.BadByte ∷ reasons.OpenString ∷ reasons.Compressed ∷
     reasons.NameTooLong ∷ reasons.NumberTooLarge ∷ reasons.TooDeep ∷ reasons.UnknownStatement ∷ reasons.Unsupported ∷
     reasons.Syntax ∷ reasons.Order ∷ reasons.Duplicate ∷ reasons.Undefined ∷ reasons.NotVisible ∷ reasons.TypeMismatch ∷
     reasons.NotStable ∷ reasons.SizeLimit ∷ reasons.NotClosed ∷ reasons.NothingToDo ∷ reasons.TooLong ∷ []
 
 abbrev numbered : ℕ → Reason
-numbered n = get_or all_reasons n reasons.TooLong
+numbered n = get_or all_reasons (n - 1) reasons.TooLong
 
 by_number : (reason : Reason) → numbered (reason_number reason) ≡ reason
-by_number reasons.NotYetBuilt = refl
 by_number reasons.TooManyPieces = refl
 by_number reasons.Unterminated = refl
 by_number reasons.BadByte = refl

@@ -5,7 +5,6 @@ use Rattle.stapl_lexer.specs.declared.reason.Reason.TheVariants as reasons
 
 -- The number of a reason. Of the reasons that hold of a piece, that with the smallest number is named.
 abbrev pub reason_number : Reason → ℕ
-reason_number reasons.NotYetBuilt = 0
 reason_number reasons.TooManyPieces = 1
 reason_number reasons.Unterminated = 2
 reason_number reasons.BadByte = 3
@@ -30,7 +29,6 @@ reason_number reasons.TooLong = 21
 
 -- the name of a reason, as a refusal's line has it
 abbrev pub reason_name : Reason → List ℕ
-reason_name reasons.NotYetBuilt = codes "NotYetBuilt"
 reason_name reasons.TooManyPieces = codes "TooManyPieces"
 reason_name reasons.Unterminated = codes "Unterminated"
 reason_name reasons.BadByte = codes "BadByte"

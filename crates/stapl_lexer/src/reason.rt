@@ -6,8 +6,6 @@ ghost use Rattle.stapl_lexer.specs.Reasons.{reason_number, reason_name};
 /// and their numbers are this profile's.
 #[derive(Clone, Copy, Debug, PartialEq, Eq)]
 pub enum Reason {
-    /// The piece is in the language, and this version of the program does not play it yet.
-    NotYetBuilt = 0,
     /// The piece's number is above 100,000.
     TooManyPieces = 1,
     /// The text ends before the semicolon of its last piece.
@@ -54,7 +52,7 @@ pub enum Reason {
 }
 
 impl Reason {
-    /// The number of the reason: 0 for `NotYetBuilt`, and 1 to 21 for the others.
+    /// The number of the reason, from 1 to 21.
     pub fn number(self) -> u8
         ensures { result ≡ reason_number self }
     {
@@ -66,7 +64,6 @@ impl Reason {
         ensures { result.now ≡ reason_name self }
     {
         match self {
-            Reason::NotYetBuilt => b"NotYetBuilt",
             Reason::TooManyPieces => b"TooManyPieces",
             Reason::Unterminated => b"Unterminated",
             Reason::BadByte => b"BadByte",
