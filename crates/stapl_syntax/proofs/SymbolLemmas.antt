@@ -23,11 +23,11 @@ use Rattle.stapl_syntax.specs.declared.signs.Sign.{Sign}
 use Rattle.stapl_syntax.specs.declared.signs.Sign.TheVariants as signs
 use Rattle.stapl_syntax.specs.Symbols.{Symbol, Plain, Text, Literal, terminal_sign, word_sign, mark_sign, symbol_as, symbols_of}
 use Rattle.stapl_syntax.specs.Expressions.{IsArray, of_literal, of_target, of_whole, of_range, of_expr, name}
-use Rattle.stapl_syntax.specs.Trees.{ArrayTree, PartTree, exported_array, BodyTree, action, procedure, boolean_array, assign_array, assign_range, if_then, print, export, StmtTree}
-use Rattle.stapl_syntax.specs.Parts.{IsPart, Separated, IsPrintPart, of_string, of_value, of_character, IsExported, of_exported_array, a_print_part, item_part, bits_part, comma, join}
+use Rattle.stapl_syntax.specs.Trees.{ArrayTree, PartTree, exported_array, CompareTree, BodyTree, action, procedure, boolean_array, assign_array, assign_range, if_then, print, export, scan, pad, StmtTree}
+use Rattle.stapl_syntax.specs.Parts.{IsPart, Separated, IsPrintPart, of_string, of_value, of_character, IsExported, of_exported_array, a_print_part, item_part, bits_part, an_array, after, maybe, compare_part, comma, join}
 use Rattle.stapl_syntax.specs.Statements.{IsBody, IsLabelled}
 use Rattle.stapl_syntax.specs.Programs.{AreReadAs, IsProgram}
-use Rattle.stapl_syntax.specs.Contents.{IsFreeName, IsWellNamed, IsShortPart, PrintsShortStrings, AreLiteralBits, HoldsLiteral, HoldsLiterals}
+use Rattle.stapl_syntax.specs.Contents.{IsFreeName, IsWellNamed, IsShortPart, PrintsShortStrings, AreLiteralBits, HoldsLiteral, HoldsBoth, HoldsLiterals}
 use Rattle.stapl_syntax.proofs.LiteralLemmas.{binary_bits, hex_bits}
 
 -- ---- names
@@ -184,6 +184,22 @@ literal_start : (n : ℕ) (bits : Option (List Bool)) (s : List Symbol) → IsPa
 literal_start n None s is sound = tt
 literal_start n (Some bits) s is sound = (subst (AreSound n) is.2 (sound_after n _ is.0 s is.1 sound)).0
 
+literal_compare : (n : ℕ) (compare : Option CompareTree) (s : List Symbol) → IsPart compare_part compare s → AreSound n s → IfSome compare (HoldsBoth n)
+literal_compare n None s is sound = tt
+literal_compare n (Some compare) s is sound =
+    let parts = is.2.2 in
+    let behind = parts.4 in
+    let masked = behind.2 in
+    let both = sound_after n _ is.2.0 is.0 is.2.1 (sound_after n _ is.0 s is.1 sound) in
+    let mask_on = sound_after n _ behind.0 parts.1 behind.1 (sound_second n parts.0 parts.1 is.2.0 parts.2 both) in (
+      literal_array n parts.0 compare.0 parts.3 (sound_left n parts.0 parts.1 (subst (AreSound n) parts.2 both)),
+      literal_array n masked.0 compare.1.0 masked.3 (sound_left n masked.0 masked.1 (subst (AreSound n) masked.2 mask_on)),
+    )
+
+literal_given : (n : ℕ) (a : Option ArrayTree) (s : List Symbol) → IsPart (maybe (after comma an_array)) a s → AreSound n s → IfSome a (HoldsLiteral n)
+literal_given n None s is sound = tt
+literal_given n (Some a) s is sound = literal_array n is.0 a is.2 (sound_after n _ is.0 s is.1 sound)
+
 literals : (n : ℕ) (s : List Symbol) (body : BodyTree) → IsBody s body → AreSound n s → HoldsLiterals n body
 literals n s (boolean_array v size bits) is sound =
     let sized = is.2.4 in
@@ -212,6 +228,18 @@ literals n s (export key (exported_array a)) is sound =
   where
     by : {s : List Symbol} → IsExported s (exported_array a) → AreSound n s → HoldsLiteral n a
     by (of_exported_array {s = s} array) sound = literal_array n s a array sound
+literals n s (scan register count source target compare) is sound =
+    let parts = is.2 in
+    let behind = parts.4 in
+    let shifted = behind.2 in
+    let others = shifted.4 in
+    let data_on = sound_after n _ behind.0 parts.1 behind.1 (sound_second n parts.0 parts.1 is.0 parts.2 (sound_after n _ is.0 s is.1 sound)) in (
+      literal_array n shifted.0 source shifted.3 (sound_left n shifted.0 shifted.1 (subst (AreSound n) shifted.2 data_on)),
+      literal_compare n compare others.1 others.4 (sound_second n others.0 others.1 shifted.1 others.2 (sound_second n shifted.0 shifted.1 behind.0 shifted.2 data_on)),
+    )
+literals n s (pad which count bits) is sound =
+    let parts = is.2 in
+    literal_given n bits parts.1 parts.4 (sound_second n parts.0 parts.1 is.0 parts.2 (sound_after n _ is.0 s is.1 sound))
 literals n s (if_then e body) is sound =
     literals n is.1 body is.6 (sound_right n is.0 (join joins.Then ∷ is.1) (subst (AreSound n) is.2 sound).1).1
 literals n s _ is sound = tt

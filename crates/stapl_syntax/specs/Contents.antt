@@ -2,7 +2,7 @@
 use Rattle.std.specs.Prelude.{◌≡◌, ℕ, ◌*◌, ◌≤◌, List, Bool, false, IfSome, length, All}
 use Rattle.stapl_lexer.specs.Names.{IsUpperName}
 use Rattle.stapl_lexer.specs.ReservedWords.{is_reserved_word}
-use Rattle.stapl_syntax.specs.Trees.{ArrayTree, literal, PartTree, string, exported_array, BodyTree, action, procedure, boolean_array, assign_array, assign_range, if_then, print, export}
+use Rattle.stapl_syntax.specs.Trees.{ArrayTree, literal, PartTree, string, exported_array, CompareTree, BodyTree, action, procedure, boolean_array, assign_array, assign_range, if_then, print, export, scan, pad}
 
 -- a name that a block or an action may bear
 pub record IsFreeName (name : List ℕ) : Type 0 where
@@ -37,11 +37,18 @@ abbrev pub HoldsLiteral : ℕ → ArrayTree → Type 0
 HoldsLiteral n (literal bits) = AreLiteralBits n bits
 HoldsLiteral n _ = Unit {0}
 
--- each literal that stands in a declaration, an assignment or an EXPORT as the array has the bits of one in so many bytes
+-- so have both arrays that a scan compares with
+abbrev pub HoldsBoth : ℕ → CompareTree → Type 0
+HoldsBoth n compare = HoldsLiteral n compare.0 × HoldsLiteral n compare.1.0
+
+-- each literal that stands as an array in a declaration, an assignment, an EXPORT, a scan or a padding has the bits of one
+-- in so many bytes
 abbrev pub HoldsLiterals : ℕ → BodyTree → Type 0
 HoldsLiterals n (boolean_array name size bits) = IfSome bits (AreLiteralBits n)
 HoldsLiterals n (assign_array name array) = HoldsLiteral n array
 HoldsLiterals n (assign_range name high low array) = HoldsLiteral n array
 HoldsLiterals n (export key (exported_array array)) = HoldsLiteral n array
+HoldsLiterals n (scan register count source target compare) = HoldsLiteral n source × IfSome compare (HoldsBoth n)
+HoldsLiterals n (pad which count bits) = IfSome bits (HoldsLiteral n)
 HoldsLiterals n (if_then e body) = HoldsLiterals n body
 HoldsLiterals n _ = Unit {0}
