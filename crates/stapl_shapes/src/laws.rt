@@ -2,14 +2,13 @@
 ghost use Rattle.std.specs.Prelude.{ℕ, ◌≤◌, List, All, length};
 ghost use Rattle.stapl_syntax.specs.Trees.{StmtTree};
 ghost use Rattle.stapl_syntax.specs.Programs.{IsProgram};
-ghost use Rattle.stapl_built.specs.Built.{IsBuilt};
-ghost use Rattle.stapl_built.specs.Sizes.{statements_size};
-ghost use Rattle.stapl_built.specs.Unbuilt.{IsBuiltProgram};
+ghost use Rattle.stapl_shapes.specs.Shapes.{HasShape};
+ghost use Rattle.stapl_shapes.specs.Sizes.{statements_size};
 
-/// Each statement of a built program has one of the shapes that are built.
-pub fn programs_are_built()
+/// Each statement of a program has one of the shapes that the grammar gives.
+pub fn programs_are_shaped()
     ensures { (text : List ℕ) (statements : List StmtTree) →
-        IsBuiltProgram text statements → All IsBuilt statements }
+        IsProgram text statements → All HasShape statements }
 {}
 
 /// The statements of a program are together no larger than its text: each symbol of a statement has a byte of its own.

@@ -15,12 +15,12 @@ use Rattle.stapl_lexer.specs.Pieces.{is_blank, is_semicolon, piece_of, pieces_fr
 use Rattle.stapl_lexer.specs.Segments.{Segment, spelling}
 use Rattle.stapl_lexer.proofs.PieceLemmas.{cut_lies}
 use Rattle.stapl_syntax.specs.Symbols.{Symbol, symbol_of, symbols_of}
-use Rattle.stapl_syntax.specs.Trees.{ExprTree, ArrayTree, PartTree, BodyTree, boolean, integer, assign, assign_element, assign_array, assign_range, if_then, for_loop, push, pop, print, ExportTree, export, exit, wait_cycles, wait_usec, frequency, end_data, end_procedure, StmtTree}
+use Rattle.stapl_syntax.specs.Trees.{ExprTree, ArrayTree, PartTree, CompareTree, BodyTree, boolean, integer, assign, assign_element, assign_array, assign_range, if_then, for_loop, push, pop, print, ExportTree, export, exit, scan, pad, wait_cycles, wait_usec, frequency, end_data, end_procedure, StmtTree}
 use Rattle.stapl_syntax.specs.Expressions.{operator, dots, right_round, right_square, IsExpr, of_unary, tighter, of_binary, IsUnary, negation, complement, negated, of_primary, IsPrimary, of_number, of_cell, of_brackets, of_abs, of_array, IsCell, of_scalar, of_element, IsTarget, of_whole, of_range, IsArray, of_literal, of_target, of_expr}
-use Rattle.stapl_syntax.specs.Parts.{IsPrintPart, of_string, of_value, of_character, IsExported, of_exported_value, of_exported_array, hz, IsPart, an_expr, maybe_hz, a_print_part, step_part, usec_part, frequency_part, Separated, comma, join}
+use Rattle.stapl_syntax.specs.Parts.{IsPrintPart, of_string, of_value, of_character, IsExported, of_exported_value, of_exported_array, hz, IsPart, an_expr, maybe_hz, an_array, after, maybe, a_print_part, step_part, capture_part, compare_part, usec_part, frequency_part, Separated, comma, join}
 use Rattle.stapl_syntax.specs.Statements.{IsBody, IsLabelled, IsPieceStatement}
 use Rattle.stapl_syntax.specs.Programs.{AreReadAs, IsProgram}
-use Rattle.stapl_built.specs.Sizes.{expr_size, array_size, part_size, export_size, given_size, body_size, statements_size}
+use Rattle.stapl_shapes.specs.Sizes.{expr_size, array_size, part_size, export_size, given_size, capture_size, compare_size, padding_size, body_size, statements_size}
 
 -- ---- expressions and parts
 
@@ -118,6 +118,28 @@ frequency_fits : (s : List Symbol) (hertz : Option ExprTree) → IsPart frequenc
 frequency_fits s None is = omega arith
 frequency_fits s (Some x) is = hertz_fits s x is
 
+-- the array of a padding, with the comma before it
+padding_fits : (s : List Symbol) (a : Option ArrayTree) → IsPart (maybe (after comma an_array)) a s →
+    padding_size a ≤ length s
+padding_fits s None is = omega arith
+padding_fits s (Some a) is = after_fits is.1 (array_fits is.2)
+
+capture_fits : (s : List Symbol) (target : Option ArrayTree) → IsPart capture_part target s →
+    capture_size target ≤ length s
+capture_fits s None is = omega arith
+capture_fits s (Some a) is = let all = after_fits is.1 (after_fits is.2.1 (target_fits is.2.2)) in omega (arith, all)
+
+compare_fits : (s : List Symbol) (compare : Option CompareTree) → IsPart compare_part compare s →
+    compare_size compare ≤ length s
+compare_fits s None is = omega arith
+compare_fits s (Some c) is =
+    let x = is.2.2 in
+    let y = x.4.2 in
+    let cell = after_fits y.4.1 (cell_fits y.4.2) in
+    let behind = after_fits x.4.1 (both_fit y.0 y.1 y.2 (array_fits y.3) cell) in
+    let all = after_fits is.1 (after_fits is.2.1 (both_fit x.0 x.1 x.2 (array_fits x.3) behind)) in
+    omega (arith, all)
+
 -- ---- statements
 
 body_fits : (s : List Symbol) (body : BodyTree) → IsBody s body → body_size body ≤ length s
@@ -158,6 +180,18 @@ body_fits s (export key x) is =
     let p = is.2 in
     omega (arith, ap length is.1, ap length p.2, length-append p.0 p.1, ap length p.3, exported_fits p.4.0 x p.4.2, ap length p.4.1)
 body_fits s (exit e) is = after_fits is.1 (expr_fits is.2)
+body_fits s (scan k e a t c) is =
+    let x = is.2 in
+    let y = x.4.2 in
+    let z = y.4 in
+    let optional = both_fit z.0 z.1 z.2 (capture_fits z.0 t z.3) (compare_fits z.1 c z.4) in
+    let bits = after_fits x.4.1 (both_fit y.0 y.1 y.2 (array_fits y.3) optional) in
+    let all = after_fits is.1 (both_fit x.0 x.1 x.2 (expr_fits x.3) bits) in
+    omega (arith, all)
+body_fits s (pad k e a) is =
+    let x = is.2 in
+    let all = after_fits is.1 (both_fit x.0 x.1 x.2 (expr_fits x.3) (padding_fits x.1 a x.4)) in
+    omega (arith, all)
 body_fits s (wait_cycles k e u l) is =
     let x = is.2 in
     let y = x.4 in

@@ -1,11 +1,9 @@
 -- How many statements a program has.
 use Rattle.std.proofs.Common.{◌≡◌, ℕ, zero, suc, ◌<◌, ◌≤◌, Bool, true, false, List, [], ◌∷◌, length, map, slice_get, Some, refl, sym, ap, subst, arith, nat_lt}
 use Rattle.std.proofs.lemmas.Bool.{ltb-true, ltb-false}
-use Rattle.std.proofs.lemmas.List.{length-map}
 use Rattle.stapl_lexer.specs.declared.piece.Piece.{Piece}
 use Rattle.stapl_lexer.specs.declared.reason.Reason.TheVariants as reasons
-use Rattle.stapl_syntax.specs.declared.statement.Stmt.{Stmt}
-use Rattle.stapl_syntax.specs.Trees.{StmtTree, stmt_tree}
+use Rattle.stapl_syntax.specs.Trees.{StmtTree}
 use Rattle.stapl_syntax.specs.Programs.{piece_limit, AreReadAs, HasReasonAt, one_too_many, IsProgram}
 
 pub same_length : (text : List ℕ) (pieces : List Piece) (statements : List StmtTree) → AreReadAs text pieces (map Some statements) → length pieces ≡ length statements
@@ -31,7 +29,3 @@ few_pieces text program is = by (nat_lt piece_limit (length program)) refl
         let own = piece_there is.pieces piece_limit (omega (arith, over, same)) in
         absurd (is.sound piece_limit (omega (arith, over, same)) reasons.TooManyPieces
         (subst (λ o. HasReasonAt text (map Some program) piece_limit o reasons.TooManyPieces) (sym own.1) (one_too_many own.0 (omega arith))))
-
-pub few_statements : (text : List ℕ) (statements : List Stmt) → IsProgram text (map stmt_tree statements) → length statements ≤ piece_limit
-few_statements text statements program =
-    omega (arith, few_pieces text (map stmt_tree statements) program, length-map statements stmt_tree)

@@ -1,8 +1,8 @@
--- How large a statement is, which is no more than the count of its symbols: brackets, commas and some other symbols are
--- not counted. This measure is this profile's.
+-- How large a statement is, which is no more than the count of its symbols: brackets and some other symbols are not
+-- counted. This measure is this profile's.
 use Rattle.std.specs.Prelude.{ℕ, ◌+◌, List, Option, None, Some}
 use Rattle.std.specs.List.{sum_by}
-use Rattle.stapl_syntax.specs.Trees.{ExprTree, number, scalar, element, unary, binary, abs, int, ArrayTree, literal, whole, range, of_int, PartTree, string, value, character, BodyTree, boolean, integer, assign, assign_element, assign_array, assign_range, if_then, for_loop, push, pop, print, ExportTree, exported_value, exported_array, export, exit, wait_cycles, wait_usec, frequency, StmtTree}
+use Rattle.stapl_syntax.specs.Trees.{ExprTree, number, scalar, element, unary, binary, abs, int, ArrayTree, literal, whole, range, of_int, PartTree, string, value, character, CompareTree, BodyTree, boolean, integer, assign, assign_element, assign_array, assign_range, if_then, for_loop, push, pop, print, ExportTree, exported_value, exported_array, export, exit, scan, pad, wait_cycles, wait_usec, frequency, StmtTree}
 
 abbrev mutual
   -- an expression, without brackets around it
@@ -38,6 +38,21 @@ abbrev pub given_size : Option ExprTree → ℕ
 given_size None = 0
 given_size (Some x) = expr_size x
 
+-- the CAPTURE of a scan, with the comma before it
+abbrev pub capture_size : Option ArrayTree → ℕ
+capture_size None = 0
+capture_size (Some target) = 2 + array_size target
+
+-- the COMPARE of a scan, with the comma before it: the expected bits, the mask and the cell
+abbrev pub compare_size : Option CompareTree → ℕ
+compare_size None = 0
+compare_size (Some compare) = 4 + array_size compare.0 + array_size compare.1.0 + expr_size compare.1.1
+
+-- the array of a padding, with the comma before it
+abbrev pub padding_size : Option ArrayTree → ℕ
+padding_size None = 0
+padding_size (Some a) = 1 + array_size a
+
 -- a statement without its label; each form that is not named here counts as one symbol
 abbrev pub body_size : BodyTree → ℕ
 body_size (boolean name (Some b)) = 2
@@ -53,6 +68,9 @@ body_size (pop cell) = 1 + expr_size cell
 body_size (print parts) = 1 + sum_by part_size parts
 body_size (export key x) = 2 + export_size x
 body_size (exit x) = 1 + expr_size x
+body_size (scan register count source target compare) =
+    2 + expr_size count + array_size source + capture_size target + compare_size compare
+body_size (pad padding count a) = 1 + expr_size count + padding_size a
 body_size (wait_cycles state x usec last) = 1 + expr_size x + given_size usec
 body_size (wait_usec state x last) = 1 + expr_size x
 body_size (frequency hertz) = 1 + given_size hertz

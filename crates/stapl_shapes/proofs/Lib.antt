@@ -1,3 +1,3 @@
-pub mod BuiltLemmas
 pub mod Counts
+pub mod ShapeLemmas
 pub mod SizeLemmas

@@ -1,5 +1,0 @@
-use Rattle.stapl_built.proofs.SizeLemmas.{program_fits}
-use Rattle.stapl_built.proofs.laws.statements_are_no_longer_than_their_text.Goals as goal
-
-pub returns : goal.returns
-returns c = program_fits

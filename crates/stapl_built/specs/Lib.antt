@@ -1,4 +1,0 @@
-pub mod Built
-pub mod Unbuilt
-pub mod Verdicts
-pub mod Sizes
