@@ -14,7 +14,7 @@ use Rattle.stapl_syntax.specs.declared.names.Block.{Block}
 use Rattle.stapl_syntax.specs.declared.names.Key.{Key}
 use Rattle.stapl_syntax.specs.Trees.{ItemTree, BodyTree, note, action, procedure, data_block, end_data, crc, call, if_then, StmtTree}
 use Rattle.stapl_syntax.specs.Statements.{is_outer, begins_procedure}
-use Rattle.stapl_built.specs.Built.{is_built_outer, is_built_inner, IsBuilt}
+use Rattle.stapl_shapes.specs.Shapes.{is_outer_shape, is_inner_shape, HasShape}
 use Rattle.stapl_syntax.specs.Names.{numbered, block_of, block_of_body, label_of, label_in, key_in, key_eq, declared, declaration, block_named, has_label}
 use Rattle.stapl_syntax.specs.Mentions.{variables_named, item_name, procedures_named, blocks_used, labels_named}
 use Rattle.stapl_syntax.specs.Rules.{is_absent, is_data_block, Known, known_from, names_undefined, is_well_kinded, has_too_many_values}
@@ -84,7 +84,7 @@ module _ (program : List StmtTree) (sound : IsSound program) where
 
 -- ---- statements of procedures
 
-inner_only : (body : BodyTree) → is_outer body ≡ false → is_built_outer body ≡ false
+inner_only : (body : BodyTree) → is_outer body ≡ false → is_outer_shape body ≡ false
 inner_only (action name text items) e = absurd (true≢false e)
 inner_only (note key text) e = absurd (true≢false e)
 inner_only (procedure name uses) e = absurd (true≢false e)
@@ -93,8 +93,8 @@ inner_only end_data e = absurd (true≢false e)
 inner_only (crc n) e = absurd (true≢false e)
 inner_only _ e = refl
 
-pub built_is_inner : (st : StmtTree) → IsBuilt st → is_outer st.body ≡ false → is_built_inner st.body ≡ true
-built_is_inner st built inner = sym (ap (λ (b : Bool). b || is_built_inner st.body) (inner_only st.body inner)) ∙ built
+pub inner_has_shape : (st : StmtTree) → HasShape st → is_outer st.body ≡ false → is_inner_shape st.body ≡ true
+inner_has_shape st shaped inner = sym (ap (λ (b : Bool). b || is_inner_shape st.body) (inner_only st.body inner)) ∙ shaped
 
 module _ (program : List StmtTree) (sound : IsSound program) where
   typed_own : (i : ℕ) (st : StmtTree) → IsOwn program sound i st → is_outer st.body ≡ not (is_some (block_at (pieces_from None program) i)) → is_outer st.body ≡ false →

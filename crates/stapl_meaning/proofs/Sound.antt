@@ -10,7 +10,7 @@ use Rattle.stapl_syntax.specs.Symbols.{symbols_of}
 use Rattle.stapl_syntax.specs.Names.{numbered, inside_after}
 use Rattle.stapl_syntax.specs.Rules.{is_action, any_body, breaks}
 use Rattle.stapl_syntax.specs.Programs.{piece_limit, AreReadAs, facts_at, HasReasonAt, breaks_rule, not_closed, nothing_to_do, IsProgram}
-use Rattle.stapl_built.proofs.Counts.{same_length, few_pieces}
+use Rattle.stapl_shapes.proofs.Counts.{same_length, few_pieces}
 
 -- What follows of each piece, and of the end.
 pub record IsSound (program : List StmtTree) : Type 0 where

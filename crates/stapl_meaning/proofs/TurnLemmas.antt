@@ -5,32 +5,36 @@ use Rattle.stapl_meaning.specs.Deeds.{Deed}
 use Rattle.stapl_meaning.specs.declared.values.Value.{Value}
 use Rattle.stapl_meaning.specs.Values.{Got, Known, Faults, Stuck}
 use Rattle.stapl_meaning.specs.Operands.{values_of}
-use Rattle.stapl_meaning.specs.States.{State, Did, Falls, Jumps, Resumes, Returns, Ends, Turned, Leads, Over, Broken, NoTurn, with_got, preceded, turn_of_piece, next_chosen, jumps_to, led}
+use Rattle.stapl_meaning.specs.States.{State, Did, Falls, Jumps, Resumes, Returns, Ends, Captures, Turned, Leads, Over, Broken, Scanning, NoTurn, with_got, preceded, turn_of_piece, next_chosen, jumps_to, led}
 use Rattle.stapl_meaning.specs.Scopes.{Scope, Played, scope_at}
-use Rattle.stapl_meaning.specs.Turns.{operands, effect, target, rows, HasEffect, Does, follows, operand_faults, effect_faults, falls, jumps, resumes, returns, ends, IsTurn, carried, rows_done, done, turn_of, turn, IsFound}
+use Rattle.stapl_meaning.specs.Turns.{operands, effect, target, rows, HasEffect, Does, follows, operand_faults, effect_faults, falls, scans, jumps, resumes, returns, ends, IsTurn, carried, rows_done, done, turn_of, turn, IsFound}
 
 found_preceded : (deeds : List Deed) (t : Turned) → IsFound t → IsFound (preceded deeds t)
 found_preceded deeds (Leads es place s) h = tt
 found_preceded deeds (Over es ending s) h = tt
 found_preceded deeds (Broken es k s) h = tt
+found_preceded deeds (Scanning es job rest) h = h
 found_preceded deeds (NoTurn es) h = absurd h
 
 found_behind : (deeds : List Deed) (t : Turned) → IsFound (preceded deeds t) → IsFound t
 found_behind deeds (Leads es place s) h = tt
 found_behind deeds (Over es ending s) h = tt
 found_behind deeds (Broken es k s) h = tt
+found_behind deeds (Scanning es job rest) h = h
 found_behind deeds (NoTurn es) h = absurd h
 
-found_of_piece : (piece : ℕ) (t : Turned) → IsFound t → IsFound (turn_of_piece piece t)
+pub found_of_piece : (piece : ℕ) (t : Turned) → IsFound t → IsFound (turn_of_piece piece t)
 found_of_piece piece (Leads es place s) h = tt
 found_of_piece piece (Over es ending s) h = tt
 found_of_piece piece (Broken es k s) h = tt
+found_of_piece piece (Scanning es job rest) h = λ bits. found_of_piece piece (rest bits) (h bits)
 found_of_piece piece (NoTurn es) h = absurd h
 
 found_in_piece : (piece : ℕ) (t : Turned) → IsFound (turn_of_piece piece t) → IsFound t
 found_in_piece piece (Leads es place s) h = tt
 found_in_piece piece (Over es ending s) h = tt
 found_in_piece piece (Broken es k s) h = tt
+found_in_piece piece (Scanning es job rest) h = λ bits. found_in_piece piece (rest bits) (h bits)
 found_in_piece piece (NoTurn es) h = absurd h
 
 found_chosen : (entry : ℕ → ℕ) (s : State) (chosen : List ℕ) → IsFound (next_chosen entry s chosen)
@@ -54,6 +58,9 @@ module _ (scope : Scope) where
   does_done _ _ _ (effect_faults b rest s k has) = has_effect b s (Faults k) (rows_done scope rest) has
   does_done _ _ _ (falls b rest s t deeds turned has more) =
       has_effect b s (Known (Falls deeds t)) (rows_done scope rest) has ∙ ap (preceded deeds) (does_done rest t turned more)
+  does_done _ _ _ (scans b rest s job lands turned has more) =
+      has_effect b s (Known (Captures job lands)) (rows_done scope rest) has
+      ∙ (λ j. Scanning [] job (λ bits. does_done rest (lands bits) (turned bits) (more bits) j))
   does_done _ _ _ (jumps b rest s t place has e) =
       has_effect b s (Known (Jumps t)) (rows_done scope rest) has ∙ ap (λ o. jumps_to o t) e
   does_done _ _ _ (resumes b rest s t place has) = has_effect b s (Known (Resumes place t)) (rows_done scope rest) has
@@ -75,6 +82,9 @@ module _ (scope : Scope) where
         Does scope (b ∷ rest) s (with_got g s (λ did. led scope.entry (target scope b) did (rows_done scope rest)))
     with_effect values (Known (Falls deeds t)) p q found =
         falls b rest s t deeds (rows_done scope rest t) (record { values = values; are = p; is = q }) (others t (found_behind deeds (rows_done scope rest t) found))
+    with_effect values (Known (Captures job lands)) p q found =
+        scans b rest s job lands (λ bits. rows_done scope rest (lands bits)) (record { values = values; are = p; is = q })
+        (λ bits. others (lands bits) (found bits))
     with_effect values (Known (Jumps t)) p q found = with_target values t (target scope b) p q refl found
     with_effect values (Known (Resumes place t)) p q found = resumes b rest s t place (record { values = values; are = p; is = q })
     with_effect values (Known (Returns t)) p q found = returns b rest s t (record { values = values; are = p; is = q })
@@ -97,6 +107,7 @@ module _ (scope : Scope) where
   is_found _ _ _ (operand_faults b rest s k e) = tt
   is_found _ _ _ (effect_faults b rest s k has) = tt
   is_found _ _ _ (falls b rest s t deeds turned has more) = found_preceded deeds turned (is_found rest t turned more)
+  is_found _ _ _ (scans b rest s job lands turned has more) = λ bits. is_found rest (lands bits) (turned bits) (more bits)
   is_found _ _ _ (jumps b rest s t place has e) = tt
   is_found _ _ _ (resumes b rest s t place has) = tt
   is_found _ _ _ (returns b rest s t has) = found_chosen scope.entry t t.chosen

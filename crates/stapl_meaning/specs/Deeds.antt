@@ -1,18 +1,21 @@
--- What a turn does to the outside, as data: events that it says, and moves and stays of the chain. What these come to on a
--- chain are events, clocks among them, and the chain after them. Source: JESD71, STATE and WAIT.
-use Rattle.std.specs.Prelude.{ℕ, List, [], ◌∷◌, ◌++◌, map}
+-- What a turn does to the outside, as data: events that it says, and moves, stays and scans of the chain. What these come to
+-- on a chain are events, clocks among them, and the chain after them. Source: JESD71, STATE, WAIT, IRSCAN and DRSCAN.
+use Rattle.std.specs.Prelude.{ℕ, Bool, List, [], ◌∷◌, ◌++◌, map}
 use Rattle.tap_states.specs.declared.Tap.{Tap}
 use Rattle.dev_card.specs.Board.{Clock}
 use Rattle.dev_card.specs.Clocks.{move_inputs, stay_inputs}
+use Rattle.dev_card.specs.Scans.{BoardScan, inputs_of_scan, captured_from}
 use Rattle.dev_card.specs.FarEnds.{FarEnd, far_clocks, far_after}
 use Rattle.stapl_meaning.specs.declared.events.Event.{Event}
 use Rattle.stapl_meaning.specs.declared.events.Event.TheVariants as events
 
--- It says an event that is no clock, it moves the controllers to a state, or it stays where they are for so many clocks.
+-- It says an event that is no clock, it moves the controllers to a state, it stays where they are for so many clocks, or it
+-- scans.
 pub data Deed : Type 0 where
   Says : (event : Event) → Deed
   Goes : (to : Tap) → Deed
   Stays : (clocks : ℕ) → Deed
+  Scans : (scan : BoardScan) → Deed
 
 -- the state of the controllers, and what answers their clocks
 pub record Chain : Type 0 where
@@ -31,11 +34,17 @@ abbrev pub deed_events : Chain → Deed → List Event
 deed_events k (Says event) = event ∷ []
 deed_events k (Goes to) = pulses (far_clocks k.far (move_inputs k.tap to))
 deed_events k (Stays n) = pulses (far_clocks k.far (stay_inputs k.tap n))
+deed_events k (Scans scan) = pulses (far_clocks k.far (inputs_of_scan k.tap scan))
 
 abbrev pub deed_chain : Chain → Deed → Chain
 deed_chain k (Says event) = k
 deed_chain k (Goes to) = record { tap = to; far = far_after k.far (move_inputs k.tap to) }
 deed_chain k (Stays n) = record { tap = k.tap; far = far_after k.far (stay_inputs k.tap n) }
+deed_chain k (Scans scan) = record { tap = scan.stop; far = far_after k.far (inputs_of_scan k.tap scan) }
+
+-- what a scan captures on a chain
+abbrev pub captured_on : Chain → BoardScan → List Bool
+captured_on k scan = captured_from k.tap scan (far_clocks k.far (inputs_of_scan k.tap scan))
 
 -- the same of deeds one after another
 abbrev pub deeds_events : Chain → List Deed → List Event

@@ -3,6 +3,8 @@ pub mod Operands
 pub mod Deeds
 pub mod States
 pub mod Effects
+pub mod Scans
+pub mod ScanTrees
 pub mod Scopes
 pub mod Choices
 pub mod Turns

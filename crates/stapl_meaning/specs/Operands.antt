@@ -1,12 +1,12 @@
 -- The operands of a statement: each an expression, the kind that is wanted of it, and the test that stands behind it.
 -- Source: JESD71, statements. That a statement takes all its operands from left to right before it does anything, and
 -- tests each before the next, is this profile's rule.
-use Rattle.std.specs.Prelude.{ℕ, ℤ, pos, Bool, true, false, List, [], ◌∷◌, Option, None, Some, if◌then◌else◌, slice_get}
+use Rattle.std.specs.Prelude.{ℕ, ℤ, pos, Bool, true, false, List, [], ◌∷◌, ◌++◌, Option, None, Some, if◌then◌else◌, slice_get}
 use Rattle.stapl_syntax.specs.declared.names.Kind.{Kind}
 use Rattle.stapl_syntax.specs.declared.names.VarKind.{VarKind}
 use Rattle.stapl_syntax.specs.declared.names.VarKind.TheVariants as variables
 use Rattle.stapl_syntax.specs.Kinds.{is_bit_alone, expr_kind}
-use Rattle.stapl_syntax.specs.Trees.{ExprTree, number, ArrayTree, literal as bit_literal, whole, range, of_int, PartTree, string, value, character}
+use Rattle.stapl_syntax.specs.Trees.{ExprTree, number, scalar, element, CompareTree, ArrayTree, literal as bit_literal, whole, range, of_int, PartTree, string, value, character}
 use Rattle.stapl_meaning.specs.declared.events.RunFault.TheVariants.{BadChar}
 use Rattle.stapl_meaning.specs.declared.values.ValueKind.{ValueKind}
 use Rattle.stapl_meaning.specs.declared.values.ValueKind.TheVariants as kinds
@@ -93,6 +93,24 @@ array_operands look (bit_literal bits) = []
 array_operands look (whole name) = []
 array_operands look (range name high low) = a_range (look.variable name) high low
 array_operands look (of_int e) = an_integer e ∷ []
+
+-- those of an array that may be left out
+abbrev pub given_operands : Lookup → Option ArrayTree → List Operand
+given_operands look None = []
+given_operands look (Some a) = array_operands look a
+
+-- those of where captured bits go, which is an array or a range of one
+abbrev pub target_operands : Lookup → Option ArrayTree → List Operand
+target_operands look (Some (range name high low)) = a_range (look.variable name) high low
+target_operands look _ = []
+
+-- those of what a scan compares with: of both arrays, and the index of an element that takes the result
+abbrev pub compare_operands : Lookup → Option CompareTree → List Operand
+compare_operands look None = []
+compare_operands look (Some (expected, (mask, scalar name))) = array_operands look expected ++ (array_operands look mask ++ [])
+compare_operands look (Some (expected, (mask, element name index))) =
+    array_operands look expected ++ (array_operands look mask ++ an_index (look.variable name) index ∷ [])
+compare_operands look (Some _) = []
 
 -- the step of a FOR, which is 1 if none is written
 abbrev pub step_or_one : Option ExprTree → ExprTree

@@ -1,7 +1,7 @@
 -- Runs and plays on a chain. Source: JESD71, actions and procedures. The bound on turns and the five clocks at the start
 -- are this profile's.
 use Rattle.std.specs.Prelude.{ℕ, zero, suc, List, [], ◌∷◌, ◌++◌, Option, Some, None}
-use Rattle.tap_states.specs.declared.Tap.TheVariants.{Reset}
+use Rattle.tap_states.specs.declared.Tap.TheVariants.{Reset, Idle}
 use Rattle.tap_states.specs.Path.{five_ones}
 use Rattle.dev_card.specs.Board.{Input}
 use Rattle.dev_card.specs.Clocks.{with_zero}
@@ -11,7 +11,7 @@ use Rattle.stapl_meaning.specs.declared.events.Ending.{Ending}
 use Rattle.stapl_meaning.specs.declared.events.Ending.TheVariants.{Spent}
 use Rattle.stapl_meaning.specs.declared.values.Held.{Held}
 use Rattle.stapl_meaning.specs.Deeds.{Chain, pulses}
-use Rattle.stapl_meaning.specs.States.{State, Turned, Leads, begun, Happened, Led, Finished, Broke, Lacks, happens}
+use Rattle.stapl_meaning.specs.States.{ScanSettings, State, Turned, Leads, begun, Happened, Led, Finished, Broke, Lacks, happens}
 use Rattle.stapl_meaning.specs.Scopes.{Preset, Played, entry_from, preset_scope, zeros_of}
 use Rattle.stapl_meaning.specs.Turns.{carried, turn}
 
@@ -54,9 +54,13 @@ continued Stopped r go = r
 abbrev pub then_runs : Run → (ℕ → State → Chain → Run) → Run
 then_runs r go = continued r.outcome r go
 
--- the state when a play of these procedures starts
+-- the state when a play of these procedures starts: scans have no padding, and end in IDLE
+abbrev pub first_settings : ScanSettings
+first_settings = record { pre = []; post = []; stop = Idle }
+
 abbrev pub start : List ℕ → List Held → State
-start chosen variables = record { chosen = chosen; records = []; store = record { variables = variables } }
+start chosen variables =
+    record { chosen = chosen; records = []; store = record { variables = variables }; ir = first_settings; dr = first_settings }
 
 -- The initial values of DATA blocks are set, one after the other. This takes no turn, and leads to no place of its own.
 abbrev pub set_up : Played → List Preset → State → Turned

@@ -9,7 +9,7 @@ use Rattle.stapl_meaning.specs.declared.events.Event.TheVariants.{Print, Export,
 use Rattle.stapl_meaning.specs.declared.events.ExportValue.{ExportValue}
 use Rattle.stapl_meaning.specs.declared.events.ExportValue.TheVariants.{Int, Bit, Array}
 use Rattle.stapl_meaning.specs.declared.events.RunFault.{RunFault}
-use Rattle.stapl_meaning.specs.declared.events.RunFault.TheVariants.{DivideByZero, IndexOutOfRange, RangeReversed, LengthMismatch, BadCount, ShiftCount, ZeroStep, NoRecord, RecordsFull, BadChar}
+use Rattle.stapl_meaning.specs.declared.events.RunFault.TheVariants.{DivideByZero, IndexOutOfRange, RangeReversed, LengthMismatch, BadLength, BadCount, ShiftCount, ZeroStep, NoRecord, RecordsFull, BadChar}
 use Rattle.stapl_meaning.specs.declared.events.Ending.{Ending}
 use Rattle.stapl_meaning.specs.declared.events.Ending.TheVariants.{Exit, Fault, Spent}
 use Rattle.stapl_meaning.specs.Effects.{digit_of}
@@ -108,6 +108,7 @@ fault_name DivideByZero = codes "DivideByZero"
 fault_name IndexOutOfRange = codes "IndexOutOfRange"
 fault_name RangeReversed = codes "RangeReversed"
 fault_name LengthMismatch = codes "LengthMismatch"
+fault_name BadLength = codes "BadLength"
 fault_name BadCount = codes "BadCount"
 fault_name ShiftCount = codes "ShiftCount"
 fault_name ZeroStep = codes "ZeroStep"

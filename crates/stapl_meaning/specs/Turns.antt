@@ -1,8 +1,8 @@
 -- Turns: the execution of one piece. Source: JESD71, statements. Statements are rows of a table with three columns: the
 -- operands, what their values do, and where the statement leads if it does not go on to what follows.
-use Rattle.std.specs.Prelude.{◌≡◌, ℕ, ◌+◌, map, List, [], ◌∷◌, ◌++◌, Option, Some, None, slice_get, slice_index_or}
+use Rattle.std.specs.Prelude.{◌≡◌, ℕ, ◌+◌, map, Bool, List, [], ◌∷◌, ◌++◌, Option, Some, None, slice_get, slice_index_or}
 use Rattle.stapl_syntax.specs.Kinds.{expr_kind}
-use Rattle.stapl_syntax.specs.Trees.{ExprTree, number, BodyTree, end_procedure, boolean, boolean_array, integer, integer_array, assign, assign_element, assign_array, assign_range, scalar, element, call, goto, if_then, for_loop, next, push, pop, print, exported_value, exported_array, export, exit, state_list, wait_cycles, wait_usec, frequency, StmtTree}
+use Rattle.stapl_syntax.specs.Trees.{ExprTree, number, BodyTree, end_procedure, boolean, boolean_array, integer, integer_array, assign, assign_element, assign_array, assign_range, scalar, element, call, goto, if_then, for_loop, next, push, pop, print, exported_value, exported_array, export, exit, state_list, wait_cycles, wait_usec, frequency, scan, stop, pad, StmtTree}
 use Rattle.tap_states.specs.declared.Tap.{Tap}
 use Rattle.tap_states.specs.declared.Tap.TheVariants as taps
 use Rattle.stapl_meaning.specs.declared.waits.WaitKind.{WaitKind}
@@ -12,8 +12,11 @@ use Rattle.stapl_meaning.specs.declared.events.RunFault.{RunFault}
 use Rattle.stapl_meaning.specs.declared.events.Ending.{Ending}
 use Rattle.stapl_meaning.specs.declared.values.Value.{Value}
 use Rattle.stapl_meaning.specs.Values.{Got, Known, Faults, Stuck, These, source_of}
-use Rattle.stapl_meaning.specs.Operands.{Operand, plain, an_integer, a_boolean, an_index, a_range, bit_number, given_kind, printed_kind, step_or_one, array_operands, part_operands, values_of}
-use Rattle.stapl_meaning.specs.States.{State, Did, Falls, Jumps, Resumes, Returns, Ends, Turned, Leads, Over, Broken, NoTurn, with_got, preceded, turn_of_piece, next_chosen, led}
+use Rattle.stapl_meaning.specs.Scans.{scanned, surrounded, stopped}
+use Rattle.stapl_meaning.specs.Operands.{Operand, plain, an_integer, a_boolean, an_index, a_range, bit_number, given_kind, printed_kind, step_or_one, array_operands, given_operands, target_operands, compare_operands, part_operands, values_of}
+use Rattle.stapl_meaning.specs.ScanTrees.{scan_parts, given_source}
+use Rattle.dev_card.specs.Scans.{BoardScan}
+use Rattle.stapl_meaning.specs.States.{State, Did, Falls, Captures, Jumps, Resumes, Returns, Ends, Turned, Leads, Over, Broken, Scanning, NoTurn, with_got, preceded, turn_of_piece, next_chosen, led}
 use Rattle.stapl_meaning.specs.Effects.{assigned, element_assigned, IntoWhole, IntoRange, copied, integers_set, jumped, parted, pushed, popped, called, looped, repeated, returned, exited, joined, printed, exported, bits_exported, moved_through, waited, tuned}
 use Rattle.stapl_meaning.specs.Scopes.{Scope, Played, scope_at}
 
@@ -43,7 +46,7 @@ abbrev pub integer_given : Option ExprTree → List Operand
 integer_given None = []
 integer_given (Some e) = an_integer e ∷ []
 
--- The table. A statement that is not built has no operands, and finds nothing to do.
+-- The table. A tree that has no row here stands in no procedure: it has no operands, and finds nothing to do.
 
 -- its operands, in the written order
 abbrev pub operands : Scope → BodyTree → List Operand
@@ -62,6 +65,9 @@ operands scope (print parts) = part_operands scope.look parts
 operands scope (export key (exported_value e)) = plain (printed_kind (expr_kind scope.look.kind e)) e ∷ []
 operands scope (export key (exported_array a)) = array_operands scope.look a
 operands scope (exit e) = an_integer e ∷ []
+operands scope (scan register count source to compare) =
+    an_integer count ∷ (array_operands scope.look source ++ (target_operands scope.look to ++ compare_operands scope.look compare))
+operands scope (pad which count bits) = an_integer count ∷ given_operands scope.look bits
 operands scope (wait_cycles state cycles usec last) = an_integer cycles ∷ integer_given usec
 operands scope (wait_usec state usec last) = an_integer usec ∷ []
 operands scope (frequency hertz) = integer_given hertz
@@ -93,6 +99,9 @@ effect scope (print parts) values s = printed (joined parts values) s
 effect scope (export key (exported_value e)) values s = exported key values s
 effect scope (export key (exported_array a)) values s = bits_exported key (source_of scope.look a) values s
 effect scope (exit e) values s = exited values s
+effect scope (scan register count source to compare) values s = scanned (scan_parts scope.look register source to compare) values s
+effect scope (stop register state) values s = stopped register (tap_of state) values s
+effect scope (pad which count bits) values s = surrounded which (given_source scope.look bits) values s
 effect scope (state_list states) values s = moved_through (map tap_of states) values s
 effect scope (wait_cycles state cycles usec last) values s =
     waited (kind_of_wait usec) (tap_or_idle state) (tap_or_idle last) values s
@@ -136,6 +145,10 @@ pub data Does (scope : Scope) : List BodyTree → State → Turned → Type 0 wh
   -- the row is done, and the others follow
   falls : (b : BodyTree) (rest : List BodyTree) (s t : State) (deeds : List Deed) (turned : Turned) →
       HasEffect scope b s (Known (Falls deeds t)) → Does scope rest t turned → Does scope (b ∷ rest) s (preceded deeds turned)
+  -- the row scans, and the captured bits decide how the others go on
+  scans : (b : BodyTree) (rest : List BodyTree) (s : State) (scan : BoardScan) (lands : List Bool → State) (turned : List Bool → Turned) →
+      HasEffect scope b s (Known (Captures scan lands)) → ((bits : List Bool) → Does scope rest (lands bits) (turned bits)) →
+      Does scope (b ∷ rest) s (Scanning [] scan turned)
   -- the row is done, and the turn is over
   jumps : (b : BodyTree) (rest : List BodyTree) (s t : State) (place : ℕ) → HasEffect scope b s (Known (Jumps t)) →
       target scope b ≡ Some place → Does scope (b ∷ rest) s (Leads [] place t)
@@ -181,4 +194,5 @@ turn program i s = turn_of (scope_at program i) (i + 1) s (slice_get program.pie
 -- the turn finds something to do
 abbrev pub IsFound : Turned → Type 0
 IsFound (NoTurn deeds) = ⊥
+IsFound (Scanning deeds job rest) = (bits : List Bool) → IsFound (rest bits)
 IsFound _ = Unit {0}

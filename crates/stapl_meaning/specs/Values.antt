@@ -161,6 +161,15 @@ abbrev pub bits_held : Option Held → Got (List Bool)
 bits_held (Some (held.Bits bs)) = Known bs
 bits_held _ = Stuck
 
+-- the bits of a variable, of which only a BOOLEAN array has some
+abbrev pub bits_of : Held → List Bool
+bits_of (held.Bits bs) = bs
+bits_of _ = []
+
+abbrev pub bits_in : Option Held → List Bool
+bits_in (Some h) = bits_of h
+bits_in None = []
+
 -- a part of an array: its lowest index, and how many bits it has
 pub record Span : Type 0 where
   pub low : ℕ

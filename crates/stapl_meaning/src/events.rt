@@ -45,6 +45,8 @@ pub enum RunFault {
     RangeReversed,
     /// An array that is no literal has fewer bits than are asked of it.
     LengthMismatch,
+    /// The length of a scan or of a padding is outside its limits.
+    BadLength,
     /// A count of WAIT or FREQUENCY is outside its limits.
     BadCount,
     /// A shift count is not in 0 to 31.
@@ -69,6 +71,7 @@ impl RunFault {
             RunFault::IndexOutOfRange => b"IndexOutOfRange",
             RunFault::RangeReversed => b"RangeReversed",
             RunFault::LengthMismatch => b"LengthMismatch",
+            RunFault::BadLength => b"BadLength",
             RunFault::BadCount => b"BadCount",
             RunFault::ShiftCount => b"ShiftCount",
             RunFault::ZeroStep => b"ZeroStep",

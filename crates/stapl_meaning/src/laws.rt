@@ -1,7 +1,7 @@
 //! Laws of the definitions.
 ghost use Rattle.std.specs.Prelude.{◌≡◌, ℕ, ◌+◌, List};
 ghost use Rattle.stapl_syntax.specs.Trees.{StmtTree};
-ghost use Rattle.stapl_built.specs.Unbuilt.{IsBuiltProgram};
+ghost use Rattle.stapl_syntax.specs.Programs.{IsProgram};
 ghost use Rattle.stapl_meaning.specs.Deeds.{Chain};
 ghost use Rattle.stapl_meaning.specs.States.{State, Turned};
 ghost use Rattle.stapl_meaning.specs.Scopes.{Played, as_played};
@@ -26,7 +26,7 @@ pub fn runs_follow_each_other()
         run program (n + m) i s k ≡ then_runs (run program n i s k) (run program m) }
 {}
 
-/// Each built program is typed.
+/// Each program is typed.
 pub fn programs_are_typed()
-    ensures { (text : List ℕ) (program : List StmtTree) → IsBuiltProgram text program → IsTyped (as_played program) }
+    ensures { (text : List ℕ) (program : List StmtTree) → IsProgram text program → IsTyped (as_played program) }
 {}

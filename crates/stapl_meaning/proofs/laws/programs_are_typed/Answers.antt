@@ -9,7 +9,7 @@ use Rattle.stapl_meaning.proofs.laws.programs_are_typed.Goals as goal
 
 pub returns : goal.returns
 returns c = λ text program is.
-    let kept = sound text program is.program in
+    let kept = sound text program is in
     let few = kept.few in
     record {
       few = omega (arith, few, same_count None program);
