@@ -41,13 +41,13 @@ IsGot P Stuck = ⊥
 abbrev pub IsAnswer : {A : Type 0} → Got A → Type 0
 IsAnswer g = IsGot (λ _. Unit {0}) g
 
-then_good : {A B : Type 0} (P : A → Type 0) (Q : B → Type 0) (g : Got A) (go : A → Got B) → IsGot P g →
+pub then_good : {A B : Type 0} (P : A → Type 0) (Q : B → Type 0) (g : Got A) (go : A → Got B) → IsGot P g →
     ((x : A) → P x → IsGot Q (go x)) → IsGot Q (then_get g go)
 then_good P Q (Known x) go p q = q x p
 then_good P Q (Faults k) go p q = tt
 then_good P Q Stuck go p q = absurd p
 
-passed_good : {A : Type 0} (P : A → Type 0) (b : Bool) (k : RunFault) (x : A) → P x → IsGot P (passed b k x)
+pub passed_good : {A : Type 0} (P : A → Type 0) (b : Bool) (k : RunFault) (x : A) → P x → IsGot P (passed b k x)
 passed_good P true k x p = p
 passed_good P false k x p = tt
 
@@ -89,15 +89,15 @@ index_good (Some v) (Some (held.Bits bs)) i f e = index_passed (is_index i (leng
 -- ---- BOOLEAN arrays
 
 -- a BOOLEAN array and its bits
-record HoldsBits (ov : Option VarDef) (oh : Option Held) : Type 0 where
-  variable : VarDef
-  is : ov ≡ Some variable
-  bits : List Bool
-  held : oh ≡ Some (held.Bits bits)
-  kind : variable.kind ≡ 3
-  size : length bits ≡ variable.size
+pub record HoldsBits (ov : Option VarDef) (oh : Option Held) : Type 0 where
+  pub variable : VarDef
+  pub is : ov ≡ Some variable
+  pub bits : List Bool
+  pub held : oh ≡ Some (held.Bits bits)
+  pub kind : variable.kind ≡ 3
+  pub size : length bits ≡ variable.size
 
-holds_bits : (ov : Option VarDef) (oh : Option Held) → FitAt ov oh → is_of_kind 3 ov ≡ true → HoldsBits ov oh
+pub holds_bits : (ov : Option VarDef) (oh : Option Held) → FitAt ov oh → is_of_kind 3 ov ≡ true → HoldsBits ov oh
 holds_bits None oh f e = absurd cc
 holds_bits (Some v) None f e = absurd f
 holds_bits (Some v) (Some (held.Int z)) f e = absurd (let other = ap (λ (n : ℕ). n == 3) f in cc)
@@ -107,10 +107,10 @@ holds_bits (Some v) (Some (held.Bits bs)) f e =
     record { variable = v; is = refl; bits = bs; held = refl; kind = f.0; size = f.1 }
 
 -- a part of an array ends in it
-abbrev EndsWithin : ℕ → Span → Type 0
+abbrev pub EndsWithin : ℕ → Span → Type 0
 EndsWithin n span = span.low + span.count ≤ n
 
-span_between_good : (n : ℕ) (high low : ℤ) → IsGot (EndsWithin n) (span_between n high low)
+pub span_between_good : (n : ℕ) (high low : ℤ) → IsGot (EndsWithin n) (span_between n high low)
 span_between_good n (pos h) (pos l) = by (nat_lt h n) refl (nat_lt l n) (int_le (pos l) (pos h)) refl
   where
     by : (a : Bool) → nat_lt h n ≡ a → (b c : Bool) → nat_le l h ≡ c →
@@ -158,10 +158,10 @@ length-padded missing n xs =
     length-take-le n all enough
 
 -- so many bits
-abbrev HasLength : ℕ → List Bool → Type 0
+abbrev pub HasLength : ℕ → List Bool → Type 0
 HasLength n bits = length bits ≡ n
 
-asked_good : (source : values.Source) (n : ℕ) (bits : List Bool) → IsGot (HasLength n) (asked source n bits)
+pub asked_good : (source : values.Source) (n : ℕ) (bits : List Bool) → IsGot (HasLength n) (asked source n bits)
 asked_good (values.These own) n bits = length-padded false n bits
 asked_good _ n bits = by (nat_le n (length bits)) refl
   where
@@ -169,7 +169,7 @@ asked_good _ n bits = by (nat_le n (length bits)) refl
     by true enough = length-take-le n bits (leb-true n (length bits) enough)
     by false enough = tt
 
-length-spliced : (low : ℕ) (new old : List Bool) → low + length new ≤ length old → length (spliced low new old) ≡ length old
+pub length-spliced : (low : ℕ) (new old : List Bool) → low + length new ≤ length old → length (spliced low new old) ≡ length old
 length-spliced low new old inside =
     let front = length-take-le low old (omega (arith, inside)) in
     let rest : List Bool = drop (low + length new) old in
@@ -227,15 +227,15 @@ module _ (variables : List VarDef) (literals : List (List Bool)) (contents : Lis
 
 -- ---- writes
 
--- it goes on, with the same procedures still to run, and with variables that hold what they have to
+-- it goes on, without a deed and with nothing changed but variables, which hold what they have to
 abbrev pub Writes : List VarDef → State → Did → Type 0
-Writes variables s (did.Falls events t) = (t.chosen ≡ s.chosen) × AllFit variables t.store.variables × (t.records ≡ s.records)
+Writes variables s (did.Falls deeds t) = (deeds ≡ []) × (t ≡ with_variables s t.store.variables) × AllFit variables t.store.variables
 Writes variables s _ = ⊥
 
 module _ (variables : List VarDef) (s : State) (fit : AllFit variables s.store.variables) where
   replaced_good : (n : ℕ) (v : VarDef) (g : Got Held) → slice_get variables n ≡ Some v → IsGot (Fits v) g →
       IsGot (Writes variables s) (written s (replaced s.store.variables n g))
-  replaced_good n v (Known h) at f = (refl, fit_set variables s.store.variables n v h fit at f, refl)
+  replaced_good n v (Known h) at f = (refl, refl, fit_set variables s.store.variables n v h fit at f)
   replaced_good n v (Faults k) at f = tt
   replaced_good n v Stuck at f = absurd f
 
@@ -284,7 +284,7 @@ module _ (variables : List VarDef) (s : State) (fit : AllFit variables s.store.v
       then_good (HasLength span.count) (Writes variables s) (asked from span.count bits) put (asked_good from span.count bits) (λ new count.
       let within : span.low + length new ≤ length old = omega (arith, inside, count) in
       let fits : Fits v (array new) = (kind, length-spliced span.low new old within ∙ size) in
-      (refl, fit_set variables s.store.variables n v (array new) fit at fits, refl)))
+      (refl, refl, fit_set variables s.store.variables n v (array new) fit at fits)))
 
   module _
       (n : ℕ) (kind : is_of_kind 3 (slice_get variables n) ≡ true) (from : values.Source) (vs : List Value)

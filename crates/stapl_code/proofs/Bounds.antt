@@ -1,23 +1,35 @@
 -- How many instructions are left, and how many a run takes.
-use Rattle.std.proofs.Common.{ℕ, zero, suc, ◌+◌, ◌-◌, ◌*◌, ◌≤◌, List, [], ◌∷◌, length, drop, arith, length-drop}
+use Rattle.std.proofs.Common.{ℕ, zero, suc, ◌+◌, ◌-◌, ◌*◌, ◌≤◌, Bool, true, false, List, [], ◌∷◌, length, drop, arith, length-drop}
+use Rattle.std.specs.Prelude.{if◌then◌else◌}
 use Rattle.stapl_meaning.specs.declared.values.Value.{Value}
 use Rattle.stapl_meaning.specs.declared.values.Held.{Held}
-use Rattle.stapl_meaning.specs.Deeds.{Chain, deeds_chain}
+use Rattle.tap_states.specs.Tap.{is_stable_state}
+use Rattle.dev_card.specs.Scans.{BoardScan}
+use Rattle.stapl_meaning.specs.Deeds.{Scans, Chain, deed_chain, deeds_chain, captured_on}
 use Rattle.stapl_meaning.specs.States.{State, Happened, Led, Finished, Broke, Lacks}
 use Rattle.stapl_meaning.specs.Plays.{start}
 use Rattle.stapl_code.specs.declared.instr.Instr.{Instr}
 use Rattle.stapl_code.specs.declared.instr.Instr.TheVariants.{Turn}
-use Rattle.stapl_code.specs.Machine.{Constants, Step, Falls, Acts, Stops, Faulted, Wrong, step, code_turn, code_beginning}
-use Rattle.stapl_code.specs.Ticks.{counted_behind, tick_of, counted_then, ticks, begin_ticks, turn_ticks, run_ticks, play_ticks}
+use Rattle.stapl_code.specs.Machine.{Constants, Step, Falls, Acts, Scanned, Stops, Faulted, Wrong, step, code_turn, code_beginning}
+use Rattle.stapl_code.specs.Ticks.{counted_scan, counted_behind, tick_of, counted_then, ticks, begin_ticks, turn_ticks, run_ticks, play_ticks}
 
 one_at_most : (x : Instr) → tick_of x ≤ 1
 one_at_most (Turn piece) = omega arith
 one_at_most _ = omega arith
 
+scan_at_most : (n : ℕ) (k : Chain) (scan : BoardScan) (go : List Bool → Chain → ℕ) → ((bits : List Bool) (l : Chain) → go bits l ≤ n) →
+    counted_scan k scan go ≤ n
+scan_at_most n k scan go h = by (is_stable_state k.tap)
+  where
+    by : (b : Bool) → (if b then go (captured_on k scan) (deed_chain k (Scans scan)) else 0) ≤ n
+    by true = h (captured_on k scan) (deed_chain k (Scans scan))
+    by false = omega arith
+
 behind_at_most : (n : ℕ) (k : Chain) (st : Step) (go : List Value → State → Chain → ℕ) →
     ((ops : List Value) (s : State) (l : Chain) → go ops s l ≤ n) → counted_behind k st go ≤ n
 behind_at_most n k (Falls ops s) go h = h ops s k
 behind_at_most n k (Acts deeds ops s) go h = h ops s (deeds_chain k deeds)
+behind_at_most n k (Scanned scan ops lands) go h = scan_at_most n k scan (λ bits l. go ops (lands bits) l) (λ bits l. h ops (lands bits) l)
 behind_at_most n k (Stops ops t) go h = omega arith
 behind_at_most n k (Faulted f s) go h = omega arith
 behind_at_most n k Wrong go h = omega arith

@@ -3,11 +3,13 @@ pub mod Operands
 pub mod OperatorKinds
 pub mod Fitting
 pub mod ArraySteps
+pub mod ScanSteps
 pub mod OneStep
 pub mod ValidRuns
 pub mod Pairs
 pub mod KindCounts
 pub mod PartsTaken
+pub mod ScanKinds
 pub mod DepthSteps
 pub mod BreakSteps
 pub mod Preceded

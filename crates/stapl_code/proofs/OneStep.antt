@@ -1,7 +1,7 @@
 -- One instruction of a valid code finds its operands, and keeps what holds of the state: a line for each instruction,
 -- and one rule.
-use Rattle.std.proofs.Common.{◌≡◌, ℕ, zero, suc, ◌+◌, ◌<◌, ◌≤◌, Bool, true, false, List, [], ◌∷◌, ◌++◌, Option, Some, None, length, arith, refl, sym, ap, ◌∙◌, subst}
-use Rattle.std.specs.Prelude.{ℤ, pos, int_lt, int_le, ◌+ℤ◌, ◌==◌, nat_abs, nat_lt, if◌then◌else◌, slice_get, slice_set, All}
+use Rattle.std.proofs.Common.{◌≡◌, ℕ, zero, suc, ◌+◌, ◌-◌, ◌<◌, ◌≤◌, Bool, true, false, List, [], ◌∷◌, ◌++◌, Option, Some, None, length, arith, refl, sym, ap, ◌∙◌, subst}
+use Rattle.std.specs.Prelude.{ℤ, pos, int_lt, int_le, ◌+ℤ◌, ◌==◌, nat_abs, nat_lt, if◌then◌else◌, slice_get, slice_set, map, All}
 use Rattle.std.specs.Int.{int_wrap, w32}
 use Rattle.std.specs.Ordering.{int_eq}
 use Rattle.std.specs.List.{list_all}
@@ -11,7 +11,13 @@ use Rattle.tap_states.specs.declared.Tap.{Tap}
 use Rattle.tap_states.specs.Tap.{is_stable_state}
 use Rattle.stapl_meaning.specs.declared.waits.WaitKind.{WaitKind}
 use Rattle.stapl_meaning.specs.declared.waits.WaitKind.TheVariants as waits
-use Rattle.stapl_meaning.specs.Deeds.{Deed, Says, Goes, Stays}
+use Rattle.stapl_lexer.specs.declared.terminal.Padding.{Padding}
+use Rattle.stapl_lexer.specs.declared.terminal.Padding.TheVariants as paddings
+use Rattle.stapl_lexer.specs.declared.terminal.Register.{Register}
+use Rattle.stapl_lexer.specs.declared.terminal.Register.TheVariants as registers
+use Rattle.dev_card.specs.Scans.{BoardScan}
+use Rattle.stapl_meaning.specs.Deeds.{Deed, Says, Goes, Stays, Chain, deed_chain, deeds_chain}
+use Rattle.stapl_meaning.specs.Scans.{with_padding, with_stop, scanned, surrounded, stopped}
 use Rattle.stapl_meaning.specs.declared.events.Event.TheVariants as events
 use Rattle.stapl_meaning.specs.declared.events.ExportValue.TheVariants.{Array}
 use Rattle.stapl_meaning.specs.declared.events.RunFault.{RunFault}
@@ -27,7 +33,7 @@ use Rattle.stapl_meaning.specs.Values as values
 use Rattle.stapl_meaning.specs.declared.records.Loop.{Loop}
 use Rattle.stapl_meaning.specs.declared.records.Record.{Record}
 use Rattle.stapl_meaning.specs.declared.records.Record.TheVariants.{Pushed, Called, Looped}
-use Rattle.stapl_meaning.specs.States.{State, Did, Turned, Leads, Over, Broken, NoTurn, next_chosen, jumps_to}
+use Rattle.stapl_meaning.specs.States.{ScanSettings, State, Did, Turned, Leads, Over, Broken, Scanning, NoTurn, next_chosen, jumps_to}
 use Rattle.stapl_meaning.specs.States as did
 use Rattle.stapl_meaning.specs.Effects.{scalar_written, element_assigned, IntoWhole, copied, integers_set, written, way_of, with_variables, with_records, record_limit, number_of, value_as, topmost, returned_from, with_loop, looped, nearest_loop, is_over, integer_held, went_round, after_value, printed, exported, bits_exported, cycles_of, usec_of, hertz_of, most_cycles, waited_for, waited, tuned}
 use Rattle.stapl_code.specs.declared.raw.VarDef.{VarDef}
@@ -37,17 +43,18 @@ use Rattle.stapl_code.specs.declared.instr.PrintPart.TheVariants as parts
 use Rattle.stapl_code.specs.declared.instr.ExportPart.TheVariants as exports
 use Rattle.stapl_code.specs.declared.instr.Source.{Source}
 use Rattle.stapl_code.specs.declared.instr.Instr.{Instr}
-use Rattle.stapl_code.specs.declared.instr.Instr.TheVariants.{Turn, Push, PushBit, Load, LoadAt, CheckIndex, CheckRange, Store, StoreAt, Unary, Binary, ToInt, CopyBits, SetBits, SetInts, For, Next, PushRecord, PopRecord, Call, Jump, JumpIfZero, EndProc, Print, Export, CheckChar, Exit, State as GoThrough, Wait, Frequency}
+use Rattle.stapl_code.specs.declared.instr.Instr.TheVariants.{Turn, Push, PushBit, Load, LoadAt, CheckIndex, CheckRange, Store, StoreAt, Unary, Binary, ToInt, CopyBits, SetBits, SetInts, For, Next, PushRecord, PopRecord, Call, Jump, JumpIfZero, EndProc, Print, Export, CheckChar, Exit, Scan as Scans, Stop, Pad, State as GoThrough, Wait, Frequency}
 use Rattle.stapl_code.specs.Operators.{operator_table, unary_kinds, unary_results}
-use Rattle.stapl_code.specs.Machine.{Constants, AnInteger, AnArray, OfBits, OfInts, source_slots, source_wants, dest_slots, dest_want, target_of, known_literal, known_source, Made, Puts, PutsFrom, PutsTwo, unrecorded, Does, puts, does, one, two, bit_of, operated_by, signed_by, Slot, Of, OfScalar, OfElement, slot_of, sides_of, result_of, part_slots, wait_slots, frequency_slots, takes, gives, wants, known_text, parts_text, made, lands, Step, Falls, Acts, Stops, Faulted, Wrong, taken_onto, taken, on_taken, acted, entry_of, on_made, step}
+use Rattle.stapl_code.specs.Machine.{Constants, AnInteger, AnArray, OfBits, OfInts, source_slots, source_wants, dest_slots, dest_want, target_of, known_literal, known_source, Made, Puts, PutsFrom, PutsTwo, unrecorded, Does, puts, does, one, two, bit_of, operated_by, signed_by, Slot, Of, OfScalar, OfElement, slot_of, sides_of, result_of, part_slots, wait_slots, frequency_slots, given_slots, scan_slots, known_given, known_scan, takes, gives, wants, known_text, parts_text, made, lands, Step, Falls, Acts, Scanned, Stops, Faulted, Wrong, taken_onto, taken, on_taken, acted, entry_of, on_made, step}
 use Rattle.stapl_code.specs.Ranges.{IsPart, IsSource, IsInstr}
 use Rattle.stapl_code.specs.Kinds.{then_kinds, scalar_kind, variable_kind, element_kind, is_of_kind, is_met, put_on, left_by, clears, slot_kind, all_off, all_on, kinds_behind}
-use Rattle.stapl_code.specs.Valid.{is_turn, departs, is_target, leads_well, rests_well}
+use Rattle.stapl_code.specs.Valid.{is_turn, departs, is_target, leads_well, is_stable_if, ends_stable, rests_well}
 use Rattle.stapl_code.specs.Safe.{Fits, AllFit, AllBelow}
 use Rattle.stapl_code.proofs.KindCounts.{then_some, met_and_behind}
 use Rattle.stapl_code.proofs.Fitting.{FitAt, fit_at, fit_set}
 use Rattle.stapl_code.proofs.ArraySteps.{IsGot, IsAnswer, element_good, index_good, range_good, Resolves, source_good, integer_good, Writes, element_stored, integers_good, Copies, copy_good, bits_good}
-use Rattle.stapl_code.proofs.Operands.{kind_of, kinds_of, EachOf, each_of, each_more, Each, each_at, each_map, taken_as}
+use Rattle.stapl_code.proofs.Operands.{kind_of, kinds_of, EachOf, each_of, each_more, Each, each_at, each_map, each_filled, taken_as}
+use Rattle.stapl_code.proofs.ScanSteps.{ScansWell, PadsWell, scan_good, padding_good}
 use Rattle.stapl_code.proofs.OperatorKinds.{GotOf, CombinesAt, combined_good, Signs, signed_good}
 
 none_are_left : (ops : List Value) (after : List ValueKind) → left_by true (kinds_of ops) ≡ Some after → ops ≡ []
@@ -100,6 +107,22 @@ ArePlaced P (Pushed z ∷ records) = ArePlaced P records
 ArePlaced P (Called place ∷ records) = P place × ArePlaced P records
 ArePlaced P (Looped l ∷ records) = P l.place × ArePlaced P records
 
+-- deeds that lead from a stable state to a stable state
+abbrev pub KeepsStable : List Deed → Type 0
+KeepsStable deeds = (k : Chain) → is_stable_state k.tap ≡ true → is_stable_state (deeds_chain k deeds).tap ≡ true
+
+-- moves that end in a stable state
+ends_at : (t : Tap) (states : List Tap) (k : Chain) → is_stable_if (slice_get (t ∷ states) (length (t ∷ states) - 1)) ≡ true →
+    is_stable_state (deeds_chain k (map Goes (t ∷ states))).tap ≡ true
+ends_at t [] k stable = stable
+ends_at t (u ∷ states) k stable =
+    let last : length (t ∷ u ∷ states) - 1 ≡ suc (length (u ∷ states) - 1) = omega arith in
+    ends_at u states (deed_chain k (Goes t)) (ap (λ (n : ℕ). is_stable_if (slice_get (t ∷ u ∷ states) n)) (sym last) ∙ stable)
+
+goes_stable : (states : List Tap) → 1 ≤ length states → ends_stable states ≡ true → KeepsStable (map Goes states)
+goes_stable [] some stable = absurd (omega (arith, some))
+goes_stable (t ∷ states) some stable = λ k before. ends_at t states k stable
+
 module _
     (variables : List VarDef) (procedures : ℕ) (entries : List ℕ) (constants : Constants) (IsPlace : ℕ → Type 0) where
   -- what holds of the state between two instructions
@@ -107,17 +130,25 @@ module _
     pub variables_fit : AllFit variables s.store.variables
     pub chosen_below : AllBelow procedures s.chosen
     pub records_placed : ArePlaced IsPlace s.records
+    pub ir_stable : is_stable_state s.ir.stop ≡ true
+    pub dr_stable : is_stable_state s.dr.stop ≡ true
+
+  -- what the captured bits decide
+  abbrev pub LandsGood : BoardScan → (List Bool → State) → Type 0
+  LandsGood scan lands = (bits : List Bool) → length bits ≡ length scan.bits → Good (lands bits)
 
   -- what holds of a turn's end: it leads to a place
   abbrev pub TurnedGood : Turned → Type 0
-  TurnedGood (Leads deeds place s) = IsPlace place × Good s
+  TurnedGood (Leads deeds place s) = IsPlace place × Good s × KeepsStable deeds
   TurnedGood (Over deeds ending s) = Unit {0}
   TurnedGood (Broken deeds k s) = Unit {0}
+  TurnedGood (Scanning deeds scan rest) = ⊥
   TurnedGood (NoTurn deeds) = ⊥
 
   abbrev pub StepGood : List ValueKind → Step → Type 0
   StepGood after (Falls ops s) = (kinds_of ops ≡ after) × Good s
-  StepGood after (Acts deeds ops s) = (kinds_of ops ≡ after) × Good s
+  StepGood after (Acts deeds ops s) = (kinds_of ops ≡ after) × Good s × KeepsStable deeds
+  StepGood after (Scanned scan ops lands) = (kinds_of ops ≡ after) × (is_stable_state scan.stop ≡ true) × LandsGood scan lands
   StepGood after (Stops ops t) = (ops ≡ []) × TurnedGood t
   StepGood after (Faulted k s) = Unit {0}
   StepGood after Wrong = ⊥
@@ -127,8 +158,17 @@ module _
     pub chosen_good : (s : State) → Good s → (ps : List ℕ) → AllBelow procedures ps →
         TurnedGood (next_chosen (entry_of entries) s ps)
     chosen_good s good [] below = tt
-    chosen_good s good (p ∷ ps) below =
-        (begin p below.0, record { variables_fit = good.variables_fit; chosen_below = below.1; records_placed = good.records_placed })
+    chosen_good s good (p ∷ ps) below = (
+      begin p below.0,
+      record {
+        variables_fit = good.variables_fit;
+        chosen_below = below.1;
+        records_placed = good.records_placed;
+        ir_stable = good.ir_stable;
+        dr_stable = good.dr_stable;
+      },
+      λ k h. h,
+    )
 
   -- the instruction that stands here
   module _ (here : ℕ) where
@@ -145,7 +185,8 @@ module _
     MadeGood gs clear to (Known (Puts v)) = Adds gs (kind_of v ∷ [])
     MadeGood gs clear to (Known (PutsFrom v t)) = Adds gs (kind_of v ∷ []) × Good t
     MadeGood gs clear to (Known (PutsTwo x y)) = Adds gs (kind_of y ∷ kind_of x ∷ [])
-    MadeGood gs clear to (Known (Does (did.Falls deeds t))) = Adds gs [] × Good t
+    MadeGood gs clear to (Known (Does (did.Falls deeds t))) = Adds gs [] × Good t × KeepsStable deeds
+    MadeGood gs clear to (Known (Does (did.Captures scan lands))) = Adds gs [] × (is_stable_state scan.stop ≡ true) × LandsGood scan lands
     MadeGood gs clear to (Known (Does (did.Jumps t))) = (clear ≡ true) × IsTarget to × Good t
     MadeGood gs clear to (Known (Does (did.Resumes place t))) = (clear ≡ true) × IsPlace place × Good t
     MadeGood gs clear to (Known (Does (did.Returns t))) = (clear ≡ true) × Good t
@@ -232,7 +273,7 @@ module _
 
     jumps_good : (to : Option ℕ) (s : State) → IsTarget to → Good s → TurnedGood (jumps_to to s)
     jumps_good None s there good = absurd there
-    jumps_good (Some to) s there good = (there, good)
+    jumps_good (Some to) s there good = (there, good, λ k h. h)
 
     -- a value as one of a kind is of that kind
     kind_as : (kind : ValueKind) (z : ℤ) → kind_of (value_as kind z) ≡ kind
@@ -240,32 +281,48 @@ module _
     kind_as kinds.Bit z = refl
 
     acted_good : (deeds : List Deed) (ops : List Value) (s : State) (after : List ValueKind) → kinds_of ops ≡ after →
-        Good s → StepGood after (acted deeds ops s)
-    acted_good [] ops s after e good = (e, good)
-    acted_good (d ∷ deeds) ops s after e good = (e, good)
+        Good s → KeepsStable deeds → StepGood after (acted deeds ops s)
+    acted_good [] ops s after e good keeps = (e, good)
+    acted_good (d ∷ deeds) ops s after e good keeps = (e, good, keeps)
 
     module _ (s : State) (good : Good s) where
       printed_good : (clear : Bool) (to : Option ℕ) (text : Got (List ℕ)) → TextGood text →
           MadeGood [] clear to (does (printed text s))
-      printed_good clear to (Known bytes) h = (λ below. refl, good)
+      printed_good clear to (Known bytes) h = (λ below. refl, good, λ k stable. stable)
       printed_good clear to (Faults k) h = tt
       printed_good clear to Stuck h = absurd h
 
+      -- the same with other variables
+      pub good_with : (t : State) → t ≡ with_variables s t.store.variables → AllFit variables t.store.variables → Good t
+      good_with t same fits =
+          let now : Good (with_variables s t.store.variables) = record {
+            variables_fit = fits;
+            chosen_below = good.chosen_below;
+            records_placed = good.records_placed;
+            ir_stable = good.ir_stable;
+            dr_stable = good.dr_stable;
+          } in
+          subst Good (sym same) now
+
       wrote_good : (g : Got Did) → IsGot (Writes variables s) g → MadeGood [] false None (does g)
       wrote_good (Known (did.Falls deeds t)) h =
-          let good_now : Good t = record {
-            variables_fit = h.1;
-            chosen_below = subst (AllBelow procedures) (sym h.0) good.chosen_below;
-            records_placed = subst (ArePlaced IsPlace) (sym h.2) good.records_placed;
-          } in
-          (λ below. refl, good_now)
+          (λ below. refl, good_with t h.1 h.2, λ k stable. subst (λ ds. is_stable_state (deeds_chain k ds).tap ≡ true) (sym h.0) stable)
       wrote_good (Known _) h = absurd h
       wrote_good (Faults k) h = tt
       wrote_good Stuck h = absurd h
 
       way_good : (to : ℕ) → IsPlace to → (b : Bool) → MadeGood [] true (Some to) (Known (Does (way_of b s)))
-      way_good to there true = (λ below. refl, good)
+      way_good to there true = (λ below. refl, good, λ k stable. stable)
       way_good to there false = (refl, there, good)
+
+      with_settings_good : (ir dr : ScanSettings) → is_stable_state ir.stop ≡ true → is_stable_state dr.stop ≡ true → Good (record s { ir = ir; dr = dr })
+      with_settings_good ir dr ir_stable dr_stable = record {
+        variables_fit = good.variables_fit;
+        chosen_below = good.chosen_below;
+        records_placed = good.records_placed;
+        ir_stable = ir_stable;
+        dr_stable = dr_stable;
+      }
 
       stored : (n : ℕ) (v : VarDef) (h : Held) → slice_get variables n ≡ Some v → Fits v h →
           Good (record s { store = record { variables = slice_set s.store.variables n h } })
@@ -273,14 +330,22 @@ module _
         variables_fit = fit_set variables s.store.variables n v h good.variables_fit at f;
         chosen_below = good.chosen_below;
         records_placed = good.records_placed;
+        ir_stable = good.ir_stable;
+        dr_stable = good.dr_stable;
       }
 
       with_placed : (records : List Record) → ArePlaced IsPlace records → Good (with_records s records)
-      with_placed records placed = record { variables_fit = good.variables_fit; chosen_below = good.chosen_below; records_placed = placed }
+      with_placed records placed = record {
+        variables_fit = good.variables_fit;
+        chosen_below = good.chosen_below;
+        records_placed = placed;
+        ir_stable = good.ir_stable;
+        dr_stable = good.dr_stable;
+      }
 
       pushed_good : (v : Value) (room : Bool) →
           MadeGood [] false None (does (if room then Known (did.Falls [] (with_records s (Pushed (number_of v) ∷ s.records))) else Faults RecordsFull))
-      pushed_good v true = (λ below. refl, with_placed (Pushed (number_of v) ∷ s.records) good.records_placed)
+      pushed_good v true = (λ below. refl, with_placed (Pushed (number_of v) ∷ s.records) good.records_placed, λ k stable. stable)
       pushed_good v false = tt
 
       popped_good : (kind : ValueKind) (records : List Record) → ArePlaced IsPlace records →
@@ -318,13 +383,15 @@ module _
             variables_fit = fit_set variables s.store.variables l.variable v (held.Int z) good.variables_fit at f;
             chosen_below = good.chosen_below;
             records_placed = (place, placed);
+            ir_stable = good.ir_stable;
+            dr_stable = good.dr_stable;
           }
           by (Some v) (Some (held.Bit old)) at f e = absurd (let other = ap (λ (n : ℕ). n == 0) f in cc)
           by (Some v) (Some (held.Ints old)) at f e = absurd (let other = ap (λ (n : ℕ). n == 0) f.0 in cc)
           by (Some v) (Some (held.Bits old)) at f e = absurd (let other = ap (λ (n : ℕ). n == 0) f.0 in cc)
 
       begun_good : (g : Got State) → IsGot Good g → MadeGood [] true None (does (then_get g (λ t. Known (did.Falls [] t))))
-      begun_good (Known t) h = (λ below. refl, h)
+      begun_good (Known t) h = (λ below. refl, h, λ k stable. stable)
       begun_good (Faults k) h = tt
       begun_good Stuck h = absurd h
 
@@ -357,7 +424,7 @@ module _
 
           by : (over : Bool) → MadeGood [] true None (does
               (if over then Known (did.Falls [] (with_records s records)) else then_get (with_loop l records next s) (λ t. Known (did.Resumes l.place t))))
-          by true = (λ below. refl, with_placed records placed)
+          by true = (λ below. refl, with_placed records placed, λ k stable. stable)
           by false = gone_good l (with_loop l records next s) place (loop_good l records next place placed kind)
 
       -- an INTEGER scalar holds an integer
@@ -395,17 +462,17 @@ module _
       -- what is exported
       exports_good : (key : List ℕ) (g : Got (List Bool)) → IsAnswer g →
           MadeGood [] false None (does (then_get g (λ bits. Known (did.Falls (Says (events.Export key (Array bits)) ∷ []) s))))
-      exports_good key (Known bits) h = (λ below. refl, good)
+      exports_good key (Known bits) h = (λ below. refl, good, λ k stable. stable)
       exports_good key (Faults k) h = tt
       exports_good key Stuck h = absurd h
 
       -- what a wait counts, and what is stated of a frequency
-      deeds_good : (g : Got (List Deed)) → IsAnswer g → MadeGood [] false None (does (then_get g (λ deeds. Known (did.Falls deeds s))))
-      deeds_good (Known deeds) h = (λ below. refl, good)
+      deeds_good : (g : Got (List Deed)) → IsGot KeepsStable g → MadeGood [] false None (does (then_get g (λ deeds. Known (did.Falls deeds s))))
+      deeds_good (Known deeds) h = (λ below. refl, good, h)
       deeds_good (Faults k) h = tt
       deeds_good Stuck h = absurd h
 
-      stays : (at : Tap) → is_stable_state at ≡ true → (g : Got (List Deed)) → IsAnswer g →
+      stays : (at : Tap) → is_stable_state at ≡ true → (g : Got (List Deed)) → IsGot KeepsStable g →
           MadeGood [] false None (does (if is_stable_state at then then_get g (λ deeds. Known (did.Falls deeds s)) else Stuck))
       stays at stable g h =
           subst (λ (b : Bool). MadeGood [] false None (does (if b then then_get g (λ deeds. Known (did.Falls deeds s)) else Stuck))) (sym stable) (deeds_good g h)
@@ -414,38 +481,68 @@ module _
       passed_answers true k x = tt
       passed_answers false k x = tt
 
-      answers_one : {A B : Type 0} (g : Got A) (go : A → B) → IsAnswer g → IsAnswer (then_get g (λ x. Known (go x)))
-      answers_one (Known x) go h = tt
-      answers_one (Faults k) go h = tt
-      answers_one Stuck go h = absurd h
+      answers_one : {A : Type 0} (g : Got A) (go : A → List Deed) → ((x : A) → KeepsStable (go x)) → IsAnswer g → IsGot KeepsStable (then_get g (λ x. Known (go x)))
+      answers_one (Known x) go keeps h = keeps x
+      answers_one (Faults k) go keeps h = tt
+      answers_one Stuck go keeps h = absurd h
 
-      answers_both : {A B C : Type 0} (g : Got A) (f : Got B) (go : A → B → C) → IsAnswer g → IsAnswer f →
-          IsAnswer (then_get g (λ x. then_get f (λ y. Known (go x y))))
-      answers_both (Known x) f go h i = answers_one f (go x) i
-      answers_both (Faults k) f go h i = tt
-      answers_both Stuck f go h i = absurd h
+      answers_both : {A B : Type 0} (g : Got A) (f : Got B) (go : A → B → List Deed) → ((x : A) (y : B) → KeepsStable (go x y)) → IsAnswer g → IsAnswer f →
+          IsGot KeepsStable (then_get g (λ x. then_get f (λ y. Known (go x y))))
+      answers_both (Known x) f go keeps h i = answers_one f (go x) (keeps x) i
+      answers_both (Faults k) f go keeps h i = tt
+      answers_both Stuck f go keeps h i = absurd h
 
-      waits_good : (kind : WaitKind) (at last : Tap) → is_stable_state at ≡ true →
+      waits_good : (kind : WaitKind) (at last : Tap) → is_stable_state at ≡ true → is_stable_state last ≡ true →
           Each variables (wait_slots kind) (λ vs. MadeGood [] false None (does (waited kind at last vs s)))
-      waits_good waits.Cycles at last stable = λ n.
+      waits_good waits.Cycles at last stable ends = λ n.
           stays at stable (waited_for waits.Cycles at last (Int n ∷ []))
-          (answers_one (cycles_of n) (λ c. Goes at ∷ Stays c ∷ Goes last ∷ []) (passed_answers (is_index n (most_cycles + 1)) BadCount (nat_abs n)))
-      waits_good waits.Usec at last stable = λ n.
+          (answers_one (cycles_of n) (λ c. Goes at ∷ Stays c ∷ Goes last ∷ []) (λ c k before. ends) (passed_answers (is_index n (most_cycles + 1)) BadCount (nat_abs n)))
+      waits_good waits.Usec at last stable ends = λ n.
           stays at stable (waited_for waits.Usec at last (Int n ∷ []))
-          (answers_one (usec_of n) (λ u. Goes at ∷ Says (events.Usec u) ∷ Goes last ∷ []) (passed_answers (int_le (pos 0) n) BadCount (nat_abs n)))
-      waits_good waits.Both at last stable = λ n m.
+          (answers_one (usec_of n) (λ u. Goes at ∷ Says (events.Usec u) ∷ Goes last ∷ []) (λ u k before. ends) (passed_answers (int_le (pos 0) n) BadCount (nat_abs n)))
+      waits_good waits.Both at last stable ends = λ n m.
           stays at stable (waited_for waits.Both at last (Int n ∷ Int m ∷ []))
-          (answers_both (cycles_of n) (usec_of m) (λ c u. Goes at ∷ Stays c ∷ Says (events.Usec u) ∷ Goes last ∷ [])
+          (answers_both (cycles_of n) (usec_of m) (λ c u. Goes at ∷ Stays c ∷ Says (events.Usec u) ∷ Goes last ∷ []) (λ c u k before. ends)
           (passed_answers (is_index n (most_cycles + 1)) BadCount (nat_abs n)) (passed_answers (int_le (pos 0) m) BadCount (nat_abs m)))
 
       tuned_good : (stated : Bool) → Each variables (frequency_slots stated) (λ vs. MadeGood [] false None (does (tuned vs s)))
       tuned_good true = λ n. by (hertz_of n) (passed_answers (int_lt (pos 0) n) BadCount (nat_abs n))
         where
           by : (g : Got ℕ) → IsAnswer g → MadeGood [] false None (does (then_get g (λ h. Known (did.Falls (Says (events.Hertz h) ∷ []) s))))
-          by (Known h) a = (λ below. refl, good)
+          by (Known h) a = (λ below. refl, good, λ k stable. stable)
           by (Faults k) a = tt
           by Stuck a = absurd a
-      tuned_good false = (λ below. refl, good)
+      tuned_good false = (λ below. refl, good, λ k stable. stable)
+
+      -- a scan, a padding, and a state in which scans end
+      scanned_good : (g : Got Did) → IsGot (ScansWell variables s) g → MadeGood [] false None (does g)
+      scanned_good (Known (did.Captures scan lands)) h =
+          (λ below. refl, h.0, λ bits count. let landed = h.1 bits count in good_with (lands bits) landed.0 landed.1)
+      scanned_good (Known _) h = absurd h
+      scanned_good (Faults k) h = tt
+      scanned_good Stuck h = absurd h
+
+      with_bits_good : (which : Padding) (bits : List Bool) → Good (with_padding which bits s)
+      with_bits_good paddings.PreData bits = with_settings_good s.ir (record s.dr { pre = bits }) good.ir_stable good.dr_stable
+      with_bits_good paddings.PostData bits = with_settings_good s.ir (record s.dr { post = bits }) good.ir_stable good.dr_stable
+      with_bits_good paddings.PreInstruction bits = with_settings_good (record s.ir { pre = bits }) s.dr good.ir_stable good.dr_stable
+      with_bits_good paddings.PostInstruction bits = with_settings_good (record s.ir { post = bits }) s.dr good.ir_stable good.dr_stable
+
+      padded_good : (which : Padding) (g : Got Did) → IsGot (PadsWell which s) g → MadeGood [] false None (does g)
+      padded_good which (Known (did.Falls deeds t)) h =
+          (λ below. refl, subst Good (sym h.1.1) (with_bits_good which h.1.0), λ k stable. subst (λ ds. is_stable_state (deeds_chain k ds).tap ≡ true) (sym h.0) stable)
+      padded_good which (Known _) h = absurd h
+      padded_good which (Faults k) h = tt
+      padded_good which Stuck h = absurd h
+
+      ends_good : (register : Register) (tap : Tap) → is_stable_state tap ≡ true → Good (with_stop register tap s)
+      ends_good registers.Data tap stable = with_settings_good s.ir (record s.dr { stop = tap }) good.ir_stable stable
+      ends_good registers.Instruction tap stable = with_settings_good (record s.ir { stop = tap }) s.dr stable good.dr_stable
+
+      stop_good : (register : Register) (tap : Tap) → is_stable_state tap ≡ true → MadeGood [] false None (does (stopped register tap [] s))
+      stop_good register tap stable =
+          subst (λ (b : Bool). MadeGood [] false None (does (if b then Known (did.Falls [] (with_stop register tap s)) else Stuck))) (sym stable)
+          (λ below. refl, ends_good register tap stable, λ k before. before)
 
       -- the key is there
       keyed_good : (o : Option (List ℕ)) → IsThere o → (go : List ℕ → Got Did) → ((key : List ℕ) → MadeGood [] false None (does (go key))) →
@@ -460,8 +557,8 @@ module _
           variable_kind ov ≡ Some (kind_of x) → Stores n oh x
       store_good n None oh x at f e = absurd cc
       store_good n (Some v) None x at f e = absurd f
-      store_good n (Some v) (Some (held.Int old)) (Int z) at f e = (λ below. refl, stored n v (held.Int z) at f)
-      store_good n (Some v) (Some (held.Bit old)) (Bit b) at f e = (λ below. refl, stored n v (held.Bit b) at f)
+      store_good n (Some v) (Some (held.Int old)) (Int z) at f e = (λ below. refl, stored n v (held.Int z) at f, λ k stable. stable)
+      store_good n (Some v) (Some (held.Bit old)) (Bit b) at f e = (λ below. refl, stored n v (held.Bit b) at f, λ k stable. stable)
       store_good n (Some v) (Some (held.Int old)) (Bit b) at f e = absurd (let int = ap (λ (n : ℕ). scalar_kind n) f in cc)
       store_good n (Some v) (Some (held.Bit old)) (Int z) at f e = absurd (let bit = ap (λ (n : ℕ). scalar_kind n) f in cc)
       store_good n (Some v) (Some (held.Ints zs)) x at f e = absurd (let none = ap (λ (n : ℕ). scalar_kind n) f.0 in cc)
@@ -486,9 +583,10 @@ module _
         made_good (Known (Puts v)) m = (kinds_above (kind_of v ∷ []) m, good)
         made_good (Known (PutsFrom v t)) m = (kinds_above (kind_of v ∷ []) m.0, m.1)
         made_good (Known (PutsTwo x y)) m = (kinds_above (kind_of y ∷ kind_of x ∷ []) m, good)
-        made_good (Known (Does (did.Falls deeds t))) m = acted_good deeds ops t after (kinds_above [] m.0) m.1
+        made_good (Known (Does (did.Falls deeds t))) m = acted_good deeds ops t after (kinds_above [] m.0) m.1 m.2
+        made_good (Known (Does (did.Captures scan lands))) m = (kinds_above [] m.0, m.1, m.2)
         made_good (Known (Does (did.Jumps t))) m = (none_below m.0, jumps_good to t m.1 m.2)
-        made_good (Known (Does (did.Resumes place t))) m = (none_below m.0, (m.1, m.2))
+        made_good (Known (Does (did.Resumes place t))) m = (none_below m.0, (m.1, m.2, λ k stable. stable))
         made_good (Known (Does (did.Returns t))) m = (none_below m.0, chosen_good begin t m.1 t.chosen m.1.chosen_below)
         made_good (Known (Does (did.Ends ending t))) m = (none_below m, tt)
         made_good (Faults k) m = tt
@@ -584,10 +682,10 @@ module _
             (λ vs. printed_good s good false None (parts_text entries constants list vs)) (parts_good list r.1)
         row_good (Export key exports.Int) mid on met leads rests r at behind = λ z.
             keyed_good s good (slice_get constants.texts key) (text_there key constants.texts r.0) (λ bytes. exported bytes (Int z ∷ []) s)
-            (λ bytes. (λ below. refl, good))
+            (λ bytes. (λ below. refl, good, λ k stable. stable))
         row_good (Export key exports.Bit) mid on met leads rests r at behind = λ b.
             keyed_good s good (slice_get constants.texts key) (text_there key constants.texts r.0) (λ bytes. exported bytes (Bit b ∷ []) s)
-            (λ bytes. (λ below. refl, good))
+            (λ bytes. (λ below. refl, good, λ k stable. stable))
         row_good (Export key (exports.Array source)) mid on met leads rests r at behind =
             let is = resolves source r.1 met in
             let put : Got values.Source → List Value → List ℕ → Got Did = λ g vs bytes. then_get g (λ from. bits_exported bytes from vs s) in
@@ -601,9 +699,20 @@ module _
         row_good CheckChar mid on met leads rests r at behind = λ z.
             puts_good false None (Of kinds.Int) (passed (is_index z 256) BadChar (Int z)) (passed_good (is_index z 256) z)
         row_good Exit mid on met leads rests r at behind = λ z. refl
-        row_good (GoThrough states) mid on met leads rests r at behind = (λ below. refl, good)
+        row_good (Scans scan) mid on met leads rests r at behind =
+            each_filled variables (Of kinds.Int ∷ scan_slots scan) (Makes (Scans scan))
+            (λ vs fill.
+            scanned_good s good (then_get (known_scan constants.literals scan) (λ parts. scanned parts vs s))
+            (scan_good variables constants.literals s good.variables_fit good.ir_stable good.dr_stable scan met r vs fill))
+        row_good (Stop register tap) mid on met leads rests r at behind = stop_good s good register tap rests
+        row_good (Pad which source) mid on met leads rests r at behind =
+            each_filled variables (Of kinds.Int ∷ given_slots source) (Makes (Pad which source))
+            (λ vs fill.
+            padded_good s good which (then_get (known_given constants.literals source) (λ from. surrounded which from vs s))
+            (padding_good variables constants.literals s good.variables_fit which source met r vs fill))
+        row_good (GoThrough states) mid on met leads rests r at behind = (λ below. refl, good, goes_stable states r rests)
         row_good (Wait state kind last) mid on met leads rests r at behind =
-            waits_good s good kind state last (and_parts (is_stable_state state) (is_stable_state last) rests).0
+            let both = and_parts (is_stable_state state) (is_stable_state last) rests in waits_good s good kind state last both.0 both.1
         row_good (Frequency stated) mid on met leads rests r at behind = tuned_good s good stated
 
         pub step_good : (x : Instr) (ops : List Value) → kinds_behind variables x (kinds_of ops) ≡ Some after →

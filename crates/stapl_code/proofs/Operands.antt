@@ -80,6 +80,39 @@ module _ (variables : List VarDef) where
       each_more (slot_kind variables slot) (λ v. Each slots (λ vs. P (v ∷ vs))) (λ v. Each slots (λ vs. Q (v ∷ vs)))
       (λ v. each_map slots (λ vs. P (v ∷ vs)) (λ vs. Q (v ∷ vs)) (λ vs. f (v ∷ vs))) all
 
+  -- what holds of all values that fill the slots
+  pub each_filled : (slots : List Slot) (P : List Value → Type 0) → ((vs : List Value) → Fill slots vs → P vs) → Each slots P
+  each_filled [] P all = all [] tt
+  each_filled (slot ∷ slots) P all =
+      each_of (slot_kind variables slot) (λ v. Each slots (λ vs. P (v ∷ vs))) (λ v e. each_filled slots (λ vs. P (v ∷ vs)) (λ vs fill. all (v ∷ vs) (e, fill)))
+
+  pub filled_count : (slots : List Slot) (vs : List Value) → Fill slots vs → length vs ≡ length slots
+  filled_count [] [] fill = refl
+  filled_count [] (v ∷ vs) fill = absurd fill
+  filled_count (slot ∷ slots) [] fill = absurd fill
+  filled_count (slot ∷ slots) (v ∷ vs) fill = ap suc (filled_count slots vs fill.1)
+
+  -- values that fill slots and others fill each
+  pub record FillBoth (first second : List Slot) (vs : List Value) : Type 0 where
+    pub front : List Value
+    pub back : List Value
+    pub whole : vs ≡ front ++ back
+    pub fill_front : Fill first front
+    pub fill_back : Fill second back
+
+  pub fill_parts : (first second : List Slot) (vs : List Value) → Fill (first ++ second) vs → FillBoth first second vs
+  fill_parts [] second vs fill = record { front = []; back = vs; whole = refl; fill_front = tt; fill_back = fill }
+  fill_parts (slot ∷ first) second [] fill = absurd fill
+  fill_parts (slot ∷ first) second (v ∷ vs) fill =
+      let rest = fill_parts first second vs fill.1 in
+      record {
+        front = v ∷ rest.front;
+        back = rest.back;
+        whole = ap (λ l. v ∷ l) rest.whole;
+        fill_front = (fill.0, rest.fill_front);
+        fill_back = rest.fill_back;
+      }
+
   -- operands that fill the slots were taken off
   pub record Taken (wanted : List Slot) (m : ℕ) (done ops : List Value) (below : List ValueKind) : Type 0 where
     pub values : List Value

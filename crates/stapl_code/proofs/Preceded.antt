@@ -1,8 +1,11 @@
 -- Deeds in front of a turn, and events in front of what happened.
-use Rattle.std.proofs.Common.{◌≡◌, ℕ, List, [], ◌∷◌, ◌++◌, refl, sym, ap, ◌∙◌, append_assoc}
+use Rattle.std.proofs.Common.{◌≡◌, ℕ, Bool, true, false, List, [], ◌∷◌, ◌++◌, refl, sym, ap, ◌∙◌, append_assoc}
 use Rattle.stapl_meaning.specs.declared.events.Event.{Event}
-use Rattle.stapl_meaning.specs.Deeds.{Deed, Chain, deed_events, deed_chain, deeds_events, deeds_chain}
-use Rattle.stapl_meaning.specs.States.{Turned, Leads, Over, Broken, NoTurn, preceded, next_chosen, begun, turn_of_piece, Happened, Led, Finished, Broke, Lacks, happens, with_events, happened_in_piece}
+use Rattle.std.specs.Prelude.{if◌then◌else◌}
+use Rattle.tap_states.specs.Tap.{is_stable_state}
+use Rattle.dev_card.specs.Scans.{BoardScan}
+use Rattle.stapl_meaning.specs.Deeds.{Deed, Scans, Chain, deed_events, deed_chain, deeds_events, deeds_chain, captured_on}
+use Rattle.stapl_meaning.specs.States.{Turned, Leads, Over, Broken, Scanning, NoTurn, preceded, next_chosen, begun, turn_of_piece, Happened, Led, Finished, Broke, Lacks, happens, with_events, scanned_on, happened_in_piece}
 use Rattle.stapl_code.specs.Machine.{begins_chosen}
 
 -- no event in front changes nothing
@@ -41,13 +44,53 @@ happens_behind k deeds (Over more ending s) =
 happens_behind k deeds (Broken more f s) =
     ap (λ l. let h : Happened = Broke l f s (deeds_chain k (deeds ++ more)) in h) (events_behind k deeds more)
     ∙ ap (λ l. let h : Happened = Broke (deeds_events k deeds ++ deeds_events (deeds_chain k deeds) more) f s l in h) (chain_behind k deeds more)
+happens_behind k deeds (Scanning more scan rest) =
+    let go : List Bool → Chain → Happened = λ bits l. happens l (rest bits) in
+    ap (λ l. with_events l (scanned_on (deeds_chain k (deeds ++ more)) scan go)) (events_behind k deeds more)
+    ∙ ap (λ l. with_events (deeds_events k deeds ++ deeds_events (deeds_chain k deeds) more) (scanned_on l scan go)) (chain_behind k deeds more)
+    ∙ sym (with_both (deeds_events k deeds) (deeds_events (deeds_chain k deeds) more) (scanned_on (deeds_chain (deeds_chain k deeds) more) scan go))
 happens_behind k deeds (NoTurn more) = ap (λ l. let h : Happened = Lacks l in h) (events_behind k deeds more)
+
+-- what follows a scan, seen through something that keeps the events in front
+pub scan_through : (f : Happened → Happened) → ((events : List Event) (h : Happened) → f (with_events events h) ≡ with_events events (f h)) →
+    f (Lacks []) ≡ Lacks [] → (k : Chain) (scan : BoardScan) (go : List Bool → Chain → Happened) →
+    f (scanned_on k scan go) ≡ scanned_on k scan (λ bits l. f (go bits l))
+scan_through f keeps none k scan go = by (is_stable_state k.tap)
+  where
+    seen : List Event
+    seen = deed_events k (Scans scan)
+
+    later : Chain
+    later = deed_chain k (Scans scan)
+
+    by : (b : Bool) → f (if b then with_events seen (go (captured_on k scan) later) else Lacks [])
+        ≡ (if b then with_events seen (f (go (captured_on k scan) later)) else Lacks [])
+    by true = keeps seen (go (captured_on k scan) later)
+    by false = none
+
+-- the same behind a scan of what follows it
+pub scan_alike : (k : Chain) (scan : BoardScan) (go other : List Bool → Chain → Happened) →
+    ((bits : List Bool) (l : Chain) → go bits l ≡ other bits l) → scanned_on k scan go ≡ scanned_on k scan other
+scan_alike k scan go other same = λ j. scanned_on k scan (λ bits l. same bits l j)
+
+piece_with : (piece : ℕ) (events : List Event) (h : Happened) → happened_in_piece piece (with_events events h) ≡ with_events events (happened_in_piece piece h)
+piece_with piece events (Led more place s k) = refl
+piece_with piece events (Finished more ending s k) = refl
+piece_with piece events (Broke more f s k) = refl
+piece_with piece events (Lacks more) = refl
 
 -- the turn of a piece, on a chain
 pub happens_in_piece : (k : Chain) (piece : ℕ) (t : Turned) → happens k (turn_of_piece piece t) ≡ happened_in_piece piece (happens k t)
 happens_in_piece k piece (Leads deeds place s) = refl
 happens_in_piece k piece (Over deeds ending s) = refl
 happens_in_piece k piece (Broken deeds f s) = refl
+happens_in_piece k piece (Scanning deeds scan rest) =
+    let l = deeds_chain k deeds in
+    ap (with_events (deeds_events k deeds))
+    (scan_alike l scan (λ bits m. happens m (turn_of_piece piece (rest bits))) (λ bits m. happened_in_piece piece (happens m (rest bits)))
+    (λ bits m. happens_in_piece m piece (rest bits))
+    ∙ sym (scan_through (happened_in_piece piece) (piece_with piece) refl l scan (λ bits m. happens m (rest bits))))
+    ∙ sym (piece_with piece (deeds_events k deeds) (scanned_on l scan (λ bits m. happens m (rest bits))))
 happens_in_piece k piece (NoTurn deeds) = refl
 
 -- events of the prologue stand in front of the play
@@ -62,4 +105,11 @@ pub happens_begun : (entry : ℕ → ℕ) (k : Chain) (t : Turned) → happens k
 happens_begun entry k (Leads deeds place s) = happens_behind k deeds (next_chosen entry s s.chosen)
 happens_begun entry k (Over deeds ending s) = refl
 happens_begun entry k (Broken deeds f s) = refl
+happens_begun entry k (Scanning deeds scan rest) =
+    let l = deeds_chain k deeds in
+    ap (with_events (deeds_events k deeds))
+    (scan_alike l scan (λ bits m. happens m (begun entry (rest bits))) (λ bits m. begins_chosen entry (happens m (rest bits)))
+    (λ bits m. happens_begun entry m (rest bits))
+    ∙ sym (scan_through (begins_chosen entry) (begins_with entry) refl l scan (λ bits m. happens m (rest bits))))
+    ∙ sym (begins_with entry (deeds_events k deeds) (scanned_on l scan (λ bits m. happens m (rest bits))))
 happens_begun entry k (NoTurn deeds) = refl

@@ -4,7 +4,8 @@ use Rattle.std.specs.Prelude.{ℤ, slice_get, slice_range, ◌&&◌, ◌||◌, n
 use Rattle.std.specs.List.{list_all}
 use Rattle.std.proofs.lemmas.Bool.Decides.{nat_tests}
 use Rattle.std.proofs.lemmas.List.{take-append-drop, drop-append-le, drop-drop}
-use Rattle.stapl_meaning.specs.Deeds.{Chain, deeds_events, deeds_chain}
+use Rattle.tap_states.specs.Tap.{is_stable_state}
+use Rattle.stapl_meaning.specs.Deeds.{Scans, Chain, deed_events, deed_chain, deeds_events, deeds_chain, captured_on}
 use Rattle.stapl_meaning.specs.declared.events.Event.{Event}
 use Rattle.stapl_meaning.specs.declared.values.Held.{Held}
 use Rattle.stapl_meaning.specs.declared.values.Held.TheVariants as held
@@ -12,7 +13,7 @@ use Rattle.stapl_meaning.specs.declared.values.Value.{Value}
 use Rattle.stapl_meaning.specs.declared.values.Value.TheVariants as values
 use Rattle.stapl_meaning.specs.declared.records.Record.{Record}
 use Rattle.stapl_meaning.specs.declared.records.Record.TheVariants.{Pushed, Called, Looped}
-use Rattle.stapl_meaning.specs.States.{State, Turned, Leads, Over, Broken, NoTurn, next_chosen, Happened, Led, Finished, Broke, Lacks, happens, with_events, happened_in_piece}
+use Rattle.stapl_meaning.specs.States.{State, Turned, Leads, Over, Broken, Scanning, NoTurn, next_chosen, Happened, Led, Finished, Broke, Lacks, happens, with_events, happened_in_piece}
 use Rattle.stapl_meaning.specs.Effects.{scalar_written, written, replaced, span_written, with_integers, returned_from}
 use Rattle.stapl_meaning.specs.Values.{Known, then_get, bits_held}
 use Rattle.stapl_meaning.specs.Plays.{goes_on, Stopped, start}
@@ -22,7 +23,7 @@ use Rattle.stapl_code.specs.declared.raw.ProcDef.{ProcDef}
 use Rattle.stapl_code.specs.declared.raw.CodeLists.{CodeLists}
 use Rattle.stapl_code.specs.declared.instr.Instr.{Instr}
 use Rattle.stapl_code.specs.declared.instr.Instr.TheVariants.{Turn, Push, PushBit, Store, SetBits, SetInts, EndProc}
-use Rattle.stapl_code.specs.Machine.{Does, does, puts, bit_of, known_literal, Step, Falls, Acts, Stops, Faulted, Wrong, on_made, entry_of, step, at_end, continues, begins_chosen, stretch, begins, code_turn, code_run, code_beginning, code_play}
+use Rattle.stapl_code.specs.Machine.{Does, does, puts, bit_of, known_literal, Step, Falls, Acts, Scanned, Stops, Faulted, Wrong, on_made, entry_of, step, at_end, continues, begins_chosen, stretch, begins, code_turn, code_run, code_beginning, code_play}
 use Rattle.stapl_code.specs.Ranges.{IsInstr, IsInRange}
 use Rattle.stapl_code.specs.Kinds.{kinds_behind}
 use Rattle.stapl_code.specs.Valid.{is_turn, is_end, sets_up, departs, is_last, agree, kinds_kept, judged, first_of, is_target, leads_well, rests_well, stands_well, prologue_break, rest_break, procedure_break, next_entry, procedures_break, entry_break, IsValid}
@@ -30,6 +31,7 @@ use Rattle.stapl_code.specs.Safe.{AllFit, AllBelow, entries_of, constants_of}
 use Rattle.stapl_code.specs.Ticks.{counted_behind, counted_then}
 use Rattle.stapl_code.specs.Depth.{on_kinds, deepest, procedures_depth, depth_of, held, begin_held, turn_held, run_held, play_held}
 use Rattle.stapl_code.proofs.Operands.{kinds_of}
+use Rattle.stapl_code.proofs.ScanSteps.{captured_count}
 use Rattle.stapl_code.proofs.OneStep.{Good, TurnedGood, StepGood, step_good, chosen_good}
 
 abbrev head_of : {A : Type 0} → List A → Option A
@@ -128,17 +130,20 @@ module _ (entry : ℕ) (procedure : List Instr) (must : Bool) (x : Instr) (last 
 abbrev FallsOnly : Bool → Step → Type 0
 FallsOnly end (Falls ops s) = end ≡ false
 FallsOnly end (Acts deeds ops s) = end ≡ false
+FallsOnly end (Scanned scan ops lands) = end ≡ false
 FallsOnly end _ = Unit {0}
 
 never_an_end : (st : Step) → FallsOnly false st
 never_an_end (Falls ops s) = refl
 never_an_end (Acts deeds ops s) = refl
+never_an_end (Scanned scan ops lands) = refl
 never_an_end _ = tt
 
--- the prologue's instructions never end a turn, and never fault
+-- the prologue's instructions never end a turn, never fault, and never scan
 abbrev NeverStops : Step → Type 0
 NeverStops (Stops ops t) = ⊥
 NeverStops (Faulted k s) = ⊥
+NeverStops (Scanned scan ops lands) = ⊥
 NeverStops _ = Unit {0}
 
 module _ (entries : List ℕ) (to : Option ℕ) (ops : List Value) (s : State) where
@@ -205,18 +210,23 @@ module _ (code : CodeLists) where
   abbrev Follows : List ValueKind → Step → Type 0
   Follows after st = StepGood code.variables (length code.procedures) (entries_of code.procedures) (constants_of code) IsPlace after st
 
+  -- the chain is in a stable state
+  abbrev IsStable : Chain → Type 0
+  IsStable k = is_stable_state k.tap ≡ true
+
   -- what happened is a turn that ends well
   abbrev EndsWell : Happened → Type 0
-  EndsWell (Led events place s k) = IsPlace place × Ready s
+  EndsWell (Led events place s k) = IsPlace place × Ready s × IsStable k
   EndsWell (Finished events ending s k) = Unit {0}
   EndsWell (Broke events f s k) = Unit {0}
   EndsWell (Lacks events) = ⊥
 
-  happens_well : (k : Chain) (t : Turned) → Ends t → EndsWell (happens k t)
-  happens_well k (Leads deeds place s) g = g
-  happens_well k (Over deeds ending s) g = g
-  happens_well k (Broken deeds f s) g = g
-  happens_well k (NoTurn deeds) g = g
+  happens_well : (k : Chain) (t : Turned) → IsStable k → Ends t → EndsWell (happens k t)
+  happens_well k (Leads deeds place s) stable g = (g.0, g.1, g.2 k stable)
+  happens_well k (Over deeds ending s) stable g = g
+  happens_well k (Broken deeds f s) stable g = g
+  happens_well k (Scanning deeds scan rest) stable g = absurd g
+  happens_well k (NoTurn deeds) stable g = g
 
   -- the rest of a turn that ends well, and so many operands
   abbrev Safe : Happened → ℕ → Type 0
@@ -224,7 +234,7 @@ module _ (code : CodeLists) where
 
   -- the turn of a piece that ends well: a fault has become its ending
   abbrev EndsPiece : Happened → Type 0
-  EndsPiece (Led events place s k) = IsPlace place × Ready s
+  EndsPiece (Led events place s k) = IsPlace place × Ready s × IsStable k
   EndsPiece (Finished events ending s k) = Unit {0}
   EndsPiece (Broke events f s k) = ⊥
   EndsPiece (Lacks events) = ⊥
@@ -356,18 +366,24 @@ module _ (code : CodeLists) where
     piece_good piece (Lacks events) g = g
 
     continue_good : (end : Bool) (after : List ValueKind) (k : Chain) (st : Step) (go : List Value → State → Chain → Happened)
-        (count : List Value → State → Chain → ℕ) → Follows after st → FallsOnly end st →
-        ((ops : List Value) (t : State) (l : Chain) → end ≡ false → kinds_of ops ≡ after → Ready t → Safe (go ops t l) (count ops t l)) →
+        (count : List Value → State → Chain → ℕ) → IsStable k → Follows after st → FallsOnly end st →
+        ((ops : List Value) (t : State) (l : Chain) → end ≡ false → kinds_of ops ≡ after → Ready t → IsStable l → Safe (go ops t l) (count ops t l)) →
         Safe (continues k st go) (counted_behind k st count)
-    continue_good end after k (Falls ops t) go count g f rest = rest ops t k f g.0 g.1
-    continue_good end after k (Acts deeds ops t) go count g f rest =
+    continue_good end after k (Falls ops t) go count stable g f rest = rest ops t k f g.0 g.1 stable
+    continue_good end after k (Acts deeds ops t) go count stable g f rest =
         let l = deeds_chain k deeds in
-        let r = rest ops t l f g.0 g.1 in
+        let r = rest ops t l f g.0 g.1 (g.2 k stable) in
         (with_good (deeds_events k deeds) (go ops t l) r.0, r.1)
-    continue_good end after k (Stops ops t) go count g f rest =
-        (subst (λ o. EndsWell (at_end o (happens k t))) (sym g.0) (happens_well k t g.1), omega arith)
-    continue_good end after k (Faulted x t) go count g f rest = (tt, omega arith)
-    continue_good end after k Wrong go count g f rest = absurd g
+    continue_good end after k (Scanned scan ops lands) go count stable g f rest =
+        let l = deed_chain k (Scans scan) in
+        let bits = captured_on k scan in
+        let r = rest ops (lands bits) l f g.0 (g.2 bits (captured_count k scan)) g.1 in
+        subst (λ (b : Bool). Safe (if b then with_events (deed_events k (Scans scan)) (go ops (lands bits) l) else Lacks []) (if b then count ops (lands bits) l else 0))
+        (sym stable) (with_good (deed_events k (Scans scan)) (go ops (lands bits) l) r.0, r.1)
+    continue_good end after k (Stops ops t) go count stable g f rest =
+        (subst (λ o. EndsWell (at_end o (happens k t))) (sym g.0) (happens_well k t stable g.1), omega arith)
+    continue_good end after k (Faulted x t) go count stable g f rest = (tt, omega arith)
+    continue_good end after k Wrong go count stable g f rest = absurd g
 
     module _ (entry : ℕ) (procedure behind : List Instr) (whole : procedure_break code.variables entry procedure ≡ None) (stands : drop entry code.instrs ≡ procedure ++ behind) (deep : deepest code.variables [] procedure ≤ depth_of code) where
       turn_place : (j : ℕ) (x : Instr) (rest : List Instr) → drop j procedure ≡ x ∷ rest → is_turn (Some x) ≡ true → IsPlace (entry + j)
@@ -395,9 +411,9 @@ module _ (code : CodeLists) where
           subst IsPlace one (turn_place (j + 1) y rest next turn)
 
       -- the rest of a turn
-      rest_good : (rest : List Instr) (j : ℕ) (must : Bool) (ops : List Value) (s : State) (k : Chain) → Ready s → drop j procedure ≡ rest → drop (entry + j) code.instrs ≡ rest ++ behind → 0 < length rest → rest_break code.variables entry procedure (entry + j) must (kinds_of ops) rest ≡ None → deepest code.variables (kinds_of ops) rest ≤ depth_of code → Safe (stretch (entries_of code.procedures) (constants_of code) total (rest ++ behind) ops s k) (held (entries_of code.procedures) (constants_of code) total (rest ++ behind) ops s k)
-      rest_good [] j must ops s k good d at some e below = absurd (omega arith)
-      rest_good (x ∷ rest) j must ops s chain good d at some e below =
+      rest_good : (rest : List Instr) (j : ℕ) (must : Bool) (ops : List Value) (s : State) (k : Chain) → Ready s → IsStable k → drop j procedure ≡ rest → drop (entry + j) code.instrs ≡ rest ++ behind → 0 < length rest → rest_break code.variables entry procedure (entry + j) must (kinds_of ops) rest ≡ None → deepest code.variables (kinds_of ops) rest ≤ depth_of code → Safe (stretch (entries_of code.procedures) (constants_of code) total (rest ++ behind) ops s k) (held (entries_of code.procedures) (constants_of code) total (rest ++ behind) ops s k)
+      rest_good [] j must ops s k good stable d at some e below = absurd (omega arith)
+      rest_good (x ∷ rest) j must ops s chain good stable d at some e below =
           let k = judged_none (kinds_behind code.variables x (kinds_of ops)) (stands_well entry procedure must x (is_last rest)) (entry + j) (λ after. rest_break code.variables entry procedure (entry + j + 1) (departs x) after rest) e in
           let here : total - suc (length (rest ++ behind)) ≡ entry + j = omega (arith, ap length at, length-drop (entry + j) code.instrs) in
           let more : drop (j + 1) procedure ≡ rest = rw add-one (drop_tail j procedure ∙ ap (drop 1) d) in
@@ -407,16 +423,16 @@ module _ (code : CodeLists) where
           let r = all_dropped (IsInstr code.variables (length code.literals) (length code.texts) (length code.procedures)) (entry + j) code.instrs x (rest ++ behind) range.instrs at in
           let sg = step_good code.variables (length code.procedures) (entries_of code.procedures) (constants_of code) IsPlace (total - suc (length (rest ++ behind))) begin entry procedure (target_place entry procedure behind whole stands deep) s good k.0 x ops k.1 (target_stands entry procedure must x (is_last rest) k.2) (rest_stands entry procedure must x (is_last rest) k.2) r (λ t. subst IsPlace (sym here) (turn_place j x rest d t)) (λ t. subst IsPlace (ap suc (sym here)) (turn_behind j x rest d must (kinds_of ops) k.0 t k.2 k.3)) in
           let under = deeper x (kinds_of ops) k.0 rest k.1 in
-          let c = continue_good (is_end x) k.0 chain (step (entries_of code.procedures) (constants_of code) (total - suc (length (rest ++ behind))) x ops s) (stretch (entries_of code.procedures) (constants_of code) total (rest ++ behind)) (held (entries_of code.procedures) (constants_of code) total (rest ++ behind)) sg (falls_inside _ x ops s) (λ o t l end kinds g.
-          rest_good rest (j + 1) (departs x) o t l g more next (more_follow rest (not_last (is_end x) (is_last rest) (end_stands entry procedure must x (is_last rest) k.2) end))
+          let c = continue_good (is_end x) k.0 chain (step (entries_of code.procedures) (constants_of code) (total - suc (length (rest ++ behind))) x ops s) (stretch (entries_of code.procedures) (constants_of code) total (rest ++ behind)) (held (entries_of code.procedures) (constants_of code) total (rest ++ behind)) stable sg (falls_inside _ x ops s) (λ o t l end kinds g stays.
+          rest_good rest (j + 1) (departs x) o t l g stays more next (more_follow rest (not_last (is_end x) (is_last rest) (end_stands entry procedure must x (is_last rest) k.2) end))
           (ap (λ n. rest_break code.variables entry procedure n (departs x) (kinds_of o) rest) again ∙ ap (λ ks. rest_break code.variables entry procedure (entry + j + 1) (departs x) ks rest) kinds ∙ k.3)
           (subst (λ ks. deepest code.variables ks rest ≤ depth_of code) (sym kinds) (omega (arith, under.1, below)))) in
           let few : length ops ≤ depth_of code = omega (arith, under.0, below, kinds_count ops) in
           (c.0, omega (arith, c.1, few))
 
       -- a turn that begins in the procedure
-      turn_from : (j : ℕ) (s : State) (k : Chain) → Ready s → is_turn (slice_get procedure j) ≡ true → SafePiece (code_turn (entries_of code.procedures) (constants_of code) code.instrs (entry + j) s k) (turn_held (entries_of code.procedures) (constants_of code) code.instrs (entry + j) s k)
-      turn_from j s k good e = from (drop j procedure) refl
+      turn_from : (j : ℕ) (s : State) (k : Chain) → Ready s → IsStable k → is_turn (slice_get procedure j) ≡ true → SafePiece (code_turn (entries_of code.procedures) (constants_of code) code.instrs (entry + j) s k) (turn_held (entries_of code.procedures) (constants_of code) code.instrs (entry + j) s k)
+      turn_from j s k good stable e = from (drop j procedure) refl
         where
           some : (l : List Instr) → drop j procedure ≡ l → is_turn (head_of l) ≡ true
           some l d = ap is_turn (sym (get_head j procedure ∙ ap head_of d)) ∙ e
@@ -435,7 +451,7 @@ module _ (code : CodeLists) where
               let none = no_kinds code.variables piece r.1 own.0 own.1 in
               let there : deepest code.variables r.1 (Turn piece ∷ rest) ≤ depth_of code = subst (λ l. deepest code.variables r.1 l ≤ depth_of code) d (omega (arith, r.3, deep)) in
               let below : deepest code.variables own.0 rest ≤ depth_of code = omega (arith, (deeper (Turn piece) r.1 own.0 rest own.1).1, there) in
-              let r = rest_good rest (j + 1) false [] s k good more next (more_follow rest (not_last false (is_last rest) (end_stands entry procedure r.0 (Turn piece) (is_last rest) own.2) refl))
+              let r = rest_good rest (j + 1) false [] s k good stable more next (more_follow rest (not_last false (is_last rest) (end_stands entry procedure r.0 (Turn piece) (is_last rest) own.2) refl))
               (ap (λ n. rest_break code.variables entry procedure n false [] rest) again ∙ ap (λ ks. rest_break code.variables entry procedure (entry + j + 1) false ks rest) (sym none) ∙ own.3)
               (subst (λ ks. deepest code.variables ks rest ≤ depth_of code) none below) in
               (piece_good piece (stretch (entries_of code.procedures) (constants_of code) total (rest ++ behind) [] s k) r.0, r.1)
@@ -448,10 +464,10 @@ module _ (code : CodeLists) where
               let at : drop (entry + j) code.instrs ≡ Turn t.0 ∷ rest ++ behind = sym (drop-drop j entry code.instrs) ∙ ap (drop j) stands ∙ drop-append-le j procedure behind (at_most (x ∷ rest) d (omega arith)) ∙ ap (λ l. l ++ behind) is in
               subst (λ l. SafePiece (begins (entries_of code.procedures) (constants_of code) total l s k) (begin_held (entries_of code.procedures) (constants_of code) total l s k)) (sym at) (by_turn t.0 rest is at)
 
-    turn_good : (place : ℕ) (s : State) (k : Chain) → IsPlace place → Ready s → SafePiece (code_turn (entries_of code.procedures) (constants_of code) code.instrs place s k) (turn_held (entries_of code.procedures) (constants_of code) code.instrs place s k)
-    turn_good place s k at good =
+    turn_good : (place : ℕ) (s : State) (k : Chain) → IsPlace place → Ready s → IsStable k → SafePiece (code_turn (entries_of code.procedures) (constants_of code) code.instrs place s k) (turn_held (entries_of code.procedures) (constants_of code) code.instrs place s k)
+    turn_good place s k at good stable =
         let same : at.entry + (place - at.entry) ≡ place = omega (arith, at.from) in
-        subst (λ n. SafePiece (code_turn (entries_of code.procedures) (constants_of code) code.instrs n s k) (turn_held (entries_of code.procedures) (constants_of code) code.instrs n s k)) same (turn_from at.entry at.procedure at.behind at.whole at.stands at.deep (place - at.entry) s k good at.turn)
+        subst (λ n. SafePiece (code_turn (entries_of code.procedures) (constants_of code) code.instrs n s k) (turn_held (entries_of code.procedures) (constants_of code) code.instrs n s k)) same (turn_from at.entry at.procedure at.behind at.whole at.stands at.deep (place - at.entry) s k good stable at.turn)
 
     place_turn : (place : ℕ) → IsPlace place → is_turn (head_of (drop place code.instrs)) ≡ true
     place_turn place at = from (drop j at.procedure) refl
@@ -472,7 +488,7 @@ module _ (code : CodeLists) where
 
     -- the prologue falls into the first Turn
     abbrev Begins : Happened → Type 0
-    Begins (Led events place s k) = Ready s
+    Begins (Led events place s k) = Ready s × IsStable k
     Begins (Finished events ending s k) = ⊥
     Begins (Broke events f s k) = ⊥
     Begins (Lacks events) = ⊥
@@ -487,17 +503,18 @@ module _ (code : CodeLists) where
     with_begins events (Lacks more) g = g
 
     continue_begins : (after : List ValueKind) (k : Chain) (st : Step) (go : List Value → State → Chain → Happened)
-        (count : List Value → State → Chain → ℕ) → Follows after st → NeverStops st →
-        ((ops : List Value) (t : State) (l : Chain) → kinds_of ops ≡ after → Ready t → BeginsSafe (go ops t l) (count ops t l)) →
+        (count : List Value → State → Chain → ℕ) → IsStable k → Follows after st → NeverStops st →
+        ((ops : List Value) (t : State) (l : Chain) → kinds_of ops ≡ after → Ready t → IsStable l → BeginsSafe (go ops t l) (count ops t l)) →
         BeginsSafe (continues k st go) (counted_behind k st count)
-    continue_begins after k (Falls ops t) go count g f rest = rest ops t k g.0 g.1
-    continue_begins after k (Acts deeds ops t) go count g f rest =
+    continue_begins after k (Falls ops t) go count stable g f rest = rest ops t k g.0 g.1 stable
+    continue_begins after k (Acts deeds ops t) go count stable g f rest =
         let l = deeds_chain k deeds in
-        let r = rest ops t l g.0 g.1 in
+        let r = rest ops t l g.0 g.1 (g.2 k stable) in
         (with_begins (deeds_events k deeds) (go ops t l) r.0, r.1)
-    continue_begins after k (Stops ops t) go count g f rest = absurd f
-    continue_begins after k (Faulted x t) go count g f rest = absurd f
-    continue_begins after k Wrong go count g f rest = absurd g
+    continue_begins after k (Scanned scan ops lands) go count stable g f rest = absurd f
+    continue_begins after k (Stops ops t) go count stable g f rest = absurd f
+    continue_begins after k (Faulted x t) go count stable g f rest = absurd f
+    continue_begins after k Wrong go count stable g f rest = absurd g
 
     store_never_stops : (n here : ℕ) (ops : List Value) (s : State) → NeverStops (step (entries_of code.procedures) (constants_of code) here (Store n) ops s)
     store_never_stops n here [] s = tt
@@ -556,13 +573,13 @@ module _ (code : CodeLists) where
     no_operands [] e = refl
     no_operands (v ∷ ops) e = absurd cc
 
-    prologue_good : (prologue behind : List Instr) (i : ℕ) (ops : List Value) (s : State) (k : Chain) → is_turn (head_of behind) ≡ true → Ready s → drop i code.instrs ≡ prologue ++ behind → (prologue ≡ [] → ops ≡ []) → prologue_break code.variables i (kinds_of ops) prologue ≡ None → deepest code.variables (kinds_of ops) prologue ≤ depth_of code → BeginsSafe (stretch (entries_of code.procedures) (constants_of code) total (prologue ++ behind) ops s k) (held (entries_of code.procedures) (constants_of code) total (prologue ++ behind) ops s k)
-    prologue_good [] [] i ops s k turn good at none e below = absurd cc
-    prologue_good [] (y ∷ behind) i ops s k turn good at none e below =
+    prologue_good : (prologue behind : List Instr) (i : ℕ) (ops : List Value) (s : State) (k : Chain) → is_turn (head_of behind) ≡ true → Ready s → IsStable k → drop i code.instrs ≡ prologue ++ behind → (prologue ≡ [] → ops ≡ []) → prologue_break code.variables i (kinds_of ops) prologue ≡ None → deepest code.variables (kinds_of ops) prologue ≤ depth_of code → BeginsSafe (stretch (entries_of code.procedures) (constants_of code) total (prologue ++ behind) ops s k) (held (entries_of code.procedures) (constants_of code) total (prologue ++ behind) ops s k)
+    prologue_good [] [] i ops s k turn good stable at none e below = absurd cc
+    prologue_good [] (y ∷ behind) i ops s k turn good stable at none e below =
         let t = is_a_turn y turn in
         subst (λ o. BeginsSafe (stretch (entries_of code.procedures) (constants_of code) total (y ∷ behind) o s k) (held (entries_of code.procedures) (constants_of code) total (y ∷ behind) o s k)) (sym (none refl))
-        (subst (λ z. BeginsSafe (stretch (entries_of code.procedures) (constants_of code) total (z ∷ behind) [] s k) (held (entries_of code.procedures) (constants_of code) total (z ∷ behind) [] s k)) (sym t.1) (good, omega arith))
-    prologue_good (x ∷ rest) behind i ops s chain turn good at none e below =
+        (subst (λ z. BeginsSafe (stretch (entries_of code.procedures) (constants_of code) total (z ∷ behind) [] s k) (held (entries_of code.procedures) (constants_of code) total (z ∷ behind) [] s k)) (sym t.1) ((good, stable), omega arith))
+    prologue_good (x ∷ rest) behind i ops s chain turn good stable at none e below =
         let k = judged_none (kinds_kept (is_last rest) (kinds_behind code.variables x (kinds_of ops))) (sets_up x) i (λ after. prologue_break code.variables (i + 1) after rest) e in
         let kept = none_kept rest (kinds_behind code.variables x (kinds_of ops)) k.0 k.1 in
         let next : drop (i + 1) code.instrs ≡ rest ++ behind = rw add-one (drop_tail i code.instrs ∙ ap (drop 1) at) in
@@ -570,20 +587,21 @@ module _ (code : CodeLists) where
         let here = total - suc (length (rest ++ behind)) in
         let sg = step_good code.variables (length code.procedures) (entries_of code.procedures) (constants_of code) IsPlace here begin 0 [] no_target s good k.0 x ops kept.0 (leads_nowhere x k.2) (rests_nowhere x k.2) r (λ t. absurd (no_turn x k.2 t)) (λ t. absurd (no_departure x k.2 t)) in
         let under = deeper x (kinds_of ops) k.0 rest kept.0 in
-        let c = continue_begins k.0 chain (step (entries_of code.procedures) (constants_of code) here x ops s) (stretch (entries_of code.procedures) (constants_of code) total (rest ++ behind)) (held (entries_of code.procedures) (constants_of code) total (rest ++ behind)) sg (never_stops x here ops s k.2) (λ o t l kinds g.
-        prologue_good rest behind (i + 1) o t l turn g next (λ f. no_operands o (kinds ∙ kept.1 f)) (ap (λ ks. prologue_break code.variables (i + 1) ks rest) kinds ∙ k.3)
+        let c = continue_begins k.0 chain (step (entries_of code.procedures) (constants_of code) here x ops s) (stretch (entries_of code.procedures) (constants_of code) total (rest ++ behind)) (held (entries_of code.procedures) (constants_of code) total (rest ++ behind)) stable sg (never_stops x here ops s k.2) (λ o t l kinds g stays.
+        prologue_good rest behind (i + 1) o t l turn g stays next (λ f. no_operands o (kinds ∙ kept.1 f)) (ap (λ ks. prologue_break code.variables (i + 1) ks rest) kinds ∙ k.3)
         (subst (λ ks. deepest code.variables ks rest ≤ depth_of code) (sym kinds) (omega (arith, under.1, below)))) in
         let few : length ops ≤ depth_of code = omega (arith, under.0, below, kinds_count ops) in
         (c.0, omega (arith, c.1, few))
 
-    chosen_begins : (events : List Event) (s : State) (k : Chain) → Ready s → (ps : List ℕ) → AllBelow (length code.procedures) ps →
+    chosen_begins : (events : List Event) (s : State) (k : Chain) → Ready s → IsStable k → (ps : List ℕ) → AllBelow (length code.procedures) ps →
         EndsPiece (with_events events (happens k (next_chosen (entry_of (entries_of code.procedures)) s ps)))
-    chosen_begins events s k g [] below = tt
-    chosen_begins events s k g (p ∷ ps) below =
-        chosen_good code.variables (length code.procedures) (entries_of code.procedures) (constants_of code) IsPlace begin s g (p ∷ ps) below
+    chosen_begins events s k g stable [] below = tt
+    chosen_begins events s k g stable (p ∷ ps) below =
+        happens_well k (next_chosen (entry_of (entries_of code.procedures)) s (p ∷ ps)) stable
+        (chosen_good code.variables (length code.procedures) (entries_of code.procedures) (constants_of code) IsPlace begin s g (p ∷ ps) below)
 
     begun_good : (h : Happened) → Begins h → EndsPiece (begins_chosen (entry_of (entries_of code.procedures)) h)
-    begun_good (Led events place s k) g = chosen_begins events s k g s.chosen g.chosen_below
+    begun_good (Led events place s k) g = chosen_begins events s k g.0 g.1 s.chosen g.0.chosen_below
     begun_good (Finished events ending s k) g = absurd g
     begun_good (Broke events f s k) g = absurd g
     begun_good (Lacks events) g = absurd g
@@ -605,7 +623,7 @@ module _ (code : CodeLists) where
     never_stopped n (Finished events ending u l) s k g e = cc
     never_stopped zero (Led events place u l) s k g e = cc
     never_stopped (suc n) (Led events place u l) s k g e =
-        never_stopped n (code_turn (entries_of code.procedures) (constants_of code) code.instrs place u l) u l (turn_good place u l g.0 g.1).0 e
+        never_stopped n (code_turn (entries_of code.procedures) (constants_of code) code.instrs place u l) u l (turn_good place u l g.0 g.1 g.2).0 e
 
     run_within : (n : ℕ) (h : Happened) → EndsPiece h →
         counted_then h (run_held (entries_of code.procedures) (constants_of code) code.instrs n) ≤ depth_of code
@@ -614,33 +632,33 @@ module _ (code : CodeLists) where
     run_within n (Finished events ending s k) g = omega arith
     run_within zero (Led events place s k) g = omega arith
     run_within (suc n) (Led events place s k) g =
-        let t = turn_good place s k g.0 g.1 in
+        let t = turn_good place s k g.0 g.1 g.2 in
         omega (arith, t.1, run_within n (code_turn (entries_of code.procedures) (constants_of code) code.instrs place s k) t.0)
 
     module _ (chosen : List ℕ) (below : AllBelow (length code.procedures) chosen) (variables : List Held) (fit : AllFit code.variables variables) where
-      prologue_runs : (k : Chain) → BeginsSafe (stretch (entries_of code.procedures) (constants_of code) total code.instrs [] (start chosen variables) k) (held (entries_of code.procedures) (constants_of code) total code.instrs [] (start chosen variables) k)
-      prologue_runs k =
+      prologue_runs : (k : Chain) → IsStable k → BeginsSafe (stretch (entries_of code.procedures) (constants_of code) total code.instrs [] (start chosen variables) k) (held (entries_of code.procedures) (constants_of code) total code.instrs [] (start chosen variables) k)
+      prologue_runs k stable =
           let s : State = start chosen variables in
-          let good : Ready s = record { variables_fit = fit; chosen_below = below; records_placed = tt } in
+          let good : Ready s = record { variables_fit = fit; chosen_below = below; records_placed = tt; ir_stable = refl; dr_stable = refl } in
           let first = next_entry total code.procedures in
           let prologue = slice_range code.instrs 0 first in
           let from : first - 0 ≡ first = omega arith in
           let whole : prologue ++ drop first code.instrs ≡ code.instrs = ap (λ (n : ℕ). take n code.instrs ++ drop first code.instrs) from ∙ take-append-drop first code.instrs in
           let deep : deepest code.variables [] prologue ≤ depth_of code = omega arith in
           subst (λ l. BeginsSafe (stretch (entries_of code.procedures) (constants_of code) total l [] s k) (held (entries_of code.procedures) (constants_of code) total l [] s k)) whole
-          (prologue_good prologue (drop first code.instrs) 0 [] s k first_turn good (sym whole) (λ _. refl) prologue_ok deep)
+          (prologue_good prologue (drop first code.instrs) 0 [] s k first_turn good stable (sym whole) (λ _. refl) prologue_ok deep)
 
-      pub never_stuck : (n : ℕ) (k : Chain) →
+      pub never_stuck : (n : ℕ) (k : Chain) → IsStable k →
           (code_play (entries_of code.procedures) (constants_of code) code.instrs chosen variables n k).outcome ≢ Stopped
-      never_stuck n k =
+      never_stuck n k stable =
           never_stopped n (code_beginning (entries_of code.procedures) (constants_of code) code.instrs chosen variables k) (start chosen variables) k
-          (begun_good _ (prologue_runs k).0)
+          (begun_good _ (prologue_runs k stable).0)
 
-      pub within_depth : (n : ℕ) (k : Chain) →
+      pub within_depth : (n : ℕ) (k : Chain) → IsStable k →
           play_held (entries_of code.procedures) (constants_of code) code.instrs chosen variables n k ≤ depth_of code
-      within_depth n k =
+      within_depth n k stable =
           omega (
             arith,
-            (prologue_runs k).1,
-            run_within n (code_beginning (entries_of code.procedures) (constants_of code) code.instrs chosen variables k) (begun_good _ (prologue_runs k).0),
+            (prologue_runs k stable).1,
+            run_within n (code_beginning (entries_of code.procedures) (constants_of code) code.instrs chosen variables k) (begun_good _ (prologue_runs k stable).0),
           )

@@ -6,7 +6,7 @@ use Rattle.stapl_meaning.specs.declared.values.ValueKind.TheVariants as kinds
 use Rattle.stapl_code.specs.declared.raw.VarDef.{VarDef}
 use Rattle.stapl_code.specs.declared.instr.Instr.{Instr}
 use Rattle.stapl_code.specs.declared.instr.Instr.TheVariants.{Turn, For, Next, Call, Jump, JumpIfZero, EndProc, Exit}
-use Rattle.stapl_code.specs.Machine.{Slot, Of, OfScalar, OfElement, Want, AnInteger, AnArray, OfBits, OfInts, takes, gives, wants}
+use Rattle.stapl_code.specs.Machine.{Slot, Of, OfScalar, OfElement, Want, AnInteger, ABoolean, AnArray, OfBits, OfInts, takes, gives, wants}
 
 -- the kinds below this one, where it is the topmost
 abbrev pub off : ValueKind → List ValueKind → Option (List ValueKind)
@@ -80,6 +80,7 @@ module _ (variables : List VarDef) where
   -- a variable is what it has to be
   abbrev pub is_met : Want → Bool
   is_met (AnInteger n) = is_of_kind 0 (slice_get variables n)
+  is_met (ABoolean n) = is_of_kind 1 (slice_get variables n)
   is_met (AnArray n) = is_some (element_kind (slice_get variables n))
   is_met (OfBits n) = is_of_kind 3 (slice_get variables n)
   is_met (OfInts n) = is_of_kind 2 (slice_get variables n)

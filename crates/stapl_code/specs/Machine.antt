@@ -1,8 +1,12 @@
 -- What the stack machine does with a code. The machine is this profile's. Places are numbers of instructions, from 0.
 use Rattle.std.specs.Prelude.{ℕ, zero, suc, ◌-◌, ◌^◌, Bool, true, false, List, [], ◌∷◌, ◌++◌, length, drop, Option, Some, None, slice_get, slice_index_or}
+use Rattle.std.specs.Option.{option_map}
+use Rattle.dev_card.specs.Scans.{BoardScan}
 use Rattle.stapl_meaning.specs.declared.waits.WaitKind.{WaitKind}
 use Rattle.stapl_meaning.specs.declared.waits.WaitKind.TheVariants as waits
 use Rattle.stapl_meaning.specs.Deeds.{Deed, Chain, deeds_events, deeds_chain}
+use Rattle.stapl_meaning.specs.Scans as scans
+use Rattle.stapl_meaning.specs.Scans.{CellPart, CompareParts, ScanParts, scanned, surrounded, stopped}
 use Rattle.stapl_meaning.specs.declared.events.RunFault.{RunFault}
 use Rattle.stapl_meaning.specs.declared.values.ValueKind.{ValueKind}
 use Rattle.stapl_meaning.specs.declared.values.ValueKind.TheVariants as kinds
@@ -13,7 +17,7 @@ use Rattle.stapl_meaning.specs.Values.{Got, Known, Faults, Stuck, then_get, comb
 use Rattle.stapl_meaning.specs.Values as values
 use Rattle.stapl_meaning.specs.Operands.{character_of}
 use Rattle.stapl_meaning.specs.declared.records.Record.{Record}
-use Rattle.stapl_meaning.specs.States.{State, Did, Turned, Leads, Over, next_chosen, jumps_to, Happened, Led, Finished, Broke, Lacks, happens, with_events, happened_in_piece}
+use Rattle.stapl_meaning.specs.States.{State, Did, Turned, Leads, Over, next_chosen, jumps_to, Happened, Led, Finished, Broke, Lacks, happens, with_events, scanned_on, happened_in_piece}
 use Rattle.stapl_meaning.specs.States as did
 use Rattle.stapl_meaning.specs.Effects.{assigned, element_assigned, Target, IntoWhole, IntoRange, copied, integers_set, jumped, parted, with_records, pushed, topmost, called, looped, repeated, returned, exited, printed, after_value, after_character, exported, bits_exported, moved_through, waited, tuned}
 use Rattle.stapl_meaning.specs.Plays.{Run, Going, goes_on, start}
@@ -26,8 +30,12 @@ use Rattle.stapl_code.specs.declared.instr.Source.{Source}
 use Rattle.stapl_code.specs.declared.instr.Source.TheVariants as sources
 use Rattle.stapl_code.specs.declared.instr.Dest.{Dest}
 use Rattle.stapl_code.specs.declared.instr.Dest.TheVariants as dests
+use Rattle.stapl_code.specs.declared.instr.Cell.{Cell}
+use Rattle.stapl_code.specs.declared.instr.Cell.TheVariants as cells
+use Rattle.stapl_code.specs.declared.instr.Compare.{Compare}
+use Rattle.stapl_code.specs.declared.instr.Scan.{Scan}
 use Rattle.stapl_code.specs.declared.instr.Instr.{Instr}
-use Rattle.stapl_code.specs.declared.instr.Instr.TheVariants.{Turn, Push, PushBit, Load, LoadAt, CheckIndex, CheckRange, Store, StoreAt, Unary, Binary, ToInt, CopyBits, SetBits, SetInts, For, Next, PushRecord, PopRecord, Call, Jump, JumpIfZero, EndProc, Print, Export, CheckChar, Exit, State as GoThrough, Wait, Frequency}
+use Rattle.stapl_code.specs.declared.instr.Instr.TheVariants.{Turn, Push, PushBit, Load, LoadAt, CheckIndex, CheckRange, Store, StoreAt, Unary, Binary, ToInt, CopyBits, SetBits, SetInts, For, Next, PushRecord, PopRecord, Call, Jump, JumpIfZero, EndProc, Print, Export, CheckChar, Exit, Scan as Scans, Stop, Pad, State as GoThrough, Wait, Frequency}
 use Rattle.stapl_code.specs.Operators.{operator_table, unary_kinds, unary_results}
 
 -- what instructions name by number, and no run changes
@@ -91,9 +99,10 @@ pub data Slot : Type 0 where
   OfScalar : ℕ → Slot
   OfElement : ℕ → Slot
 
--- What a variable has to be: an INTEGER scalar, an array, a BOOLEAN array, or an INTEGER array.
+-- What a variable has to be: an INTEGER scalar, a BOOLEAN scalar, an array, a BOOLEAN array, or an INTEGER array.
 pub data Want : Type 0 where
   AnInteger : ℕ → Want
+  ABoolean : ℕ → Want
   AnArray : ℕ → Want
   OfBits : ℕ → Want
   OfInts : ℕ → Want
@@ -138,6 +147,47 @@ dest_slots (dests.Range n) slots = Of kinds.Int ∷ Of kinds.Int ∷ slots
 abbrev pub dest_want : Dest → Want
 dest_want (dests.Whole n) = OfBits n
 dest_want (dests.Range n) = OfBits n
+
+-- what a source or a destination takes that may be left out, and what it wants
+abbrev pub given_slots : Option Source → List Slot
+given_slots None = []
+given_slots (Some source) = source_slots source
+
+abbrev pub given_wants : Option Source → List Want
+given_wants None = []
+given_wants (Some source) = source_wants source
+
+abbrev pub target_slots : Option Dest → List Slot
+target_slots None = []
+target_slots (Some dest) = dest_slots dest []
+
+abbrev pub target_wants : Option Dest → List Want
+target_wants None = []
+target_wants (Some dest) = dest_want dest ∷ []
+
+-- what a comparison takes, and what it wants
+abbrev pub cell_slots : Cell → List Slot
+cell_slots (cells.Scalar n) = []
+cell_slots (cells.Element n) = Of kinds.Int ∷ []
+
+abbrev pub cell_want : Cell → Want
+cell_want (cells.Scalar n) = ABoolean n
+cell_want (cells.Element n) = OfBits n
+
+abbrev pub compare_slots : Option Compare → List Slot
+compare_slots None = []
+compare_slots (Some c) = source_slots c.expected ++ (source_slots c.mask ++ cell_slots c.cell)
+
+abbrev pub compare_wants : Option Compare → List Want
+compare_wants None = []
+compare_wants (Some c) = cell_want c.cell ∷ (source_wants c.expected ++ source_wants c.mask)
+
+-- what a Scan takes behind its length, and what it wants
+abbrev pub scan_slots : Scan → List Slot
+scan_slots scan = source_slots scan.source ++ (target_slots scan.target ++ compare_slots scan.compare)
+
+abbrev pub scan_wants : Scan → List Want
+scan_wants scan = source_wants scan.source ++ (target_wants scan.target ++ compare_wants scan.compare)
 
 -- what an Export takes, and what it wants
 abbrev pub export_slots : ExportPart → List Slot
@@ -186,6 +236,8 @@ takes (Print list) = part_slots list
 takes (Export key part) = export_slots part
 takes CheckChar = Of kinds.Int ∷ []
 takes Exit = Of kinds.Int ∷ []
+takes (Scans scan) = Of kinds.Int ∷ scan_slots scan
+takes (Pad which source) = Of kinds.Int ∷ given_slots source
 takes (Wait at kind last) = wait_slots kind
 takes (Frequency stated) = frequency_slots stated
 takes _ = []
@@ -216,6 +268,8 @@ wants (SetInts n values) = OfInts n ∷ []
 wants (For n body) = AnInteger n ∷ []
 wants (Next n) = AnInteger n ∷ []
 wants (Export key part) = export_wants part
+wants (Scans scan) = scan_wants scan
+wants (Pad which source) = given_wants source
 wants _ = []
 
 -- its target, which is a turn of the same procedure
@@ -239,6 +293,27 @@ known_source literals (sources.Literal n) = known_literal (slice_get literals n)
 known_source literals (sources.Whole n) = Known (values.Whole n)
 known_source literals (sources.Range n) = Known (values.Range n)
 known_source literals sources.FromInt = Known values.OfInt
+
+abbrev pub known_given : List (List Bool) → Option Source → Got (Option values.Source)
+known_given literals None = Known None
+known_given literals (Some source) = then_get (known_source literals source) (λ from. Known (Some from))
+
+-- the parts of a Scan with the bits of its literals
+abbrev pub cell_part : Cell → CellPart
+cell_part (cells.Scalar n) = scans.ScalarCell n
+cell_part (cells.Element n) = scans.ElementCell n
+
+abbrev pub known_compare : List (List Bool) → Option Compare → Got (Option CompareParts)
+known_compare literals None = Known None
+known_compare literals (Some c) =
+    then_get (known_source literals c.expected) (λ expected.
+    then_get (known_source literals c.mask) (λ mask. Known (Some (record { expected = expected; mask = mask; cell = cell_part c.cell }))))
+
+abbrev pub known_scan : List (List Bool) → Scan → Got ScanParts
+known_scan literals scan =
+    then_get (known_source literals scan.source) (λ source.
+    then_get (known_compare literals scan.compare) (λ compare.
+    Known (record { register = scan.register; source = source; target = option_map target_of scan.target; compare = compare })))
 
 -- what is exported under a key
 abbrev pub part_exported : List (List Bool) → ExportPart → List ℕ → List Value → State → Got Did
@@ -295,17 +370,21 @@ module _ (entries : List ℕ) (constants : Constants) where
       does (then_get (known_text (slice_get constants.texts key)) (λ bytes. part_exported constants.literals part bytes vs s))
   made here CheckChar vs s = one vs character_of
   made here Exit vs s = does (exited vs s)
+  made here (Scans scan) vs s = does (then_get (known_scan constants.literals scan) (λ parts. scanned parts vs s))
+  made here (Stop register tap) vs s = does (stopped register tap vs s)
+  made here (Pad which source) vs s = does (then_get (known_given constants.literals source) (λ from. surrounded which from vs s))
   made here (GoThrough states) vs s = does (moved_through states vs s)
   made here (Wait at kind last) vs s = does (waited kind at last vs s)
   made here (Frequency stated) vs s = does (tuned vs s)
 
 -- The rule.
 
--- What one instruction does: on to the one behind it, perhaps with deeds; the end of the turn, which must find no
--- operand left; a fault; or what no valid code meets.
+-- What one instruction does: on to the one behind it, perhaps with deeds, or with a scan whose captured bits decide the
+-- state; the end of the turn, which must find no operand left; a fault; or what no valid code meets.
 pub data Step : Type 0 where
   Falls : (operands : List Value) (state : State) → Step
   Acts : (deeds : List Deed) (operands : List Value) (state : State) → Step
+  Scanned : (scan : BoardScan) (operands : List Value) (lands : List Bool → State) → Step
   Stops : (operands : List Value) (turned : Turned) → Step
   Faulted : (fault : RunFault) (state : State) → Step
   Wrong : Step
@@ -349,6 +428,7 @@ on_made entries to below s (Known (Puts v)) = Falls (v ∷ below) s
 on_made entries to below s (Known (PutsFrom v t)) = Falls (v ∷ below) t
 on_made entries to below s (Known (PutsTwo x y)) = Falls (y ∷ x ∷ below) s
 on_made entries to below s (Known (Does (did.Falls deeds t))) = acted deeds below t
+on_made entries to below s (Known (Does (did.Captures scan lands))) = Scanned scan below lands
 on_made entries to below s (Known (Does (did.Jumps t))) = Stops below (jumps_to to t)
 on_made entries to below s (Known (Does (did.Resumes place t))) = Stops below (Leads [] place t)
 on_made entries to below s (Known (Does (did.Returns t))) = Stops below (next_chosen (entry_of entries) t t.chosen)
@@ -365,6 +445,7 @@ at_end (v ∷ rest) h = Lacks []
 abbrev pub continues : Chain → Step → (List Value → State → Chain → Happened) → Happened
 continues k (Falls ops s) go = go ops s k
 continues k (Acts deeds ops s) go = with_events (deeds_events k deeds) (go ops s (deeds_chain k deeds))
+continues k (Scanned scan ops lands) go = scanned_on k scan (λ bits l. go ops (lands bits) l)
 continues k (Stops ops t) go = at_end ops (happens k t)
 continues k (Faulted f s) go = Broke [] f s k
 continues k Wrong go = Lacks []

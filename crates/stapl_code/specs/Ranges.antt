@@ -10,8 +10,12 @@ use Rattle.stapl_code.specs.declared.instr.Source.{Source}
 use Rattle.stapl_code.specs.declared.instr.Source.TheVariants as sources
 use Rattle.stapl_code.specs.declared.instr.Dest.{Dest}
 use Rattle.stapl_code.specs.declared.instr.Dest.TheVariants as dests
+use Rattle.stapl_code.specs.declared.instr.Cell.{Cell}
+use Rattle.stapl_code.specs.declared.instr.Cell.TheVariants as cells
+use Rattle.stapl_code.specs.declared.instr.Compare.{Compare}
+use Rattle.stapl_code.specs.declared.instr.Scan.{Scan}
 use Rattle.stapl_code.specs.declared.instr.Instr.{Instr}
-use Rattle.stapl_code.specs.declared.instr.Instr.TheVariants.{Turn, PushBit, Load, LoadAt, CheckIndex, CheckRange, Store, StoreAt, Unary, Binary, ToInt, CopyBits, SetBits, SetInts, For, Next, Call, Print, Export, State as GoThrough}
+use Rattle.stapl_code.specs.declared.instr.Instr.TheVariants.{Turn, PushBit, Load, LoadAt, CheckIndex, CheckRange, Store, StoreAt, Unary, Binary, ToInt, CopyBits, SetBits, SetInts, For, Next, Call, Print, Export, Scan as Scans, Pad, State as GoThrough}
 use Rattle.stapl_code.specs.declared.raw.VarDef.{VarDef}
 use Rattle.stapl_code.specs.declared.raw.ProcDef.{ProcDef}
 use Rattle.stapl_code.specs.declared.raw.ItemDef.{ItemDef}
@@ -79,6 +83,26 @@ abbrev pub IsDest : ℕ → Dest → Type 0
 IsDest variables (dests.Whole n) = n < variables
 IsDest variables (dests.Range n) = n < variables
 
+-- what may be left out
+abbrev pub IsGiven : {A : Type 0} → (A → Type 0) → Option A → Type 0
+IsGiven P None = Unit {0}
+IsGiven P (Some x) = P x
+
+-- what a scan compares with, and a scan, with so many variables and literals
+abbrev pub IsCell : ℕ → Cell → Type 0
+IsCell variables (cells.Scalar n) = n < variables
+IsCell variables (cells.Element n) = n < variables
+
+pub record IsCompare (variables literals : ℕ) (c : Compare) : Type 0 where
+  pub expected : IsSource variables literals c.expected
+  pub mask : IsSource variables literals c.mask
+  pub cell : IsCell variables c.cell
+
+pub record IsScan (variables literals : ℕ) (scan : Scan) : Type 0 where
+  pub source : IsSource variables literals scan.source
+  pub target : IsGiven (IsDest variables) scan.target
+  pub compare : IsGiven (IsCompare variables literals) scan.compare
+
 -- how many elements a variable has, if there is one
 abbrev pub size_of : Option VarDef → ℕ
 size_of None = 0
@@ -106,6 +130,8 @@ IsInstr variables literals texts procedures (For n body) = n < length variables
 IsInstr variables literals texts procedures (Next n) = n < length variables
 IsInstr variables literals texts procedures (Call p) = p < procedures
 IsInstr variables literals texts procedures (Print list) = (1 ≤ length list) × All (IsPart texts) list
+IsInstr variables literals texts procedures (Scans scan) = IsScan (length variables) literals scan
+IsInstr variables literals texts procedures (Pad which source) = IsGiven (IsSource (length variables) literals) source
 IsInstr variables literals texts procedures (GoThrough states) = 1 ≤ length states
 IsInstr variables literals texts procedures (Export key part) = (key < texts) × IsExport (length variables) literals part
 IsInstr variables literals texts procedures _ = Unit {0}

@@ -1,8 +1,9 @@
 -- What holds of every run of a valid code. Source of the kinds of variables: JESD71, variables. The bounds are this
 -- profile's.
-use Rattle.std.specs.Prelude.{◌≡◌, ◌≢◌, ℕ, ◌+◌, ◌*◌, ◌<◌, ◌≤◌, List, [], ◌∷◌, length, map}
+use Rattle.std.specs.Prelude.{◌≡◌, ◌≢◌, ℕ, ◌+◌, ◌*◌, ◌<◌, ◌≤◌, true, List, [], ◌∷◌, length, map}
 use Rattle.stapl_meaning.specs.declared.values.Held.{Held}
 use Rattle.stapl_meaning.specs.declared.values.Held.TheVariants as held
+use Rattle.tap_states.specs.Tap.{is_stable_state}
 use Rattle.stapl_meaning.specs.Deeds.{Chain}
 use Rattle.stapl_meaning.specs.States.{State}
 use Rattle.stapl_meaning.specs.Plays.{Stopped}
@@ -41,19 +42,20 @@ abbrev pub AllBelow : ℕ → List ℕ → Type 0
 AllBelow n [] = Unit {0}
 AllBelow n (p ∷ ps) = (p < n) × AllBelow n ps
 
--- A valid code never stops for want of an operand, at an operand of the wrong kind, or where no turn begins: whichever
--- procedures are chosen, whatever the variables hold, however many turns there are, and whatever answers the clocks.
+-- A valid code never stops for want of an operand, at an operand of the wrong kind, where no turn begins, or at a scan from a
+-- state that is not stable: whichever procedures are chosen, whatever the variables hold, however many turns there are, and
+-- whatever answers the clocks. The chain is in a stable state when the play begins.
 abbrev pub NeverStuck : Type 0
 NeverStuck =
     (code : CodeLists) → IsInRange code → IsValid code → (chosen : List ℕ) → AllBelow (length code.procedures) chosen →
-    (variables : List Held) → AllFit code.variables variables → (n : ℕ) (k : Chain) →
+    (variables : List Held) → AllFit code.variables variables → (n : ℕ) (k : Chain) → is_stable_state k.tap ≡ true →
     (code_play (entries_of code.procedures) (constants_of code) code.instrs chosen variables n k).outcome ≢ Stopped
 
 -- No play of a valid code holds more operands at once than its depth.
 abbrev pub DepthIsKept : Type 0
 DepthIsKept =
     (code : CodeLists) → IsInRange code → IsValid code → (chosen : List ℕ) → AllBelow (length code.procedures) chosen →
-    (variables : List Held) → AllFit code.variables variables → (n : ℕ) (k : Chain) →
+    (variables : List Held) → AllFit code.variables variables → (n : ℕ) (k : Chain) → is_stable_state k.tap ≡ true →
     play_held (entries_of code.procedures) (constants_of code) code.instrs chosen variables n k ≤ depth_of code
 
 -- From one Turn to the next a code takes no more instructions than it has.

@@ -1,18 +1,25 @@
 -- How many instructions a run of the machine takes. A Turn counts in the turn that it begins.
-use Rattle.std.specs.Prelude.{ℕ, zero, suc, ◌+◌, ◌-◌, List, [], ◌∷◌, length, drop}
+use Rattle.std.specs.Prelude.{ℕ, zero, suc, ◌+◌, ◌-◌, Bool, if◌then◌else◌, List, [], ◌∷◌, length, drop}
 use Rattle.stapl_meaning.specs.declared.values.Value.{Value}
 use Rattle.stapl_meaning.specs.declared.values.Held.{Held}
-use Rattle.stapl_meaning.specs.Deeds.{Chain, deeds_chain}
+use Rattle.dev_card.specs.Scans.{BoardScan}
+use Rattle.tap_states.specs.Tap.{is_stable_state}
+use Rattle.stapl_meaning.specs.Deeds.{Scans, Chain, deed_chain, deeds_chain, captured_on}
 use Rattle.stapl_meaning.specs.States.{State, Happened, Led, Finished, Broke, Lacks}
 use Rattle.stapl_meaning.specs.Plays.{start}
 use Rattle.stapl_code.specs.declared.instr.Instr.{Instr}
 use Rattle.stapl_code.specs.declared.instr.Instr.TheVariants.{Turn}
-use Rattle.stapl_code.specs.Machine.{Constants, Step, Falls, Acts, Stops, Faulted, Wrong, step, code_turn, code_beginning}
+use Rattle.stapl_code.specs.Machine.{Constants, Step, Falls, Acts, Scanned, Stops, Faulted, Wrong, step, code_turn, code_beginning}
+
+-- a count behind a scan on a chain
+abbrev pub counted_scan : Chain → BoardScan → (List Bool → Chain → ℕ) → ℕ
+counted_scan k scan go = if is_stable_state k.tap then go (captured_on k scan) (deed_chain k (Scans scan)) else 0
 
 -- a count behind a step on a chain; the end of a turn has none
 abbrev pub counted_behind : Chain → Step → (List Value → State → Chain → ℕ) → ℕ
 counted_behind k (Falls ops s) go = go ops s k
 counted_behind k (Acts deeds ops s) go = go ops s (deeds_chain k deeds)
+counted_behind k (Scanned scan ops lands) go = counted_scan k scan (λ bits l. go ops (lands bits) l)
 counted_behind k (Stops ops t) go = 0
 counted_behind k (Faulted f s) go = 0
 counted_behind k Wrong go = 0

@@ -11,7 +11,7 @@
 --   (kinds_behind).
 --   A target, that of a For too, is a Turn of the same procedure (is_target).
 --   Behind a For, a Next, a Call, a Jump and an Exit stands a Turn (departs).
---   The last state of a State, and both of a Wait, are stable (rests_well).
+--   The last state of a State, both of a Wait, and that of a Stop are stable (rests_well).
 --   A procedure begins at an instruction (entry_break).
 use Rattle.std.specs.Prelude.{◌≡◌, ℕ, ◌+◌, ◌-◌, ◌&&◌, ◌||◌, not, Bool, true, false, List, [], ◌∷◌, length, Option, Some, None, slice_get, slice_range, nat_lt, nat_le, if◌then◌else◌}
 use Rattle.std.specs.List.{list_all}
@@ -22,7 +22,7 @@ use Rattle.stapl_code.specs.declared.raw.VarDef.{VarDef}
 use Rattle.stapl_code.specs.declared.raw.ProcDef.{ProcDef}
 use Rattle.stapl_code.specs.declared.raw.CodeLists.{CodeLists}
 use Rattle.stapl_code.specs.declared.instr.Instr.{Instr}
-use Rattle.stapl_code.specs.declared.instr.Instr.TheVariants.{Turn, Push, PushBit, Store, SetBits, SetInts, For, Next, Call, Jump, EndProc, Exit, State as GoThrough, Wait}
+use Rattle.stapl_code.specs.declared.instr.Instr.TheVariants.{Turn, Push, PushBit, Store, SetBits, SetInts, For, Next, Call, Jump, EndProc, Exit, Stop, State as GoThrough, Wait}
 use Rattle.stapl_code.specs.declared.valid.ValidateRefused.{ValidateRefused}
 use Rattle.stapl_code.specs.declared.valid.ValidateRefused.TheVariants.{Invalid, Memory}
 use Rattle.stapl_code.specs.Machine.{goes_to}
@@ -66,6 +66,7 @@ ends_stable states = is_stable_if (slice_get states (length states - 1))
 -- the chain is left in stable states alone
 abbrev pub rests_well : Instr → Bool
 rests_well (GoThrough states) = ends_stable states
+rests_well (Stop register tap) = is_stable_state tap
 rests_well (Wait at kind last) = is_stable_state at && is_stable_state last
 rests_well _ = true
 

@@ -1,5 +1,6 @@
 //! The instructions of the stack machine.
 use base::ItemList;
+use stapl_lexer::{Padding, Register};
 use stapl_meaning::{ValueKind, WaitKind};
 use tap_states::Tap;
 
@@ -47,6 +48,34 @@ pub enum ExportPart {
     Bit,
     /// The bits of a source.
     Array(Source),
+}
+
+/// Where the result of a comparison goes.
+#[derive(Clone, Copy, Debug, PartialEq, Eq)]
+pub enum Cell {
+    /// Into a BOOLEAN scalar.
+    Scalar(u32),
+    /// Into an element of a BOOLEAN array, whose index is from the operands.
+    Element(u32),
+}
+
+/// What a Scan compares the captured bits with, and where the result goes.
+#[derive(Clone, Copy, Debug, PartialEq, Eq)]
+pub struct Compare {
+    pub expected: Source,
+    /// The bits that are compared.
+    pub mask: Source,
+    pub cell: Cell,
+}
+
+/// What a Scan does: the registers that it goes through, its data, where the captured bits go, and what they are compared
+/// with.
+#[derive(Clone, Copy, Debug, PartialEq, Eq)]
+pub struct Scan {
+    pub register: Register,
+    pub source: Source,
+    pub target: Option<Dest>,
+    pub compare: Option<Compare>,
 }
 
 /// One instruction. Variables, literals, texts and procedures are told by their numbers, and targets are numbers of
@@ -110,6 +139,14 @@ pub enum Instr {
     CheckChar,
     /// Takes an integer off the operands, and ends the play with it.
     Exit,
+    /// Takes the length of a scan off the operands, and then those of its parts in the written order, the last one's
+    /// topmost, and scans.
+    Scan(Scan),
+    /// Sets the state in which scans through these registers end. It is stable.
+    Stop(Register, Tap),
+    /// Takes the length of a padding off the operands, and then those of its source, and sets the padding: to ones, if
+    /// there is no source.
+    Pad(Padding, Option<Source>),
     /// Moves the chain through these states, one after the other. The last one is stable.
     State(ItemList<Tap>),
     /// Takes the counts of a wait off the operands, the microseconds topmost, moves the chain to the first state, waits

@@ -7,12 +7,13 @@ ghost use Rattle.stapl_code.specs.Kinds.{off, variable_kind, element_kind, is_of
 use crate::instr::{Dest, ExportPart, Instr, PrintPart, Source};
 use crate::operators::{Operator, operator_of, unary_kind};
 use crate::raw::VarDef;
+use crate::scan_kinds::{given_is_met, scan_is_met, take_padding, take_scan};
 use base::Stack;
 use stapl_meaning::{ValueKind, WaitKind};
 use std::alloc::AllocError;
 
 /// Takes off the topmost kind, and answers whether it was this one.
-fn take(kinds: &mut Stack<ValueKind>, kind: ValueKind) -> bool
+pub(crate) fn take(kinds: &mut Stack<ValueKind>, kind: ValueKind) -> bool
     ensures { off kind kinds.old ≡ (if result then Some kinds.new else None) }
 {
     match (kinds.pop(), kind) {
@@ -75,7 +76,7 @@ fn element_kind_at(variables: &[VarDef], n: u32) -> Option<ValueKind>
 }
 
 // Whether a variable is of a kind.
-fn is_of_kind(variables: &[VarDef], kind: u8, n: u32) -> bool
+pub(crate) fn is_of_kind(variables: &[VarDef], kind: u8, n: u32) -> bool
     ensures { result ≡ is_of_kind kind (slice_get variables.now n) }
 {
     match variables.get(n as usize) {
@@ -85,7 +86,7 @@ fn is_of_kind(variables: &[VarDef], kind: u8, n: u32) -> bool
 }
 
 // Whether the variable of a source is what it has to be.
-fn source_is_met(variables: &[VarDef], source: Source) -> bool
+pub(crate) fn source_is_met(variables: &[VarDef], source: Source) -> bool
     ensures { result ≡ list_all (is_met variables.now) (source_wants source) }
 {
     match source {
@@ -103,7 +104,7 @@ fn export_is_met(variables: &[VarDef], part: ExportPart) -> bool
     }
 }
 
-fn dest_is_met(variables: &[VarDef], dest: Dest) -> bool
+pub(crate) fn dest_is_met(variables: &[VarDef], dest: Dest) -> bool
     ensures { result ≡ is_met variables.now (dest_want dest) }
 {
     match dest {
@@ -126,6 +127,8 @@ fn wants_are_met(variables: &[VarDef], instr: &Instr) -> bool
         Instr::SetInts(n, _) => is_of_kind(variables, 2, *n),
         Instr::For(n, _) | Instr::Next(n) => is_of_kind(variables, 0, *n),
         Instr::Export(_, part) => export_is_met(variables, *part),
+        Instr::Scan(scan) => scan_is_met(variables, scan),
+        Instr::Pad(_, source) => given_is_met(variables, *source),
         _ => true,
     }
 }
@@ -174,7 +177,7 @@ fn take_signed(kinds: &mut Stack<ValueKind>, kind: Option<ValueKind>) -> bool
 }
 
 // Takes off the kinds of two indexes, and answers whether they were there.
-fn take_indexes(kinds: &mut Stack<ValueKind>) -> bool
+pub(crate) fn take_indexes(kinds: &mut Stack<ValueKind>) -> bool
     ensures { (variables : List VarDef) (slots : List Slot) (ks : List ValueKind) →
         all_off variables slots ks ≡ Some kinds.old →
         all_off variables (Of ValueKind.Int ∷ Of ValueKind.Int ∷ slots) ks ≡ (if result then Some kinds.new else None) }
@@ -183,7 +186,7 @@ fn take_indexes(kinds: &mut Stack<ValueKind>) -> bool
 }
 
 // Takes off the kinds of the operands of a source, and answers whether they were there.
-fn take_source(kinds: &mut Stack<ValueKind>, source: Source) -> bool
+pub(crate) fn take_source(kinds: &mut Stack<ValueKind>, source: Source) -> bool
     ensures { (variables : List VarDef) →
         all_off variables (source_slots source) kinds.old ≡ (if result then Some kinds.new else None) }
 {
@@ -195,7 +198,7 @@ fn take_source(kinds: &mut Stack<ValueKind>, source: Source) -> bool
 }
 
 // Takes off the kinds of the operands of a destination, behind those of a source, and answers whether they were there.
-fn take_dest(kinds: &mut Stack<ValueKind>, dest: Dest) -> bool
+pub(crate) fn take_dest(kinds: &mut Stack<ValueKind>, dest: Dest) -> bool
     ensures { (variables : List VarDef) (slots : List Slot) (ks : List ValueKind) →
         all_off variables slots ks ≡ Some kinds.old →
         all_off variables (dest_slots dest slots) ks ≡ (if result then Some kinds.new else None) }
@@ -262,7 +265,10 @@ fn take_operands(variables: &[VarDef], instr: &Instr, kinds: &mut Stack<ValueKin
         | Instr::Call(_)
         | Instr::Jump(_)
         | Instr::EndProc
+        | Instr::Stop(_, _)
         | Instr::State(_) => true,
+        Instr::Scan(scan) => take_scan(kinds, scan),
+        Instr::Pad(_, source) => take_padding(kinds, *source),
         Instr::For(_, _) => take_loop(kinds),
         Instr::Wait(_, wait, _) => take_counts(kinds, *wait),
         Instr::Frequency(stated) => take_frequency(kinds, *stated),
@@ -389,6 +395,9 @@ fn put_operands(
         | Instr::Print(_)
         | Instr::Export(_, _)
         | Instr::Exit
+        | Instr::Scan(_)
+        | Instr::Stop(_, _)
+        | Instr::Pad(_, _)
         | Instr::State(_)
         | Instr::Wait(_, _, _)
         | Instr::Frequency(_) => Ok(true),

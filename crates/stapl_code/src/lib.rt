@@ -9,9 +9,10 @@ mod operators;
 mod parts;
 mod ranges;
 mod raw;
+mod scan_kinds;
 mod valid;
 
-pub use instr::{Dest, ExportPart, Instr, PrintPart, Source};
+pub use instr::{Cell, Compare, Dest, ExportPart, Instr, PrintPart, Scan, Source};
 pub use operators::{Operator, operator_of, unary_kind};
 pub use raw::{ActionDef, CodeLists, ItemDef, ProcDef, RawCode, VarDef};
 pub use valid::{Code, ValidateRefused, validate};

@@ -1,9 +1,9 @@
 //! The test of the ranges of a code's fields.
 ghost use Rattle.std.specs.Prelude.{◌≡◌, ◌≢◌, ◌<◌, ◌≤◌, ◌↔◌, IsTrue, All, AllPairs, sum_by, length, slice_get};
 ghost use Rattle.stapl_syntax.specs.Contents.{IsFreeName};
-ghost use Rattle.stapl_code.specs.Ranges.{IsVariable, elements_of, AreVariables, AreProcedures, IsItem, IsAction, AreActions, IsPart, IsSource, IsExport, IsDest, size_of, IsInstr, IsLiteral, IsInRange};
+ghost use Rattle.stapl_code.specs.Ranges.{IsVariable, elements_of, AreVariables, AreProcedures, IsItem, IsAction, AreActions, IsPart, IsSource, IsExport, IsDest, IsGiven, IsCell, IsCompare, IsScan, size_of, IsInstr, IsLiteral, IsInRange};
 
-use crate::instr::{Dest, ExportPart, Instr, PrintPart, Source};
+use crate::instr::{Cell, Compare, Dest, ExportPart, Instr, PrintPart, Scan, Source};
 use crate::raw::{ActionDef, CodeLists, ItemDef, ProcDef, VarDef};
 use bit_list::Bits;
 use stapl_lexer::Name;
@@ -129,6 +129,57 @@ fn is_dest(variables: usize, dest: Dest) -> bool
     }
 }
 
+fn is_given_source(variables: usize, literals: usize, source: Option<Source>) -> bool
+    ensures { IsTrue result ↔ IsGiven (IsSource variables literals) source }
+{
+    match source {
+        None => true,
+        Some(source) => is_source(variables, literals, source),
+    }
+}
+
+fn is_cell(variables: usize, cell: Cell) -> bool
+    ensures { IsTrue result ↔ IsCell variables cell }
+{
+    match cell {
+        Cell::Scalar(n) | Cell::Element(n) => (n as usize) < variables,
+    }
+}
+
+fn is_compare(variables: usize, literals: usize, compare: Compare) -> bool
+    ensures { IsTrue result ↔ IsCompare variables literals compare }
+{
+    is_source(variables, literals, compare.expected)
+        && is_source(variables, literals, compare.mask)
+        && is_cell(variables, compare.cell)
+}
+
+fn is_given_target(variables: usize, target: Option<Dest>) -> bool
+    ensures { IsTrue result ↔ IsGiven (IsDest variables) target }
+{
+    match target {
+        None => true,
+        Some(dest) => is_dest(variables, dest),
+    }
+}
+
+fn is_given_compare(variables: usize, literals: usize, compare: Option<Compare>) -> bool
+    ensures { IsTrue result ↔ IsGiven (IsCompare variables literals) compare }
+{
+    match compare {
+        None => true,
+        Some(compare) => is_compare(variables, literals, compare),
+    }
+}
+
+fn is_scan(variables: usize, literals: usize, scan: &Scan) -> bool
+    ensures { IsTrue result ↔ IsScan variables literals scan.now }
+{
+    is_source(variables, literals, scan.source)
+        && is_given_target(variables, scan.target)
+        && is_given_compare(variables, literals, scan.compare)
+}
+
 fn size_at(variables: &[VarDef], n: u32) -> u32
     ensures { result ≡ size_of (slice_get variables.now n) }
 {
@@ -184,7 +235,10 @@ fn is_instr(
         }
         Instr::Call(procedure) => (*procedure as usize) < procedures,
         Instr::State(states) => !states.is_empty(),
-        Instr::Wait(_, _, _)
+        Instr::Scan(scan) => is_scan(variables.len(), literals, scan),
+        Instr::Pad(_, source) => is_given_source(variables.len(), literals, *source),
+        Instr::Stop(_, _)
+        | Instr::Wait(_, _, _)
         | Instr::Frequency(_)
         | Instr::Push(_)
         | Instr::PushRecord(_)

@@ -131,6 +131,7 @@ fn rests_well(instr: &Instr) -> bool
 {
     match instr {
         Instr::State(states) => ends_stable(states.as_slice()),
+        Instr::Stop(_, state) => state.is_stable(),
         Instr::Wait(at, _, last) => at.is_stable() && last.is_stable(),
         _ => true,
     }
