@@ -1,22 +1,22 @@
--- A built program gives the compiler what it asks for.
-use Rattle.std.proofs.Common.{◌≡◌, ℕ, ◌≤◌, Bool, true, false, ◌||◌, if◌then◌else◌, List, [], ◌∷◌, Option, None, Some, length, get_or, arith, refl, sym, ap, subst, ◌∙◌, true≢false}
-use Rattle.std.specs.Prelude.{All, sum_by}
+-- A program gives the compiler what it asks for.
+use Rattle.std.proofs.Common.{◌≡◌, ℕ, ◌≤◌, Bool, true, false, ◌||◌, if◌then◌else◌, List, [], ◌∷◌, ◌++◌, Option, None, Some, length, get_or, arith, refl, sym, ap, subst, ◌∙◌, true≢false}
+use Rattle.std.specs.Prelude.{All, IfSome, sum_by}
 use Rattle.std.specs.List.{cons_option}
 use Rattle.std.proofs.lemmas.List.{append-nil}
 use Rattle.std.proofs.lemmas.List.Elements.{All-nil, All-cons, All-head, All-tail, All-append, All-weaker}
 use Rattle.std.proofs.lemmas.List.Sums.{sum_by-cons}
 use Rattle.stapl_lexer.specs.Pieces.{text_limit}
-use Rattle.stapl_syntax.specs.Trees.{ArrayTree, literal, PartTree, string, value, character, BodyTree, end_data, boolean, boolean_array, integer, integer_array, assign, assign_element, assign_array, assign_range, if_then, for_loop, push, pop, print, exported_value, exported_array, export, exit, wait_cycles, wait_usec, frequency, StmtTree}
-use Rattle.stapl_built.specs.Built.{is_built_outer, is_built_inner, IsBuilt}
-use Rattle.stapl_built.specs.Unbuilt.{IsBuiltProgram}
-use Rattle.stapl_built.specs.Sizes.{body_size, statements_size}
-use Rattle.stapl_syntax.specs.Contents.{IsWellNamed, IsShortPart, PrintsShortStrings, AreLiteralBits, HoldsLiteral, HoldsLiterals}
+use Rattle.stapl_syntax.specs.Trees.{ArrayTree, literal, PartTree, string, value, character, CompareTree, BodyTree, end_data, boolean, boolean_array, integer, integer_array, assign, assign_element, assign_array, assign_range, if_then, for_loop, push, pop, print, exported_value, exported_array, export, exit, scan, pad, scalar, element, wait_cycles, wait_usec, frequency, StmtTree}
+use Rattle.stapl_shapes.specs.Shapes.{is_outer_shape, is_inner_shape, HasShape}
+use Rattle.stapl_syntax.specs.Programs.{IsProgram}
+use Rattle.stapl_shapes.specs.Sizes.{body_size, statements_size}
+use Rattle.stapl_syntax.specs.Contents.{IsWellNamed, IsShortPart, PrintsShortStrings, AreLiteralBits, HoldsLiteral, HoldsBoth, HoldsLiterals}
 use Rattle.stapl_meaning.specs.Turns.{rows}
 use Rattle.stapl_meaning.specs.Scopes.{data_behind, plays, idle, pieces_from, has_initial_value, Preset, preset_of, presets_from, Played, as_played}
 use Rattle.stapl_meaning.specs.Typed.{IsTypedPreset, IsTyped}
 use Rattle.stapl_meaning.proofs.Blocks.{preset_in}
 use Rattle.stapl_code.specs.Ranges.{IsLiteral}
-use Rattle.stapl_codegen.specs.Emit.{part_texts, array_literals, row_texts, row_literals, rows_items, presets_items, statements_items, program_items, texts_of, literals_of}
+use Rattle.stapl_codegen.specs.Emit.{part_texts, array_literals, given_literals, compare_literals, row_texts, row_literals, rows_items, presets_items, statements_items, program_items, texts_of, literals_of}
 use Rattle.stapl_codegen.specs.Accepted.{IsAccepted}
 use Rattle.stapl_codegen.proofs.Drafts.{one_row}
 
@@ -61,12 +61,30 @@ module _ (n : ℕ) where
   held_array (literal bits) holds = one_literal bits holds
   held_array _ holds = All-nil (AreLiteralBits n)
 
+  held_both : (expected mask : ArrayTree) → HoldsLiteral n expected × HoldsLiteral n mask → All (AreLiteralBits n) (array_literals expected ++ array_literals mask)
+  held_both expected mask holds = All-append (AreLiteralBits n) (array_literals expected) (array_literals mask) (held_array expected holds.0) (held_array mask holds.1)
+
+  held_compare : (compare : Option CompareTree) → IfSome compare (HoldsBoth n) → All (AreLiteralBits n) (compare_literals compare)
+  held_compare None holds = All-nil (AreLiteralBits n)
+  held_compare (Some (expected, (mask, scalar name))) holds = held_both expected mask holds
+  held_compare (Some (expected, (mask, element name index))) holds = held_both expected mask holds
+  held_compare (Some (expected, (mask, _))) holds = All-nil (AreLiteralBits n)
+
+  held_given : (a : Option ArrayTree) → IfSome a (HoldsLiteral n) → All (AreLiteralBits n) (given_literals a)
+  held_given None holds = All-nil (AreLiteralBits n)
+  held_given (Some a) holds = held_array a holds
+
   held_body : (body : BodyTree) → HoldsLiterals n body → All (AreLiteralBits n) (rows_items row_literals (rows body))
   held_body (boolean_array name size (Some bits)) holds = one_literal bits holds
   held_body (assign_array name a) holds = All-append (AreLiteralBits n) (array_literals a) [] (held_array a holds) (All-nil (AreLiteralBits n))
   held_body (assign_range name high low a) holds = All-append (AreLiteralBits n) (array_literals a) [] (held_array a holds) (All-nil (AreLiteralBits n))
   held_body (export key (exported_value e)) holds = All-nil (AreLiteralBits n)
   held_body (export key (exported_array a)) holds = All-append (AreLiteralBits n) (array_literals a) [] (held_array a holds) (All-nil (AreLiteralBits n))
+  held_body (scan register count source target compare) holds =
+      let all : List (List Bool) = array_literals source ++ compare_literals compare in
+      let both = All-append (AreLiteralBits n) (array_literals source) (compare_literals compare) (held_array source holds.0) (held_compare compare holds.1) in
+      All-append (AreLiteralBits n) all [] both (All-nil (AreLiteralBits n))
+  held_body (pad which count bits) holds = All-append (AreLiteralBits n) (given_literals bits) [] (held_given bits holds) (All-nil (AreLiteralBits n))
   held_body (if_then e body) holds = held_body body holds
   held_body (boolean name None) holds = All-nil (AreLiteralBits n)
   held_body (boolean name (Some b)) holds = All-nil (AreLiteralBits n)
@@ -147,6 +165,8 @@ some_size (pop cell) = omega arith
 some_size (export key x) = omega arith
 some_size (print parts) = omega arith
 some_size (exit x) = omega arith
+some_size (scan register count source target compare) = omega arith
+some_size (pad which count bits) = omega arith
 some_size (wait_cycles state x usec end) = omega arith
 some_size (wait_usec state x end) = omega arith
 some_size (frequency hertz) = omega arith
@@ -189,29 +209,29 @@ preset_size now (st ∷ rest) = by (preset_of now st.body) refl (preset_size (da
         )
 
 -- an initial value is that of a statement of a procedure or a DATA block
-inner_start : (b : BodyTree) → has_initial_value b ≡ true → (is_built_outer b || is_built_inner b) ≡ true → is_built_inner b ≡ true
-inner_start (boolean name start) starts built = built
-inner_start (boolean_array name size start) starts built = built
-inner_start (integer name start) starts built = built
-inner_start (integer_array name size start) starts built = built
-inner_start _ starts built = absurd (true≢false (sym starts))
+inner_start : (b : BodyTree) → has_initial_value b ≡ true → (is_outer_shape b || is_inner_shape b) ≡ true → is_inner_shape b ≡ true
+inner_start (boolean name start) starts shaped = shaped
+inner_start (boolean_array name size start) starts shaped = shaped
+inner_start (integer name start) starts shaped = shaped
+inner_start (integer_array name size start) starts shaped = shaped
+inner_start _ starts shaped = absurd (true≢false (sym starts))
 
-presets_inner : (program : Played) (presets : List Preset) → All (IsTypedPreset program) presets → All (λ (preset : Preset). (is_built_outer preset.body || is_built_inner preset.body) ≡ true) presets →
-    All (λ (preset : Preset). is_built_inner preset.body ≡ true) presets
-presets_inner program presets typed built = λ k d below. inner_start (get_or presets k d).body (typed k d below).starts (built k d below)
+presets_inner : (program : Played) (presets : List Preset) → All (IsTypedPreset program) presets → All (λ (preset : Preset). (is_outer_shape preset.body || is_inner_shape preset.body) ≡ true) presets →
+    All (λ (preset : Preset). is_inner_shape preset.body ≡ true) presets
+presets_inner program presets typed shaped = λ k d below. inner_start (get_or presets k d).body (typed k d below).starts (shaped k d below)
 
-pub accepted : (text : List ℕ) (program : List StmtTree) → IsBuiltProgram text program → IsTyped (as_played program) → All IsBuilt program →
+pub accepted : (text : List ℕ) (program : List StmtTree) → IsProgram text program → IsTyped (as_played program) → All HasShape program →
     All (λ (st : StmtTree). IsWellNamed st.body) program → All (λ (st : StmtTree). PrintsShortStrings (length text) st.body) program →
     All (λ (st : StmtTree). HoldsLiterals (length text) st.body) program → statements_size program ≤ length text → IsAccepted (as_played program)
-accepted text program is typed built named short held small = record {
-  built = pieces_all (λ b. (is_built_outer b || is_built_inner b) ≡ true) refl None program built;
-  presets_built = presets_inner (as_played program) (presets_from None program) typed.presets (presets_all (λ b. (is_built_outer b || is_built_inner b) ≡ true) None program built);
+accepted text program is typed shaped named short held small = record {
+  shaped = pieces_all (λ b. (is_outer_shape b || is_inner_shape b) ≡ true) refl None program shaped;
+  presets_shaped = presets_inner (as_played program) (presets_from None program) typed.presets (presets_all (λ b. (is_outer_shape b || is_inner_shape b) ≡ true) None program shaped);
   typed = typed;
   named = pieces_all IsWellNamed tt None program named;
-  size = let few = is.program.short in omega (arith, small, few, pieces_size None program);
-  presets_size = let few = is.program.short in omega (arith, small, few, preset_size None program);
-  literals = few_bits (length text) is.program.short (literals_of (as_played program))
+  size = let few = is.short in omega (arith, small, few, pieces_size None program);
+  presets_size = let few = is.short in omega (arith, small, few, preset_size None program);
+  literals = few_bits (length text) is.short (literals_of (as_played program))
       (items_of_program row_literals (AreLiteralBits (length text)) (HoldsLiterals (length text)) (held_body (length text)) tt program typed held);
-  texts = weaker (length text) is.program.short (texts_of (as_played program))
+  texts = weaker (length text) is.short (texts_of (as_played program))
       (items_of_program row_texts (IsShort (length text)) (PrintsShortStrings (length text)) (short_body (length text)) tt program typed short);
 }

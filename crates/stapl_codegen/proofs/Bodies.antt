@@ -2,7 +2,7 @@
 use Rattle.std.proofs.Common.{◌≡◌, ℕ, suc, ◌-◌, Bool, true, false, List, [], ◌∷◌, ◌++◌, length, Option, Some, None, refl, sym, ap, subst, ◌∙◌, arith, length-append}
 use Rattle.std.specs.Prelude.{ℤ, nat_abs, is_some, map, slice_get, slice_set}
 use Rattle.std.proofs.lemmas.Bool.{true≢false}
-use Rattle.stapl_syntax.specs.Trees.{ExprTree, BodyTree, scalar, element, end_procedure, boolean, boolean_array, integer, integer_array, assign, assign_element, assign_array, assign_range, call, goto, if_then, for_loop, next, push, pop, print, exported_value, exported_array, export, exit, state_list, wait_cycles, wait_usec, frequency}
+use Rattle.stapl_syntax.specs.Trees.{ExprTree, BodyTree, scalar, element, end_procedure, boolean, boolean_array, integer, integer_array, assign, assign_element, assign_array, assign_range, call, goto, if_then, for_loop, next, push, pop, print, exported_value, exported_array, export, exit, scan, stop, pad, state_list, wait_cycles, wait_usec, frequency}
 use Rattle.stapl_syntax.specs.Kinds.{expr_kind}
 use Rattle.stapl_meaning.specs.Deeds.{Deed, Chain, deeds_events, deeds_chain}
 use Rattle.stapl_meaning.specs.declared.events.RunFault.{RunFault}
@@ -17,19 +17,21 @@ use Rattle.stapl_meaning.specs.declared.values.ValueKind.{ValueKind}
 use Rattle.stapl_meaning.specs.declared.values.ValueKind.TheVariants as kinds
 use Rattle.stapl_meaning.specs.Values.{Got, Known, Faults, Stuck, then_get, is_index, passed, index_held, Lookup, value_of}
 use Rattle.stapl_meaning.specs.Operands.{an_index, values_of, given_kind, printed_kind}
-use Rattle.stapl_meaning.specs.States.{State, Did, Falls, Jumps, Resumes, Returns, Ends, Turned, Leads, Over, Broken, NoTurn, with_got, preceded, turn_of_piece, next_chosen, jumps_to, led, Led, happens, with_events}
+use Rattle.stapl_meaning.specs.States.{State, Did, Falls, Jumps, Resumes, Returns, Ends, Turned, Captures, Leads, Over, Broken, Scanning, NoTurn, with_got, preceded, turn_of_piece, next_chosen, jumps_to, led, Happened, Led, happens, with_events, scanned_on}
 use Rattle.stapl_meaning.specs.Effects.{with_scalar, replaced, scalar_written, written, assigned, with_element, element_written, element_assigned, IntoWhole, IntoRange, copied, with_records, value_as, topmost, popped, called, returned_from, printed, exported, bits_exported}
+use Rattle.stapl_meaning.specs.Scans.{scanned, surrounded}
 use Rattle.stapl_meaning.specs.Scopes.{Scope}
 use Rattle.stapl_meaning.specs.Turns.{kind_of_wait, integer_given, operands, effect, target, rows, carried, rows_done, done}
 use Rattle.stapl_code.specs.declared.instr.Instr.{Instr}
 use Rattle.stapl_code.specs.declared.instr.Instr.TheVariants.{Store, StoreAt, PopRecord, EndProc}
 use Rattle.stapl_code.specs.Machine.{Constants, Step, Does, does, two, unrecorded, export_slots, known_literal, known_source, known_text, part_exported, wait_slots, frequency_slots, takes, lands, made, on_taken, taken, on_made, continues, stretch, entry_of}
-use Rattle.stapl_code.proofs.Preceded.{with_nothing, happens_behind}
+use Rattle.stapl_code.proofs.Preceded.{with_nothing, happens_behind, scan_alike}
 use Rattle.stapl_codegen.specs.Emit.{Firsts, last, between, source_code, export_part, row_texts, row_literals, behind_row, rows_items, body_texts, body_literals, row_code, rows_code, body_code}
 use Rattle.stapl_codegen.specs.Correct.{falls, placed_record, placed_state}
 use Rattle.stapl_codegen.proofs.Constants.{HasConstants, row_has, others_have, item_known, source_known, source_count}
 use Rattle.stapl_codegen.proofs.Exprs.{got_on, with_known, onto, taken-onto, operands_follow, one_each}
 use Rattle.stapl_codegen.proofs.Placed.{placed_did, placed_got, keeps_place, effect_placed, called_placed, looped_placed, assigned_placed, element_placed}
+use Rattle.stapl_codegen.proofs.ScanConstants.{given_known, given_count, scan_known, scan_count}
 use Rattle.stapl_codegen.proofs.Prints.{parts_are_joined, parts_count}
 use Rattle.stapl_codegen.proofs.Rows.{is_call, CallsLast, calls_last}
 
@@ -38,6 +40,7 @@ abbrev pub placed : (ℕ → ℕ) → Turned → Turned
 placed place (Leads es i s) = Leads es (place i) (placed_state place s)
 placed place (Over es ending s) = Over es ending (placed_state place s)
 placed place (Broken es k s) = Broken es k (placed_state place s)
+placed place (Scanning es job rest) = Scanning es job (λ bits. placed place (rest bits))
 placed place (NoTurn es) = NoTurn es
 
 abbrev target_placed : (ℕ → ℕ) → Option ℕ → Option ℕ
@@ -54,6 +57,7 @@ pub preceded_placed : (place : ℕ → ℕ) (ds : List Deed) (t : Turned) → pr
 preceded_placed place ds (Leads es i s) = refl
 preceded_placed place ds (Over es ending s) = refl
 preceded_placed place ds (Broken es k s) = refl
+preceded_placed place ds (Scanning es job rest) = refl
 preceded_placed place ds (NoTurn es) = refl
 
 -- deeds in front of a turn, on a chain
@@ -70,6 +74,7 @@ pub piece_placed : (place : ℕ → ℕ) (piece : ℕ) (t : Turned) → turn_of_
 piece_placed place piece (Leads es i s) = refl
 piece_placed place piece (Over es ending s) = refl
 piece_placed place piece (Broken es k s) = refl
+piece_placed place piece (Scanning es job rest) = λ j. Scanning es job (λ bits. piece_placed place piece (rest bits) j)
 piece_placed place piece (NoTurn es) = refl
 
 -- no operator makes nothing
@@ -212,6 +217,10 @@ module _ (place : ℕ → ℕ) (entries : List ℕ) (constants : Constants) (tot
       more t k ∙ with_nothing (happens k (placed place (go t))) ∙ deeds_placed place k [] (go t)
   did_follows to (Known (Falls (d ∷ ds) t)) s k rest go entry_is more =
       ap (with_events (deeds_events k (d ∷ ds))) (more t (deeds_chain k (d ∷ ds))) ∙ deeds_placed place k (d ∷ ds) (go t)
+  did_follows to (Known (Captures job lands)) s k rest go entry_is more =
+      let goes : List Bool → Chain → Happened = λ bits l. happens l (placed place (go (lands bits))) in
+      scan_alike k job (λ bits l. stretch entries constants total rest [] (placed_state place (lands bits)) l) goes (λ bits l. more (lands bits) l)
+      ∙ with_nothing (scanned_on k job goes)
   did_follows to (Known (Jumps t)) s k rest go entry_is more = ap (happens k) (jump_placed place to t)
   did_follows to (Known (Resumes i t)) s k rest go entry_is more = refl
   did_follows to (Known (Returns t)) s k rest go entry_is more = ap (happens k) (end_law t t.chosen entry_is)
@@ -397,6 +406,13 @@ module _ (place : ℕ → ℕ) (entries : List ℕ) (constants : Constants) (tot
       (item_known constants.texts first.text key has.texts)
       ∙ ap (λ g. does (then_get g (λ from. bits_exported key from vs s))) (source_known constants.literals scope.look first.literal a has.literals))
   row_tied first (exit e) entry_is has = plainly first (exit e) entry_is refl (λ l. refl) refl (λ here. refl) (λ here vs s. refl)
+  row_tied first (scan register count source target compare) entry_is has =
+      plainly first (scan register count source target compare) entry_is refl (λ l. refl) (ap suc (scan_count scope.look first.literal register source target compare)) (λ here. refl)
+      (λ here vs s. ap (λ g. does (then_get g (λ parts. scanned parts vs s))) (scan_known constants.literals scope.look first.literal register source target compare has.literals))
+  row_tied first (stop register state) entry_is has = plainly first (stop register state) entry_is refl (λ l. refl) refl (λ here. refl) (λ here vs s. refl)
+  row_tied first (pad which count bits) entry_is has =
+      plainly first (pad which count bits) entry_is refl (λ l. refl) (ap suc (given_count scope.look first.literal bits)) (λ here. refl)
+      (λ here vs s. ap (λ g. does (then_get g (λ from. surrounded which from vs s))) (given_known constants.literals scope.look first.literal bits has.literals))
   row_tied first (state_list states) entry_is has = plainly first (state_list states) entry_is refl (λ l. refl) refl (λ here. refl) (λ here vs s. refl)
   row_tied first (wait_cycles state cycles usec end) entry_is has =
       plainly first (wait_cycles state cycles usec end) entry_is refl (λ l. refl) (wait_count usec) (λ here. refl) (λ here vs s. refl)

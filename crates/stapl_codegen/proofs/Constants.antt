@@ -24,10 +24,10 @@ module _ {A : Type 0} (all : List A) where
   drop_more n (x ∷ front) back e = drop_more (suc n) front back (drop_tail n all ∙ ap (drop 1) e)
 
   -- of two lists of items, the first and the second
-  has_front : (n : ℕ) (xs ys : List A) → HasItems all n (xs ++ ys) → HasItems all n xs
+  pub has_front : (n : ℕ) (xs ys : List A) → HasItems all n (xs ++ ys) → HasItems all n xs
   has_front n xs ys has = record { more = ys ++ has.more; from = has.from ∙ append_assoc xs ys has.more }
 
-  has_behind : (n : ℕ) (xs ys : List A) → HasItems all n (xs ++ ys) → HasItems all (past n xs) ys
+  pub has_behind : (n : ℕ) (xs ys : List A) → HasItems all n (xs ++ ys) → HasItems all (past n xs) ys
   has_behind n xs ys has =
       record { more = has.more; from = drop_more n xs (ys ++ has.more) (has.from ∙ append_assoc xs ys has.more) }
 

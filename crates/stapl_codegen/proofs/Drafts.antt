@@ -179,7 +179,7 @@ pub past_length : {A : Type 0} (n : ℕ) (xs : List A) → past n xs ≡ n + len
 past_length n [] = omega arith
 past_length n (x ∷ xs) = let more = past_length (suc n) xs in omega (arith, more)
 
-behind_items : {A : Type 0} (xs ys zs : List A) → zs ≡ xs ++ ys → past (length xs) ys ≡ length zs
+pub behind_items : {A : Type 0} (xs ys zs : List A) → zs ≡ xs ++ ys → past (length xs) ys ≡ length zs
 behind_items xs ys zs e = omega (arith, past_length (length xs) ys, ap length e, length-append xs ys)
 
 -- the code of an initial value where it stands

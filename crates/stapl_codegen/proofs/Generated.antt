@@ -26,8 +26,8 @@ use Rattle.stapl_codegen.proofs.Lists.{presets_before}
 use Rattle.stapl_codegen.proofs.PrologueFine.{presets_range}
 use Rattle.stapl_codegen.proofs.Ordered.{closed}
 use Rattle.stapl_codegen.proofs.Ranges.{Each, each_all, InRange, CallsThere, body_range, variables_are, agrees_from}
-use Rattle.stapl_built.specs.Built.{IsBuilt}
-use Rattle.stapl_meaning.proofs.Resolved.{built_is_inner}
+use Rattle.stapl_shapes.specs.Shapes.{HasShape}
+use Rattle.stapl_meaning.proofs.Resolved.{inner_has_shape}
 use Rattle.stapl_meaning.proofs.Entries.{all_at}
 use Rattle.stapl_meaning.specs.Scopes.{block_at}
 use Rattle.stapl_codegen.specs.Generated.{kind_number, variable_def}
@@ -37,7 +37,7 @@ use Rattle.stapl_codegen.proofs.Whole.{AreFine, procedures_fine}
 use Rattle.stapl_codegen.proofs.Defined.{count_same, procedures_are, actions_are}
 
 -- each instruction of the pieces from a place on is in its range
-module _ (program : Played) (built : All IsBuilt program.pieces) (typed : IsTyped program) where
+module _ (program : Played) (shaped : All HasShape program.pieces) (typed : IsTyped program) where
   abbrev defs : List VarDef
   defs = map variable_def program.names.variables
 
@@ -70,7 +70,7 @@ module _ (program : Played) (built : All IsBuilt program.pieces) (typed : IsType
           let t = typed.statements i st at inner in (
             (omega arith, omega (arith, few)),
             body_range defs (length (literals_of program)) (length (texts_of program)) (length (procedures_of program)) (scope_at program i) (agrees_from program.names (block_at program.pieces i)) (start_of program) (firsts_at program i) st.body after
-                (built_is_inner st (all_at IsBuilt program.pieces i st built at) inner) t.suits (defined t.block (declaration st.body) t.declares) t.few_values
+                (inner_has_shape st (all_at HasShape program.pieces i st shaped at) inner) t.suits (defined t.block (declaration st.body) t.declares) t.few_values
                 (record {
                   few_texts = texts_below i program st rest e;
                   few_literals = literals_below i program st rest e;
@@ -94,8 +94,8 @@ module _ (program : Played) (accepted : IsAccepted program) where
   size : length (program_code program) ≤ 8488608
   size = code_length program (start_of program) accepted
 
-  fine : AreFine program accepted.built accepted.typed (length (presets_code program (start_of program) at_first program.presets [])) (procedures_of program)
-  fine = procedures_fine program accepted.built accepted.typed
+  fine : AreFine program accepted.shaped accepted.typed (length (presets_code program (start_of program) at_first program.presets [])) (procedures_of program)
+  fine = procedures_fine program accepted.shaped accepted.typed
 
   procedures : AreProcedures (procedures_of program)
   procedures = procedures_are program accepted.typed accepted.named fine.rise
@@ -114,8 +114,8 @@ module _ (program : Played) (accepted : IsAccepted program) where
       let limit = accepted.typed.few in
       let few = presets_below program in
       presets_range program (start_of program) (length (literals_of program)) (length (texts_of program)) (length (procedures_of program)) at_first program.presets (pieces_code program (start_of program) 0 program.pieces)
-      accepted.typed.presets accepted.presets_built (omega (arith, few.0)) (omega (arith, few.1))
-      (pieces_range program accepted.built accepted.typed program.pieces 0 refl (omega (arith, limit)))
+      accepted.typed.presets accepted.presets_shaped (omega (arith, few.0)) (omega (arith, few.1))
+      (pieces_range program accepted.shaped accepted.typed program.pieces 0 refl (omega (arith, limit)))
 
   pub in_range : IsInRange (lists_of program)
   in_range =

@@ -5,6 +5,7 @@ pub mod Stable
 pub mod Taps
 pub mod Exprs
 pub mod Constants
+pub mod ScanConstants
 pub mod Prints
 pub mod Lists
 pub mod Placed
@@ -22,6 +23,7 @@ pub mod Numbers
 pub mod DefinitionSteps
 pub mod Sides
 pub mod WellKinded
+pub mod ArrayKinds
 pub mod WellPlaced
 pub mod Ranges
 pub mod Sizes
@@ -32,3 +34,4 @@ pub mod Defined
 pub mod Generated
 pub mod Unstuck
 pub mod Emits
+pub mod ScanEmits

@@ -1,7 +1,7 @@
 -- The code of expressions, operands, rows and pieces: what stands behind it, and its targets.
 use Rattle.std.proofs.Common.{◌≡◌, ℕ, zero, suc, ◌+◌, Bool, true, false, cond, List, [], ◌∷◌, ◌++◌, length, map, drop, arith, append_assoc, refl, sym, ap, ◌∙◌}
 use Rattle.std.specs.Prelude.{ℤ, pos, negsuc, Option, Some}
-use Rattle.stapl_syntax.specs.Trees.{ExprTree, number, scalar, element, unary, binary, abs, int, ArrayTree, literal, whole, range, of_int, BodyTree, end_procedure, boolean, boolean_array, integer, integer_array, assign, assign_element, assign_array, assign_range, call, goto, if_then, for_loop, next, push, pop, print, exported_value, exported_array, export, exit, state_list, wait_cycles, wait_usec, frequency, StmtTree}
+use Rattle.stapl_syntax.specs.Trees.{ExprTree, number, scalar, element, unary, binary, abs, int, ArrayTree, literal, whole, range, of_int, BodyTree, end_procedure, boolean, boolean_array, integer, integer_array, assign, assign_element, assign_array, assign_range, call, goto, if_then, for_loop, next, push, pop, print, exported_value, exported_array, export, exit, scan, stop, pad, state_list, wait_cycles, wait_usec, frequency, StmtTree}
 use Rattle.stapl_syntax.specs.Statements.{is_outer}
 use Rattle.stapl_syntax.specs.Names.{Names}
 use Rattle.stapl_meaning.specs.declared.values.ValueKind.{ValueKind}
@@ -57,6 +57,11 @@ module _ (look : Lookup) where
       ap (λ l. expr_code look o.kind o.expr (test_code o.test l)) (operands_append os c d)
       ∙ ap (expr_code look o.kind o.expr) (test_append o.test (operands_code look os c) d)
       ∙ expr_append o.kind o.expr (test_code o.test (operands_code look os c)) d
+
+  -- operands, and others behind them
+  pub operands_both : (os more : List Operand) (c : List Instr) → operands_code look (os ++ more) c ≡ operands_code look os (operands_code look more c)
+  operands_both [] more c = refl
+  operands_both (o ∷ os) more c = ap (λ l. expr_code look o.kind o.expr (test_code o.test l)) (operands_both os more c)
 
   pub expr_before : (kind : ValueKind) (e : ExprTree) (c : List Instr) → expr_code look kind e c ≡ expr_code look kind e [] ++ c
   expr_before kind e c = expr_append kind e [] c
@@ -153,6 +158,9 @@ module _ (scope : Scope) (place : ℕ → ℕ) where
   last_retarget first (export key (exported_value e)) = refl
   last_retarget first (export key (exported_array a)) = refl
   last_retarget first (exit e) = refl
+  last_retarget first (scan register count source target compare) = refl
+  last_retarget first (stop register state) = refl
+  last_retarget first (pad which count bits) = refl
   last_retarget first (state_list states) = refl
   last_retarget first (wait_cycles state cycles usec end) = refl
   last_retarget first (wait_usec state usec end) = refl
@@ -228,6 +236,9 @@ module _ (names : Names) (entry entry' : ℕ → ℕ) (number number' : List ℕ
   last_same first (export key (exported_value e)) alike = refl
   last_same first (export key (exported_array a)) alike = refl
   last_same first (exit e) alike = refl
+  last_same first (scan register count source target compare) alike = refl
+  last_same first (stop register state) alike = refl
+  last_same first (pad which count bits) alike = refl
   last_same first (state_list states) alike = refl
   last_same first (wait_cycles state cycles usec end) alike = refl
   last_same first (wait_usec state usec end) alike = refl

@@ -1,11 +1,15 @@
 -- What a statement does with places of the code in the state: the same, with these places in it.
-use Rattle.std.proofs.Common.{◌≡◌, ℕ, Bool, true, false, List, [], ◌∷◌, ◌++◌, length, map, Some, refl, ap, ◌∙◌, if◌then◌else◌}
+use Rattle.std.proofs.Common.{◌≡◌, ℕ, Bool, true, false, List, [], ◌∷◌, ◌++◌, length, map, Option, Some, refl, sym, ap, ◌∙◌, if◌then◌else◌}
 use Rattle.std.specs.Prelude.{ℤ, pos, ◌+ℤ◌, ◌==◌, nat_lt, slice_get, slice_set}
 use Rattle.std.specs.Int.{int_wrap, w32}
 use Rattle.std.specs.Ordering.{int_eq}
 use Rattle.std.proofs.lemmas.List.{length-map}
 use Rattle.bit_list.specs.Ranges.{spliced}
-use Rattle.stapl_syntax.specs.Trees.{BodyTree, scalar, element, end_procedure, boolean, boolean_array, integer, integer_array, assign, assign_element, assign_array, assign_range, call, goto, if_then, for_loop, next, push, pop, print, exported_value, exported_array, export, exit, state_list, wait_cycles, wait_usec, frequency}
+use Rattle.stapl_lexer.specs.declared.terminal.Padding.{Padding}
+use Rattle.stapl_lexer.specs.declared.terminal.Padding.TheVariants as paddings
+use Rattle.stapl_lexer.specs.declared.terminal.Register.{Register}
+use Rattle.stapl_lexer.specs.declared.terminal.Register.TheVariants as registers
+use Rattle.stapl_syntax.specs.Trees.{BodyTree, scalar, element, end_procedure, boolean, boolean_array, integer, integer_array, assign, assign_element, assign_array, assign_range, call, goto, if_then, for_loop, next, push, pop, print, exported_value, exported_array, export, exit, scan, stop, pad, state_list, wait_cycles, wait_usec, frequency}
 use Rattle.tap_states.specs.declared.Tap.{Tap}
 use Rattle.tap_states.specs.Tap.{is_stable_state}
 use Rattle.stapl_meaning.specs.declared.events.Event.TheVariants.{Export, Hertz}
@@ -24,8 +28,10 @@ use Rattle.stapl_meaning.specs.declared.values.Held.{Held}
 use Rattle.stapl_meaning.specs.declared.values.Held.TheVariants as held
 use Rattle.stapl_meaning.specs.Values.{Got, Known, Faults, Stuck, then_get, Span, Source, These, source_bits, asked, bits_held, span_of, source_of}
 use Rattle.stapl_meaning.specs.Operands.{given_kind}
-use Rattle.stapl_meaning.specs.States.{State, Did, Falls, Jumps, Resumes, Returns, Ends}
+use Rattle.stapl_meaning.specs.States.{State, Did, Falls, Captures, Jumps, Resumes, Returns, Ends}
 use Rattle.stapl_meaning.specs.Effects.{replaced, scalar_written, element_written, with_variables, written, assigned, element_assigned, Target, IntoWhole, IntoRange, span_written, copied, with_integers, integers_set, jumped, parted, record_limit, with_records, with_room, number_of, topmost, pushed, popped, called, returned_from, returned, with_loop, looped, nearest_loop, is_over, integer_held, went_round, repeated, exited, joined, printed, exported, bits_exported, moved_through, hertz_of, waited_for, waited, tuned}
+use Rattle.stapl_meaning.specs.Scans.{settings_of, with_padding, with_stop, scan_limit, length_between, scan_of, ScanParts, Place, Comparison, Found, scan_found, landed, target_asked, compare_asked, scan_asked, scanned, padding_bits, surrounded, stopped}
+use Rattle.stapl_meaning.specs.ScanTrees.{given_source, scan_parts}
 use Rattle.stapl_meaning.specs.Scopes.{Scope}
 use Rattle.stapl_meaning.specs.Turns.{tap_of, tap_or_idle, kind_of_wait, effect}
 use Rattle.stapl_codegen.specs.Correct.{placed_record, placed_state}
@@ -33,6 +39,7 @@ use Rattle.stapl_codegen.specs.Correct.{placed_record, placed_state}
 module _ (place : ℕ → ℕ) where
   abbrev pub placed_did : Did → Did
   placed_did (Falls deeds t) = Falls deeds (placed_state place t)
+  placed_did (Captures job lands) = Captures job (λ bits. placed_state place (lands bits))
   placed_did (Jumps t) = Jumps (placed_state place t)
   placed_did (Resumes i t) = Resumes (place i) (placed_state place t)
   placed_did (Returns t) = Returns (placed_state place t)
@@ -290,6 +297,62 @@ module _ (place : ℕ → ℕ) where
   tuned_placed (Int n ∷ v ∷ vs) s = refl
   tuned_placed (Bit b ∷ vs) s = refl
 
+  -- ---- scans, paddings and stops
+
+  captures_placed : (register : Register) (bits : List Bool) (target : Option Place) (compare : Option Comparison) (s : State) →
+      placed_did (Captures (scan_of register (settings_of register s) bits) (λ captured. landed target compare captured s))
+      ≡ Captures (scan_of register (settings_of register (placed_state place s)) bits) (λ captured. landed target compare captured (placed_state place s))
+  captures_placed registers.Data bits target compare s = refl
+  captures_placed registers.Instruction bits target compare s = refl
+
+  asked_placed : (parts : ScanParts) (found : Found) (s : State) (n : ℕ) → scan_asked parts found (placed_state place s) n ≡ placed_got (scan_asked parts found s n)
+  asked_placed parts found s n =
+      let scans : State → List Bool → Option Place → Option Comparison → Got Did =
+      λ t bits target compare. Known (Captures (scan_of parts.register (settings_of parts.register t) bits) (λ captured. landed target compare captured t))
+      in
+      let compares : State → List Bool → Option Place → Got Did = λ t bits target. then_get (compare_asked n parts.compare found.compare) (scans t bits target) in
+      let catches : State → List Bool → Got Did = λ t bits. then_get (target_asked n found.target) (compares t bits) in
+      then_placed (asked parts.source n found.data_bits) (catches s) (catches (placed_state place s)) (λ bits.
+      then_placed (target_asked n found.target) (compares s bits) (compares (placed_state place s) bits) (λ target.
+      then_placed (compare_asked n parts.compare found.compare) (scans s bits target) (scans (placed_state place s) bits target) (λ compare.
+      ap (λ did. Known did) (sym (captures_placed parts.register bits target compare s)))))
+
+  scanned_placed : (parts : ScanParts) → Places (scanned parts)
+  scanned_placed parts [] s = refl
+  scanned_placed parts (Bit b ∷ vs) s = refl
+  scanned_placed parts (Int z ∷ vs) s =
+      let go : State → Found → Got Did = λ t found. then_get (length_between 1 scan_limit z) (scan_asked parts found t) in
+      then_placed (scan_found s.store.variables parts vs) (go s) (go (placed_state place s)) (λ found.
+      then_placed (length_between 1 scan_limit z) (scan_asked parts found s) (scan_asked parts found (placed_state place s)) (asked_placed parts found s))
+
+  padding_placed : (which : Padding) (bits : List Bool) (s : State) → placed_state place (with_padding which bits s) ≡ with_padding which bits (placed_state place s)
+  padding_placed paddings.PreData bits s = refl
+  padding_placed paddings.PostData bits s = refl
+  padding_placed paddings.PreInstruction bits s = refl
+  padding_placed paddings.PostInstruction bits s = refl
+
+  surrounded_placed : (which : Padding) (source : Option Source) → Places (surrounded which source)
+  surrounded_placed which source [] s = refl
+  surrounded_placed which source (Bit b ∷ vs) s = refl
+  surrounded_placed which source (Int z ∷ vs) s =
+      let go : State → List Bool → Got Did = λ t bits. Known (Falls [] (with_padding which bits t)) in
+      then_placed (padding_bits s.store.variables source vs z) (go s) (go (placed_state place s)) (λ bits.
+      ap (λ (t : State). let g : Got Did = Known (Falls [] t) in g) (sym (padding_placed which bits s)))
+
+  stop_placed : (register : Register) (tap : Tap) (s : State) → placed_state place (with_stop register tap s) ≡ with_stop register tap (placed_state place s)
+  stop_placed registers.Data tap s = refl
+  stop_placed registers.Instruction tap s = refl
+
+  stopped_placed : (register : Register) (tap : Tap) → Places (stopped register tap)
+  stopped_placed register tap (v ∷ vs) s = refl
+  stopped_placed register tap [] s = by (is_stable_state tap)
+    where
+      by : (b : Bool) →
+          (let g : Got Did = if b then Known (Falls [] (with_stop register tap (placed_state place s))) else Stuck in g)
+          ≡ placed_got (if b then Known (Falls [] (with_stop register tap s)) else Stuck)
+      by true = ap (λ (t : State). let g : Got Did = Known (Falls [] t) in g) (sym (stop_placed register tap s))
+      by false = refl
+
   -- the statement keeps the place behind it: CALL and FOR
   abbrev pub keeps_place : BodyTree → Bool
   keeps_place (call name) = true
@@ -319,6 +382,9 @@ module _ (place : ℕ → ℕ) where
   effect_placed scope (pop (element name index)) e = popped_placed (given_kind (scope.look.kind name)) (element_assigned (scope.look.variable name)) (element_placed (scope.look.variable name))
   effect_placed scope (print parts) e = λ vs s. printed_placed s (joined parts vs)
   effect_placed scope (exit x) e = exited_placed
+  effect_placed scope (scan register count source target compare) e = scanned_placed (scan_parts scope.look register source target compare)
+  effect_placed scope (stop register state) e = stopped_placed register (tap_of state)
+  effect_placed scope (pad which count bits) e = surrounded_placed which (given_source scope.look bits)
   effect_placed scope (state_list states) e = moved_placed (map tap_of states)
   effect_placed scope (wait_cycles state cycles usec end) e = waited_placed (kind_of_wait usec) (tap_or_idle state) (tap_or_idle end)
   effect_placed scope (wait_usec state usec end) e = waited_placed waits.Usec (tap_or_idle state) (tap_or_idle end)

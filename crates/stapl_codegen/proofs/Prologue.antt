@@ -6,7 +6,7 @@ use Rattle.stapl_meaning.specs.declared.values.Value.{Value}
 use Rattle.stapl_meaning.specs.Values.{Got, Known, Faults, Stuck}
 use Rattle.stapl_meaning.specs.Operands.{values_of}
 use Rattle.stapl_meaning.specs.Deeds.{Deed, Chain}
-use Rattle.stapl_meaning.specs.States.{State, Did, Falls, Jumps, Resumes, Returns, Ends, Turned, Leads, Over, Broken, NoTurn, with_got, preceded, next_chosen, begun, led, Led, happens}
+use Rattle.stapl_meaning.specs.States.{State, Did, Falls, Jumps, Resumes, Returns, Ends, Captures, Turned, Leads, Over, Broken, Scanning, NoTurn, with_got, preceded, next_chosen, begun, led, Led, happens}
 use Rattle.stapl_meaning.specs.Scopes.{has_initial_value, Preset, Scope, Played, entry_from, preset_scope}
 use Rattle.stapl_meaning.specs.Turns.{operands, effect, target, carried}
 use Rattle.stapl_meaning.specs.Plays.{set_up, beginning}
@@ -24,6 +24,7 @@ preceded_twice : (first second : List Deed) (t : Turned) → preceded first (pre
 preceded_twice first second (Leads deeds place s) = ap (λ l. let t : Turned = Leads l place s in t) (sym (append_assoc first second deeds))
 preceded_twice first second (Over deeds ending s) = ap (λ l. let t : Turned = Over l ending s in t) (sym (append_assoc first second deeds))
 preceded_twice first second (Broken deeds k s) = ap (λ l. let t : Turned = Broken l k s in t) (sym (append_assoc first second deeds))
+preceded_twice first second (Scanning deeds job rest) = ap (λ l. let t : Turned = Scanning l job rest in t) (sym (append_assoc first second deeds))
 preceded_twice first second (NoTurn deeds) = ap (λ l. let t : Turned = NoTurn l in t) (sym (append_assoc first second deeds))
 
 -- deeds of the prologue stand in front of the run
@@ -31,6 +32,7 @@ begun_preceded : (entry : ℕ → ℕ) (deeds : List Deed) (t : Turned) → begu
 begun_preceded entry deeds (Leads more place s) = sym (preceded_twice deeds more (next_chosen entry s s.chosen))
 begun_preceded entry deeds (Over more ending s) = refl
 begun_preceded entry deeds (Broken more k s) = refl
+begun_preceded entry deeds (Scanning more job rest) = refl
 begun_preceded entry deeds (NoTurn more) = refl
 
 -- ---- where the last one leads is of no matter
@@ -49,6 +51,7 @@ module _ (entry : ℕ → ℕ) (scope : Scope) where
     led_alike : (b : BodyTree) (s : State) (did : Got Did) →
         begun entry (with_got did s (λ d. led scope.entry (target scope b) d go)) ≡ begun entry (with_got did s (λ d. led scope.entry (target scope b) d go'))
     led_alike b s (Known (Falls deeds t)) = begun_preceded entry deeds (go t) ∙ ap (preceded deeds) (alike t) ∙ sym (begun_preceded entry deeds (go' t))
+    led_alike b s (Known (Captures job lands)) = λ j. Scanning [] job (λ bits. alike (lands bits) j)
     led_alike b s (Known (Jumps t)) = refl
     led_alike b s (Known (Resumes i t)) = refl
     led_alike b s (Known (Returns t)) = refl
@@ -100,6 +103,7 @@ module _ (program : Played) (place : ℕ → ℕ) (entries : List ℕ) (constant
       ∙ preceded_placed place deeds (next_chosen (entry_from program.pieces) s s.chosen)
   begun_placed (Over deeds ending s) = refl
   begun_placed (Broken deeds k s) = refl
+  begun_placed (Scanning deeds job rest) = λ j. Scanning deeds job (λ bits. begun_placed (rest bits) j)
   begun_placed (NoTurn deeds) = refl
 
   -- the beginning of a run of chosen procedures

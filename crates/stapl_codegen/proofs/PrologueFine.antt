@@ -9,7 +9,7 @@ use Rattle.stapl_syntax.specs.declared.names.Declaration.{Declaration}
 use Rattle.stapl_syntax.specs.Names.{declaration}
 use Rattle.stapl_syntax.specs.Kinds.{is_bit_array, operands_suit}
 use Rattle.stapl_syntax.specs.Trees.{BodyTree, boolean, boolean_array, integer, integer_array, call, if_then}
-use Rattle.stapl_built.specs.Built.{is_built_inner}
+use Rattle.stapl_shapes.specs.Shapes.{is_inner_shape}
 use Rattle.stapl_meaning.specs.declared.values.ValueKind.{ValueKind}
 use Rattle.stapl_meaning.specs.declared.values.ValueKind.TheVariants as kinds
 use Rattle.stapl_meaning.specs.Values.{Lookup}
@@ -141,20 +141,20 @@ module _ (program : Played) where
         none_called (if_then c b) e = absurd (true≢false (sym e))
         none_called _ e = tt
 
-    pub presets_range : (first : Firsts) (presets : List Preset) (rest : List Instr) → All (IsTypedPreset program) presets → All (λ (preset : Preset). is_built_inner preset.body ≡ true) presets →
+    pub presets_range : (first : Firsts) (presets : List Preset) (rest : List Instr) → All (IsTypedPreset program) presets → All (λ (preset : Preset). is_inner_shape preset.body ≡ true) presets →
         first.text + length (presets_items row_texts presets) ≤ texts → first.literal + length (presets_items row_literals presets) ≤ literals →
         InRange defs literals texts procedures rest → InRange defs literals texts procedures (presets_code program place first presets rest)
-    presets_range first [] rest typed built few_texts few_literals more = more
-    presets_range first (preset ∷ presets) rest typed built few_texts few_literals more =
+    presets_range first [] rest typed shaped few_texts few_literals more = more
+    presets_range first (preset ∷ presets) rest typed shaped few_texts few_literals more =
         let own = All-head (IsTypedPreset program) preset presets typed in
         let scope : Scope = preset_scope program preset in
         let one = one_row preset.body own.starts in
         let next : Firsts = behind_row first preset.body in
-        let others = presets_range next presets rest (All-tail (IsTypedPreset program) preset presets typed) (All-tail (λ (preset : Preset). is_built_inner preset.body ≡ true) preset presets built)
+        let others = presets_range next presets rest (All-tail (IsTypedPreset program) preset presets typed) (All-tail (λ (preset : Preset). is_inner_shape preset.body ≡ true) preset presets shaped)
         (omega (arith, few_texts, past_length first.text (row_texts preset.body), length-append (row_texts preset.body) (presets_items row_texts presets)))
         (omega (arith, few_literals, past_length first.literal (row_literals preset.body), length-append (row_literals preset.body) (presets_items row_literals presets))) more in
         subst (λ bs. InRange defs literals texts procedures (rows_code scope place first bs (presets_code program place next presets rest))) one
         (body_range defs literals texts procedures scope (agrees_in preset) place first preset.body (presets_code program place next presets rest)
-        (All-head (λ (preset : Preset). is_built_inner preset.body ≡ true) preset presets built) (preset_suits scope.look preset.body own.starts)
+        (All-head (λ (preset : Preset). is_inner_shape preset.body ≡ true) preset presets shaped) (preset_suits scope.look preset.body own.starts)
         (defined scope.look own.piece preset.block (declaration preset.body) own.declares) own.few_values
         (there first preset presets own.starts one few_texts few_literals) others)

@@ -1,5 +1,5 @@
 -- The fields of the code of an accepted program are in their ranges.
-use Rattle.std.proofs.Common.{◌≡◌, ℕ, zero, suc, ◌+◌, ◌<◌, ◌≤◌, true, false, List, [], ◌∷◌, length, map, Option, Some, None, is_some, option_map, arith, refl, ap, ◌∙◌}
+use Rattle.std.proofs.Common.{◌≡◌, ℕ, zero, suc, ◌+◌, ◌<◌, ◌≤◌, true, false, List, [], ◌∷◌, ◌++◌, length, length-append, map, Option, Some, None, is_some, option_map, arith, refl, ap, ◌∙◌}
 use Rattle.std.specs.Prelude.{ℤ, pos, negsuc, nat_abs, ◌&&◌, if◌then◌else◌, slice_get, IfSome, All, sum_by}
 use Rattle.std.proofs.lemmas.Bool.{and_parts, ltb-true, ltb-false}
 use Rattle.std.proofs.lemmas.List.{append-nil, length-map}
@@ -8,6 +8,7 @@ use Rattle.std.proofs.lemmas.List.Sums.{sum_by-cons}
 use Rattle.std.proofs.lemmas.Option.{slice_get-map}
 use Rattle.stapl_lexer.specs.declared.terminal.BinOp.{BinOp}
 use Rattle.stapl_lexer.specs.declared.terminal.BinOp.TheVariants as operators
+use Rattle.stapl_lexer.specs.declared.terminal.Register.{Register}
 use Rattle.stapl_syntax.specs.declared.signs.UnOp.{UnOp}
 use Rattle.stapl_syntax.specs.declared.signs.UnOp.TheVariants as signs
 use Rattle.stapl_syntax.specs.declared.names.Declaration.{Declaration}
@@ -17,11 +18,11 @@ use Rattle.stapl_syntax.specs.declared.names.Key.{Key}
 use Rattle.stapl_syntax.specs.declared.names.Variable.{Variable}
 use Rattle.stapl_syntax.specs.declared.names.VarKind.{VarKind}
 use Rattle.stapl_syntax.specs.declared.names.VarKind.TheVariants as variables
-use Rattle.stapl_syntax.specs.Kinds.{expr_kind, element_kind, is_array, is_int, is_bit, is_bit_array, is_integer, wants_int, suits, if_given, operands_suit}
+use Rattle.stapl_syntax.specs.Kinds.{expr_kind, element_kind, is_array, is_int, is_bit, is_bit_array, is_integer, wants_int, suits, if_given, compare_suits, operands_suit}
 use Rattle.stapl_syntax.specs.Names.{Names, declaration, found_from, kind_of_found}
 use Rattle.stapl_syntax.specs.Rules.{is_boolean, has_too_many_values}
-use Rattle.stapl_syntax.specs.Trees.{ExprTree, number, scalar, element, unary, binary, abs, int, ArrayTree, literal, whole, range, of_int, PartTree, string, value, character, BodyTree, boolean, boolean_array, integer, integer_array, assign, assign_element, assign_array, assign_range, call, goto, if_then, for_loop, next, push, pop, print, exported_value, exported_array, export, exit, state_list, wait_cycles, wait_usec, frequency}
-use Rattle.stapl_built.specs.Built.{is_built_simple, is_built_inner}
+use Rattle.stapl_syntax.specs.Trees.{ExprTree, number, scalar, element, unary, binary, abs, int, ArrayTree, literal, whole, range, of_int, PartTree, string, value, character, CompareTree, BodyTree, boolean, boolean_array, integer, integer_array, assign, assign_element, assign_array, assign_range, call, goto, if_then, for_loop, next, push, pop, print, exported_value, exported_array, export, exit, scan, stop, pad, state_list, wait_cycles, wait_usec, frequency}
+use Rattle.stapl_shapes.specs.Shapes.{is_simple_shape, is_inner_shape}
 use Rattle.stapl_meaning.specs.declared.values.ValueKind.{ValueKind}
 use Rattle.stapl_meaning.specs.declared.values.ValueKind.TheVariants as kinds
 use Rattle.stapl_meaning.specs.Values.{Lookup, unary_side, sides}
@@ -30,17 +31,22 @@ use Rattle.stapl_meaning.specs.Scopes.{Scope, number_found, lookup_from}
 use Rattle.stapl_meaning.specs.Turns.{tap_of, operands}
 use Rattle.stapl_meaning.specs.Typed.{HasSize, IsSized, integers_of, booleans_of, AreSized}
 use Rattle.stapl_code.specs.declared.instr.Source.TheVariants as sources
+use Rattle.stapl_code.specs.declared.instr.Cell.{Cell}
+use Rattle.stapl_code.specs.declared.instr.Cell.TheVariants as cells
 use Rattle.stapl_code.specs.declared.instr.Instr.{Instr}
 use Rattle.stapl_code.specs.declared.instr.Instr.TheVariants.{LoadAt, Unary, Binary, ToInt}
 use Rattle.stapl_code.specs.declared.raw.VarDef.{VarDef}
 use Rattle.stapl_code.specs.Operators.{operator_table, unary_kinds}
 use Rattle.stapl_code.specs.Kinds.{variable_kind, element_kind as element_kind_of, is_of_kind}
-use Rattle.stapl_code.specs.Ranges.{IsVariable, elements_of, AreVariables, IsPart, IsSource, IsExport, size_of, IsInstr}
+use Rattle.stapl_code.specs.Ranges.{IsVariable, elements_of, AreVariables, IsPart, IsSource, IsDest, IsGiven, IsCell, IsCompare, IsScan, IsExport, size_of, IsInstr}
 use Rattle.stapl_codegen.specs.Generated.{kind_number, variable_def}
-use Rattle.stapl_codegen.specs.Emit.{literal_code, expr_code, int_code, test_code, operands_code, source_code, shown_part, export_part, print_parts, part_texts, array_literals, Firsts, last, between, row_code, body_texts, body_literals, operator_number, sign_number, absolute_number, body_code}
+use Rattle.stapl_codegen.specs.Emit.{literal_code, expr_code, int_code, test_code, operands_code, past, given_literals, compare_literals, source_code, given_code, target_code, compare_code, scan_code, shown_part, export_part, print_parts, part_texts, array_literals, Firsts, last, between, row_code, body_texts, body_literals, operator_number, sign_number, absolute_number, body_code}
 use Rattle.stapl_codegen.proofs.Views.{IsInner, an_end, a_bit, some_bits, an_integer, no_integers, some_integers, a_simple, inner_view}
 use Rattle.stapl_codegen.proofs.Sides.{fits, scalar_fits, element_fits, indexed_fits, unary_fits, integer_fits, operates}
-use Rattle.stapl_codegen.proofs.WellKinded.{Agrees, scalar_agrees, element_agrees, bits_agree, integer_agrees, printed_fits, TestFits, AllTyped, one_typed, parts_typed, range_typed, array_typed, no_bit}
+use Rattle.stapl_codegen.proofs.WellKinded.{Agrees, scalar_agrees, element_agrees, bits_agree, integer_agrees, boolean_agrees, printed_fits, TestFits, AllTyped, one_typed, parts_typed, range_typed, array_typed, no_bit}
+use Rattle.stapl_codegen.proofs.Drafts.{past_length}
+use Rattle.stapl_codegen.proofs.ArrayKinds as arrays
+use Rattle.stapl_codegen.proofs.ArrayKinds.{bit_item, compared, IsScanned, scan_suits, scan_typed}
 use Rattle.stapl_codegen.proofs.WellPlaced.{given_fits, item_given, scalar_popped, item_popped, step_fits, given_typed, bit_fits, number_fits}
 
 -- something is so of each element
@@ -245,6 +251,58 @@ module _ (defs : List VarDef) (literals texts procedures : ℕ) where
         bits_there name (and_parts (is_bit_array (look.kind name)) (is_int (expr_kind look.kind high)) t.0).0
     source_range first (of_int e) h few = tt
 
+    -- the same of an array that may be left out, of where captured bits go, and of what a scan compares with
+    given_range : (first : ℕ) (a : Option ArrayTree) → if_given (is_array look.kind) a ≡ true → first + length (given_literals a) ≤ literals →
+        IsGiven (IsSource (length defs) literals) (given_code look first a)
+    given_range first None h few = tt
+    given_range first (Some a) h few = source_range first a h few
+
+    target_range : (target : Option ArrayTree) → if_given (is_array look.kind) target ≡ true → IsGiven (IsDest (length defs)) (target_code look target)
+    target_range None h = tt
+    target_range (Some (literal bits)) h = tt
+    target_range (Some (whole name)) h = bits_there name h
+    target_range (Some (range name high low)) h =
+        let t = and_parts (is_bit_array (look.kind name) && is_int (expr_kind look.kind high)) (is_int (expr_kind look.kind low)) h in
+        bits_there name (and_parts (is_bit_array (look.kind name)) (is_int (expr_kind look.kind high)) t.0).0
+    target_range (Some (of_int e)) h = tt
+
+    both_range : (first : ℕ) (expected mask : ArrayTree) (cell : Cell) → is_array look.kind expected ≡ true → is_array look.kind mask ≡ true →
+        first + length (array_literals expected ++ array_literals mask) ≤ literals → IsCell (length defs) cell →
+        IsCompare (length defs) literals (record { expected = source_code look first expected; mask = source_code look (past first (array_literals expected)) mask; cell = cell })
+    both_range first expected mask cell e m few there =
+        let parts = length-append (array_literals expected) (array_literals mask) in
+        record {
+          expected = source_range first expected e (omega (arith, few, parts));
+          mask = source_range (past first (array_literals expected)) mask m (omega (arith, few, parts, past_length first (array_literals expected)));
+          cell = there;
+        }
+
+    compare_range : (first : ℕ) (compare : Option CompareTree) → if_given (compare_suits look.kind) compare ≡ true → first + length (compare_literals compare) ≤ literals →
+        IsGiven (IsCompare (length defs) literals) (compare_code look first compare)
+    compare_range first None h few = tt
+    compare_range first (Some (expected, (mask, scalar name))) h few =
+        let is = compared look.kind expected mask (scalar name) h in
+        both_range first expected mask (cells.Scalar (look.variable name)) is.expected_is is.mask_is few (kind_there defs 1 (look.variable name) (boolean_agrees defs look agrees name is.cell_is))
+    compare_range first (Some (expected, (mask, element name index))) h few =
+        let is = compared look.kind expected mask (element name index) h in
+        both_range first expected mask (cells.Element (look.variable name)) is.expected_is is.mask_is few (bits_there name (bit_item (look.kind name) (expr_kind look.kind index) is.cell_is).1)
+    compare_range first (Some (expected, (mask, number z))) h few = tt
+    compare_range first (Some (expected, (mask, unary op e))) h few = tt
+    compare_range first (Some (expected, (mask, binary op a b))) h few = tt
+    compare_range first (Some (expected, (mask, abs e))) h few = tt
+    compare_range first (Some (expected, (mask, int a))) h few = tt
+
+    scan_range : (first : ℕ) (register : Register) (count : ExprTree) (source : ArrayTree) (target : Option ArrayTree) (compare : Option CompareTree) →
+        IsScanned look.kind count source target compare → first + length (array_literals source ++ compare_literals compare) ≤ literals →
+        IsScan (length defs) literals (scan_code look first register source target compare)
+    scan_range first register count source target compare is few =
+        let parts = length-append (array_literals source) (compare_literals compare) in
+        record {
+          source = source_range first source is.source_is (omega (arith, few, parts));
+          target = target_range target is.target_is;
+          compare = compare_range (past first (array_literals source)) compare is.compare_is (omega (arith, few, parts, past_length first (array_literals source)));
+        }
+
   module _ (scope : Scope) (agrees : Agrees defs scope.look) (place : ℕ → ℕ) where
     -- what a statement calls is there
     abbrev pub CallsThere : BodyTree → Type 0
@@ -277,14 +335,14 @@ module _ (defs : List VarDef) (literals texts procedures : ℕ) where
     value_range kinds.Int = tt
     value_range kinds.Bit = tt
 
-    simple_range : (first : Firsts) (b : BodyTree) (rest : List Instr) → is_built_simple b ≡ true → operands_suit scope.look.kind b ≡ true →
+    simple_range : (first : Firsts) (b : BodyTree) (rest : List Instr) → is_simple_shape b ≡ true → operands_suit scope.look.kind b ≡ true →
         AreThere first b → InRange rest → InRange (body_code scope place first b rest)
-    simple_range first (assign name e) rest built suit there more =
+    simple_range first (assign name e) rest shaped suit there more =
         let t = given_fits (scope.look.kind name) (expr_kind scope.look.kind e) suit in
         let kind : ValueKind = given_kind (scope.look.kind name) in
         one_range first (assign name e) rest (one_typed defs scope.look [] kind e t.0)
         (scalar_there defs (scope.look.variable name) kind (scalar_agrees defs scope.look agrees name kind t.1)) more
-    simple_range first (assign_element name index e) rest built suit there more =
+    simple_range first (assign_element name index e) rest shaped suit there more =
         let are = and_parts (is_int (expr_kind scope.look.kind index)) (suits (element_kind (scope.look.kind name)) (expr_kind scope.look.kind e)) suit in
         let t = item_given (scope.look.kind name) (expr_kind scope.look.kind e) are.1 in
         let kind : ValueKind = given_kind (scope.look.kind name) in
@@ -292,12 +350,12 @@ module _ (defs : List VarDef) (literals texts procedures : ℕ) where
         one_range first (assign_element name index e) rest
         (record { fits = are.0; test = (refl, found) }, one_typed defs scope.look (kinds.Int ∷ []) kind e t.0)
         (element_there defs (scope.look.variable name) found) more
-    simple_range first (assign_array name a) rest built suit there more =
+    simple_range first (assign_array name a) rest shaped suit there more =
         let t = and_parts (is_bit_array (scope.look.kind name)) (is_array scope.look.kind a) suit in
         let within : first.literal + length (array_literals a) ≤ literals = omega (arith, there.few_literals, ap length (append-nil (array_literals a))) in
         one_range first (assign_array name a) rest (array_typed defs scope.look agrees [] a t.1)
         (bits_there scope.look agrees name t.0, source_range scope.look agrees first.literal a t.1 within) more
-    simple_range first (assign_range name high low a) rest built suit there more =
+    simple_range first (assign_range name high low a) rest shaped suit there more =
         let t = and_parts (is_bit_array (scope.look.kind name) && is_int (expr_kind scope.look.kind high) && is_int (expr_kind scope.look.kind low)) (is_array scope.look.kind a) suit in
         let u = and_parts (is_bit_array (scope.look.kind name) && is_int (expr_kind scope.look.kind high)) (is_int (expr_kind scope.look.kind low)) t.0 in
         let v = and_parts (is_bit_array (scope.look.kind name)) (is_int (expr_kind scope.look.kind high)) u.0 in
@@ -305,59 +363,73 @@ module _ (defs : List VarDef) (literals texts procedures : ℕ) where
         one_range first (assign_range name high low a) rest
         (range_typed defs scope.look agrees [] name high low (array_operands scope.look a) v.0 v.1 u.1 (array_typed defs scope.look agrees (kinds.Int ∷ kinds.Int ∷ []) a t.1))
         (bits_there scope.look agrees name v.0, source_range scope.look agrees first.literal a t.1 within) more
-    simple_range first (goto name) rest built suit there more = (tt, more)
-    simple_range first (if_then e b) rest built suit there more =
+    simple_range first (goto name) rest shaped suit there more = (tt, more)
+    simple_range first (if_then e b) rest shaped suit there more =
         let suits = and_parts (is_bit (expr_kind scope.look.kind e)) (operands_suit scope.look.kind b) suit in
         let inner : AreThere first b = record { few_texts = there.few_texts; few_literals = there.few_literals; calls = there.calls } in
         one_range first (if_then e b) (body_code scope place first b rest) (one_typed defs scope.look [] kinds.Bit e suits.0) tt
-        (simple_range first b rest built suits.1 inner more)
-    simple_range first (call name) rest built suit there more = (there.calls, more)
-    simple_range first (for_loop name from to step) rest built suit there more =
+        (simple_range first b rest shaped suits.1 inner more)
+    simple_range first (call name) rest shaped suit there more = (there.calls, more)
+    simple_range first (for_loop name from to step) rest shaped suit there more =
         let kind = scope.look.kind in
         let t = and_parts (is_integer (kind name) && is_int (expr_kind kind from) && is_int (expr_kind kind to)) (if_given (wants_int kind) step) suit in
         let u = and_parts (is_integer (kind name) && is_int (expr_kind kind from)) (is_int (expr_kind kind to)) t.0 in
         let v = and_parts (is_integer (kind name)) (is_int (expr_kind kind from)) u.0 in
         one_range first (for_loop name from to step) rest
         (record { fits = v.1; test = tt }, (record { fits = u.1; test = tt }, (record { fits = step_fits kind step t.1; test = tt }, tt))) (integer_there name v.0) more
-    simple_range first (next name) rest built suit there more = (integer_there name suit, more)
-    simple_range first (push e) rest built suit there more =
+    simple_range first (next name) rest shaped suit there more = (integer_there name suit, more)
+    simple_range first (push e) rest shaped suit there more =
         let kind : ValueKind = printed_kind (expr_kind scope.look.kind e) in
         one_range first (push e) rest (one_typed defs scope.look [] kind e (printed_fits defs scope.look (expr_kind scope.look.kind e) suit)) tt more
-    simple_range first (pop (scalar name)) rest built suit there more =
+    simple_range first (pop (scalar name)) rest shaped suit there more =
         let kind : ValueKind = given_kind (scope.look.kind name) in
         one_range first (pop (scalar name)) rest tt
         (scalar_there defs (scope.look.variable name) kind (scalar_agrees defs scope.look agrees name kind (scalar_popped (scope.look.kind name) suit))) more
-    simple_range first (pop (element name index)) rest built suit there more =
+    simple_range first (pop (element name index)) rest shaped suit there more =
         let t = item_popped (scope.look.kind name) (expr_kind scope.look.kind index) suit in
         let found = ap is_some (element_agrees defs scope.look agrees name (given_kind (scope.look.kind name)) t.1) in
         one_range first (pop (element name index)) rest (record { fits = t.0; test = (refl, found) }, tt) (element_there defs (scope.look.variable name) found) more
-    simple_range first (export key (exported_value e)) rest built suit there more =
+    simple_range first (export key (exported_value e)) rest shaped suit there more =
         let kind : ValueKind = printed_kind (expr_kind scope.look.kind e) in
         one_range first (export key (exported_value e)) rest (one_typed defs scope.look [] kind e (printed_fits defs scope.look (expr_kind scope.look.kind e) suit))
         (omega (arith, there.few_texts), value_range kind) more
-    simple_range first (export key (exported_array a)) rest built suit there more =
+    simple_range first (export key (exported_array a)) rest shaped suit there more =
         let within : first.literal + length (array_literals a) ≤ literals = omega (arith, there.few_literals, ap length (append-nil (array_literals a))) in
         one_range first (export key (exported_array a)) rest (array_typed defs scope.look agrees [] a suit)
         (omega (arith, there.few_texts), source_range scope.look agrees first.literal a suit within) more
-    simple_range first (print list) rest built suit there more =
-        let some : 1 ≤ length (print_parts scope.look first.text list) = omega (arith, parts_count scope.look first.text list, ltb-true 0 (length list) built) in
+    simple_range first (print list) rest shaped suit there more =
+        let some : 1 ≤ length (print_parts scope.look first.text list) = omega (arith, parts_count scope.look first.text list, ltb-true 0 (length list) shaped) in
         let within : first.text + length (part_texts list) ≤ texts = omega (arith, there.few_texts, ap length (append-nil (part_texts list))) in
         one_range first (print list) rest (parts_typed defs scope.look [] list suit)
         (some, each_all (IsPart texts) (print_parts scope.look first.text list) (parts_range texts scope.look first.text list within)) more
-    simple_range first (exit e) rest built suit there more = one_range first (exit e) rest (one_typed defs scope.look [] kinds.Int e suit) tt more
-    simple_range first (state_list states) rest built suit there more =
-        let some : 1 ≤ length (map tap_of states) = omega (arith, length-map states tap_of, ltb-true 0 (length states) built) in
+    simple_range first (exit e) rest shaped suit there more = one_range first (exit e) rest (one_typed defs scope.look [] kinds.Int e suit) tt more
+    simple_range first (scan register count source target compare) rest shaped suit there more =
+        let is = scan_suits scope.look.kind register count source target compare suit in
+        let within : first.literal + length (array_literals source ++ compare_literals compare) ≤ literals =
+        omega (arith, there.few_literals, ap length (append-nil (array_literals source ++ compare_literals compare))) in
+        one_range first (scan register count source target compare) rest
+        (record { fits = is.count_is; test = tt }, scan_typed defs scope.look agrees (kinds.Int ∷ []) source target compare count is)
+        (scan_range scope.look agrees first.literal register count source target compare is within) more
+    simple_range first (stop register state) rest shaped suit there more = one_range first (stop register state) rest tt tt more
+    simple_range first (pad which count bits) rest shaped suit there more =
+        let kind = scope.look.kind in
+        let t = and_parts (is_int (expr_kind kind count)) (if_given (is_array kind) bits) suit in
+        let within : first.literal + length (given_literals bits) ≤ literals = omega (arith, there.few_literals, ap length (append-nil (given_literals bits))) in
+        one_range first (pad which count bits) rest (record { fits = t.0; test = tt }, arrays.given_typed defs scope.look agrees (kinds.Int ∷ []) bits t.1)
+        (given_range scope.look agrees first.literal bits t.1 within) more
+    simple_range first (state_list states) rest shaped suit there more =
+        let some : 1 ≤ length (map tap_of states) = omega (arith, length-map states tap_of, ltb-true 0 (length states) shaped) in
         one_range first (state_list states) rest tt some more
-    simple_range first (wait_cycles state cycles usec end) rest built suit there more =
+    simple_range first (wait_cycles state cycles usec end) rest shaped suit there more =
         let kind = scope.look.kind in
         let suits = and_parts (is_int (expr_kind kind cycles)) (if_given (wants_int kind) usec) suit in
         one_range first (wait_cycles state cycles usec end) rest
         (record { fits = suits.0; test = tt }, given_typed defs scope.look (kinds.Int ∷ []) usec suits.1) tt more
-    simple_range first (wait_usec state usec end) rest built suit there more =
+    simple_range first (wait_usec state usec end) rest shaped suit there more =
         one_range first (wait_usec state usec end) rest (one_typed defs scope.look [] kinds.Int usec suit) tt more
-    simple_range first (frequency hertz) rest built suit there more =
+    simple_range first (frequency hertz) rest shaped suit there more =
         one_range first (frequency hertz) rest (given_typed defs scope.look [] hertz suit) tt more
-    simple_range first _ rest built suit there more = absurd cc
+    simple_range first _ rest shaped suit there more = absurd cc
 
     -- the variable of a declaration has its kind and its size
     abbrev pub IsDefined : BodyTree → Type 0
@@ -383,8 +455,8 @@ module _ (defs : List VarDef) (literals texts procedures : ℕ) where
         let enough : length zs ≤ size_of (slice_get defs (scope.look.variable name)) =
         omega (arith, ltb-false (nat_abs size) (length zs) few, ap size_of at) in
         one_range first (integer_array name size (Some zs)) rest tt (defined_there (scope.look.variable name) _ at, ltb-true 0 (length zs) some, enough) more
-    inner_range first _ (a_simple b built) rest suit at few there more = simple_range first b rest built suit there more
+    inner_range first _ (a_simple b shaped) rest suit at few there more = simple_range first b rest shaped suit there more
 
-    pub body_range : (first : Firsts) (b : BodyTree) (rest : List Instr) → is_built_inner b ≡ true → operands_suit scope.look.kind b ≡ true → IsDefined b → has_too_many_values b ≡ false →
+    pub body_range : (first : Firsts) (b : BodyTree) (rest : List Instr) → is_inner_shape b ≡ true → operands_suit scope.look.kind b ≡ true → IsDefined b → has_too_many_values b ≡ false →
         AreThere first b → InRange rest → InRange (body_code scope place first b rest)
-    body_range first b rest built = inner_range first b (inner_view b built) rest
+    body_range first b rest shaped = inner_range first b (inner_view b shaped) rest

@@ -2,17 +2,18 @@
 use Rattle.std.proofs.Common.{◌≡◌, ◌≢◌, ℕ, zero, suc, ◌+◌, ◌-◌, ◌≤◌, Bool, true, false, cond, List, [], ◌∷◌, length, drop, Some, None, refl, sym, ap, subst, ◌∙◌, add-one, arith, length-append}
 use Rattle.std.specs.Prelude.{slice_get}
 use Rattle.std.proofs.lemmas.List.{drop_all}
-use Rattle.stapl_syntax.specs.Trees.{BodyTree, end_procedure, boolean, boolean_array, integer, integer_array, assign, assign_element, assign_array, assign_range, call, goto, if_then, for_loop, next, push, pop, print, export, exit, state_list, wait_cycles, wait_usec, frequency, StmtTree}
+use Rattle.stapl_syntax.specs.Trees.{BodyTree, end_procedure, boolean, boolean_array, integer, integer_array, assign, assign_element, assign_array, assign_range, call, goto, if_then, for_loop, next, push, pop, print, export, exit, scan, stop, pad, state_list, wait_cycles, wait_usec, frequency, StmtTree}
 use Rattle.stapl_syntax.specs.Statements.{is_outer}
+use Rattle.stapl_meaning.specs.declared.events.Event.{Event}
 use Rattle.stapl_meaning.specs.Deeds.{Chain, deeds_events, deeds_chain}
-use Rattle.stapl_meaning.specs.States.{State, Turned, Leads, Over, Broken, NoTurn, turn_of_piece, Happened, Led, Lacks, happens, happened_in_piece}
+use Rattle.stapl_meaning.specs.States.{State, Turned, Leads, Over, Broken, Scanning, NoTurn, turn_of_piece, Happened, Led, Finished, Broke, Lacks, happens, with_events, scanned_on, happened_in_piece}
 use Rattle.stapl_meaning.specs.Scopes.{Played, Scope, scope_at, zeros_of}
 use Rattle.stapl_meaning.specs.Turns.{done, turn, turn_of}
 use Rattle.stapl_meaning.specs.Plays.{after, goes_on, run, start, beginning}
 use Rattle.stapl_code.specs.declared.instr.Instr.{Instr}
 use Rattle.stapl_code.specs.declared.instr.Instr.TheVariants.{Turn}
 use Rattle.stapl_code.specs.Machine.{Constants, nowhere, stretch, begins, code_turn, code_run}
-use Rattle.stapl_code.proofs.Preceded.{happens_in_piece}
+use Rattle.stapl_code.proofs.Preceded.{scan_alike, scan_through, happens_in_piece}
 use Rattle.stapl_codegen.specs.Emit.{body_code, at_first, firsts_at, constants_in, pieces_code, program_code, start_of, program_entries}
 use Rattle.stapl_codegen.specs.Correct.{GoesOn, IsClosed, placed_state, placed_run, AllStart, Stands}
 use Rattle.stapl_codegen.proofs.Heads.{head_of, get_head, drop_tail}
@@ -47,11 +48,40 @@ outer_stays scope s (pop cell) e = absurd cc
 outer_stays scope s (print list) e = absurd cc
 outer_stays scope s (export key x) e = absurd cc
 outer_stays scope s (exit x) e = absurd cc
+outer_stays scope s (scan register count source target compare) e = absurd cc
+outer_stays scope s (stop register state) e = absurd cc
+outer_stays scope s (pad which count bits) e = absurd cc
 outer_stays scope s (state_list states) e = absurd cc
 outer_stays scope s (wait_cycles state cycles usec end) e = absurd cc
 outer_stays scope s (wait_usec state usec end) e = absurd cc
 outer_stays scope s (frequency hertz) e = absurd cc
 outer_stays scope s _ e = refl
+
+-- what happened, with places of the code in it
+abbrev placed_happened : (ℕ → ℕ) → Happened → Happened
+placed_happened place (Led events i s k) = Led events (place i) (placed_state place s) k
+placed_happened place (Finished events ending s k) = Finished events ending (placed_state place s) k
+placed_happened place (Broke events f s k) = Broke events f (placed_state place s) k
+placed_happened place (Lacks events) = Lacks events
+
+placed_with : (place : ℕ → ℕ) (events : List Event) (h : Happened) → placed_happened place (with_events events h) ≡ with_events events (placed_happened place h)
+placed_with place events (Led more i s k) = refl
+placed_with place events (Finished more ending s k) = refl
+placed_with place events (Broke more f s k) = refl
+placed_with place events (Lacks more) = refl
+
+happens_placed : (place : ℕ → ℕ) (k : Chain) (t : Turned) → happens k (placed place t) ≡ placed_happened place (happens k t)
+happens_placed place k (Leads deeds i s) = refl
+happens_placed place k (Over deeds ending s) = refl
+happens_placed place k (Broken deeds f s) = refl
+happens_placed place k (Scanning deeds job rest) =
+    let l : Chain = deeds_chain k deeds in
+    let own : List Bool → Chain → Happened = λ bits m. happens m (rest bits) in
+    ap (with_events (deeds_events k deeds))
+    (scan_alike l job (λ bits m. happens m (placed place (rest bits))) (λ bits m. placed_happened place (own bits m)) (λ bits m. happens_placed place m (rest bits))
+    ∙ sym (scan_through (placed_happened place) (placed_with place) refl l job own))
+    ∙ sym (placed_with place (deeds_events k deeds) (scanned_on l job own))
+happens_placed place k (NoTurn deeds) = refl
 
 -- the code of pieces begins with the turn of one of them
 pub record BeginsWithTurn (program : Played) (code : List Instr) : Type 0 where
@@ -190,18 +220,18 @@ module _ (program : Played) where
     abbrev RunsSame : ℕ → Type 0
     RunsSame n = (i : ℕ) (s : State) (k : Chain) → code_run Entries These Code n (place i) (placed_state place s) k ≡ placed_run place (run program n i s k)
 
-    goes_follows : (n : ℕ) → RunsSame n → (t : Turned) (s : State) (k : Chain) →
-        goes_on (happens k (placed place t)) (placed_state place s) k (code_run Entries These Code n) ≡ placed_run place (goes_on (happens k t) s k (run program n))
-    goes_follows n rest (Leads deeds i t) s k = ap (after (deeds_events k deeds)) (rest i t (deeds_chain k deeds))
-    goes_follows n rest (Over deeds e t) s k = refl
-    goes_follows n rest (Broken deeds f t) s k = refl
-    goes_follows n rest (NoTurn deeds) s k = refl
+    goes_follows : (n : ℕ) → RunsSame n → (h : Happened) (s : State) (k : Chain) →
+        goes_on (placed_happened place h) (placed_state place s) k (code_run Entries These Code n) ≡ placed_run place (goes_on h s k (run program n))
+    goes_follows n rest (Led events i t l) s k = ap (after events) (rest i t l)
+    goes_follows n rest (Finished events e t l) s k = refl
+    goes_follows n rest (Broke events f t l) s k = refl
+    goes_follows n rest (Lacks events) s k = refl
 
     run_follows : (n : ℕ) → RunsSame n
     run_follows zero i s k = refl
     run_follows (suc n) i s k =
-        ap (λ h. goes_on h (placed_state place s) k (code_run Entries These Code n)) (turn_follows i s k)
-        ∙ goes_follows n (run_follows n) (turn program i s) s k
+        ap (λ h. goes_on h (placed_state place s) k (code_run Entries These Code n)) (turn_follows i s k ∙ happens_placed place k (turn program i s))
+        ∙ goes_follows n (run_follows n) (happens k (turn program i s)) s k
 
     module _ (start_all : AllStart program.presets) (some : From 0 program.pieces ≢ []) where
       first_turn : BeginsWithTurn program (From 0 program.pieces)
@@ -217,5 +247,6 @@ module _ (program : Played) where
       stands chosen n k =
           let s : State = start chosen (zeros_of program) in
           ap (λ h. goes_on h s k (code_run Entries These Code n))
-          (begins_alike program place Entries These All (entry_is program) first_turn.first at_first (From 0 program.pieces) s k (presets_known program) start_all turn_behind)
-          ∙ goes_follows n (run_follows n) (beginning program s) s k
+          (begins_alike program place Entries These All (entry_is program) first_turn.first at_first (From 0 program.pieces) s k (presets_known program) start_all turn_behind
+          ∙ happens_placed place k (beginning program s))
+          ∙ goes_follows n (run_follows n) (happens k (beginning program s)) s k

@@ -34,6 +34,10 @@ first_stable n rest h = by (is_stable n) h
     by true h = (refl, h)
     by false h = absurd cc
 
+-- the state in which scans end
+pub one_stable : (state : ℕ) → AreStable (state ∷ []) → is_stable_state (tap_of state) ≡ true
+one_stable state h = stable_tap state (first_stable state [] h).0
+
 -- the last state of a STATE
 pub last_stable : (states : List ℕ) → AreStable (last_of states) → ends_stable (map tap_of states) ≡ true
 last_stable [] h = refl

@@ -6,12 +6,12 @@ use Rattle.std.proofs.lemmas.Bool.{le-leb, ltb-true, ltb-false}
 use Rattle.std.proofs.lemmas.Option.{same_Some}
 use Rattle.stapl_syntax.specs.Trees.{BodyTree, procedure, data_block, end_data, end_procedure, StmtTree}
 use Rattle.stapl_syntax.specs.Statements.{is_outer, ends_procedure}
-use Rattle.stapl_built.specs.Built.{is_built_inner, IsBuilt}
+use Rattle.stapl_shapes.specs.Shapes.{is_inner_shape, HasShape}
 use Rattle.stapl_syntax.specs.declared.names.Declaration.{Declaration}
 use Rattle.stapl_syntax.specs.Names.{declaration, inside_behind}
 use Rattle.stapl_meaning.specs.Scopes.{Played, scope_at, block_at}
 use Rattle.stapl_meaning.specs.Typed.{IsInBlock, IsDeclared, IsTyped}
-use Rattle.stapl_meaning.proofs.Resolved.{built_is_inner}
+use Rattle.stapl_meaning.proofs.Resolved.{inner_has_shape}
 use Rattle.stapl_meaning.proofs.Entries.{all_at}
 use Rattle.std.specs.List.{AllByRecursion}
 use Rattle.stapl_syntax.specs.Kinds.{operands_suit}
@@ -97,7 +97,7 @@ begun : (b : BodyTree) (name : List ℕ) (now : Option (List ℕ)) → IsProcedu
 begun (procedure p uses) name now is = ap Some is
 begun _ name now is = absurd is
 
-module _ (program : Played) (built : All IsBuilt program.pieces) (typed : IsTyped program) where
+module _ (program : Played) (shaped : All HasShape program.pieces) (typed : IsTyped program) where
   abbrev pub code : List Instr
   code = program_code program
 
@@ -277,7 +277,7 @@ module _ (program : Played) (built : All IsBuilt program.pieces) (typed : IsType
     Leads j label = IsInBlock program name ((scope_at program j).label label)
 
     record IsTypedIn (j : ℕ) (st : StmtTree) : Type 0 where
-      is_inner : is_built_inner st.body ≡ true
+      is_inner : is_inner_shape st.body ≡ true
       suits : operands_suit (scope_at program j).look.kind st.body ≡ true
       stable : stops_unstable st.body ≡ false
       leads : AllByRecursion (Leads j) (labels_named st.body)
@@ -294,7 +294,7 @@ module _ (program : Played) (built : All IsBuilt program.pieces) (typed : IsType
         let t = typed.statements j st at inner in
         let same : t.block ≡ name = same_Some t.block name (sym t.inside ∙ open_in k j st rest is e) in
         record {
-          is_inner = built_is_inner st (all_at IsBuilt program.pieces j st built at) inner;
+          is_inner = inner_has_shape st (all_at HasShape program.pieces j st shaped at) inner;
           suits = t.suits;
           stable = t.stable;
           leads = subst (λ (b : List ℕ). AllByRecursion (λ label. IsInBlock program b ((scope_at program j).label label)) (labels_named st.body)) same t.leads;

@@ -5,7 +5,7 @@ use Rattle.std.specs.Option.{option_map}
 use Rattle.bit_list.specs.Integers.{int_of}
 use Rattle.std.specs.List.{list_all}
 use Rattle.std.proofs.lemmas.Bool.{and_parts, eq-eqb, leb-true}
-use Rattle.stapl_syntax.specs.Kinds.{expr_kind, is_array, is_bit_array, is_integer, part_suits, is_int, is_bit, number_kind}
+use Rattle.stapl_syntax.specs.Kinds.{expr_kind, is_array, is_bit_array, is_integer, part_suits, is_int, is_bit, scalar_kind, number_kind}
 use Rattle.stapl_syntax.specs.declared.names.VarKind.{VarKind}
 use Rattle.stapl_syntax.specs.declared.names.VarKind.TheVariants as declared
 use Rattle.stapl_syntax.specs.declared.names.Kind.{Kind}
@@ -22,7 +22,7 @@ use Rattle.stapl_code.specs.declared.instr.Instr.TheVariants.{Push, PushBit, Loa
 use Rattle.stapl_code.specs.declared.instr.Source.TheVariants as sources
 use Rattle.stapl_code.specs.declared.instr.PrintPart.{PrintPart}
 use Rattle.stapl_code.specs.declared.raw.VarDef.{VarDef}
-use Rattle.stapl_code.specs.Machine.{AnInteger, AnArray, OfBits, OfInts, part_slots}
+use Rattle.stapl_code.specs.Machine.{AnInteger, ABoolean, AnArray, OfBits, OfInts, part_slots}
 use Rattle.stapl_code.specs.Kinds.{then_kinds, put_on, taken_off, variable_kind, is_met, all_off, kinds_behind}
 use Rattle.stapl_code.specs.Kinds as code
 use Rattle.stapl_code.specs.Valid.{is_last, stands_well, departs, judged, rest_break}
@@ -213,6 +213,16 @@ module _ (variables : List VarDef) (look : Lookup) (agrees : Agrees variables lo
       by (Some declared.Integer) e h = kind_is (Def name) 0 (agrees name declared.Integer e)
       by (Some declared.IntegerArray) e h = absurd cc
       by (Some declared.Boolean) e h = absurd cc
+      by (Some declared.BooleanArray) e h = absurd cc
+      by None e h = absurd cc
+
+  pub boolean_agrees : (name : List ℕ) → is_bit (scalar_kind (look.kind name)) ≡ true → is_met variables (ABoolean (look.variable name)) ≡ true
+  boolean_agrees name h = by (look.kind name) refl h
+    where
+      by : (v : Option VarKind) → look.kind name ≡ v → is_bit (scalar_kind v) ≡ true → code.is_of_kind 1 (Def name) ≡ true
+      by (Some declared.Boolean) e h = kind_is (Def name) 1 (agrees name declared.Boolean e)
+      by (Some declared.Integer) e h = absurd cc
+      by (Some declared.IntegerArray) e h = absurd cc
       by (Some declared.BooleanArray) e h = absurd cc
       by None e h = absurd cc
 

@@ -1,8 +1,10 @@
 -- The code of the statements of a procedure breaks no rule.
-use Rattle.std.proofs.Common.{◌≡◌, ℕ, Bool, true, false, List, [], ◌∷◌, Option, Some, None, refl, ap, ◌∙◌}
+use Rattle.std.proofs.Common.{◌≡◌, ℕ, Bool, true, false, List, [], ◌∷◌, ◌++◌, Option, Some, None, refl, ap, ◌∙◌}
 use Rattle.std.specs.Prelude.{ℤ, pos, int_le, is_some, ◌&&◌, IfSome, if◌then◌else◌, slice_get}
 use Rattle.std.specs.List.{list_all, AllByRecursion}
 use Rattle.std.proofs.lemmas.Bool.{and_parts}
+use Rattle.stapl_lexer.specs.declared.terminal.Padding.{Padding}
+use Rattle.stapl_lexer.specs.declared.terminal.Register.{Register}
 use Rattle.stapl_syntax.specs.declared.names.Declaration.{Declaration}
 use Rattle.stapl_syntax.specs.declared.names.Kind.{Kind}
 use Rattle.stapl_syntax.specs.declared.names.Kind.TheVariants.{Int, Either}
@@ -13,24 +15,26 @@ use Rattle.stapl_syntax.specs.Mentions.{labels_named}
 use Rattle.stapl_syntax.specs.Rules.{stops_unstable}
 use Rattle.stapl_syntax.specs.Names.{declaration}
 use Rattle.stapl_syntax.specs.Statements.{ends_procedure}
-use Rattle.stapl_syntax.specs.Trees.{ExprTree, number, ArrayTree, literal, whole, range, of_int, BodyTree, boolean, boolean_array, integer, integer_array, assign, assign_element, assign_array, assign_range, call, goto, if_then, for_loop, next, push, scalar, element, pop, print, exported_value, exported_array, export, exit, state_list, wait_cycles, wait_usec, frequency}
-use Rattle.stapl_built.specs.Built.{is_built_simple, is_built_inner}
+use Rattle.stapl_syntax.specs.Trees.{ExprTree, number, ArrayTree, CompareTree, BodyTree, boolean, boolean_array, integer, integer_array, assign, assign_element, assign_array, assign_range, call, goto, if_then, for_loop, next, push, scalar, element, pop, print, exported_value, exported_array, export, exit, scan, stop, pad, state_list, wait_cycles, wait_usec, frequency}
+use Rattle.stapl_shapes.specs.Shapes.{is_simple_shape, is_inner_shape}
 use Rattle.stapl_meaning.specs.declared.values.ValueKind.{ValueKind}
 use Rattle.stapl_meaning.specs.declared.values.ValueKind.TheVariants as kinds
 use Rattle.stapl_meaning.specs.Values.{Lookup}
-use Rattle.stapl_meaning.specs.Operands.{array_operands, given_kind, printed_kind, step_or_one, bit_number}
+use Rattle.stapl_meaning.specs.Operands.{array_operands, given_operands, target_operands, compare_operands, given_kind, printed_kind, step_or_one, bit_number}
 use Rattle.stapl_meaning.specs.Scopes.{Scope}
 use Rattle.tap_states.specs.declared.Tap.{Tap}
 use Rattle.stapl_meaning.specs.Turns.{tap_or_idle, kind_of_wait, integer_given, rows}
 use Rattle.stapl_code.specs.declared.instr.Instr.{Instr}
 use Rattle.stapl_code.specs.declared.instr.Instr.TheVariants.{Turn, Store, StoreAt, SetBits, SetInts, For, Next, PushRecord, Jump, JumpIfZero, Export, Wait, Frequency}
 use Rattle.stapl_code.specs.declared.raw.VarDef.{VarDef}
-use Rattle.stapl_code.specs.Machine.{source_slots, source_wants, wants}
-use Rattle.stapl_code.specs.Kinds.{off, then_kinds, taken_off, variable_kind, element_kind as element_kind_of, is_met, all_off, kinds_moved, kinds_behind}
+use Rattle.stapl_code.specs.Machine.{source_wants, wants}
+use Rattle.stapl_code.specs.Kinds.{off, then_kinds, taken_off, variable_kind, element_kind as element_kind_of, is_met, kinds_moved, kinds_behind}
 use Rattle.stapl_code.specs.Valid.{is_last, is_target, stands_well}
 use Rattle.stapl_codegen.specs.Emit.{export_part, source_code, Firsts, last, body_code}
 use Rattle.stapl_codegen.proofs.Views.{IsInner, an_end, a_bit, some_bits, an_integer, no_integers, some_integers, a_simple, inner_view}
-use Rattle.stapl_codegen.proofs.Stable.{last_stable, both_stable}
+use Rattle.stapl_codegen.proofs.ArrayKinds as arrays
+use Rattle.stapl_codegen.proofs.ArrayKinds.{source_off, source_met, scan_suits, given_off, given_met, scan_off, scan_met, scan_typed}
+use Rattle.stapl_codegen.proofs.Stable.{one_stable, last_stable, both_stable}
 use Rattle.stapl_codegen.proofs.Sides.{fits, held_kind, item_kind}
 use Rattle.stapl_codegen.proofs.WellKinded.{kinds_onto, Agrees, scalar_agrees, element_agrees, bits_agree, integer_agrees, integers_agree, printed_fits, AllTyped, one_typed, parts_typed, range_typed, array_typed, parts_off, Fine, Follows, IsGood, row_fine, pop_fine, rows_last}
 
@@ -146,22 +150,6 @@ module _ (variables : List VarDef) (entry : ℕ) (code : List Instr) where
         ap (λ k. then_kinds (then_kinds (taken_off k (kind ∷ kinds.Int ∷ [])) (taken_off (Some kinds.Int))) Some) found
         ∙ ap (λ o. then_kinds (then_kinds o (taken_off (Some kinds.Int))) Some) (off_same kind (kinds.Int ∷ []))
 
-    -- an array finds its operands, and its variable is what it has to be
-    source_off : (first : ℕ) (a : ArrayTree) (ks : List ValueKind) → all_off variables (source_slots (source_code scope.look first a)) (kinds_onto (array_operands scope.look a) ks) ≡ Some ks
-    source_off first (literal bits) ks = refl
-    source_off first (whole name) ks = refl
-    source_off first (range name high low) ks = refl
-    source_off first (of_int e) ks = refl
-
-    source_met : (first : ℕ) (a : ArrayTree) → is_array scope.look.kind a ≡ true → list_all (is_met variables) (source_wants (source_code scope.look first a)) ≡ true
-    source_met first (literal bits) h = refl
-    source_met first (whole name) h = ap (λ b. b && true) (bits_agree variables scope.look agrees name h)
-    source_met first (range name high low) h =
-        let t = and_parts (is_bit_array (scope.look.kind name) && is_int (expr_kind scope.look.kind high)) (is_int (expr_kind scope.look.kind low)) h in
-        let u = and_parts (is_bit_array (scope.look.kind name)) (is_int (expr_kind scope.look.kind high)) t.0 in
-        ap (λ b. b && true) (bits_agree variables scope.look agrees name u.0)
-    source_met first (of_int e) h = refl
-
     abbrev IsDeclared : BodyTree → Type 0
     IsDeclared b = IfSome (declaration b) (λ (d : Declaration). scope.look.kind d.name ≡ Some d.kind)
 
@@ -170,10 +158,10 @@ module _ (variables : List VarDef) (entry : ℕ) (code : List Instr) where
         let t = and_parts (is_bit_array (scope.look.kind name)) (is_array scope.look.kind a) suit in
         let copy : Instr = last scope place first (assign_array name a) in
         let met : list_all (is_met variables) (wants copy) ≡ true =
-        ap (λ b. b && list_all (is_met variables) (source_wants (source_code scope.look first.literal a))) (bits_agree variables scope.look agrees name t.0) ∙ source_met first.literal a t.1 in
+        ap (λ b. b && list_all (is_met variables) (source_wants (source_code scope.look first.literal a))) (bits_agree variables scope.look agrees name t.0) ∙ source_met variables scope.look agrees first.literal a t.1 in
         record {
           typed = array_typed variables scope.look agrees [] a t.1;
-          finds = wanted variables copy (kinds_onto (array_operands scope.look a) []) [] met (ap (λ o. then_kinds o Some) (source_off first.literal a []));
+          finds = wanted variables copy (kinds_onto (array_operands scope.look a) []) [] met (ap (λ o. then_kinds o Some) (source_off variables scope.look first.literal a []));
           stands = refl;
         }
 
@@ -184,12 +172,12 @@ module _ (variables : List VarDef) (entry : ℕ) (code : List Instr) where
         let v = and_parts (is_bit_array (scope.look.kind name)) (is_int (expr_kind scope.look.kind high)) u.0 in
         let copy : Instr = last scope place first (assign_range name high low a) in
         let met : list_all (is_met variables) (wants copy) ≡ true =
-        ap (λ b. b && list_all (is_met variables) (source_wants (source_code scope.look first.literal a))) (bits_agree variables scope.look agrees name v.0) ∙ source_met first.literal a t.1 in
+        ap (λ b. b && list_all (is_met variables) (source_wants (source_code scope.look first.literal a))) (bits_agree variables scope.look agrees name v.0) ∙ source_met variables scope.look agrees first.literal a t.1 in
         let both : List ValueKind = kinds.Int ∷ kinds.Int ∷ [] in
         record {
           typed = range_typed variables scope.look agrees [] name high low (array_operands scope.look a) v.0 v.1 u.1 (array_typed variables scope.look agrees both a t.1);
           finds = wanted variables copy (kinds_onto (array_operands scope.look a) both) [] met
-              (ap (λ o. then_kinds (then_kinds (then_kinds o (taken_off (Some kinds.Int))) (taken_off (Some kinds.Int))) Some) (source_off first.literal a both));
+              (ap (λ o. then_kinds (then_kinds (then_kinds o (taken_off (Some kinds.Int))) (taken_off (Some kinds.Int))) Some) (source_off variables scope.look first.literal a both));
           stands = refl;
         }
 
@@ -213,14 +201,38 @@ module _ (variables : List VarDef) (entry : ℕ) (code : List Instr) where
         let x : Instr = last scope place first (export key (exported_array a)) in
         record {
           typed = array_typed variables scope.look agrees [] a suit;
-          finds = wanted variables x (kinds_onto (array_operands scope.look a) []) [] (source_met first.literal a suit) (ap (λ o. then_kinds o Some) (source_off first.literal a []));
+          finds = wanted variables x (kinds_onto (array_operands scope.look a) []) [] (source_met variables scope.look agrees first.literal a suit) (ap (λ o. then_kinds o Some) (source_off variables scope.look first.literal a []));
+          stands = refl;
+        }
+
+    scan_good : (first : Firsts) (register : Register) (count : ExprTree) (source : ArrayTree) (target : Option ArrayTree) (compare : Option CompareTree) →
+        operands_suit scope.look.kind (scan register count source target compare) ≡ true → Good first (scan register count source target compare)
+    scan_good first register count source target compare suit =
+        let is = scan_suits scope.look.kind register count source target compare suit in
+        let x : Instr = last scope place first (scan register count source target compare) in
+        let os = array_operands scope.look source ++ (target_operands scope.look target ++ compare_operands scope.look compare) in
+        record {
+          typed = (record { fits = is.count_is; test = tt }, scan_typed variables scope.look agrees (kinds.Int ∷ []) source target compare count is);
+          finds = wanted variables x (kinds_onto os (kinds.Int ∷ [])) [] (scan_met variables scope.look agrees first.literal register source target compare count is)
+              (ap (λ o. then_kinds (then_kinds o (taken_off (Some kinds.Int))) Some) (scan_off variables scope.look first.literal register source target compare (kinds.Int ∷ [])));
+          stands = refl;
+        }
+
+    pad_good : (first : Firsts) (which : Padding) (count : ExprTree) (bits : Option ArrayTree) → operands_suit scope.look.kind (pad which count bits) ≡ true → Good first (pad which count bits)
+    pad_good first which count bits suit =
+        let t = and_parts (is_int (expr_kind scope.look.kind count)) (if_given (is_array scope.look.kind) bits) suit in
+        let x : Instr = last scope place first (pad which count bits) in
+        record {
+          typed = (record { fits = t.0; test = tt }, arrays.given_typed variables scope.look agrees (kinds.Int ∷ []) bits t.1);
+          finds = wanted variables x (kinds_onto (given_operands scope.look bits) (kinds.Int ∷ [])) [] (given_met variables scope.look agrees first.literal bits t.1)
+              (ap (λ o. then_kinds (then_kinds o (taken_off (Some kinds.Int))) Some) (given_off variables scope.look first.literal bits (kinds.Int ∷ [])));
           stands = refl;
         }
 
     -- a statement that may stand after THEN
-    simple_fine : (first : Firsts) (b : BodyTree) (rest : List Instr) → is_built_simple b ≡ true → operands_suit scope.look.kind b ≡ true → stops_unstable b ≡ false → AllByRecursion Leads (labels_named b) →
+    simple_fine : (first : Firsts) (b : BodyTree) (rest : List Instr) → is_simple_shape b ≡ true → operands_suit scope.look.kind b ≡ true → stops_unstable b ≡ false → AllByRecursion Leads (labels_named b) →
         Follows variables entry code rest → Fine variables entry code false [] (body_code scope place first b rest)
-    simple_fine first (assign name e) rest built suit stable leads follows =
+    simple_fine first (assign name e) rest shaped suit stable leads follows =
         let t = given_fits (scope.look.kind name) (expr_kind scope.look.kind e) suit in
         let kind : ValueKind = given_kind (scope.look.kind name) in
         let good : Good first (assign name e) = record {
@@ -229,7 +241,7 @@ module _ (variables : List VarDef) (entry : ℕ) (code : List Instr) where
           stands = refl;
         } in
         row_fine variables entry code scope place first (assign name e) rest agrees (λ l. refl) good follows.some (follows.fine false)
-    simple_fine first (assign_element name index e) rest built suit stable leads follows =
+    simple_fine first (assign_element name index e) rest shaped suit stable leads follows =
         let are = and_parts (is_int (expr_kind scope.look.kind index)) (suits (element_kind (scope.look.kind name)) (expr_kind scope.look.kind e)) suit in
         let t = item_given (scope.look.kind name) (expr_kind scope.look.kind e) are.1 in
         let kind : ValueKind = given_kind (scope.look.kind name) in
@@ -240,28 +252,28 @@ module _ (variables : List VarDef) (entry : ℕ) (code : List Instr) where
           stands = refl;
         } in
         row_fine variables entry code scope place first (assign_element name index e) rest agrees (λ l. refl) good follows.some (follows.fine false)
-    simple_fine first (assign_array name a) rest built suit stable leads follows =
+    simple_fine first (assign_array name a) rest shaped suit stable leads follows =
         row_fine variables entry code scope place first (assign_array name a) rest agrees (λ l. refl) (array_good first name a suit) follows.some (follows.fine false)
-    simple_fine first (assign_range name high low a) rest built suit stable leads follows =
+    simple_fine first (assign_range name high low a) rest shaped suit stable leads follows =
         row_fine variables entry code scope place first (assign_range name high low a) rest agrees (λ l. refl) (range_good first name high low a suit) follows.some (follows.fine false)
-    simple_fine first (goto name) rest built suit stable leads follows =
+    simple_fine first (goto name) rest shaped suit stable leads follows =
         let good : Good first (goto name) = record { typed = tt; finds = refl; stands = jump_stands (place (scope.label name)) (target name leads.0) } in
         row_fine variables entry code scope place first (goto name) rest agrees (λ l. refl) good follows.some (follows.fine true)
-    simple_fine first (if_then e b) rest built suit stable leads follows =
+    simple_fine first (if_then e b) rest shaped suit stable leads follows =
         let suits = and_parts (is_bit (expr_kind scope.look.kind e)) (operands_suit scope.look.kind b) suit in
         let good : Good first (if_then e b) = record { typed = one_typed variables scope.look [] kinds.Bit e suits.0; finds = refl; stands = branch_stands (place scope.follow) onward } in
         row_fine variables entry code scope place first (if_then e b) (body_code scope place first b rest) agrees (λ l. refl) good
-        (body_last first b rest follows.some) (simple_fine first b rest built suits.1 stable leads follows)
-    simple_fine first (call name) rest built suit stable leads follows =
+        (body_last first b rest follows.some) (simple_fine first b rest shaped suits.1 stable leads follows)
+    simple_fine first (call name) rest shaped suit stable leads follows =
         let good : Good first (call name) = record { typed = tt; finds = refl; stands = refl } in
         row_fine variables entry code scope place first (call name) rest agrees (λ l. refl) good follows.some (follows.fine true)
-    simple_fine first (for_loop name from to step) rest built suit stable leads follows =
+    simple_fine first (for_loop name from to step) rest shaped suit stable leads follows =
         row_fine variables entry code scope place first (for_loop name from to step) rest agrees (λ l. refl) (loop_good first name from to step suit) follows.some (follows.fine true)
-    simple_fine first (next name) rest built suit stable leads follows =
+    simple_fine first (next name) rest shaped suit stable leads follows =
         let met = ap (λ b. b && true) (integer_agrees variables scope.look agrees name suit) in
         let good : Good first (next name) = record { typed = tt; finds = wanted variables (Next (scope.look.variable name)) [] [] met refl; stands = refl } in
         row_fine variables entry code scope place first (next name) rest agrees (λ l. refl) good follows.some (follows.fine true)
-    simple_fine first (push e) rest built suit stable leads follows =
+    simple_fine first (push e) rest shaped suit stable leads follows =
         let kind : ValueKind = printed_kind (expr_kind scope.look.kind e) in
         let good : Good first (push e) = record {
           typed = one_typed variables scope.look [] kind e (printed_fits variables scope.look (expr_kind scope.look.kind e) suit);
@@ -269,18 +281,18 @@ module _ (variables : List VarDef) (entry : ℕ) (code : List Instr) where
           stands = refl;
         } in
         row_fine variables entry code scope place first (push e) rest agrees (λ l. refl) good follows.some (follows.fine false)
-    simple_fine first (pop (scalar name)) rest built suit stable leads follows =
+    simple_fine first (pop (scalar name)) rest shaped suit stable leads follows =
         let kind : ValueKind = given_kind (scope.look.kind name) in
         let found = scalar_agrees variables scope.look agrees name kind (scalar_popped (scope.look.kind name) suit) in
         pop_fine variables entry code scope place first (scalar name) kind rest agrees (λ l. refl) tt (store_finds variables (scope.look.variable name) kind found) refl
         follows.some (follows.fine false)
-    simple_fine first (pop (element name index)) rest built suit stable leads follows =
+    simple_fine first (pop (element name index)) rest shaped suit stable leads follows =
         let kind : ValueKind = given_kind (scope.look.kind name) in
         let t = item_popped (scope.look.kind name) (expr_kind scope.look.kind index) suit in
         let found = element_agrees variables scope.look agrees name kind t.1 in
         pop_fine variables entry code scope place first (element name index) kind rest agrees (λ l. refl) (record { fits = t.0; test = (refl, ap is_some found) }, tt)
         (store_at_finds (scope.look.variable name) kind found) refl follows.some (follows.fine false)
-    simple_fine first (export key (exported_value e)) rest built suit stable leads follows =
+    simple_fine first (export key (exported_value e)) rest shaped suit stable leads follows =
         let kind : ValueKind = printed_kind (expr_kind scope.look.kind e) in
         let good : Good first (export key (exported_value e)) = record {
           typed = one_typed variables scope.look [] kind e (printed_fits variables scope.look (expr_kind scope.look.kind e) suit);
@@ -288,22 +300,30 @@ module _ (variables : List VarDef) (entry : ℕ) (code : List Instr) where
           stands = refl;
         } in
         row_fine variables entry code scope place first (export key (exported_value e)) rest agrees (λ l. refl) good follows.some (follows.fine false)
-    simple_fine first (export key (exported_array a)) rest built suit stable leads follows =
+    simple_fine first (export key (exported_array a)) rest shaped suit stable leads follows =
         row_fine variables entry code scope place first (export key (exported_array a)) rest agrees (λ l. refl) (export_good first key a suit) follows.some (follows.fine false)
-    simple_fine first (print list) rest built suit stable leads follows =
+    simple_fine first (print list) rest shaped suit stable leads follows =
         let good : Good first (print list) = record {
           typed = parts_typed variables scope.look [] list suit;
           finds = ap (λ o. then_kinds o (λ below. then_kinds (Some below) Some)) (parts_off variables scope.look list first.text []);
           stands = refl;
         } in
         row_fine variables entry code scope place first (print list) rest agrees (λ l. refl) good follows.some (follows.fine false)
-    simple_fine first (exit e) rest built suit stable leads follows =
+    simple_fine first (exit e) rest shaped suit stable leads follows =
         let good : Good first (exit e) = record { typed = one_typed variables scope.look [] kinds.Int e suit; finds = refl; stands = refl } in
         row_fine variables entry code scope place first (exit e) rest agrees (λ l. refl) good follows.some (follows.fine true)
-    simple_fine first (state_list states) rest built suit stable leads follows =
+    simple_fine first (scan register count source target compare) rest shaped suit stable leads follows =
+        row_fine variables entry code scope place first (scan register count source target compare) rest agrees (λ l. refl)
+        (scan_good first register count source target compare suit) follows.some (follows.fine false)
+    simple_fine first (stop register state) rest shaped suit stable leads follows =
+        let good : Good first (stop register state) = record { typed = tt; finds = refl; stands = one_stable state stable } in
+        row_fine variables entry code scope place first (stop register state) rest agrees (λ l. refl) good follows.some (follows.fine false)
+    simple_fine first (pad which count bits) rest shaped suit stable leads follows =
+        row_fine variables entry code scope place first (pad which count bits) rest agrees (λ l. refl) (pad_good first which count bits suit) follows.some (follows.fine false)
+    simple_fine first (state_list states) rest shaped suit stable leads follows =
         let good : Good first (state_list states) = record { typed = tt; finds = refl; stands = last_stable states stable } in
         row_fine variables entry code scope place first (state_list states) rest agrees (λ l. refl) good follows.some (follows.fine false)
-    simple_fine first (wait_cycles state cycles usec end) rest built suit stable leads follows =
+    simple_fine first (wait_cycles state cycles usec end) rest shaped suit stable leads follows =
         let suits = and_parts (is_int (expr_kind scope.look.kind cycles)) (if_given (wants_int scope.look.kind) usec) suit in
         let good : Good first (wait_cycles state cycles usec end) = record {
           typed = (record { fits = suits.0; test = tt }, given_typed variables scope.look (kinds.Int ∷ []) usec suits.1);
@@ -311,13 +331,13 @@ module _ (variables : List VarDef) (entry : ℕ) (code : List Instr) where
           stands = both_stable state end stable;
         } in
         row_fine variables entry code scope place first (wait_cycles state cycles usec end) rest agrees (λ l. refl) good follows.some (follows.fine false)
-    simple_fine first (wait_usec state usec end) rest built suit stable leads follows =
+    simple_fine first (wait_usec state usec end) rest shaped suit stable leads follows =
         let good : Good first (wait_usec state usec end) = record { typed = one_typed variables scope.look [] kinds.Int usec suit; finds = refl; stands = both_stable state end stable } in
         row_fine variables entry code scope place first (wait_usec state usec end) rest agrees (λ l. refl) good follows.some (follows.fine false)
-    simple_fine first (frequency hertz) rest built suit stable leads follows =
+    simple_fine first (frequency hertz) rest shaped suit stable leads follows =
         let good : Good first (frequency hertz) = record { typed = given_typed variables scope.look [] hertz suit; finds = frequency_finds variables hertz; stands = refl } in
         row_fine variables entry code scope place first (frequency hertz) rest agrees (λ l. refl) good follows.some (follows.fine false)
-    simple_fine first _ rest built suit stable leads follows = absurd cc
+    simple_fine first _ rest shaped suit stable leads follows = absurd cc
 
     -- a statement other than ENDPROC
     inner_fine : (first : Firsts) (b : BodyTree) → IsInner b → (rest : List Instr) → operands_suit scope.look.kind b ≡ true → stops_unstable b ≡ false → AllByRecursion Leads (labels_named b) → IsDeclared b → ends_procedure b ≡ false →
@@ -351,8 +371,8 @@ module _ (variables : List VarDef) (entry : ℕ) (code : List Instr) where
         let met = ap (λ b. b && true) (integers_agree variables scope.look agrees name is) in
         let good : Good first (integer_array name size (Some zs)) = record { typed = tt; finds = wanted variables set [] [] met refl; stands = refl } in
         row_fine variables entry code scope place first (integer_array name size (Some zs)) rest agrees (λ l. refl) good follows.some (follows.fine false)
-    inner_fine first _ (a_simple b built) rest suit stable leads is between follows = simple_fine first b rest built suit stable leads follows
+    inner_fine first _ (a_simple b shaped) rest suit stable leads is between follows = simple_fine first b rest shaped suit stable leads follows
 
-    pub body_fine : (first : Firsts) (b : BodyTree) (rest : List Instr) → is_built_inner b ≡ true → operands_suit scope.look.kind b ≡ true → stops_unstable b ≡ false → AllByRecursion Leads (labels_named b) → IsDeclared b → ends_procedure b ≡ false →
+    pub body_fine : (first : Firsts) (b : BodyTree) (rest : List Instr) → is_inner_shape b ≡ true → operands_suit scope.look.kind b ≡ true → stops_unstable b ≡ false → AllByRecursion Leads (labels_named b) → IsDeclared b → ends_procedure b ≡ false →
         Follows variables entry code rest → Fine variables entry code false [] (body_code scope place first b rest)
-    body_fine first b rest built = inner_fine first b (inner_view b built) rest
+    body_fine first b rest shaped = inner_fine first b (inner_view b shaped) rest

@@ -6,7 +6,7 @@ use Rattle.std.proofs.lemmas.List.{take_at, drop_all}
 use Rattle.std.proofs.lemmas.Bool.{lt-ltb, and_from}
 use Rattle.stapl_syntax.specs.Trees.{BodyTree, procedure, StmtTree}
 use Rattle.stapl_syntax.specs.Statements.{is_outer, begins_procedure}
-use Rattle.stapl_built.specs.Built.{IsBuilt}
+use Rattle.stapl_shapes.specs.Shapes.{HasShape}
 use Rattle.stapl_meaning.specs.Scopes.{Played, scope_at}
 use Rattle.stapl_meaning.specs.Typed.{IsTyped}
 use Rattle.stapl_code.specs.declared.instr.Instr.{Instr}
@@ -52,7 +52,7 @@ abbrev pub Rising : List ProcDef → Type 0
 Rising [] = Unit {0}
 Rising (p ∷ ps) = Each (λ (q : ProcDef). p.entry < q.entry) ps × Rising ps
 
-module _ (program : Played) (built : All IsBuilt program.pieces) (typed : IsTyped program) where
+module _ (program : Played) (shaped : All HasShape program.pieces) (typed : IsTyped program) where
   abbrev code : List Instr
   code = program_code program
 
@@ -60,7 +60,7 @@ module _ (program : Played) (built : All IsBuilt program.pieces) (typed : IsType
   From i sts = pieces_code program (start_of program) i sts
 
   abbrev defs : List VarDef
-  defs = valid.defs program built typed
+  defs = valid.defs program shaped typed
 
   abbrev procedures : ℕ → List StmtTree → List ProcDef
   procedures i sts = procedures_from (start_of program) i sts
@@ -105,20 +105,20 @@ module _ (program : Played) (built : All IsBuilt program.pieces) (typed : IsType
       ap (λ b. procedure_def entry b (procedures (h + 1) (own ++ back))) is ∙ ap (λ l. p ∷ l) (none_in (start_of program) (h + 1) own back are) in
       let head_code : From h (head ∷ own ++ back) ≡ From (h + 1) (own ++ back) = outer_code h head (own ++ back) outer in
       let split : From (h + 1) (own ++ back) ≡ own_code ++ From behind back = pieces_append program (start_of program) (h + 1) own back in
-      let entry_is : entry ≡ total - length (From (h + 1) (own ++ back)) = valid.entry_is program built typed head name is_head h own back at are in
-      let within : length (From (h + 1) (own ++ back)) ≤ total = valid.code_within program built typed (h + 1) (own ++ back) (valid.own_at program built typed head name is_head h own back at are) in
-      let some : 0 < length own_code = valid.code_some program built typed head name is_head h own back at are in
+      let entry_is : entry ≡ total - length (From (h + 1) (own ++ back)) = valid.entry_is program shaped typed head name is_head h own back at are in
+      let within : length (From (h + 1) (own ++ back)) ≤ total = valid.code_within program shaped typed (h + 1) (own ++ back) (valid.own_at program shaped typed head name is_head h own back at are) in
+      let some : 0 < length own_code = valid.code_some program shaped typed head name is_head h own back at are in
       let lengths : length (From (h + 1) (own ++ back)) ≡ length own_code + length (From behind back) = ap length split ∙ length-append own_code (From behind back) in
       let after : next_entry total (procedures behind back) - entry ≡ length own_code = omega (arith, fine.next, entry_is, within, lengths) in
       let slice : slice_range code entry (next_entry total (procedures behind back)) ≡ own_code =
       ap (λ n. take n (drop entry code)) after
-      ∙ ap (take (length own_code)) (valid.code_at program built typed head name is_head h own back at are ∙ split)
+      ∙ ap (take (length own_code)) (valid.code_at program shaped typed head name is_head h own back at are ∙ split)
       ∙ take_at own_code (From behind back) (length own_code) refl in
       let whole : List ProcDef = p ∷ procedures behind back in
       let fine_whole : AreFine (total - length (From (h + 1) (own ++ back))) whole = record {
         next = entry_is;
         unbroken = ap (λ c. first_of (procedure_break defs entry c) (procedures_break defs code (procedures behind back))) slice
-            ∙ ap (λ o. first_of o (procedures_break defs code (procedures behind back))) (valid.procedure_fine program built typed head name is_head h own back at are)
+            ∙ ap (λ o. first_of o (procedures_break defs code (procedures behind back))) (valid.procedure_fine program shaped typed head name is_head h own back at are)
             ∙ fine.unbroken;
         begin = (
           (omega (arith, entry_is), omega (arith, entry_is, within, lengths, some)),

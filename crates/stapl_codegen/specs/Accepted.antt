@@ -1,21 +1,21 @@
--- What the compiler asks of a program, and what each built program has.
+-- What the compiler asks of a program, and what each program has.
 use Rattle.std.specs.Prelude.{◌≡◌, ◌≤◌, true, length, All, sum_by}
 use Rattle.stapl_lexer.specs.Pieces.{text_limit}
 use Rattle.stapl_syntax.specs.Trees.{StmtTree}
-use Rattle.stapl_built.specs.Built.{is_built_inner, IsBuilt}
-use Rattle.stapl_built.specs.Sizes.{body_size, statements_size}
+use Rattle.stapl_shapes.specs.Shapes.{is_inner_shape, HasShape}
+use Rattle.stapl_shapes.specs.Sizes.{body_size, statements_size}
 use Rattle.stapl_syntax.specs.Contents.{IsWellNamed}
 use Rattle.stapl_meaning.specs.Scopes.{Preset, Played}
 use Rattle.stapl_meaning.specs.Typed.{IsTyped}
 use Rattle.stapl_code.specs.Ranges.{IsLiteral}
 use Rattle.stapl_codegen.specs.Emit.{literals_of, texts_of}
 
--- A program that is compiled: its statements and the declarations of its DATA blocks are built and typed, its actions and
--- procedures have names that they may bear, neither its texts nor its statements nor those declarations are larger than
--- the text of a program may be, and its literals have bits.
+-- A program that is compiled: its statements and the declarations of its DATA blocks have their shapes and are typed, its
+-- actions and procedures have names that they may bear, neither its texts nor its statements nor those declarations are
+-- larger than the text of a program may be, and its literals have bits.
 pub record IsAccepted (program : Played) : Type 0 where
-  pub built : All IsBuilt program.pieces
-  pub presets_built : All (λ (preset : Preset). is_built_inner preset.body ≡ true) program.presets
+  pub shaped : All HasShape program.pieces
+  pub presets_shaped : All (λ (preset : Preset). is_inner_shape preset.body ≡ true) program.presets
   pub typed : IsTyped program
   pub named : All (λ (st : StmtTree). IsWellNamed st.body) program.pieces
   pub size : statements_size program.pieces ≤ text_limit

@@ -3,18 +3,20 @@ use Rattle.std.specs.Prelude.{◌≡◌, ℕ, ◌+◌, ◌<◌, Bool, List, [], 
 use Rattle.std.specs.List.{position_or_len}
 use Rattle.std.specs.Map.{keys_of}
 use Rattle.std.specs.Str.{bytes_eq}
-use Rattle.stapl_syntax.specs.Trees.{ExprTree, ArrayTree, PartTree, BodyTree, StmtTree}
+use Rattle.stapl_syntax.specs.Trees.{ExprTree, ArrayTree, CompareTree, PartTree, BodyTree, StmtTree}
 use Rattle.stapl_syntax.specs.Statements.{is_outer}
 use Rattle.stapl_syntax.specs.Names.{Names, inside_behind}
 use Rattle.stapl_meaning.specs.declared.values.ValueKind.{ValueKind}
-use Rattle.stapl_meaning.specs.Operands.{Operand, array_operands, part_operands}
+use Rattle.stapl_meaning.specs.Operands.{Operand, array_operands, given_operands, target_operands, compare_operands, part_operands}
 use Rattle.stapl_meaning.specs.Scopes.{Scope, Preset, Played, block_at, lookup_from, label_from}
 use Rattle.stapl_code.specs.declared.instr.PrintPart.{PrintPart}
 use Rattle.stapl_code.specs.declared.instr.Source.{Source}
+use Rattle.stapl_code.specs.declared.instr.Dest.{Dest}
+use Rattle.stapl_code.specs.declared.instr.Compare.{Compare}
 use Rattle.stapl_code.specs.declared.instr.Instr.{Instr}
 use Rattle.stapl_code.specs.declared.instr.Instr.TheVariants.{Turn}
 use Rattle.stapl_codegen.specs.Numbers.{numbers_from}
-use Rattle.stapl_codegen.specs.Emit.{expr_code, int_code, operands_code, source_code, print_parts, Firsts, row_texts, row_literals, presets_items, at_first, row_code, body_code, presets_code, texts_of, literals_of, code_to, start_of}
+use Rattle.stapl_codegen.specs.Emit.{expr_code, int_code, operands_code, source_code, given_code, target_code, compare_code, print_parts, Firsts, row_texts, row_literals, presets_items, at_first, row_code, body_code, presets_code, texts_of, literals_of, code_to, start_of}
 
 -- Where a piece stands: the names of its program, at each of its blocks and behind them the number of the next procedure,
 -- how many pieces the program has, the block that is open before the piece, and the number of the piece, which is also
@@ -89,6 +91,25 @@ array_operands_in d a = array_operands (scope_of_site d.site).look a
 
 abbrev pub source_in : Draft → ArrayTree → Source
 source_in d a = source_code (scope_of_site d.site).look (length d.literals) a
+
+-- the same of an array that may be left out, of where captured bits go, and of what a scan compares with
+abbrev pub given_operands_in : Draft → Option ArrayTree → List Operand
+given_operands_in d a = given_operands (scope_of_site d.site).look a
+
+abbrev pub given_in : Draft → Option ArrayTree → Option Source
+given_in d a = given_code (scope_of_site d.site).look (length d.literals) a
+
+abbrev pub target_operands_in : Draft → Option ArrayTree → List Operand
+target_operands_in d target = target_operands (scope_of_site d.site).look target
+
+abbrev pub target_in : Draft → Option ArrayTree → Option Dest
+target_in d target = target_code (scope_of_site d.site).look target
+
+abbrev pub compare_operands_in : Draft → Option CompareTree → List Operand
+compare_operands_in d compare = compare_operands (scope_of_site d.site).look compare
+
+abbrev pub compare_in : Draft → Option CompareTree → Option Compare
+compare_in d compare = compare_code (scope_of_site d.site).look (length d.literals) compare
 
 abbrev pub body_code_in : Draft → BodyTree → List Instr
 body_code_in d b = body_code (scope_of_site d.site) (λ j. j) (firsts_in d) b []

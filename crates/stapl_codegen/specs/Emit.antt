@@ -1,9 +1,11 @@
 -- The code of a program. How statements are written as instructions is this profile's.
 use Rattle.std.specs.Prelude.{ℕ, zero, suc, ℤ, pos, ◌+◌, ◌-◌, Bool, List, [], ◌∷◌, ◌++◌, length, take, drop, map, Option, Some, None, is_some, if◌then◌else◌, slice_get}
+use Rattle.std.specs.Option.{option_map}
 use Rattle.bit_list.specs.Integers.{int_of}
 use Rattle.stapl_lexer.specs.declared.terminal.BinOp.{BinOp}
 use Rattle.stapl_lexer.specs.declared.terminal.BinOp.TheVariants as operators
-use Rattle.stapl_syntax.specs.Trees.{ExprTree, number, scalar, element, unary, binary, abs, int, ArrayTree, literal, whole, range, of_int, PartTree, string, value, character, ItemTree, BodyTree, action, procedure, end_procedure, boolean, boolean_array, integer, integer_array, assign, assign_element, assign_array, assign_range, call, goto, if_then, for_loop, next, push, pop, print, exported_value, exported_array, export, exit, state_list, wait_cycles, wait_usec, frequency, StmtTree}
+use Rattle.stapl_lexer.specs.declared.terminal.Register.{Register}
+use Rattle.stapl_syntax.specs.Trees.{ExprTree, number, scalar, element, unary, binary, abs, int, ArrayTree, literal, whole, range, of_int, PartTree, string, value, character, CompareTree, ItemTree, BodyTree, action, procedure, end_procedure, boolean, boolean_array, integer, integer_array, assign, assign_element, assign_array, assign_range, call, goto, if_then, for_loop, next, push, pop, print, exported_value, exported_array, export, exit, scan, stop, pad, state_list, wait_cycles, wait_usec, frequency, StmtTree}
 use Rattle.stapl_syntax.specs.declared.statement.ItemChoice.{ItemChoice}
 use Rattle.stapl_syntax.specs.declared.statement.ItemChoice.TheVariants as choices
 use Rattle.stapl_syntax.specs.declared.signs.UnOp.{UnOp}
@@ -23,16 +25,20 @@ use Rattle.stapl_code.specs.declared.instr.ExportPart.{ExportPart}
 use Rattle.stapl_code.specs.declared.instr.ExportPart.TheVariants as exports
 use Rattle.stapl_code.specs.declared.instr.Source.{Source}
 use Rattle.stapl_code.specs.declared.instr.Source.TheVariants as sources
+use Rattle.stapl_code.specs.declared.instr.Dest.{Dest}
 use Rattle.stapl_code.specs.declared.instr.Dest.TheVariants as dests
+use Rattle.stapl_code.specs.declared.instr.Cell.TheVariants as cells
+use Rattle.stapl_code.specs.declared.instr.Compare.{Compare}
+use Rattle.stapl_code.specs.declared.instr.Scan.{Scan}
 use Rattle.stapl_code.specs.declared.instr.Instr.{Instr}
-use Rattle.stapl_code.specs.declared.instr.Instr.TheVariants.{Turn, Push, PushBit, Load, LoadAt, CheckIndex, CheckRange, Store, StoreAt, Unary, Binary, ToInt, CopyBits, SetBits, SetInts, For, Next, PushRecord, PopRecord, Call, Jump, JumpIfZero, EndProc, Print, Export, CheckChar, Exit, State as GoThrough, Wait, Frequency}
+use Rattle.stapl_code.specs.declared.instr.Instr.TheVariants.{Turn, Push, PushBit, Load, LoadAt, CheckIndex, CheckRange, Store, StoreAt, Unary, Binary, ToInt, CopyBits, SetBits, SetInts, For, Next, PushRecord, PopRecord, Call, Jump, JumpIfZero, EndProc, Print, Export, CheckChar, Exit, Scan as Scans, Stop, Pad, State as GoThrough, Wait, Frequency}
 use Rattle.stapl_code.specs.declared.raw.ProcDef.{ProcDef}
 use Rattle.stapl_code.specs.declared.raw.ItemDef.{ItemDef}
 use Rattle.stapl_code.specs.declared.raw.ActionDef.{ActionDef}
 use Rattle.stapl_code.specs.Machine.{Constants, nowhere}
 use Rattle.stapl_code.specs.Safe.{entries_of}
 
--- The number of no operator. No machine carries out a Binary with it, so it stands for what is not built.
+-- The number of no operator. No machine carries out a Binary with it, so it stands for what no program has.
 abbrev pub no_operator : ℕ
 no_operator = 255
 
@@ -93,6 +99,26 @@ abbrev pub export_part : ValueKind → ExportPart
 export_part kinds.Int = exports.Int
 export_part kinds.Bit = exports.Bit
 
+-- the number behind these items
+abbrev pub past : {A : Type 0} → ℕ → List A → ℕ
+past n [] = n
+past n (x ∷ xs) = past (suc n) xs
+
+-- the literal that an array is, if it is one
+abbrev pub array_literals : ArrayTree → List (List Bool)
+array_literals (literal bits) = bits ∷ []
+array_literals _ = []
+
+-- those of an array that may be left out, and of what a scan compares with
+abbrev pub given_literals : Option ArrayTree → List (List Bool)
+given_literals None = []
+given_literals (Some a) = array_literals a
+
+abbrev pub compare_literals : Option CompareTree → List (List Bool)
+compare_literals (Some (expected, (mask, scalar name))) = array_literals expected ++ array_literals mask
+compare_literals (Some (expected, (mask, element name index))) = array_literals expected ++ array_literals mask
+compare_literals _ = []
+
 module _ (look : Lookup) where
   abbrev mutual
     -- the code of an expression where a value of a kind is wanted, before the rest
@@ -126,6 +152,39 @@ module _ (look : Lookup) where
   source_code first (range name high low) = sources.Range (look.variable name)
   source_code first (of_int e) = sources.FromInt
 
+  -- the same of an array that may be left out
+  abbrev pub given_code : ℕ → Option ArrayTree → Option Source
+  given_code first a = option_map (source_code first) a
+
+  -- where captured bits go, which is an array or a range of one
+  abbrev pub target_code : Option ArrayTree → Option Dest
+  target_code (Some (whole name)) = Some (dests.Whole (look.variable name))
+  target_code (Some (range name high low)) = Some (dests.Range (look.variable name))
+  target_code _ = None
+
+  -- what a scan compares with, whose first literal has a number
+  abbrev pub compare_code : ℕ → Option CompareTree → Option Compare
+  compare_code first (Some (expected, (mask, scalar name))) = Some (record {
+    expected = source_code first expected;
+    mask = source_code (past first (array_literals expected)) mask;
+    cell = cells.Scalar (look.variable name);
+  })
+  compare_code first (Some (expected, (mask, element name index))) = Some (record {
+    expected = source_code first expected;
+    mask = source_code (past first (array_literals expected)) mask;
+    cell = cells.Element (look.variable name);
+  })
+  compare_code first _ = None
+
+  -- a scan whose first literal has a number
+  abbrev pub scan_code : ℕ → Register → ArrayTree → Option ArrayTree → Option CompareTree → Scan
+  scan_code first register source target compare = record {
+    register = register;
+    source = source_code first source;
+    target = target_code target;
+    compare = compare_code (past first (array_literals source)) compare;
+  }
+
   -- the parts of a PRINT whose first text has a number
   abbrev pub print_parts : ℕ → List PartTree → List PrintPart
   print_parts first [] = []
@@ -140,14 +199,9 @@ part_texts (string bytes ∷ list) = bytes ∷ part_texts list
 part_texts (value e ∷ list) = part_texts list
 part_texts (character e ∷ list) = part_texts list
 
--- the literal that an array is, if it is one
-abbrev pub array_literals : ArrayTree → List (List Bool)
-array_literals (literal bits) = bits ∷ []
-array_literals _ = []
-
 -- The table of statements, for the compiler: the last instruction of a row, behind its operands, what stands between
--- both, its texts, and its literals. Its first text and its first literal have numbers; place says where the code of a piece begins. A statement
--- that is not built is never carried out.
+-- both, its texts, and its literals. Its first text and its first literal have numbers; place says where the code of a
+-- piece begins. A tree that has no row here is never carried out.
 
 pub record Firsts : Type 0 where
   pub text : ℕ
@@ -178,6 +232,10 @@ last scope place first (export key (exported_value e)) = Export first.text (expo
 last scope place first (export key (exported_array a)) =
     Export first.text (exports.Array (source_code scope.look first.literal a))
 last scope place first (exit e) = Exit
+last scope place first (scan register count source target compare) =
+    Scans (scan_code scope.look first.literal register source target compare)
+last scope place first (stop register state) = Stop register (tap_of state)
+last scope place first (pad which count a) = Pad which (given_code scope.look first.literal a)
 last scope place first (state_list states) = GoThrough (map tap_of states)
 last scope place first (wait_cycles state cycles usec end) = Wait (tap_or_idle state) (kind_of_wait usec) (tap_or_idle end)
 last scope place first (wait_usec state usec end) = Wait (tap_or_idle state) waits.Usec (tap_or_idle end)
@@ -200,12 +258,9 @@ row_literals (boolean_array name size (Some bits)) = bits ∷ []
 row_literals (assign_array name a) = array_literals a
 row_literals (assign_range name high low a) = array_literals a
 row_literals (export key (exported_array a)) = array_literals a
+row_literals (scan register count source target compare) = array_literals source ++ compare_literals compare
+row_literals (pad which count a) = given_literals a
 row_literals _ = []
-
--- the number behind these items
-abbrev pub past : {A : Type 0} → ℕ → List A → ℕ
-past n [] = n
-past n (x ∷ xs) = past (suc n) xs
 
 -- the numbers behind the texts and the literals of a row
 abbrev pub behind_row : Firsts → BodyTree → Firsts

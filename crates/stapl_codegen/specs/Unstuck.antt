@@ -1,5 +1,6 @@
--- That no run of an accepted program gets stuck, on whichever chain.
-use Rattle.std.specs.Prelude.{◌≡◌, ◌≢◌, ℕ, List}
+-- That no run of an accepted program gets stuck, on whichever chain that is in a stable state when the run begins.
+use Rattle.std.specs.Prelude.{◌≡◌, ◌≢◌, ℕ, true, List}
+use Rattle.tap_states.specs.Tap.{is_stable_state}
 use Rattle.stapl_meaning.specs.Deeds.{Chain}
 use Rattle.stapl_meaning.specs.States.{State, Turned}
 use Rattle.stapl_meaning.specs.Scopes.{Played, procedures_in}
@@ -21,8 +22,8 @@ pub record IsNotStuck (program : Played) (chosen : List ℕ) (n : ℕ) (k : Chai
       HasOneTurn program place (procedures_run program chosen n k).state
 
 -- No run of an accepted program gets stuck, whichever of its procedures are chosen, however many turns there are, and
--- whatever answers the clocks of the chain.
+-- whatever answers the clocks of the chain, which is in a stable state when the run begins.
 abbrev pub ProgramsAreNotStuck : Type 0
 ProgramsAreNotStuck =
     (program : Played) → IsAccepted program → (chosen : List ℕ) → AllBelow (procedures_in program.pieces) chosen →
-    (n : ℕ) (k : Chain) → IsNotStuck program chosen n k
+    (n : ℕ) (k : Chain) → is_stable_state k.tap ≡ true → IsNotStuck program chosen n k

@@ -13,9 +13,9 @@ use stapl_syntax::Expr;
 use std::alloc::{AllocError, Global};
 use tap_states::Tap;
 
-// The state of a number; no program has a number above 15.
+/// The state of a number; no program has a number above 15.
 #[tactic(auto, using(crate::proofs::Taps::tap_of_number, crate::proofs::Taps::no_tap))]
-fn tap(number: u8) -> Tap
+pub(crate) fn tap(number: u8) -> Tap
     ensures { result ≡ tap_of number }
 {
     if number < 16 {

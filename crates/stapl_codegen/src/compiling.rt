@@ -3,8 +3,7 @@ ghost use Rattle.std.specs.Prelude.{◌≡◌, ◌<◌, ◌≤◌, ◌^◌, leng
 ghost use Rattle.std.specs.List.{range_with_len};
 ghost use Rattle.stapl_syntax.specs.Trees.{trees};
 ghost use Rattle.stapl_syntax.specs.ProgramValues.{trees_of};
-ghost use Rattle.stapl_syntax.specs.Programs.{piece_limit};
-ghost use Rattle.stapl_built.specs.Unbuilt.{IsBuiltProgram};
+ghost use Rattle.stapl_syntax.specs.Programs.{piece_limit, IsProgram};
 ghost use Rattle.stapl_meaning.specs.Scopes.{program_names, as_played};
 ghost use Rattle.stapl_code.specs.Ranges.{IsInRange};
 ghost use Rattle.stapl_code.specs.Valid.{IsValid};
@@ -80,11 +79,11 @@ fn valid_lists(alloc: Global, program: &[Stmt]) -> Result<CodeLists, AllocError>
     Ok(lists)
 }
 
-/// The code of a built program, which stands for it.
+/// The code of a program, which stands for it.
 ///
 /// `AllocError` comes only for want of memory.
 pub fn generate(alloc: Global, program: &Program) -> Result<Code, AllocError>
-    requires { IsBuiltProgram program.now.text (trees_of program.now) }
+    requires { IsProgram program.now.text (trees_of program.now) }
     ensures { IfOk result (IsCodeOf (as_played (trees_of program.now))) }
 {
     programs_are_accepted();

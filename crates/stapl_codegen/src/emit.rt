@@ -350,9 +350,9 @@ impl<'a> Emitter<'a> {
         Ok(())
     }
 
-    // The indexes of a range of an array more, with their test.
+    /// The indexes of a range of an array more, with their test.
     #[tactic(auto, using(crate::proofs::Lists::expr_before, std::proofs::Common::append_assoc))]
-    fn range(&mut self, number: u32, high: &Expr, low: &Expr) -> Result<(), AllocError>
+    pub(crate) fn range(&mut self, number: u32, high: &Expr, low: &Expr) -> Result<(), AllocError>
         ensures code { OnOk result (self.new.code ≡ self.old.code
             ++ operands_code_in self.old (a_range number (expr_tree high.now) (expr_tree low.now))) }
         ensures texts { self.new.texts ≡ self.old.texts }
@@ -572,6 +572,18 @@ impl<'a> Emitter<'a> {
             Body::Exit(e) => {
                 self.expr(ValueKind::Int, e)?;
                 self.put(Instr::Exit)?;
+                Ok(())
+            }
+            Body::Scan(scan) => {
+                self.scan(scan)?;
+                Ok(())
+            }
+            Body::Stop(register, state) => {
+                self.stop(*register, *state)?;
+                Ok(())
+            }
+            Body::Pad(which, length, bits) => {
+                self.pad(*which, length, bits)?;
                 Ok(())
             }
             Body::State(states) => {

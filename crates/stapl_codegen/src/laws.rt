@@ -1,7 +1,7 @@
 //! Laws of the definitions.
 ghost use Rattle.std.specs.Prelude.{ℕ, List};
 ghost use Rattle.stapl_syntax.specs.Trees.{StmtTree};
-ghost use Rattle.stapl_built.specs.Unbuilt.{IsBuiltProgram};
+ghost use Rattle.stapl_syntax.specs.Programs.{IsProgram};
 ghost use Rattle.stapl_meaning.specs.Scopes.{Played, as_played};
 ghost use Rattle.stapl_code.specs.Ranges.{IsInRange};
 ghost use Rattle.stapl_code.specs.Valid.{IsValid};
@@ -10,9 +10,9 @@ ghost use Rattle.stapl_codegen.specs.Correct.{CodeStands};
 ghost use Rattle.stapl_codegen.specs.Generated.{lists_of, IsCodeOf};
 ghost use Rattle.stapl_codegen.specs.Unstuck.{ProgramsAreNotStuck};
 
-use stapl_built::laws::{programs_are_built, statements_are_no_longer_than_their_text};
 use stapl_code::laws::never_stuck;
 use stapl_meaning::laws::programs_are_typed;
+use stapl_shapes::laws::{programs_are_shaped, statements_are_no_longer_than_their_text};
 use stapl_syntax::laws::{blocks_are_well_named, literals_have_bits, texts_of_prints_are_short};
 
 /// The code of a program does what the program does.
@@ -20,12 +20,12 @@ pub fn code_stands()
     ensures { CodeStands }
 {}
 
-/// The compiler takes each built program.
+/// The compiler takes each program.
 pub fn programs_are_accepted()
-    ensures { (text : List ℕ) (program : List StmtTree) → IsBuiltProgram text program → IsAccepted (as_played program) }
+    ensures { (text : List ℕ) (program : List StmtTree) → IsProgram text program → IsAccepted (as_played program) }
 {
     programs_are_typed();
-    programs_are_built();
+    programs_are_shaped();
     statements_are_no_longer_than_their_text();
     blocks_are_well_named();
     texts_of_prints_are_short();
@@ -39,8 +39,8 @@ pub fn accepted_code_is_valid()
     ensures code { (program : Played) → IsAccepted program → IsCodeOf program (lists_of program) }
 {}
 
-/// No run of an accepted program gets stuck, on whichever chain: it has an ending after its turns, or it still goes on,
-/// and then there is exactly one turn.
+/// No run of an accepted program gets stuck, on whichever chain that is in a stable state when the run begins: it has an
+/// ending after its turns, or it still goes on, and then there is exactly one turn.
 pub fn programs_are_not_stuck()
     ensures { ProgramsAreNotStuck }
 {

@@ -9,6 +9,7 @@ mod draft;
 mod emit;
 pub mod laws;
 mod recording;
+mod scanning;
 mod tables;
 
 pub use compiling::generate;

@@ -12,7 +12,7 @@ use stapl_meaning::ValueKind;
 use stapl_names::{Names, is_bit_alone};
 use stapl_syntax::{Kind, UnOp, VarKind};
 
-/// The number of no operator. No machine carries out a Binary with it, so it stands for what is not built.
+/// The number of no operator. No machine carries out a Binary with it, so it stands for what no program has.
 pub(crate) const NO_OPERATOR: u8 = 255;
 
 /// One of two numbers, by the kind of the sides of an operator.
