@@ -16,22 +16,23 @@ use Rattle.stapl_meaning.specs.declared.values.Value.{Value}
 use Rattle.stapl_meaning.specs.declared.values.Value.TheVariants.{Int, Bit}
 use Rattle.stapl_meaning.specs.declared.values.Held.{Held}
 use Rattle.stapl_meaning.specs.declared.values.Held.TheVariants as held
-use Rattle.stapl_meaning.specs.Values.{Got, Known, Stuck, then_get, passed, bits_held, source_bits, asked, Whole, Range, OfInt}
+use Rattle.stapl_meaning.specs.Values.{Got, Known, Stuck, then_get, passed, bits_held, source_bits, asked, Whole, Range, OfInt, bits_of, bits_in}
 use Rattle.stapl_meaning.specs.Values as values
-use Rattle.stapl_meaning.specs.States.{State, Did}
+use Rattle.std.proofs.lemmas.Bool.Decides.{nat_tests}
+use Rattle.stapl_meaning.specs.States.{ScanSettings, State, Did, Falls}
 use Rattle.stapl_meaning.specs.declared.records.Record.{Record}
 use Rattle.stapl_machine.specs.Acts.{state_with}
 use Rattle.stapl_meaning.specs.Effects.{with_element, element_written, replaced, copied, span_written}
 use Rattle.stapl_code.specs.declared.instr.Dest.{Dest}
 use Rattle.stapl_code.specs.declared.instr.Dest.TheVariants as dests
-use Rattle.stapl_code.specs.Machine.{target_of}
+use Rattle.stapl_code.specs.Machine.{target_of, Made, Does, does}
 use Rattle.stapl_machine.specs.declared.operate.Stop.{Stop}
 use Rattle.stapl_machine.specs.declared.operate.Stop.TheVariants.{Fault, Wrong, Memory}
 use Rattle.stapl_machine.specs.declared.parts.Part.{Part}
 use Rattle.stapl_machine.specs.declared.parts.Span.{Span}
 use Rattle.stapl_machine.specs.Found.{IsSure}
 use Rattle.stapl_machine.proofs.PrintLemmas.{item_at}
-use Rattle.stapl_machine.specs.Arrays.{bits_of, bits_in, with_bits, span_in, HasPart, part_held, whole_span, range_span, IsFound, array_of, dest_span, behind_dest, with_part, bits_put, part_asked, integer_asked}
+use Rattle.stapl_machine.specs.Arrays.{with_bits, span_in, HasPart, part_held, whole_span, range_span, IsFound, array_of, dest_span, behind_dest, with_part, bits_put, part_asked, integer_asked}
 
 -- an integer of all its bits
 pub same_integer : (z : ℤ) → FitsSigned w32 z → int_of (take 32 (bits_of_int z)) ≡ z
@@ -142,12 +143,12 @@ part_inside None span h = absurd h
 part_inside (Some array) span h = h.inside
 
 -- what an instruction that copies does
-module _ (dest : Dest) (vs : List Value) (part : Part) (chosen : List ℕ) (records : List Record) (variables : List Held) (found : IsFound variables (array_of dest) (dest_span dest vs) part) where
+module _ (dest : Dest) (vs : List Value) (part : Part) (chosen : List ℕ) (records : List Record) (ir dr : ScanSettings) (variables : List Held) (found : IsFound variables (array_of dest) (dest_span dest vs) part) where
   pub copied_integer : (v : Value) → behind_dest dest vs ≡ v ∷ [] →
-      copied (target_of dest) OfInt vs (state_with chosen records variables) ≡ bits_put variables part (state_with chosen records variables) (integer_asked part v)
+      copied (target_of dest) OfInt vs (state_with chosen records ir dr variables) ≡ bits_put variables part (state_with chosen records ir dr variables) (integer_asked part v)
   copied_integer (Int z) e =
-      copied_at dest OfInt vs (Int z ∷ []) part (state_with chosen records variables) found e ∙ ap (bits_put variables part (state_with chosen records variables)) (asked_integer part.span.count z)
-  copied_integer (Bit b) e = copied_at dest OfInt vs (Bit b ∷ []) part (state_with chosen records variables) found e
+      copied_at dest OfInt vs (Int z ∷ []) part (state_with chosen records ir dr variables) found e ∙ ap (bits_put variables part (state_with chosen records ir dr variables)) (asked_integer part.span.count z)
+  copied_integer (Bit b) e = copied_at dest OfInt vs (Bit b ∷ []) part (state_with chosen records ir dr variables) found e
 
   -- the bits of a part of an array
   module _ (n : ℕ) (spans : ℕ → Got values.Span) (from : Part) (is : IsFound variables n spans from) where
@@ -165,19 +166,19 @@ module _ (dest : Dest) (vs : List Value) (part : Part) (chosen : List ℕ) (reco
         (part_inside (slice_get variables from.array) from.span is.is_part.has)
 
   pub copied_whole : (n : ℕ) (from : Part) → IsFound variables n whole_span from → behind_dest dest vs ≡ [] →
-      copied (target_of dest) (Whole n) vs (state_with chosen records variables) ≡ bits_put variables part (state_with chosen records variables) (part_asked variables part from)
+      copied (target_of dest) (Whole n) vs (state_with chosen records ir dr variables) ≡ bits_put variables part (state_with chosen records ir dr variables) (part_asked variables part from)
   copied_whole n from is e =
-      copied_at dest (Whole n) vs [] part (state_with chosen records variables) found e
-      ∙ ap (λ g. then_get g (λ bits. bits_put variables part (state_with chosen records variables) (asked (Whole n) part.span.count bits))) (whole_bits variables n ∙ known_bits n whole_span from is)
-      ∙ ap (bits_put variables part (state_with chosen records variables)) (asked_there n whole_span from is)
+      copied_at dest (Whole n) vs [] part (state_with chosen records ir dr variables) found e
+      ∙ ap (λ g. then_get g (λ bits. bits_put variables part (state_with chosen records ir dr variables) (asked (Whole n) part.span.count bits))) (whole_bits variables n ∙ known_bits n whole_span from is)
+      ∙ ap (bits_put variables part (state_with chosen records ir dr variables)) (asked_there n whole_span from is)
 
   pub copied_range : (n : ℕ) (high low : Value) (from : Part) → IsFound variables n (range_span high low) from → behind_dest dest vs ≡ high ∷ low ∷ [] →
-      copied (target_of dest) (Range n) vs (state_with chosen records variables) ≡ bits_put variables part (state_with chosen records variables) (part_asked variables part from)
+      copied (target_of dest) (Range n) vs (state_with chosen records ir dr variables) ≡ bits_put variables part (state_with chosen records ir dr variables) (part_asked variables part from)
   copied_range n high low from is e =
-      copied_at dest (Range n) vs (high ∷ low ∷ []) part (state_with chosen records variables) found e
-      ∙ ap (λ g. then_get g (λ bits. bits_put variables part (state_with chosen records variables) (asked (Range n) part.span.count bits)))
+      copied_at dest (Range n) vs (high ∷ low ∷ []) part (state_with chosen records ir dr variables) found e
+      ∙ ap (λ g. then_get g (λ bits. bits_put variables part (state_with chosen records ir dr variables) (asked (Range n) part.span.count bits)))
       (range_bits variables n high low ∙ known_bits n (range_span high low) from is)
-      ∙ ap (bits_put variables part (state_with chosen records variables)) (asked_there n (range_span high low) from is)
+      ∙ ap (bits_put variables part (state_with chosen records ir dr variables)) (asked_there n (range_span high low) from is)
 
 -- a variable that was taken out is put back, with bits of another one
 pub other_put : (variables : List Held) (part : Part) (from low : ℕ) (taken_out old new there : Held) → part.array < length variables → from < length variables → part.array ≢ from →
@@ -192,3 +193,14 @@ other_put variables part from low taken_out old new there inside within other ol
     (e
     ∙ ap (λ (b : List Bool). let h : Held = held.Bits (spliced part.span.low (taken low part.span.count b) (bits_of old)) in h) (sym (ap bits_in at_from))
     ∙ ap (λ (b : List Bool). let h : Held = held.Bits (spliced part.span.low (taken low part.span.count (bits_in (slice_get variables from))) b) in h) (sym (ap bits_in at_part)))
+
+-- the bits of an integer went into a part of an array
+pub integer_put : (part : Part) (v : Value) (z w : ℤ) (variables new : List Held) (chosen : List ℕ) (records : List Record) (ir dr : ScanSettings) → v ≡ Int z → w ≡ z → part.span.count ≤ 32 →
+    new ≡ with_part variables part (take part.span.count (bits_of_int w)) →
+    does (bits_put variables part (state_with chosen records ir dr variables) (integer_asked part v)) ≡ Known (Does (Falls [] (state_with chosen records ir dr new)))
+integer_put part v z w variables new chosen records ir dr is same few put =
+    let fits : nat_le part.span.count 32 ≡ true = grind (arith, nat_tests, few) in
+    ap (λ x. does (bits_put variables part (state_with chosen records ir dr variables) (integer_asked part x))) is
+    ∙ ap (λ (b : Bool). does (bits_put variables part (state_with chosen records ir dr variables) (passed b LengthMismatch (take part.span.count (bits_of_int z))))) fits
+    ∙ ap (λ l. let g : Got Made = Known (Does (Falls [] (state_with chosen records ir dr l))) in g)
+    (sym (put ∙ ap (λ (x : ℤ). with_part variables part (take part.span.count (bits_of_int x))) same))

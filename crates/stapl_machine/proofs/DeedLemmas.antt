@@ -10,14 +10,15 @@ use Rattle.scan_paths.specs.Cables.{Breakage, whole, input_of}
 use Rattle.scan_paths.proofs.Parts.{line_start, pins_start, part_then}
 use Rattle.stapl_meaning.specs.declared.events.Event.{Event}
 use Rattle.stapl_meaning.specs.declared.events.Event.TheVariants.{Clock as Pulse, Print, Export, Usec, Hertz}
-use Rattle.stapl_meaning.specs.Deeds.{Deed, Says, Goes, Chain, pulse, pulses, deed_events, deed_chain, deeds_events, deeds_chain}
+use Rattle.dev_card.specs.Scans.{BoardScan, inputs_of_scan, captured_from}
+use Rattle.stapl_meaning.specs.Deeds.{Deed, Says, Goes, Scans, Chain, pulse, pulses, deed_events, deed_chain, deeds_events, deeds_chain}
 use Rattle.stapl_meaning.specs.Texts.{bytes_of, event_bytes, digits_after, pin_line, event_line}
 use Rattle.stapl_machine.specs.declared.pin_cable.PinCable.{PinCable}
 use Rattle.stapl_machine.specs.Papers.{Shown, Puts, PutsFront}
 use Rattle.stapl_machine.specs.PaperLaws.{put_then, put_then_front, front_with}
 use Rattle.stapl_machine.specs.Pins.{cable_of, lines_of, tap_of, digits_of, writes_pins, IsSamePort, PutsEvents, port_chain}
 use Rattle.stapl_machine.specs.PinLaws.{same_port, same_both, put_none, events_both, events_both_front}
-use Rattle.stapl_machine.specs.Ports.{IsKept, Passes, PassesFront, chain_before, Did, DidFront}
+use Rattle.stapl_machine.specs.Ports.{IsKept, Passes, PassesFront, chain_before, Did, DidFront, DidScan}
 use Rattle.stapl_machine.proofs.FarLemmas.{heard_both, far_made, far_left, far_append}
 
 module _ {C O : Type 0} {breakage : PinCable C O → Breakage} {line_faults : C → ℕ} {is_line_last : C → Type 0} {pin_faults : C → ℕ} {is_pin_last : C → Type 0}
@@ -245,3 +246,18 @@ module _ {C O : Type 0} (breakage : PinCable C O → Breakage) (board : C → Op
           ∙ ap (λ (ks : List Clock). pulses ks ++ others) (far_made (board (cable_of old)) (board (cable_of old)) clocks front went_in more seen))
           ∙ append_assoc (pulses clocks) others behind);
     }
+
+  -- ---- a scan, and what it captured
+  module _ (old new : PinCable C O) (s : BoardScan) where
+    pub scan_did : (clocks : List Clock) (captured : List Bool) → tap_of new ≡ s.stop → IsSamePort old new → makes (cable_of old) clocks (cable_of new) → PutsEvents breakage shown old (pulses clocks) new →
+        map input_of clocks ≡ inputs_of_scan (tap_of old) s → ((cs : List Card) → board (cable_of old) ≡ Some cs → clocks ≡ clocks_of cs (inputs_of_scan (tap_of old) s)) →
+        board (cable_of new) ≡ option_map (λ cs. board_after cs (inputs_of_scan (tap_of old) s)) (board (cable_of old)) → captured ≡ captured_from (tap_of old) s clocks → DidScan breakage board makes shown s captured old new
+    unfolding one_did
+    scan_did clocks captured tap same made put went_in seen cards is =
+        let one = one_did old new s.stop (Scans s) (inputs_of_scan (tap_of old) s) (λ far. refl) (λ far. refl) [] clocks tap same made put went_in seen cards in
+        let did : Did breakage board makes shown (Scans s ∷ []) old [] new = record { events = pulses clocks; clocks = clocks; passed = record { same = same; made = made; put = put }; happened = one.happened; chain = one.chain } in
+        record {
+          did = did;
+          captured_is = λ more.
+              ap (captured_from (tap_of old) s) (far_made (board (cable_of old)) (board (cable_of new)) clocks (inputs_of_scan (tap_of old) s) went_in more seen) ∙ sym is;
+        }

@@ -9,6 +9,8 @@ pub mod MoveLemmas
 pub mod TurnLemmas
 pub mod TryLemmas
 pub mod RunLemmas
+pub mod SettingLemmas
+pub mod ScanLemmas
 pub mod Machines
 pub mod ArrayLemmas
 pub mod FarLemmas

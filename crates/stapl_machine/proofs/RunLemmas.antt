@@ -10,8 +10,8 @@ use Rattle.stapl_meaning.specs.declared.events.Ending.TheVariants.{Spent}
 use Rattle.stapl_meaning.specs.declared.records.Record.{Record}
 use Rattle.stapl_meaning.specs.declared.values.Value.{Value}
 use Rattle.stapl_meaning.specs.Deeds.{Chain}
-use Rattle.stapl_meaning.specs.States.{State, Happened, Led, Finished, Broke, Lacks, happens, with_events, happened_in_piece, next_chosen}
-use Rattle.stapl_meaning.specs.Plays.{Run, after, goes_on, ending_of, start}
+use Rattle.stapl_meaning.specs.States.{ScanSettings, State, Happened, Led, Finished, Broke, Lacks, happens, with_events, happened_in_piece, next_chosen}
+use Rattle.stapl_meaning.specs.Plays.{Run, after, goes_on, ending_of, first_settings, start}
 use Rattle.stapl_code.specs.declared.raw.CodeLists.{CodeLists}
 use Rattle.stapl_code.specs.Machine.{entry_of, begins_chosen, stretch}
 use Rattle.stapl_code.specs.Safe.{entries_of, constants_of}
@@ -21,7 +21,7 @@ use Rattle.stapl_machine.specs.declared.act.Workspace.{Workspace}
 use Rattle.stapl_machine.specs.declared.moves.Went.{Went}
 use Rattle.stapl_machine.specs.declared.moves.Went.TheVariants as went
 use Rattle.stapl_machine.specs.declared.pin_cable.PinCable.{PinCable}
-use Rattle.stapl_machine.specs.Acts.{state_with, state_of, operands_of}
+use Rattle.stapl_machine.specs.Acts.{IsUnused, state_with, state_of, operands_of}
 use Rattle.stapl_machine.specs.Moves.{led_to, led_on}
 use Rattle.stapl_machine.specs.Papers.{Shown}
 use Rattle.stapl_machine.specs.Pins.{cable_of, port_chain}
@@ -407,7 +407,7 @@ begun_piece entry piece (Broke events f s k) = refl
 begun_piece entry piece (Lacks events) = refl
 
 -- a play from registers with neither operand nor record, where no chosen procedure has begun
-module _ (code : CodeLists) (chosen : List ℕ) (work : Workspace) (n : ℕ) (none : work.operands.items ≡ []) (no_record : work.memory.records.items ≡ []) where
+module _ (code : CodeLists) (chosen : List ℕ) (work : Workspace) (n : ℕ) (none : work.operands.items ≡ []) (unused : IsUnused work.memory) where
   abbrev pub at_first : Workspace
   at_first = record work { next = 0 }
 
@@ -416,7 +416,10 @@ module _ (code : CodeLists) (chosen : List ℕ) (work : Workspace) (n : ℕ) (no
   started = start chosen work.memory.variables.items
 
   starts : state_of chosen at_first ≡ started
-  starts = ap (λ (l : List Record). state_with chosen (reverse l) work.memory.variables.items) no_record
+  starts =
+      ap (λ (l : List Record). state_with chosen (reverse l) work.memory.ir work.memory.dr work.memory.variables.items) unused.no_record
+      ∙ ap (λ (x : ScanSettings). state_with chosen [] x work.memory.dr work.memory.variables.items) unused.ir_first
+      ∙ ap (λ (x : ScanSettings). state_with chosen [] first_settings x work.memory.variables.items) unused.dr_first
 
   abbrev prologue : List Value → State → Chain → Happened
   prologue ops s k = stretch (entries_of code.procedures) (constants_of code) (length code.instrs) code.instrs ops s k

@@ -7,7 +7,7 @@ use Rattle.stapl_meaning.specs.Values.{Got}
 use Rattle.stapl_meaning.specs.States.{State, Leads, Over, jumps_to, next_chosen}
 use Rattle.stapl_code.specs.declared.instr.Instr.{Instr}
 use Rattle.stapl_code.specs.declared.raw.CodeLists.{CodeLists}
-use Rattle.stapl_code.specs.Machine.{Step, Falls, Stops, Faulted, Wrong, taken, taken_onto, on_taken, on_made, takes, lands, made, entry_of}
+use Rattle.stapl_code.specs.Machine.{Step, Falls, Scanned, Stops, Faulted, Wrong, taken, taken_onto, on_taken, on_made, takes, lands, made, entry_of}
 use Rattle.stapl_code.specs.Machine as machine
 use Rattle.stapl_code.specs.Safe.{entries_of, constants_of}
 use Rattle.stapl_machine.specs.declared.operate.Stop.{Stop}
@@ -15,6 +15,7 @@ use Rattle.stapl_machine.specs.declared.operate.Stop.TheVariants as stops
 use Rattle.stapl_machine.specs.declared.effects.Made.{Made}
 use Rattle.stapl_machine.specs.declared.effects.Made.TheVariants as mades
 use Rattle.stapl_machine.specs.declared.act.Workspace.{Workspace}
+use Rattle.stapl_machine.specs.Jobs.{job_scan, job_lands}
 use Rattle.stapl_machine.specs.Acts.{IsMade, IsActed, RestsAfter, told_by, deeds_told, operands_of, state_of, step_of, stepped}
 
 -- these values put on one after another
@@ -80,7 +81,7 @@ module _ (code : CodeLists) (i : Instr) (to : Option ℕ) (chosen : List ℕ) (o
   from_made g = on_made (entries_of code.procedures) to below old g
 
   abbrev Above : Made → Type 0
-  Above m = IsMade (Ok m) (told_by code i new.memory) old (state_of chosen new) g → (from_made g ≡ stepped code i to chosen m new) × RestsAfter m
+  Above m = IsMade (Ok m) (told_by code i new.memory) old (state_of chosen new) g → (from_made g ≡ stepped code i to chosen m new) × RestsAfter m new.memory
 
   above : below ≡ operands_of new → (m : Made) → Above m
   above e (mades.Put v) h =
@@ -91,6 +92,11 @@ module _ (code : CodeLists) (i : Instr) (to : Option ℕ) (chosen : List ℕ) (o
   above e mades.On h = (ap from_made h ∙ ap (λ b. Falls b (state_of chosen new)) e, tt)
   above e (mades.Acts d) h =
       (ap from_made h.0 ∙ ap (λ b. machine.acted (deeds_told (told_by code i new.memory) new.memory.variables.items d) b (state_of chosen new)) e, h.1)
+  above e (mades.Scans job) h = (
+    ap from_made h.0
+        ∙ ap (λ b. Scanned (job_scan new.memory.shifted job (state_of chosen new)) b (job_lands new.memory.shifted job (state_of chosen new))) e,
+    h.1,
+  )
   above e mades.Jump h = (ap from_made h ∙ ap (λ b. Stops b (jumps_to to (state_of chosen new))) e, tt)
   above e (mades.Resume place) h = (ap from_made h ∙ ap (λ b. Stops b (Leads [] place (state_of chosen new))) e, tt)
   above e mades.Returned h =

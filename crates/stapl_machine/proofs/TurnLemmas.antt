@@ -1,19 +1,21 @@
 -- On parts of a turn, one after another.
-use Rattle.std.proofs.Common.{◌≡◌, ◌≤◌, ◌<◌, ℕ, zero, suc, ◌+◌, ◌-◌, List, [], ◌∷◌, ◌++◌, length, drop, get_or, add-one, refl, sym, ap, subst, ◌∙◌, arith, length-drop, Option}
+use Rattle.std.proofs.Common.{◌≡◌, ◌≤◌, ◌<◌, ℕ, zero, suc, ◌+◌, ◌-◌, Bool, true, false, cond, List, [], ◌∷◌, ◌++◌, length, drop, get_or, add-one, refl, sym, ap, subst, ◌∙◌, arith, length-drop, Option}
 use Rattle.std.specs.Prelude.{slice_get, reverse, Some, None}
+use Rattle.tap_states.specs.Tap.{is_stable_state}
+use Rattle.dev_card.specs.Scans.{BoardScan}
 use Rattle.std.proofs.lemmas.List.{append-nil, drop_more}
 use Rattle.dev_card.specs.Card.{Card}
 use Rattle.dev_card.specs.Board.{Clock, tdos}
 use Rattle.scan_paths.specs.Cables.{Breakage, whole}
 use Rattle.stapl_meaning.specs.declared.events.Event.{Event}
 use Rattle.stapl_meaning.specs.declared.values.Value.{Value}
-use Rattle.stapl_meaning.specs.Deeds.{Deed, Chain, deeds_events, deeds_chain}
-use Rattle.stapl_meaning.specs.States.{State, Happened, Lacks, with_events, happened_in_piece}
+use Rattle.stapl_meaning.specs.Deeds.{Deed, Scans, Chain, deed_events, deed_chain, deeds_events, deeds_chain, captured_on}
+use Rattle.stapl_meaning.specs.States.{State, Happened, Lacks, with_events, scanned_on, happened_in_piece}
 use Rattle.stapl_code.specs.declared.instr.Instr.{Instr}
 use Rattle.stapl_code.specs.declared.instr.Instr.TheVariants.{Turn}
 use Rattle.stapl_code.specs.declared.raw.CodeLists.{CodeLists}
 use Rattle.stapl_code.specs.Machine.{Constants, step, stretch, begins, continues}
-use Rattle.stapl_code.specs.Ticks.{ticks, begin_ticks, tick_of, counted_behind}
+use Rattle.stapl_code.specs.Ticks.{ticks, begin_ticks, tick_of, counted_scan, counted_behind}
 use Rattle.stapl_code.specs.Safe.{entries_of, constants_of}
 use Rattle.stapl_code.proofs.Preceded.{with_nothing, with_both}
 use Rattle.stapl_machine.specs.declared.act.Workspace.{Workspace}
@@ -22,8 +24,8 @@ use Rattle.stapl_machine.specs.declared.pin_cable.PinCable.{PinCable}
 use Rattle.stapl_machine.specs.Acts.{state_of, operands_of, step_of}
 use Rattle.stapl_machine.specs.Moves.{moved_to, moved_ticks}
 use Rattle.stapl_machine.specs.Papers.{Shown}
-use Rattle.stapl_machine.specs.Pins.{cable_of, port_chain}
-use Rattle.stapl_machine.specs.Ports.{chain_before, Did, DidFront, Does, DoesFront}
+use Rattle.stapl_machine.specs.Pins.{cable_of, tap_of, port_chain}
+use Rattle.stapl_machine.specs.Ports.{chain_before, Did, DidFront, Captured, Does, DoesFront}
 use Rattle.stapl_machine.specs.Turns.{rest_of, ticks_from, piece_of, turn_at, ticks_at}
 use Rattle.stapl_machine.proofs.DeedLemmas.{passes_none, front_none, passes_both, passes_both_front, before_both}
 
@@ -77,6 +79,77 @@ module _ {C O : Type 0} (breakage : PinCable C O → Breakage) (board : C → Op
           t k ∙ ap (λ (es : List Event). with_events es (rest (deeds_chain k deeds))) (d.happened more)
           ∙ sym (with_both d.events (d.rest more) (rest (deeds_chain k deeds))));
       most = λ more. n (chain_before breakage board makes shown a d.clocks more);
+    }
+
+  -- nothing happens, and the turn is over from where the chain is
+  pub does_still_at : (a : PinCable C O) (turn rest : Chain → Happened) (count left : Chain → ℕ) (steps now : ℕ) → makes (cable_of a) [] (cable_of a) → breakage a ≡ whole →
+      ((more : List Bool) → turn (port_chain board a more) ≡ rest (port_chain board a more)) →
+      ((more : List Bool) → now + left (port_chain board a more) ≡ steps + count (port_chain board a more)) → Does breakage board makes shown turn count a steps rest left a now
+  does_still_at a turn rest count left steps now m w t n = record {
+    events = [];
+    clocks = [];
+    passed = passes_none breakage board makes shown a m w;
+    does = λ more. t more ∙ with_nothing (rest (port_chain board a more));
+    ticked = n;
+  }
+
+  -- a scan is done, from a stable state or not
+  module _ (a b : PinCable C O) (scan : BoardScan) (lands : List Bool → State) (turn : Chain → Happened) (count : Chain → ℕ) (go : State → Chain → Happened) (left : State → Chain → ℕ) (steps now : ℕ)
+      (t : (k : Chain) → turn k ≡ scanned_on k scan (λ bits l. go (lands bits) l)) (n : (k : Chain) → now + counted_scan k scan (λ bits l. left (lands bits) l) ≡ steps + count k) where
+    unstable_is : (k : Chain) → is_stable_state k.tap ≡ false → turn k ≡ Lacks []
+    unstable_is k e = t k ∙ ap (λ (c : Bool). cond c (with_events (deed_events k (Scans scan)) (go (lands (captured_on k scan)) (deed_chain k (Scans scan)))) (Lacks [])) e
+
+    unstable_counts : (k : Chain) → is_stable_state k.tap ≡ false → now + 0 ≡ steps + count k
+    unstable_counts k e = sym (ap (λ (c : Bool). now + (cond c (left (lands (captured_on k scan)) (deed_chain k (Scans scan))) 0)) e) ∙ n k
+
+    pub does_lack : is_stable_state (tap_of a) ≡ false → makes (cable_of a) [] (cable_of a) → breakage a ≡ whole →
+        Does breakage board makes shown turn count a steps (λ k. Lacks []) (λ k. 0) a now
+    does_lack e m w =
+        does_still_at a turn (λ k. Lacks []) count (λ k. 0) steps now m w (λ more. unstable_is (port_chain board a more) e) (λ more. unstable_counts (port_chain board a more) e)
+
+    stable_is : (k : Chain) → is_stable_state k.tap ≡ true → turn k ≡ with_events (deeds_events k (Scans scan ∷ [])) (go (lands (captured_on k scan)) (deeds_chain k (Scans scan ∷ [])))
+    stable_is k e =
+        t k ∙ ap (λ (c : Bool). cond c (with_events (deed_events k (Scans scan)) (go (lands (captured_on k scan)) (deed_chain k (Scans scan)))) (Lacks [])) e
+        ∙ ap (λ (es : List Event). with_events es (go (lands (captured_on k scan)) (deed_chain k (Scans scan)))) (sym (append-nil (deed_events k (Scans scan))))
+
+    stable_counts : (k : Chain) → is_stable_state k.tap ≡ true → now + left (lands (captured_on k scan)) (deed_chain k (Scans scan)) ≡ steps + count k
+    stable_counts k e = sym (ap (λ (c : Bool). now + (cond c (left (lands (captured_on k scan)) (deed_chain k (Scans scan))) 0)) e) ∙ n k
+
+    pub does_scan : is_stable_state (tap_of a) ≡ true → (s : State) → Captured breakage board makes shown scan lands a s b →
+        Does breakage board makes shown turn count a steps (go s) (left s) b now
+    does_scan e s c =
+        let d = c.did.did in
+        let lands_so : (more : List Bool) → lands (captured_on (chain_before breakage board makes shown a d.clocks more) scan) ≡ s = λ more. ap lands (c.did.captured_is more) ∙ sym c.landed in
+        record {
+          events = d.events;
+          clocks = d.clocks;
+          passed = d.passed;
+          does = λ more.
+              (let k = chain_before breakage board makes shown a d.clocks more in
+              stable_is k e
+              ∙ ap (λ (es : List Event). with_events es (go (lands (captured_on k scan)) (deeds_chain k (Scans scan ∷ [])))) (d.happened more ∙ append-nil d.events)
+              ∙ ap (λ (l : Chain). with_events d.events (go (lands (captured_on k scan)) l)) (d.chain more)
+              ∙ ap (λ (u : State). with_events d.events (go u (port_chain board b more))) (lands_so more));
+          ticked = λ more.
+              (let k = chain_before breakage board makes shown a d.clocks more in
+              ap (λ (l : Chain). now + left s l) (sym (d.chain more)) ∙ ap (λ (u : State). now + left u (deed_chain k (Scans scan))) (sym (lands_so more)) ∙ stable_counts k e);
+        }
+
+    pub does_scan_front : is_stable_state (tap_of a) ≡ true → DidFront breakage board makes shown (Scans scan ∷ []) a b →
+        DoesFront breakage board makes shown turn count a steps b now
+    does_scan_front e d = record {
+      events = d.events;
+      clocks = d.clocks;
+      passed = d.passed;
+      rest = λ more. let k = chain_before breakage board makes shown a d.clocks more in with_events (d.rest more) (go (lands (captured_on k scan)) (deeds_chain k (Scans scan ∷ [])));
+      does = λ more.
+          (let k = chain_before breakage board makes shown a d.clocks more in
+          let behind_it : Happened = go (lands (captured_on k scan)) (deeds_chain k (Scans scan ∷ [])) in
+          stable_is k e ∙ ap (λ (es : List Event). with_events es behind_it) (d.happened more) ∙ sym (with_both d.events (d.rest more) behind_it));
+      most = λ more.
+          (let k = chain_before breakage board makes shown a d.clocks more in
+          let counted : now + left (lands (captured_on k scan)) (deed_chain k (Scans scan)) ≡ steps + count k = stable_counts k e in
+          omega (arith, counted));
     }
 
   -- what is left, by another name

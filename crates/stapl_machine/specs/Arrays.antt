@@ -8,7 +8,7 @@ use Rattle.stapl_meaning.specs.declared.values.Value.{Value}
 use Rattle.stapl_meaning.specs.declared.values.Value.TheVariants.{Int, Bit}
 use Rattle.stapl_meaning.specs.declared.values.Held.{Held}
 use Rattle.stapl_meaning.specs.declared.values.Held.TheVariants as held
-use Rattle.stapl_meaning.specs.Values.{Got, Known, Stuck, then_get, passed, bits_held, span_of}
+use Rattle.stapl_meaning.specs.Values.{Got, Known, Stuck, then_get, passed, bits_held, bits_of, bits_in, span_of}
 use Rattle.stapl_meaning.specs.Values as values
 use Rattle.stapl_meaning.specs.States.{State, Did, Falls}
 use Rattle.stapl_meaning.specs.Effects.{with_variables}
@@ -23,15 +23,6 @@ use Rattle.stapl_machine.specs.Found.{IsMissed}
 abbrev pub place_in : ℤ → ℕ → Option ℕ
 place_in (pos i) n = if nat_lt i n then Some i else None
 place_in (negsuc i) n = None
-
--- the bits of a variable that is a BOOLEAN array
-abbrev pub bits_of : Held → List Bool
-bits_of (held.Bits bs) = bs
-bits_of _ = []
-
-abbrev pub bits_in : Option Held → List Bool
-bits_in (Some h) = bits_of h
-bits_in None = []
 
 -- a part of an array, by its lowest index and the number of its bits
 abbrev pub span_in : Span → values.Span

@@ -17,7 +17,7 @@ use Rattle.stapl_machine.specs.declared.effects.BitsAt.TheVariants as bits
 use Rattle.stapl_machine.specs.declared.effects.Exported.{Exported}
 use Rattle.stapl_machine.specs.declared.effects.Exported.TheVariants as exported
 use Rattle.stapl_machine.specs.declared.effects.Export.{Export}
-use Rattle.stapl_machine.specs.Arrays.{bits_in}
+use Rattle.stapl_meaning.specs.Values.{bits_in}
 
 -- a text or a literal, or nothing where there is none
 abbrev pub text_in : Option (List ℕ) → List ℕ

@@ -8,9 +8,12 @@ pub mod PinLaws
 pub mod Ports
 pub mod Resets
 pub mod Records
+pub mod PadSettings
+pub mod Settings
+pub mod Arrays
+pub mod Jobs
 pub mod Acts
 pub mod Tries
-pub mod Arrays
 pub mod Moves
 pub mod Turns
 pub mod Reaches

@@ -13,6 +13,7 @@ use Rattle.stapl_meaning.specs.Plays.{Run, ending_of}
 use Rattle.stapl_meaning.specs.Texts.{events_text}
 use Rattle.stapl_code.specs.declared.raw.CodeLists.{CodeLists}
 use Rattle.stapl_machine.specs.declared.running.Machine.{Machine}
+use Rattle.stapl_machine.specs.Acts.{IsUnused}
 use Rattle.stapl_machine.specs.Papers.{Shown, Puts, PutsFront}
 use Rattle.stapl_machine.specs.Resets.{kept_digits}
 use Rattle.stapl_machine.specs.Zeros.{zeros_of_code}
@@ -41,7 +42,7 @@ digits_in machine = machine.digits
 pub record IsReady (code : CodeLists) (machine : Machine) : Type 0 where
   pub variables_are : variables_in machine ≡ zeros_of_code code
   pub none : machine.work.operands.items ≡ []
-  pub no_record : machine.work.memory.records.items ≡ []
+  pub unused : IsUnused machine.work.memory
 
 -- the same, and it has made no clock yet
 pub record IsPrepared (code : CodeLists) (machine : Machine) : Type 0 where

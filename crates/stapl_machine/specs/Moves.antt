@@ -2,15 +2,18 @@
 use Rattle.std.specs.Prelude.{◌≡◌, ℕ, List, [], Some, None}
 use Rattle.stapl_meaning.specs.Deeds.{Chain, deeds_events, deeds_chain}
 use Rattle.stapl_meaning.specs.declared.values.Value.{Value}
-use Rattle.stapl_meaning.specs.States.{State, Turned, Leads, Over, NoTurn, Happened, Led, Finished, Lacks, with_events, happened_in_piece}
+use Rattle.stapl_meaning.specs.States.{State, Turned, Leads, Over, NoTurn, Happened, Led, Finished, Lacks, with_events, scanned_on, happened_in_piece}
 use Rattle.stapl_code.specs.declared.raw.CodeLists.{CodeLists}
 use Rattle.stapl_code.specs.declared.instr.Instr.{Instr}
+use Rattle.stapl_code.specs.Ticks.{counted_scan}
 use Rattle.stapl_machine.specs.declared.act.Workspace.{Workspace}
+use Rattle.stapl_machine.specs.declared.memory.Memory.{Memory}
 use Rattle.stapl_machine.specs.declared.moves.Went.{Went}
 use Rattle.stapl_machine.specs.declared.moves.Went.TheVariants as went
 use Rattle.stapl_machine.specs.declared.moves.Moved.{Moved}
 use Rattle.stapl_machine.specs.declared.moves.Moved.TheVariants as moved
 use Rattle.stapl_machine.specs.Acts.{state_of, operands_of, told_by, deeds_told, RestsIn}
+use Rattle.stapl_machine.specs.Jobs.{job_scan, job_lands, CanBeDone}
 
 -- where a turn led, and what that is on a chain
 abbrev pub led_to : Went → State → Turned
@@ -34,19 +37,27 @@ moved_to code i moved.On chosen work k go = happened_in_piece work.piece (go (op
 moved_to code i (moved.Acts d) chosen work k go =
     let deeds = deeds_told (told_by code i work.memory) work.memory.variables.items d in
     with_events (deeds_events k deeds) (happened_in_piece work.piece (go (operands_of work) (state_of chosen work) (deeds_chain k deeds)))
+moved_to code i (moved.Scans job) chosen work k go =
+    let s = state_of chosen work in
+    scanned_on k (job_scan work.memory.shifted job s)
+    (λ bits l. happened_in_piece work.piece (go (operands_of work) (job_lands work.memory.shifted job s bits) l))
 moved_to code i (moved.Ends w) chosen work k go = led_on w (state_of chosen work) k
 
 abbrev pub moved_ticks : CodeLists → Instr → Moved → List ℕ → Workspace → Chain → (List Value → State → Chain → ℕ) → ℕ
 moved_ticks code i moved.On chosen work k go = go (operands_of work) (state_of chosen work) k
 moved_ticks code i (moved.Acts d) chosen work k go =
     go (operands_of work) (state_of chosen work) (deeds_chain k (deeds_told (told_by code i work.memory) work.memory.variables.items d))
+moved_ticks code i (moved.Scans job) chosen work k go =
+    let s = state_of chosen work in
+    counted_scan k (job_scan work.memory.shifted job s) (λ bits l. go (operands_of work) (job_lands work.memory.shifted job s bits) l)
 moved_ticks code i (moved.Ends w) chosen work k go = 0
 
 abbrev pub IsCleanMove : Moved → Workspace → Type 0
 IsCleanMove (moved.Ends w) work = IsClean w work.operands.items
 IsCleanMove _ work = Unit {0}
 
--- where a wait is still to be done, it stays in a stable state
-abbrev pub RestsBehind : Moved → Type 0
-RestsBehind (moved.Acts d) = RestsIn d
-RestsBehind _ = Unit {0}
+-- where a wait is still to be done, it stays in a stable state, and a scan can be done
+abbrev pub RestsBehind : Moved → Memory → Type 0
+RestsBehind (moved.Acts d) memory = RestsIn d
+RestsBehind (moved.Scans job) memory = CanBeDone memory.variables.items memory.shifted job
+RestsBehind _ memory = Unit {0}

@@ -1,12 +1,13 @@
 -- What deeds, turns and runs do over a cable whose clocks are written. Where that cable tells no board, the TDO bits of the
 -- clocks that were made answer, and whatever is still to be heard.
-use Rattle.std.specs.Prelude.{◌≡◌, ℕ, ◌+◌, ◌≤◌, Bool, List, ◌++◌, Option, Some, None, Result, Ok, Err, IfErr, OnOk}
+use Rattle.std.specs.Prelude.{◌≡◌, ℕ, ◌+◌, ◌≤◌, Bool, List, [], ◌∷◌, ◌++◌, Option, Some, None, Result, Ok, Err, IfErr, OnOk}
 use Rattle.dev_card.specs.Card.{Card}
 use Rattle.dev_card.specs.Board.{Clock, tdos, AllIn}
 use Rattle.scan_paths.specs.Cables.{Breakage, whole, line, pins, HasPartCause, WhereTold}
 use Rattle.stapl_meaning.specs.declared.events.Event.{Event}
 use Rattle.stapl_meaning.specs.declared.events.Ending.{Ending}
-use Rattle.stapl_meaning.specs.Deeds.{Deed, Chain, deeds_events, deeds_chain}
+use Rattle.dev_card.specs.Scans.{BoardScan}
+use Rattle.stapl_meaning.specs.Deeds.{Deed, Scans, Chain, deeds_events, deeds_chain, captured_on}
 use Rattle.stapl_meaning.specs.States.{State, Happened, with_events}
 use Rattle.stapl_meaning.specs.Plays.{Run, after, ending_of}
 use Rattle.stapl_meaning.specs.Texts.{bytes_of, events_text}
@@ -73,6 +74,17 @@ module _ {C O : Type 0} (breakage : PinCable C O → Breakage) (board : C → Op
     pub passed : Passes old events clocks new
     pub happened : (more : List Bool) → deeds_events (chain_before old clocks more) all ≡ events ++ deeds_events (port_chain board new more) rest
     pub chain : (more : List Bool) → deeds_chain (chain_before old clocks more) all ≡ deeds_chain (port_chain board new more) rest
+
+  -- A scan was done, and these bits were captured.
+  pub record DidScan (scan : BoardScan) (captured : List Bool) (old new : PinCable C O) : Type 0 where
+    pub did : Did (Scans scan ∷ []) old [] new
+    pub captured_is : (more : List Bool) → captured_on (chain_before old did.clocks more) scan ≡ captured
+
+  -- A scan was done, and its captured bits landed so.
+  pub record Captured (scan : BoardScan) (lands : List Bool → State) (old : PinCable C O) (s : State) (new : PinCable C O) : Type 0 where
+    pub captured : List Bool
+    pub did : DidScan scan captured old new
+    pub landed : s ≡ lands captured
 
   -- A front of what they come to was done.
   pub record DidFront (all : List Deed) (old new : PinCable C O) : Type 0 where

@@ -1,6 +1,6 @@
 //! What the machine does at an instruction.
 ghost use Rattle.std.specs.Prelude.{◌≡◌, ◌<◌, ◌≤◌, ◌+◌, ◌^◌, List, ℕ, Option, length, drop};
-ghost use Rattle.stapl_code.specs.Machine.{made, takes, lands, Slot, source_slots, dest_slots, export_slots, wait_slots};
+ghost use Rattle.stapl_code.specs.Machine.{made, takes, lands, Slot, source_slots, dest_slots, given_slots, target_slots, cell_slots, compare_slots, scan_slots, export_slots, wait_slots};
 ghost use Rattle.stapl_code.specs.declared.raw.CodeLists.{CodeLists};
 ghost use Rattle.stapl_code.specs.Safe.{entries_of, constants_of};
 ghost use Rattle.stapl_machine.specs.Acts.{IsMade, IsActed, told_by, state_in, step_of};
@@ -17,8 +17,11 @@ use crate::operate::Stop;
 use crate::parts::check_range;
 use crate::printing::{count_operands, print};
 use crate::records::{call, end_procedure, pop_value, push_value};
+use crate::scanning::{pad, scan, stop};
 use crate::waiting::{go_through, tune, wait};
-use stapl_code::{CodeLists, Dest, ExportPart, Instr, Source, operator_of, unary_kind};
+use stapl_code::{
+    Cell, CodeLists, Compare, Dest, ExportPart, Instr, Scan, Source, operator_of, unary_kind,
+};
 use stapl_meaning::{Value, WaitKind};
 
 /// What a run keeps: the memory, the operands in the order in which they were put on, how many of the chosen procedures
@@ -91,6 +94,9 @@ fn make(
         Instr::Export(key, part) => export(code, *key, *part, values, &memory.variables),
         Instr::CheckChar => check_character(values),
         Instr::Exit => exit(values),
+        Instr::Scan(plan) => scan(code.literals.as_slice(), plan, values, memory),
+        Instr::Stop(register, state) => stop(*register, *state, values, memory),
+        Instr::Pad(which, source) => pad(code.literals.as_slice(), *which, *source, values, memory),
         Instr::State(_) => go_through(values),
         Instr::Wait(at, kind, last) => wait(*at, *kind, *last, values),
         Instr::Frequency(_) => tune(values),
@@ -118,6 +124,59 @@ fn dest_takes(dest: Dest) -> usize
         Dest::Whole(_) => 0,
         Dest::Range(_) => 2,
     }
+}
+
+// How many operands a source takes that may be left out.
+fn given_takes(source: Option<Source>) -> usize
+    ensures count { result ≡ length (given_slots source) }
+    ensures small { result ≤ 2 }
+{
+    match source {
+        None => 0,
+        Some(source) => source_takes(source),
+    }
+}
+
+// How many operands the target of a scan takes.
+fn target_takes(target: Option<Dest>) -> usize
+    ensures count { result ≡ length (target_slots target) }
+    ensures small { result ≤ 2 }
+{
+    match target {
+        None => 0,
+        Some(dest) => dest_takes(dest),
+    }
+}
+
+// How many operands a comparison takes.
+fn cell_takes(cell: Cell) -> usize
+    ensures count { result ≡ length (cell_slots cell) }
+    ensures small { result ≤ 1 }
+{
+    match cell {
+        Cell::Scalar(_) => 0,
+        Cell::Element(_) => 1,
+    }
+}
+
+fn compare_takes(compare: Option<Compare>) -> usize
+    ensures count { result ≡ length (compare_slots compare) }
+    ensures small { result ≤ 5 }
+{
+    match compare {
+        None => 0,
+        Some(compare) => {
+            source_takes(compare.expected) + (source_takes(compare.mask) + cell_takes(compare.cell))
+        }
+    }
+}
+
+// How many operands a Scan takes behind its length.
+fn scan_takes(scan: &Scan) -> usize
+    ensures count { result ≡ length (scan_slots scan.now) }
+    ensures small { result ≤ 9 }
+{
+    source_takes(scan.source) + (target_takes(scan.target) + compare_takes(scan.compare))
 }
 
 // How many operands a Wait takes.
@@ -156,7 +215,10 @@ fn takes(instr: &Instr) -> usize
         | Instr::Call(_)
         | Instr::Jump(_)
         | Instr::EndProc
+        | Instr::Stop(_, _)
         | Instr::State(_) => 0,
+        Instr::Scan(scan) => 1 + scan_takes(scan),
+        Instr::Pad(_, source) => 1 + given_takes(*source),
         Instr::Wait(_, kind, _) => wait_takes(*kind),
         Instr::Frequency(stated) => usize::from(*stated),
         Instr::LoadAt(_)

@@ -3,7 +3,7 @@ ghost use Rattle.std.specs.Prelude.{◌≡◌, ◌≢◌, ◌<◌, IfErr, OnErr,
 ghost use Rattle.stapl_meaning.specs.declared.values.Value.TheVariants.{Int, Bit};
 ghost use Rattle.stapl_meaning.specs.declared.events.RunFault.TheVariants.{IndexOutOfRange};
 ghost use Rattle.stapl_meaning.specs.Values.{Known, is_index, passed, item_at, element_of, index_held, padded};
-ghost use Rattle.stapl_meaning.specs.States.{State};
+ghost use Rattle.stapl_meaning.specs.States.{ScanSettings, State};
 ghost use Rattle.stapl_meaning.specs.declared.records.Record.{Record};
 ghost use Rattle.stapl_meaning.specs.Effects.{with_element, element_written, element_assigned, with_integers, integers_set, replaced};
 ghost use Rattle.stapl_code.specs.Machine.{one, does};
@@ -192,10 +192,10 @@ pub fn store_at(variables: &mut Vec<Held>, n: u32, index: i32, value: Value) -> 
 
 /// A value goes into the element of an array at an index.
 pub fn assign_at(variables: &mut Vec<Held>, n: u32, values: &[Value]) -> Result<Made, Stop>
-    ensures made { (told : Told) (chosen : List ℕ) (records : List Record) →
-        IsMade result told (state_with chosen records variables.old.items)
-        (state_with chosen records variables.new.items)
-        (does (element_assigned n values.now (state_with chosen records variables.old.items))) }
+    ensures made { (told : Told) (chosen : List ℕ) (records : List Record) (ir dr : ScanSettings) →
+        IsMade result told (state_with chosen records ir dr variables.old.items)
+        (state_with chosen records ir dr variables.new.items)
+        (does (element_assigned n values.now (state_with chosen records ir dr variables.old.items))) }
     ensures sure { IfErr result (λ stop. stop ≢ Stop.Memory) }
 {
     match values {
@@ -252,10 +252,10 @@ pub fn set_integers(
     list: &[i32],
     values: &[Value],
 ) -> Result<Made, Stop>
-    ensures made { (told : Told) (chosen : List ℕ) (records : List Record) →
-        IsMade result told (state_with chosen records variables.old.items)
-        (state_with chosen records variables.new.items)
-        (does (integers_set n list.now values.now (state_with chosen records variables.old.items))) }
+    ensures made { (told : Told) (chosen : List ℕ) (records : List Record) (ir dr : ScanSettings) →
+        IsMade result told (state_with chosen records ir dr variables.old.items)
+        (state_with chosen records ir dr variables.new.items)
+        (does (integers_set n list.now values.now (state_with chosen records ir dr variables.old.items))) }
     ensures sure { IfErr result (λ stop. stop ≢ Stop.Memory) }
 {
     match values {

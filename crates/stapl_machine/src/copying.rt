@@ -3,14 +3,14 @@ ghost use Rattle.std.specs.Prelude.{◌≡◌, ◌≢◌, ◌<◌, ◌≤◌, �
 ghost use Rattle.std.specs.Prelude.{IfErr, List, ℕ, length, slice_get, take, false};
 ghost use Rattle.bit_list.specs.Integers.{bits_of_int, int_of};
 ghost use Rattle.bit_list.specs.Ranges.{taken};
-ghost use Rattle.stapl_meaning.specs.Values.{These, Whole, Range, OfInt, padded, then_get, integer_from, source_integer};
-ghost use Rattle.stapl_meaning.specs.States.{State};
+ghost use Rattle.stapl_meaning.specs.Values.{These, Whole, Range, OfInt, padded, then_get, integer_from, source_integer, bits_of, bits_in};
+ghost use Rattle.stapl_meaning.specs.States.{ScanSettings, State};
 ghost use Rattle.stapl_meaning.specs.declared.records.Record.{Record};
 ghost use Rattle.stapl_meaning.specs.Effects.{copied};
 ghost use Rattle.stapl_code.specs.Machine.{puts, does, known_source, target_of};
 ghost use Rattle.stapl_machine.specs.Found.{IsValue};
 ghost use Rattle.stapl_machine.specs.Acts.{IsMade, Told, state_with};
-ghost use Rattle.stapl_machine.specs.Arrays.{bits_of, bits_in, HasSpan, IsPart, with_bits, with_part, bits_put, part_asked, integer_asked};
+ghost use Rattle.stapl_machine.specs.Arrays.{HasSpan, IsPart, with_bits, with_part, bits_put, part_asked, integer_asked};
 
 use crate::effects::Made;
 use crate::operate::Stop;
@@ -116,10 +116,10 @@ fn put_part(variables: &mut Vec<Held>, part: Part, from: Part)
 fn copy_part(variables: &mut Vec<Held>, part: Part, from: Part) -> Result<Made, Stop>
     requires is_part { IsPart variables.old.items part }
     requires source { IsPart variables.old.items from }
-    ensures made { (told : Told) (chosen : List ℕ) (records : List Record) →
-        IsMade result told (state_with chosen records variables.old.items)
-        (state_with chosen records variables.new.items)
-        (does (bits_put variables.old.items part (state_with chosen records variables.old.items)
+    ensures made { (told : Told) (chosen : List ℕ) (records : List Record) (ir dr : ScanSettings) →
+        IsMade result told (state_with chosen records ir dr variables.old.items)
+        (state_with chosen records ir dr variables.new.items)
+        (does (bits_put variables.old.items part (state_with chosen records ir dr variables.old.items)
         (part_asked variables.old.items part from))) }
     ensures sure { IfErr result (λ stop. stop ≢ Stop.Memory) }
 {
@@ -136,11 +136,11 @@ fn copy_literal(
     values: &[Value],
     variables: &mut Vec<Held>,
 ) -> Result<Made, Stop>
-    ensures made { (told : Told) (chosen : List ℕ) (records : List Record) →
-        IsMade result told (state_with chosen records variables.old.items)
-        (state_with chosen records variables.new.items)
+    ensures made { (told : Told) (chosen : List ℕ) (records : List Record) (ir dr : ScanSettings) →
+        IsMade result told (state_with chosen records ir dr variables.old.items)
+        (state_with chosen records ir dr variables.new.items)
         (does (copied (target_of dest) (These literal.now) values.now
-        (state_with chosen records variables.old.items))) }
+        (state_with chosen records ir dr variables.old.items))) }
     ensures sure { IfErr result (λ stop. stop ≢ Stop.Memory) }
 {
     let part = place(variables, dest, values)?;
@@ -159,10 +159,10 @@ fn copy_whole(
     values: &[Value],
     variables: &mut Vec<Held>,
 ) -> Result<Made, Stop>
-    ensures made { (told : Told) (chosen : List ℕ) (records : List Record) →
-        IsMade result told (state_with chosen records variables.old.items)
-        (state_with chosen records variables.new.items)
-        (does (copied (target_of dest) (Whole from) values.now (state_with chosen records variables.old.items))) }
+    ensures made { (told : Told) (chosen : List ℕ) (records : List Record) (ir dr : ScanSettings) →
+        IsMade result told (state_with chosen records ir dr variables.old.items)
+        (state_with chosen records ir dr variables.new.items)
+        (does (copied (target_of dest) (Whole from) values.now (state_with chosen records ir dr variables.old.items))) }
     ensures sure { IfErr result (λ stop. stop ≢ Stop.Memory) }
 {
     let part = place(variables, dest, values)?;
@@ -181,10 +181,10 @@ fn copy_range(
     values: &[Value],
     variables: &mut Vec<Held>,
 ) -> Result<Made, Stop>
-    ensures made { (told : Told) (chosen : List ℕ) (records : List Record) →
-        IsMade result told (state_with chosen records variables.old.items)
-        (state_with chosen records variables.new.items)
-        (does (copied (target_of dest) (Range from) values.now (state_with chosen records variables.old.items))) }
+    ensures made { (told : Told) (chosen : List ℕ) (records : List Record) (ir dr : ScanSettings) →
+        IsMade result told (state_with chosen records ir dr variables.old.items)
+        (state_with chosen records ir dr variables.new.items)
+        (does (copied (target_of dest) (Range from) values.now (state_with chosen records ir dr variables.old.items))) }
     ensures sure { IfErr result (λ stop. stop ≢ Stop.Memory) }
 {
     let part = place(variables, dest, values)?;
@@ -200,10 +200,10 @@ fn copy_range(
 // As many bits of an integer as a part of an array has go there.
 fn fill_integer(variables: &mut Vec<Held>, part: Part, value: Value) -> Result<Made, Stop>
     requires is_part { IsPart variables.old.items part }
-    ensures made { (told : Told) (chosen : List ℕ) (records : List Record) →
-        IsMade result told (state_with chosen records variables.old.items)
-        (state_with chosen records variables.new.items)
-        (does (bits_put variables.old.items part (state_with chosen records variables.old.items)
+    ensures made { (told : Told) (chosen : List ℕ) (records : List Record) (ir dr : ScanSettings) →
+        IsMade result told (state_with chosen records ir dr variables.old.items)
+        (state_with chosen records ir dr variables.new.items)
+        (does (bits_put variables.old.items part (state_with chosen records ir dr variables.old.items)
         (integer_asked part value))) }
     ensures sure { IfErr result (λ stop. stop ≢ Stop.Memory) }
 {
@@ -220,10 +220,10 @@ fn fill_integer(variables: &mut Vec<Held>, part: Part, value: Value) -> Result<M
 }
 
 fn copy_integer(dest: Dest, values: &[Value], variables: &mut Vec<Held>) -> Result<Made, Stop>
-    ensures made { (told : Told) (chosen : List ℕ) (records : List Record) →
-        IsMade result told (state_with chosen records variables.old.items)
-        (state_with chosen records variables.new.items)
-        (does (copied (target_of dest) OfInt values.now (state_with chosen records variables.old.items))) }
+    ensures made { (told : Told) (chosen : List ℕ) (records : List Record) (ir dr : ScanSettings) →
+        IsMade result told (state_with chosen records ir dr variables.old.items)
+        (state_with chosen records ir dr variables.new.items)
+        (does (copied (target_of dest) OfInt values.now (state_with chosen records ir dr variables.old.items))) }
     ensures sure { IfErr result (λ stop. stop ≢ Stop.Memory) }
 {
     let part = place(variables, dest, values)?;
@@ -241,11 +241,11 @@ pub fn copy(
     values: &[Value],
     variables: &mut Vec<Held>,
 ) -> Result<Made, Stop>
-    ensures made { (told : Told) (chosen : List ℕ) (records : List Record) →
-        IsMade result told (state_with chosen records variables.old.items)
-        (state_with chosen records variables.new.items)
+    ensures made { (told : Told) (chosen : List ℕ) (records : List Record) (ir dr : ScanSettings) →
+        IsMade result told (state_with chosen records ir dr variables.old.items)
+        (state_with chosen records ir dr variables.new.items)
         (does (then_get (known_source literals.now source)
-        (λ from. copied (target_of dest) from values.now (state_with chosen records variables.old.items)))) }
+        (λ from. copied (target_of dest) from values.now (state_with chosen records ir dr variables.old.items)))) }
     ensures sure { IfErr result (λ stop. stop ≢ Stop.Memory) }
 {
     match source {

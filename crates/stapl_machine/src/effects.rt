@@ -2,7 +2,7 @@
 ghost use Rattle.std.specs.Prelude.{◌≡◌, ◌≢◌, IfErr, List, ℕ, slice_get, false};
 ghost use Rattle.stapl_meaning.specs.Values.{scalar_of};
 ghost use Rattle.stapl_meaning.specs.Operands.{character_of};
-ghost use Rattle.stapl_meaning.specs.States.{State};
+ghost use Rattle.stapl_meaning.specs.States.{ScanSettings, State};
 ghost use Rattle.stapl_meaning.specs.declared.records.Record.{Record};
 ghost use Rattle.stapl_meaning.specs.Effects.{with_scalar, scalar_written, assigned, jumped, parted, exited};
 ghost use Rattle.stapl_code.specs.Machine.{bit_of, operated, signed_by, one, two, puts, does};
@@ -13,6 +13,7 @@ ghost use Rattle.stapl_machine.specs.Acts.{IsMade, Told, state_with};
 use crate::operate::{Stop, absolute, combine, sign};
 use crate::parts::Part;
 use stapl_code::operator_of;
+use stapl_lexer::Register;
 use stapl_meaning::{Ending, Held, RunFault, Value};
 use stapl_syntax::UnOp;
 use tap_states::Tap;
@@ -53,6 +54,22 @@ pub struct Wait {
     pub last: Tap,
 }
 
+/// The cell of the result of a comparison: a scalar, or an element at an index.
+#[derive(Clone, Copy, Debug, PartialEq, Eq)]
+pub enum CellAt {
+    Scalar(u32),
+    Element(u32, i32),
+}
+
+/// A scan that is still to be done, whose bits were taken: its registers, where the captured bits go, and if they are
+/// compared, where the result goes.
+#[derive(Clone, Copy, Debug, PartialEq, Eq)]
+pub struct ScanJob {
+    pub register: Register,
+    pub target: Option<Part>,
+    pub cell: Option<CellAt>,
+}
+
 /// What is still to be done to the outside.
 #[derive(Clone, Copy, Debug, PartialEq, Eq)]
 pub enum Doing {
@@ -81,6 +98,8 @@ pub enum Made {
     On,
     /// It goes on, with something that is still to be done to the outside.
     Acts(Doing),
+    /// It goes on, with a scan that is still to be done.
+    Scans(ScanJob),
     /// It goes to its target.
     Jump,
     /// It goes to the place that a record kept.
@@ -136,10 +155,10 @@ pub fn store(variables: &mut Vec<Held>, n: u32, value: Value) -> bool
 
 /// A value goes into a scalar variable.
 pub fn assign(variables: &mut Vec<Held>, n: u32, values: &[Value]) -> Result<Made, Stop>
-    ensures made { (told : Told) (chosen : List ℕ) (records : List Record) →
-        IsMade result told (state_with chosen records variables.old.items)
-        (state_with chosen records variables.new.items)
-        (does (assigned n values.now (state_with chosen records variables.old.items))) }
+    ensures made { (told : Told) (chosen : List ℕ) (records : List Record) (ir dr : ScanSettings) →
+        IsMade result told (state_with chosen records ir dr variables.old.items)
+        (state_with chosen records ir dr variables.new.items)
+        (does (assigned n values.now (state_with chosen records ir dr variables.old.items))) }
     ensures sure { IfErr result (λ stop. stop ≢ Stop.Memory) }
 {
     match values {

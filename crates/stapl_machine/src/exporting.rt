@@ -1,15 +1,17 @@
 //! What an Export exports.
-ghost use Rattle.std.specs.Prelude.{◌≡◌, ◌≢◌, ◌∷◌, [], IfErr, List, ℕ, slice_get};
+ghost use Rattle.std.specs.Prelude.{◌≡◌, ◌≢◌, ◌∷◌, [], IfOk, IfErr, List, ℕ, slice_get};
 ghost use Rattle.stapl_meaning.specs.declared.events.Event.TheVariants as events;
 ghost use Rattle.stapl_meaning.specs.declared.records.Record.{Record};
 ghost use Rattle.stapl_meaning.specs.Values.{Known, Whole, Range, OfInt, then_get, source_bits};
 ghost use Rattle.stapl_meaning.specs.Deeds.{Says};
-ghost use Rattle.stapl_meaning.specs.States.{State, Falls};
+ghost use Rattle.stapl_meaning.specs.States.{ScanSettings, State, Falls};
 ghost use Rattle.stapl_meaning.specs.Effects.{exported, bits_exported};
 ghost use Rattle.stapl_code.specs.Machine.{known_text, known_literal, known_source, part_exported, does};
 ghost use Rattle.stapl_code.specs.Safe.{constants_of};
+ghost use Rattle.stapl_machine.specs.declared.memory.Shifted.{Shifted};
 ghost use Rattle.stapl_machine.specs.Found.{IsSure};
 ghost use Rattle.stapl_machine.specs.Exports.{bits_at, value_exported};
+ghost use Rattle.stapl_machine.specs.Jobs.{IsThere, IsOf};
 ghost use Rattle.stapl_machine.specs.Acts.{IsMade, state_with};
 
 use crate::effects::{BitsAt, Doing, Export, Exported, Made};
@@ -25,8 +27,10 @@ fn literal_bits(
     values: &[Value],
     variables: &[Held],
 ) -> Result<BitsAt, Stop>
-    ensures { IsSure (λ at g. g ≡ Known (bits_at literals.now variables.now at)) result
+    ensures is { IsSure (λ at g. g ≡ Known (bits_at literals.now variables.now at)) result
         (then_get (known_literal (slice_get literals.now n)) (λ from. source_bits variables.now from values.now)) }
+    ensures there { IfOk result (IsThere literals.now variables.now) }
+    ensures kind { IfOk result (IsOf (Source.Literal n)) }
 {
     match literals.get(n as usize) {
         Some(_) => match values {
@@ -43,8 +47,10 @@ fn whole_bits(
     values: &[Value],
     variables: &[Held],
 ) -> Result<BitsAt, Stop>
-    ensures { IsSure (λ at g. g ≡ Known (bits_at literals.now variables.now at)) result
+    ensures is { IsSure (λ at g. g ≡ Known (bits_at literals.now variables.now at)) result
         (source_bits variables.now (Whole n) values.now) }
+    ensures there { IfOk result (IsThere literals.now variables.now) }
+    ensures kind { IfOk result (IsOf (Source.Whole n)) }
 {
     match values {
         [] => Ok(BitsAt::Part(whole(variables, n)?)),
@@ -58,8 +64,10 @@ fn range_bits(
     values: &[Value],
     variables: &[Held],
 ) -> Result<BitsAt, Stop>
-    ensures { IsSure (λ at g. g ≡ Known (bits_at literals.now variables.now at)) result
+    ensures is { IsSure (λ at g. g ≡ Known (bits_at literals.now variables.now at)) result
         (source_bits variables.now (Range n) values.now) }
+    ensures there { IfOk result (IsThere literals.now variables.now) }
+    ensures kind { IfOk result (IsOf (Source.Range n)) }
 {
     match values {
         [high, low] => Ok(BitsAt::Part(range(variables, n, *high, *low)?)),
@@ -68,8 +76,10 @@ fn range_bits(
 }
 
 fn integer_bits(literals: &[Bits], values: &[Value], variables: &[Held]) -> Result<BitsAt, Stop>
-    ensures { IsSure (λ at g. g ≡ Known (bits_at literals.now variables.now at)) result
+    ensures is { IsSure (λ at g. g ≡ Known (bits_at literals.now variables.now at)) result
         (source_bits variables.now OfInt values.now) }
+    ensures there { IfOk result (IsThere literals.now variables.now) }
+    ensures kind { IfOk result (IsOf Source.FromInt) }
 {
     match values {
         [Value::Int(z)] => Ok(BitsAt::Integer(*z)),
@@ -77,15 +87,17 @@ fn integer_bits(literals: &[Bits], values: &[Value], variables: &[Held]) -> Resu
     }
 }
 
-// Where the bits of a source lie.
-fn find_bits(
+/// Where the bits of a source lie.
+pub fn find_bits(
     literals: &[Bits],
     source: Source,
     values: &[Value],
     variables: &[Held],
 ) -> Result<BitsAt, Stop>
-    ensures { IsSure (λ at g. g ≡ Known (bits_at literals.now variables.now at)) result
+    ensures is { IsSure (λ at g. g ≡ Known (bits_at literals.now variables.now at)) result
         (then_get (known_source literals.now source) (λ from. source_bits variables.now from values.now)) }
+    ensures there { IfOk result (IsThere literals.now variables.now) }
+    ensures kind { IfOk result (IsOf source) }
 {
     match source {
         Source::Literal(n) => literal_bits(literals, n, values, variables),
@@ -114,11 +126,11 @@ fn array_value(
     values: &[Value],
     variables: &[Held],
 ) -> Result<Exported, Stop>
-    ensures is { (key chosen : List ℕ) (records : List Record) → IsSure
+    ensures is { (key chosen : List ℕ) (records : List Record) (ir dr : ScanSettings) → IsSure
         (λ value g. g ≡ Known (Falls (Says (events.Export key (value_exported literals.now variables.now value)) ∷ [])
-        (state_with chosen records variables.now))) result
+        (state_with chosen records ir dr variables.now))) result
         (then_get (known_source literals.now source)
-        (λ from. bits_exported key from values.now (state_with chosen records variables.now))) }
+        (λ from. bits_exported key from values.now (state_with chosen records ir dr variables.now))) }
     ensures sure { IfErr result (λ stop. stop ≢ Stop.Memory) }
 {
     Ok(Exported::Bits(find_bits(literals, source, values, variables)?))
@@ -131,10 +143,10 @@ fn exported(
     values: &[Value],
     variables: &[Held],
 ) -> Result<Exported, Stop>
-    ensures is { (key chosen : List ℕ) (records : List Record) → IsSure
+    ensures is { (key chosen : List ℕ) (records : List Record) (ir dr : ScanSettings) → IsSure
         (λ value g. g ≡ Known (Falls (Says (events.Export key (value_exported literals.now variables.now value)) ∷ [])
-        (state_with chosen records variables.now))) result
-        (part_exported literals.now part key values.now (state_with chosen records variables.now)) }
+        (state_with chosen records ir dr variables.now))) result
+        (part_exported literals.now part key values.now (state_with chosen records ir dr variables.now)) }
     ensures sure { IfErr result (λ stop. stop ≢ Stop.Memory) }
 {
     match part {
@@ -151,11 +163,11 @@ pub fn export(
     values: &[Value],
     variables: &[Held],
 ) -> Result<Made, Stop>
-    ensures made { (text chosen : List ℕ) (records : List Record) →
-        IsMade result (record { text = text; constants = constants_of code.now; states = [] })
-        (state_with chosen records variables.now) (state_with chosen records variables.now)
+    ensures made { (text chosen : List ℕ) (shifted : Shifted) (records : List Record) (ir dr : ScanSettings) →
+        IsMade result (record { text = text; constants = constants_of code.now; states = []; shifted = shifted })
+        (state_with chosen records ir dr variables.now) (state_with chosen records ir dr variables.now)
         (does (then_get (known_text (slice_get code.now.texts key))
-        (λ bytes. part_exported code.now.literals part bytes values.now (state_with chosen records variables.now)))) }
+        (λ bytes. part_exported code.now.literals part bytes values.now (state_with chosen records ir dr variables.now)))) }
     ensures sure { IfErr result (λ stop. stop ≢ Stop.Memory) }
 {
     if key as usize >= code.texts.len() {

@@ -4,7 +4,7 @@ ghost use Rattle.stapl_meaning.specs.declared.records.Record.{Record};
 ghost use Rattle.stapl_meaning.specs.declared.values.Held.{Held};
 ghost use Rattle.stapl_meaning.specs.declared.values.Value.{Value};
 ghost use Rattle.stapl_meaning.specs.Deeds.{Chain};
-ghost use Rattle.stapl_meaning.specs.States.{State, next_chosen, jumps_to, Happened, happens, happened_in_piece};
+ghost use Rattle.stapl_meaning.specs.States.{ScanSettings, State, next_chosen, jumps_to, Happened, happens, happened_in_piece};
 ghost use Rattle.stapl_code.specs.Machine.{lands, entry_of, at_end, continues};
 ghost use Rattle.stapl_code.specs.Ticks.{counted_behind};
 ghost use Rattle.stapl_code.specs.Safe.{entries_of};
@@ -12,7 +12,7 @@ ghost use Rattle.stapl_machine.specs.Acts.{state_with, step_of, stepped, RestsAf
 ghost use Rattle.stapl_machine.specs.Moves.{led_to, led_on, IsClean, moved_to, moved_ticks, IsCleanMove, RestsBehind};
 
 use crate::act::{Workspace, act};
-use crate::effects::{Doing, Made};
+use crate::effects::{Doing, Made, ScanJob};
 use crate::operate::Stop;
 use stapl_code::{CodeLists, Instr, ProcDef};
 use stapl_meaning::{Ending, Value};
@@ -34,6 +34,8 @@ pub enum Moved {
     On,
     /// On to the next one, with something that is still to be done to the outside.
     Acts(Doing),
+    /// On to the next one, with a scan that is still to be done.
+    Scans(ScanJob),
     /// To the end of the turn.
     Ends(Went),
 }
@@ -87,10 +89,10 @@ fn target(code: &CodeLists, here: u32, instr: &Instr) -> Option<u32>
 
 /// Begins the next chosen procedure. Where there is none, the run ends with code 0.
 pub fn begin_next(code: &CodeLists, chosen: &[u32], next: &mut usize) -> Went
-    ensures { (records : List Record) (variables : List Held) →
+    ensures { (records : List Record) (ir dr : ScanSettings) (variables : List Held) →
         next_chosen (entry_of (entries_of code.now.procedures))
-        (state_with (drop next.old chosen.now) records variables) (drop next.old chosen.now)
-        ≡ led_to result (state_with (drop next.new chosen.now) records variables) }
+        (state_with (drop next.old chosen.now) records ir dr variables) (drop next.old chosen.now)
+        ≡ led_to result (state_with (drop next.new chosen.now) records ir dr variables) }
 {
     if *next >= chosen.len() {
         return Went::Over(Some(Ending::Exit(0)));
@@ -121,7 +123,7 @@ fn lead(
     made: Made,
     work: &mut Workspace,
 ) -> Result<Moved, AllocError>
-    requires { RestsAfter made }
+    requires { RestsAfter made work.old.memory }
     ensures leads { IfOk result (λ moved. (k : Chain) (go : List Value → State → Chain → Happened) →
         happened_in_piece work.old.piece
         (continues k (stepped code.now instr.now (lands (entries_of code.now.procedures) here instr.now) chosen.now made
@@ -132,7 +134,7 @@ fn lead(
         made work.old) go
         ≡ moved_ticks code.now instr.now moved chosen.now work.new k go) }
     ensures clean { IfOk result (λ moved. IsCleanMove moved work.new) }
-    ensures rests { IfOk result RestsBehind }
+    ensures rests { IfOk result (λ moved. RestsBehind moved work.new.memory) }
 {
     match made {
         Made::Put(value) => match push(&mut work.operands, value) {
@@ -149,6 +151,7 @@ fn lead(
         },
         Made::On => Ok(Moved::On),
         Made::Acts(doing) => Ok(Moved::Acts(doing)),
+        Made::Scans(job) => Ok(Moved::Scans(job)),
         Made::Jump => {
             let went = jump_to(target(code, here, instr));
             Ok(Moved::Ends(end_turn(&work.operands, went)))
@@ -183,7 +186,7 @@ pub fn advance(
         counted_behind k (step_of code.now here instr.now chosen.now work.old) go
         ≡ moved_ticks code.now instr.now moved chosen.now work.new k go) }
     ensures clean { IfOk result (λ moved. IsCleanMove moved work.new) }
-    ensures rests { IfOk result RestsBehind }
+    ensures rests { IfOk result (λ moved. RestsBehind moved work.new.memory) }
 {
     match act(code, here, instr, work) {
         Ok(made) => lead(code, chosen, here, instr, made, work),

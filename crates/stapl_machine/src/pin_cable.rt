@@ -1,5 +1,5 @@
 //! A cable whose clocks are written, and what a turn does over it.
-ghost use Rattle.std.specs.Prelude.{◌≡◌, ◌≢◌, ◌∷◌, ◌++◌, [], false, List, OnOk, OnErr, IsTrue};
+ghost use Rattle.std.specs.Prelude.{◌≡◌, ◌≢◌, ◌≤◌, ◌∷◌, ◌++◌, [], false, length, take, List, OnOk, OnErr, IsTrue};
 ghost use Rattle.base.specs.Bits.{bit_value};
 ghost use Rattle.tool_io.specs.Causes.{HasCause};
 ghost use Rattle.tap_states.specs.declared.Tap.TheVariants as taps;
@@ -7,16 +7,18 @@ ghost use Rattle.tap_states.specs.Tap.{is_stable_state};
 ghost use Rattle.scan_paths.specs.Cables.{whole, line, pins, HasPartCause};
 ghost use Rattle.stapl_meaning.specs.declared.events.Event.TheVariants.{Print, Usec, Hertz};
 ghost use Rattle.stapl_meaning.specs.Texts.{pin_digit, pin_line, full_line, with_digit, event_line};
-ghost use Rattle.stapl_meaning.specs.Deeds.{Deed, Says, Goes, Stays};
+ghost use Rattle.scan_paths.specs.Scans.{AreInside, scan_of};
+ghost use Rattle.stapl_meaning.specs.Deeds.{Deed, Says, Goes, Stays, Scans};
 ghost use Rattle.stapl_code.specs.Safe.{constants_of};
 ghost use Rattle.stapl_machine.specs.Exports.{export_event};
 ghost use Rattle.stapl_machine.specs.Papers.{IsOverSame, Puts, PutsFront};
-ghost use Rattle.stapl_machine.specs.Ports.{IsInStep, IsKept, Did, DidFront};
+ghost use Rattle.stapl_machine.specs.Ports.{IsInStep, IsKept, Did, DidFront, DidScan};
 
 use crate::digits::Digits;
 use crate::effects::Export;
 use crate::paper::Paper;
-use scan_paths::{Cable, move_to, stay};
+use bit_list::Bits;
+use scan_paths::{Cable, Pads, ScanPlan, move_to, scan, stay};
 use stapl_code::CodeLists;
 use stapl_meaning::Held;
 use tap_states::Tap;
@@ -221,6 +223,46 @@ impl<C: Cable, O: Paper> PinCable<'_, C, O> {
     {
         let at = self.tap;
         stay(self, at, n)?;
+        Ok(())
+    }
+
+    /// Whether all controllers are in a stable state.
+    pub fn is_stable(&self) -> bool
+        ensures { result ≡ is_stable_state (tap_of self.now) }
+    {
+        self.tap.is_stable()
+    }
+
+    /// Scans the lowest bits of `bits`, as many as the plan says, between the paddings, from the stable state in which all
+    /// controllers are. As many of the lowest bits of `captured` become what was captured.
+    pub fn scan(
+        &mut self,
+        plan: ScanPlan,
+        bits: &Bits,
+        captured: &mut Bits,
+        pads: &Pads,
+    ) -> Result<(), Failed>
+        requires whole { port_breakage C.breakage O.failed self.old ≡ whole }
+        requires in_step { IsInStep C.board self.old }
+        requires stable { IsTrue (is_stable_state (tap_of self.old)) }
+        requires some { 1 ≤ plan.len }
+        requires inside { plan.len ≤ length bits.now }
+        requires room { plan.len ≤ length captured.old }
+        requires pads { AreInside pads.now }
+        ensures in_step { OnOk result (IsInStep C.board self.new) }
+        ensures did { OnOk result (DidScan (port_breakage C.breakage O.failed) C.board C.made O.shown
+            (scan_of plan bits.now pads.now) (take plan.len captured.new) self.old self.new) }
+        ensures front { OnErr result (DidFront (port_breakage C.breakage O.failed) C.board C.made O.shown
+            (Scans (scan_of plan bits.now pads.now) ∷ []) self.old self.new) }
+        ensures length { length captured.new ≡ length captured.old }
+        ensures unbroken { OnOk result (port_breakage C.breakage O.failed self.new ≡ whole) }
+        ensures broken { OnErr result (port_breakage C.breakage O.failed self.new ≢ whole) }
+        ensures kept { IsKept (port_breakage C.breakage O.failed) C.line_faults C.is_line_last
+            C.pin_faults C.is_pin_last O.shown O.faults O.is_last self.old self.new }
+    {
+        let at = self.tap;
+        let _state = scan(self, at, plan, bits, captured, pads)?;
+        self.tap = plan.stop;
         Ok(())
     }
 

@@ -7,6 +7,7 @@ ghost use Rattle.stapl_meaning.specs.Effects.{digit_of, shown, after_value, afte
 ghost use Rattle.stapl_meaning.specs.States.{State};
 ghost use Rattle.stapl_code.specs.Machine.{part_slots, known_text, parts_text, does};
 ghost use Rattle.stapl_code.specs.Safe.{constants_of};
+ghost use Rattle.stapl_machine.specs.declared.memory.Shifted.{Shifted};
 ghost use Rattle.stapl_machine.specs.Found.{IsGot, IsSure};
 ghost use Rattle.stapl_machine.specs.Prints.{IsPut, Follows};
 ghost use Rattle.stapl_machine.specs.Acts.{IsMade};
@@ -186,8 +187,8 @@ pub fn print(
     values: &[Value],
     text: &mut Vec<u8>,
 ) -> Result<Made, Stop>
-    ensures { (entries : List ℕ) (s : State) →
-        IsMade result (record { text = text.new.items; constants = constants_of code.now; states = [] }) s s
+    ensures { (entries : List ℕ) (s : State) (shifted : Shifted) → IsMade result
+        (record { text = text.new.items; constants = constants_of code.now; states = []; shifted = shifted }) s s
         (does (printed (parts_text entries (constants_of code.now) parts.now values.now) s)) }
 {
     match join(code, parts, values, text) {

@@ -3,7 +3,7 @@ ghost use Rattle.std.specs.Prelude.{◌≡◌, ◌≢◌, ◌∷◌, IfErr, OnOk
 ghost use Rattle.stapl_meaning.specs.declared.records.Record.{Record};
 ghost use Rattle.stapl_meaning.specs.declared.values.Held.{Held};
 ghost use Rattle.stapl_meaning.specs.Effects.{record_limit, with_records, number_of, value_as, pushed, topmost, called, returned_from, returned};
-ghost use Rattle.stapl_meaning.specs.States.{State};
+ghost use Rattle.stapl_meaning.specs.States.{ScanSettings, State};
 ghost use Rattle.stapl_code.specs.Machine.{does, unrecorded};
 ghost use Rattle.stapl_machine.specs.Acts.{IsMade, Told, state_with};
 ghost use Rattle.stapl_machine.specs.Records.{returns_to};
@@ -45,10 +45,10 @@ fn number_of(value: Value) -> i32
 
 /// A value is put on top of the records.
 pub fn push_value(records: &mut Vec<Record>, values: &[Value]) -> Result<Made, Stop>
-    ensures { (told : Told) (chosen : List ℕ) (variables : List Held) →
-        IsMade result told (state_with chosen (reverse records.old.items) variables)
-        (state_with chosen (reverse records.new.items) variables)
-        (does (pushed values.now (state_with chosen (reverse records.old.items) variables))) }
+    ensures { (told : Told) (chosen : List ℕ) (ir dr : ScanSettings) (variables : List Held) →
+        IsMade result told (state_with chosen (reverse records.old.items) ir dr variables)
+        (state_with chosen (reverse records.new.items) ir dr variables)
+        (does (pushed values.now (state_with chosen (reverse records.old.items) ir dr variables))) }
 {
     match values {
         [value] => {
@@ -74,11 +74,11 @@ fn value_as(kind: ValueKind, z: i32) -> Value
 
 /// The topmost record is taken off, if it is a value.
 pub fn pop_value(records: &mut Vec<Record>, kind: ValueKind) -> Result<Made, Stop>
-    ensures made { (told : Told) (chosen : List ℕ) (variables : List Held) →
-        IsMade result told (state_with chosen (reverse records.old.items) variables)
-        (state_with chosen (reverse records.new.items) variables)
+    ensures made { (told : Told) (chosen : List ℕ) (ir dr : ScanSettings) (variables : List Held) →
+        IsMade result told (state_with chosen (reverse records.old.items) ir dr variables)
+        (state_with chosen (reverse records.new.items) ir dr variables)
         (unrecorded (topmost kind (reverse records.old.items))
-        (state_with chosen (reverse records.old.items) variables)) }
+        (state_with chosen (reverse records.old.items) ir dr variables)) }
     ensures sure { IfErr result (λ stop. stop ≢ Stop.Memory) }
 {
     match records.as_slice() {
@@ -93,10 +93,10 @@ pub fn pop_value(records: &mut Vec<Record>, kind: ValueKind) -> Result<Made, Sto
 
 /// A procedure is called. A record keeps the place behind.
 pub fn call(records: &mut Vec<Record>, behind: u32, values: &[Value]) -> Result<Made, Stop>
-    ensures { (told : Told) (chosen : List ℕ) (variables : List Held) →
-        IsMade result told (state_with chosen (reverse records.old.items) variables)
-        (state_with chosen (reverse records.new.items) variables)
-        (does (called behind values.now (state_with chosen (reverse records.old.items) variables))) }
+    ensures { (told : Told) (chosen : List ℕ) (ir dr : ScanSettings) (variables : List Held) →
+        IsMade result told (state_with chosen (reverse records.old.items) ir dr variables)
+        (state_with chosen (reverse records.new.items) ir dr variables)
+        (does (called behind values.now (state_with chosen (reverse records.old.items) ir dr variables))) }
 {
     match values {
         [] => {
@@ -125,10 +125,10 @@ fn drop_to_call(records: &mut Vec<Record>) -> Option<u32>
 
 /// The procedure is over: the play goes on behind the nearest call, if there is one.
 pub fn end_procedure(records: &mut Vec<Record>, values: &[Value]) -> Result<Made, Stop>
-    ensures made { (told : Told) (chosen : List ℕ) (variables : List Held) →
-        IsMade result told (state_with chosen (reverse records.old.items) variables)
-        (state_with chosen (reverse records.new.items) variables)
-        (does (returned values.now (state_with chosen (reverse records.old.items) variables))) }
+    ensures made { (told : Told) (chosen : List ℕ) (ir dr : ScanSettings) (variables : List Held) →
+        IsMade result told (state_with chosen (reverse records.old.items) ir dr variables)
+        (state_with chosen (reverse records.new.items) ir dr variables)
+        (does (returned values.now (state_with chosen (reverse records.old.items) ir dr variables))) }
     ensures sure { IfErr result (λ stop. stop ≢ Stop.Memory) }
 {
     match values {

@@ -15,12 +15,13 @@ ghost use Rattle.stapl_machine.specs.Machines.{play_of, play_ticks_of, IsPrepare
 
 use crate::act::Workspace;
 use crate::digits::Digits;
-use crate::memory::Memory;
+use crate::memory::{Memory, Shifted};
 use crate::paper::Paper;
 use crate::pin_cable::PinCable;
 use crate::records::RECORD_LIMIT;
 use crate::reset::five_ones;
 use crate::runs::play_out;
+use crate::settings::Settings;
 use crate::turns::Trouble;
 use crate::zeros::zeros;
 use base::Steps;
@@ -40,8 +41,9 @@ pub struct Machine {
 }
 
 impl Machine {
-    /// A machine for one run of this code: its variables are 0, and it holds neither operand nor record. It takes the
-    /// memory of the variables, of as many operands as the code holds at once, and of the most records there may be.
+    /// A machine for one run of this code: its variables are 0, it holds neither operand nor record, and scans have no
+    /// padding and end in Run-Test/Idle. It takes the memory of the variables, of as many operands as the code holds at
+    /// once, and of the most records there may be.
     ///
     /// `AllocError` comes only for want of memory.
     pub fn prepare(alloc: Global, code: &Code) -> Result<Machine, AllocError>
@@ -52,9 +54,13 @@ impl Machine {
         Ok(Machine {
             work: Workspace {
                 memory: Memory {
+                    alloc,
                     variables,
                     records: Vec::with_capacity(alloc, RECORD_LIMIT)?,
                     text: Vec::new(alloc),
+                    ir: Settings::first(alloc)?,
+                    dr: Settings::first(alloc)?,
+                    shifted: Shifted::none(alloc)?,
                 },
                 operands: Vec::with_capacity(alloc, code.depth() as usize)?,
                 next: 0,

@@ -2,7 +2,7 @@
 ghost use Rattle.std.specs.Prelude.{◌≡◌, ◌<◌, ◌^◌, [], false, length, OnOk, OnErr, IfOk, IfErr};
 ghost use Rattle.tool_io.specs.Causes.{HasRisen, NeverFalls};
 ghost use Rattle.scan_paths.specs.Cables.{whole, cable_faults, IsCableLast};
-ghost use Rattle.stapl_machine.specs.Acts.{state_of};
+ghost use Rattle.stapl_machine.specs.Acts.{IsUnused, state_of};
 ghost use Rattle.stapl_machine.specs.Moves.{led_on, IsClean};
 ghost use Rattle.stapl_machine.specs.Papers.{IsOverSame};
 ghost use Rattle.stapl_machine.specs.Pins.{cable_of, lines_of, port_breakage, IsSameCable, IsSameOut};
@@ -125,7 +125,7 @@ fn play<C: Cable, O: Paper, L: Ledger>(
 ) -> Result<Option<Ending>, Trouble>
     requires countable { length code.now.instrs < 2 ^ 32 }
     requires none { work.old.operands.items ≡ [] }
-    requires no_record { work.old.memory.records.items ≡ [] }
+    requires unused { IsUnused work.old.memory }
     requires whole { port_breakage C.breakage O.failed port.old ≡ whole }
     requires in_step { IsInStep C.board port.old }
     ensures runs { IsRun (port_breakage C.breakage O.failed) C.board C.made O.shown
@@ -157,7 +157,7 @@ pub fn play_out<C: Cable, O: Paper, L: Ledger>(
 ) -> Result<Option<Ending>, Trouble>
     requires countable { length code.now.instrs < 2 ^ 32 }
     requires none { work.old.operands.items ≡ [] }
-    requires no_record { work.old.memory.records.items ≡ [] }
+    requires unused { IsUnused work.old.memory }
     requires whole { port_breakage C.breakage O.failed port.old ≡ whole }
     requires in_step { IsInStep C.board port.old }
     ensures plays { IfOk result (λ ending. PlaysTo (port_breakage C.breakage O.failed) C.board C.made O.shown

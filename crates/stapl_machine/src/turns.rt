@@ -1,26 +1,31 @@
 //! Turns of a code.
-ghost use Rattle.std.specs.Prelude.{◌≡◌, ◌≢◌, ◌<◌, ◌≤◌, ◌+◌, ◌^◌, [], ◌++◌, map, List, ℕ, length, slice_get, IsTrue, OnOk, OnErr, IfOk};
+ghost use Rattle.std.specs.Prelude.{◌≡◌, ◌≢◌, ◌<◌, ◌≤◌, ◌+◌, ◌^◌, [], ◌∷◌, ◌++◌, map, List, ℕ, length, slice_get, IsTrue, OnOk, OnErr, IfOk};
 ghost use Rattle.tap_states.specs.Tap.{is_stable_state};
 ghost use Rattle.scan_paths.specs.Cables.{whole};
-ghost use Rattle.stapl_meaning.specs.Deeds.{Chain, Deed, Goes};
+ghost use Rattle.stapl_meaning.specs.Deeds.{Chain, Deed, Goes, Scans};
+ghost use Rattle.stapl_meaning.specs.Scans.{is_instruction, settings_of, scan_of};
 ghost use Rattle.stapl_code.specs.Ticks.{tick_of};
-ghost use Rattle.stapl_machine.specs.Acts.{state_of, states_of, told_by, stays_for, pauses_for, waited_deeds, deeds_told, RestsIn};
+ghost use Rattle.stapl_machine.specs.Acts.{state_in, state_of, states_of, told_by, stays_for, pauses_for, waited_deeds, deeds_told, RestsIn};
+ghost use Rattle.stapl_machine.specs.Jobs.{CanBeDone, job_scan, job_lands, with_captured};
 ghost use Rattle.stapl_machine.specs.Moves.{led_on, IsClean};
 ghost use Rattle.stapl_machine.specs.Pins.{tap_of, port_breakage};
-ghost use Rattle.stapl_machine.specs.Ports.{IsInStep, BrokeSo, IsKept, Did, DidFront, IsDone, Keeps};
+ghost use Rattle.stapl_machine.specs.Ports.{IsInStep, BrokeSo, IsKept, Did, DidFront, DidScan, Captured, IsDone, Keeps};
 ghost use Rattle.stapl_machine.specs.Reaches.{behind_try, ticks_behind_try, IsCleanTry, behind_reached, ticks_behind_reached, IsReached};
 ghost use Rattle.stapl_machine.specs.Turns.{rest_of, ticks_from, no_ticks, behind_it, ticks_behind_it, IsCleanBehind, piece_of, turn_at, ticks_at};
 
 use crate::act::Workspace;
-use crate::effects::{Doing, Wait};
-use crate::memory::Memory;
+use crate::effects::{Doing, ScanJob, Wait};
+use crate::memory::{Memory, Shifted};
 use crate::moves::{Moved, Went, advance};
 use crate::paper::Paper;
 use crate::pin_cable::PinCable;
+use crate::scanning::land;
+use crate::settings::Settings;
 use crate::tries::{Tried, try_step};
 use base::Steps;
-use scan_paths::Cable;
+use scan_paths::{Cable, ScanPlan};
 use stapl_code::{CodeLists, Instr};
+use stapl_lexer::Register;
 use std::sync::ledger::Ledger;
 use tap_states::Tap;
 use thiserror::Error;
@@ -186,6 +191,106 @@ fn perform<C: Cable, O: Paper>(
     }
 }
 
+fn is_instruction(register: Register) -> bool
+    ensures { result ≡ is_instruction register }
+{
+    match register {
+        Register::Data => false,
+        Register::Instruction => true,
+    }
+}
+
+// Scans by the settings of the registers.
+fn shift<C: Cable, O: Paper>(
+    register: Register,
+    settings: &Settings,
+    shifted: &mut Shifted,
+    port: &mut PinCable<C, O>,
+) -> Result<(), Failed>
+    requires whole { port_breakage C.breakage O.failed port.old ≡ whole }
+    requires in_step { IsInStep C.board port.old }
+    requires stable { IsTrue (is_stable_state (tap_of port.old)) }
+    requires some { 1 ≤ length shifted.old.data }
+    requires room { length shifted.old.captured ≡ length shifted.old.data }
+    ensures in_step { OnOk result (IsInStep C.board port.new) }
+    ensures did { OnOk result (DidScan (port_breakage C.breakage O.failed) C.board C.made O.shown
+        (scan_of register settings.now shifted.old.data) shifted.new.captured port.old port.new) }
+    ensures front { OnErr result (DidFront (port_breakage C.breakage O.failed) C.board C.made O.shown
+        (Scans (scan_of register settings.now shifted.old.data) ∷ []) port.old port.new) }
+    ensures kept_bits { shifted.new ≡ record shifted.old { captured = shifted.new.captured } }
+    ensures length { length shifted.new.captured ≡ length shifted.old.captured }
+    ensures unbroken { OnOk result (port_breakage C.breakage O.failed port.new ≡ whole) }
+    ensures broken { OnErr result (port_breakage C.breakage O.failed port.new ≢ whole) }
+    ensures kept { IsKept (port_breakage C.breakage O.failed) C.line_faults C.is_line_last
+        C.pin_faults C.is_pin_last O.shown O.faults O.is_last port.old port.new }
+{
+    let plan = ScanPlan {
+        ir: is_instruction(register),
+        len: shifted.data.len(),
+        stop: settings.stop(),
+    };
+    port.scan(plan, &shifted.data, &mut shifted.captured, settings.pads())?;
+    Ok(())
+}
+
+// The same by the settings of these registers in a memory.
+fn shift_in<C: Cable, O: Paper>(
+    register: Register,
+    memory: &mut Memory,
+    port: &mut PinCable<C, O>,
+) -> Result<(), Failed>
+    requires whole { port_breakage C.breakage O.failed port.old ≡ whole }
+    requires in_step { IsInStep C.board port.old }
+    requires stable { IsTrue (is_stable_state (tap_of port.old)) }
+    requires some { 1 ≤ length memory.old.shifted.data }
+    requires room { length memory.old.shifted.captured ≡ length memory.old.shifted.data }
+    ensures in_step { OnOk result (IsInStep C.board port.new) }
+    ensures did { OnOk result ((chosen : List ℕ) → DidScan (port_breakage C.breakage O.failed) C.board C.made O.shown
+        (scan_of register (settings_of register (state_in chosen memory.old)) memory.old.shifted.data)
+        memory.new.shifted.captured port.old port.new) }
+    ensures front { OnErr result ((chosen : List ℕ) → DidFront (port_breakage C.breakage O.failed) C.board C.made O.shown
+        (Scans (scan_of register (settings_of register (state_in chosen memory.old)) memory.old.shifted.data) ∷ [])
+        port.old port.new) }
+    ensures same { memory.new ≡ with_captured memory.old memory.new.shifted.captured }
+    ensures length { length memory.new.shifted.captured ≡ length memory.old.shifted.captured }
+    ensures unbroken { OnOk result (port_breakage C.breakage O.failed port.new ≡ whole) }
+    ensures broken { OnErr result (port_breakage C.breakage O.failed port.new ≢ whole) }
+    ensures kept { IsKept (port_breakage C.breakage O.failed) C.line_faults C.is_line_last
+        C.pin_faults C.is_pin_last O.shown O.faults O.is_last port.old port.new }
+{
+    match register {
+        Register::Data => shift(register, &memory.dr, &mut memory.shifted, port),
+        Register::Instruction => shift(register, &memory.ir, &mut memory.shifted, port),
+    }
+}
+
+// Scans, and lets the captured bits land.
+fn capture<C: Cable, O: Paper>(
+    job: ScanJob,
+    memory: &mut Memory,
+    port: &mut PinCable<C, O>,
+) -> Result<(), Failed>
+    requires whole { port_breakage C.breakage O.failed port.old ≡ whole }
+    requires in_step { IsInStep C.board port.old }
+    requires stable { IsTrue (is_stable_state (tap_of port.old)) }
+    requires job { CanBeDone memory.old.variables.items memory.old.shifted job }
+    ensures in_step { OnOk result (IsInStep C.board port.new) }
+    ensures captured { OnOk result ((chosen : List ℕ) → Captured (port_breakage C.breakage O.failed) C.board C.made
+        O.shown (job_scan memory.old.shifted job (state_in chosen memory.old))
+        (job_lands memory.old.shifted job (state_in chosen memory.old))
+        port.old (state_in chosen memory.new) port.new) }
+    ensures front { OnErr result ((chosen : List ℕ) → DidFront (port_breakage C.breakage O.failed) C.board C.made
+        O.shown (Scans (job_scan memory.old.shifted job (state_in chosen memory.old)) ∷ []) port.old port.new) }
+    ensures unbroken { OnOk result (port_breakage C.breakage O.failed port.new ≡ whole) }
+    ensures broken { OnErr result (port_breakage C.breakage O.failed port.new ≢ whole) }
+    ensures kept { IsKept (port_breakage C.breakage O.failed) C.line_faults C.is_line_last
+        C.pin_faults C.is_pin_last O.shown O.faults O.is_last port.old port.new }
+{
+    shift_in(job.register, memory, port)?;
+    land(memory, job);
+    Ok(())
+}
+
 // Carries out instruction i of a turn by the general machine, and answers where the turn led if it ended.
 #[inline(never)]
 fn carry_out<C: Cable, O: Paper, L: Ledger>(
@@ -215,6 +320,15 @@ fn carry_out<C: Cable, O: Paper, L: Ledger>(
             Ok(()) => Ok(None),
             Err(_) => Err(trouble_of(port)),
         },
+        Ok(Moved::Scans(job)) => {
+            if !port.is_stable() {
+                return Ok(Some(Went::Over(None)));
+            }
+            match capture(job, &mut work.memory, port) {
+                Ok(()) => Ok(None),
+                Err(_) => Err(trouble_of(port)),
+            }
+        }
         Ok(Moved::Ends(went)) => Ok(Some(went)),
         Err(_) => Err(Trouble::Memory),
     }

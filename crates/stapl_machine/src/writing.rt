@@ -11,7 +11,7 @@ ghost use Rattle.stapl_meaning.specs.Texts.{hex_digit, hex_digits, is_plain, esc
 ghost use Rattle.stapl_meaning.specs.declared.events.Event.TheVariants.{Print, Usec, Hertz};
 ghost use Rattle.stapl_meaning.specs.declared.events.Event.TheVariants as events;
 ghost use Rattle.stapl_code.specs.Safe.{constants_of};
-ghost use Rattle.stapl_machine.specs.Arrays.{bits_in};
+ghost use Rattle.stapl_meaning.specs.Values.{bits_in};
 ghost use Rattle.stapl_machine.specs.Exports.{text_in, literal_in, bits_at, value_exported, export_event, hex_text};
 
 use crate::effects::{BitsAt, Export, Exported};

@@ -11,11 +11,11 @@ use Rattle.stapl_machine.proofs.ExportLemmas.{item_there, export_known}
 use Rattle.stapl_machine.proofs.exporting.export.Goals as goal
 
 pub returns-clause-made : goal.returns-clause-made
-returns-clause-made c = λ text chosen records.
-    let code = c.args.code.now in let key = c.args.key in let variables = c.args.variables.now in let s = state_with chosen records variables in
+returns-clause-made c = λ text chosen shifted records ir dr.
+    let code = c.args.code.now in let key = c.args.key in let variables = c.args.variables.now in let s = state_with chosen records ir dr variables in
     let bytes = get_or code.texts key [] in let value = c.in_ok-value.value in
     let inside : key < length code.texts = search rules in
     let is : part_exported code.literals c.args.part bytes c.args.values.now s ≡ Known (Falls (Says (events.Export bytes (value_exported code.literals variables value)) ∷ []) s) =
     subst (λ (l : List (List Bool)). part_exported l c.args.part bytes c.args.values.now s ≡ Known (Falls (Says (events.Export bytes (value_exported l variables value)) ∷ []) s))
-    c.as_slice.ensures (c.in_ok-value.ensures.is bytes chosen records) in
+    c.as_slice.ensures (c.in_ok-value.ensures.is bytes chosen records ir dr) in
     (export_known (constants_of code) variables (record { key = key; value = value }) c.args.part c.args.values.now s bytes (item_there code.texts key [] inside) is, tt)

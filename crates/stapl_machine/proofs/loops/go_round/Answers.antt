@@ -26,4 +26,4 @@ returns-clause-made c = λ told chosen.
     let top : reverse c.truncate-2.new.self.items ≡ Looped l ∷ reverse (take c.args.found.at records) =
     ap reverse c.truncate-2.ensures.items ∙ top_taken_at records c.args.found.at (Looped l) c.requires.there c.requires.is in
     ap does (round_more l (reverse (take c.args.found.at records)) z c.sum-next.result (state_in chosen old) c.store.new.variables.items over next written)
-    ∙ ap (λ (r : List Record). let g : Got Made = Known (Does (Resumes l.place (state_with chosen r c.store.new.variables.items))) in g) (sym top)
+    ∙ ap (λ (r : List Record). let g : Got Made = Known (Does (Resumes l.place (state_with chosen r old.ir old.dr c.store.new.variables.items))) in g) (sym top)

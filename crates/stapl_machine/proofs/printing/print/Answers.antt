@@ -6,8 +6,8 @@ use Rattle.stapl_machine.proofs.PrintLemmas.{print_stops}
 use Rattle.stapl_machine.proofs.printing.print.Goals as goal
 
 pub returns-in-Ok : goal.returns-in-Ok
-returns-in-Ok c = λ entries s. (ap (λ g. does (printed g s)) (c.in-Ok.ensures entries), tt)
+returns-in-Ok c = λ entries s shifted. (ap (λ g. does (printed g s)) (c.in-Ok.ensures entries), tt)
 
 pub returns-in-Err : goal.returns-in-Err
-returns-in-Err c = λ entries s.
-    print_stops c.in-Err.stop (record { text = c.join.new.text.items; constants = constants_of c.args.code.now; states = [] }) s _ (c.in-Err.ensures entries)
+returns-in-Err c = λ entries s shifted.
+    print_stops c.in-Err.stop (record { text = c.join.new.text.items; constants = constants_of c.args.code.now; states = []; shifted = shifted }) s _ (c.in-Err.ensures entries)

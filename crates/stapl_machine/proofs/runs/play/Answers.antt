@@ -15,7 +15,7 @@ use Rattle.stapl_machine.proofs.runs.play.Goals as goal
 pub returns-in-Ok-run_behind-clause-runs : goal.returns-in-Ok-run_behind-clause-runs
 returns-in-Ok-run_behind-clause-runs g c =
     let m = g.C.Cable in let b = port_breakage m.breakage g.O.Paper.failed in let w = g.O.Paper.shown in let code = c.args.code.now in let chosen = c.args.chosen.now in let n = c.args.turns in
-    let work = c.args.work.now in let none = c.requires.none in let no = c.requires.no_record in let entry = entry_of (entries_of code.procedures) in
+    let work = c.args.work.now in let none = c.requires.none in let no = c.requires.unused in let entry = entry_of (entries_of code.procedures) in
     let first = at_first code chosen work n none no in let s = started code chosen work n none no in let begun = begun_by code chosen work n none no in
     let all = play_from code chosen work.memory.variables.items n in let count = play_ticks_from code chosen work.memory.variables.items n in
     let here = λ (k : Chain). goes_on (begun k) s k (run_of code n) in let here_count = λ (k : Chain). ticks_from code 0 chosen first k + counted_then (begun k) (run_ticks_of code n) in
@@ -31,7 +31,7 @@ returns-in-Ok-run_behind-clause-runs g c =
 pub returns-in-Err-run_behind-clause-runs : goal.returns-in-Err-run_behind-clause-runs
 returns-in-Err-run_behind-clause-runs g c =
     let m = g.C.Cable in let b = port_breakage m.breakage g.O.Paper.failed in let w = g.O.Paper.shown in let code = c.args.code.now in let chosen = c.args.chosen.now in let n = c.args.turns in
-    let work = c.args.work.now in let none = c.requires.none in let no = c.requires.no_record in let entry = entry_of (entries_of code.procedures) in
+    let work = c.args.work.now in let none = c.requires.none in let no = c.requires.unused in let entry = entry_of (entries_of code.procedures) in
     let first = at_first code chosen work n none no in let s = started code chosen work n none no in let begun = begun_by code chosen work n none no in
     let all = play_from code chosen work.memory.variables.items n in let count = play_ticks_from code chosen work.memory.variables.items n in
     let here = λ (k : Chain). goes_on (begun k) s k (run_of code n) in let here_count = λ (k : Chain). ticks_from code 0 chosen first k + counted_then (begun k) (run_ticks_of code n) in
@@ -47,7 +47,7 @@ returns-in-Err-run_behind-clause-runs g c =
 pub returns-in-Err-clause-runs : goal.returns-in-Err-clause-runs
 returns-in-Err-clause-runs g c =
     let m = g.C.Cable in let b = port_breakage m.breakage g.O.Paper.failed in let w = g.O.Paper.shown in let code = c.args.code.now in let chosen = c.args.chosen.now in let n = c.args.turns in
-    let work = c.args.work.now in let none = c.requires.none in let no = c.requires.no_record in let entry = entry_of (entries_of code.procedures) in
+    let work = c.args.work.now in let none = c.requires.none in let no = c.requires.unused in let entry = entry_of (entries_of code.procedures) in
     let first = at_first code chosen work n none no in let s = started code chosen work n none no in let begun = begun_by code chosen work n none no in
     let all = play_from code chosen work.memory.variables.items n in let count = play_ticks_from code chosen work.memory.variables.items n in
     let here = λ (k : Chain). goes_on (begun k) s k (run_of code n) in let here_count = λ (k : Chain). ticks_from code 0 chosen first k + counted_then (begun k) (run_ticks_of code n) in

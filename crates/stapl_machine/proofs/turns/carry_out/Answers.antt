@@ -1,12 +1,14 @@
-use Rattle.std.proofs.Common.{rules, ◌≡◌, ◌+◌, get_or}
+use Rattle.std.proofs.Common.{rules, ◌≡◌, ◌+◌, get_or, drop, sym, ◌∙◌}
 use Rattle.stapl_meaning.specs.Deeds.{deeds_chain}
 use Rattle.stapl_code.specs.Ticks.{tick_of}
-use Rattle.stapl_machine.specs.declared.moves.Moved.TheVariants.{On, Acts, Ends}
-use Rattle.stapl_machine.specs.Acts.{state_of, told_by, deeds_told}
+use Rattle.stapl_meaning.specs.States.{happened_in_piece}
+use Rattle.stapl_machine.specs.declared.moves.Moved.TheVariants.{On, Acts, Scans, Ends}
+use Rattle.stapl_machine.specs.Acts.{state_in, state_of, operands_of, told_by, deeds_told}
+use Rattle.stapl_machine.specs.Jobs.{job_scan, job_lands}
 use Rattle.stapl_machine.specs.Moves.{led_on}
 use Rattle.stapl_machine.specs.Pins.{port_breakage}
 use Rattle.stapl_machine.specs.Turns.{rest_of, ticks_from, no_ticks}
-use Rattle.stapl_machine.proofs.TurnLemmas.{goes, counts, one_tick, does_still, front_still, does_deeds, does_deeds_front, tick_most, none_over}
+use Rattle.stapl_machine.proofs.TurnLemmas.{goes, counts, one_tick, does_still, front_still, does_deeds, does_deeds_front, does_lack, does_scan, does_scan_front, behind, ticks_after, tick_most, none_over}
 use Rattle.stapl_machine.proofs.turns.carry_out.Goals as goal
 
 pub returns-in-Ok-On-clause-does : goal.returns-in-Ok-On-clause-does
@@ -57,3 +59,36 @@ returns-in-Err-clause-does g c =
     let old = c.args.work.now in let x = c.index-as_slice-i.result in let is : x ≡ get_or code.instrs i x = search rules in
     front_still b m.board m.made g.O.Paper.shown c.args.port.now (rest_of code i chosen old) (ticks_from code i chosen old) c.args.steps.now c.count.new.steps
     (g.met.C.Cable.none_made c.args.port.now.cable.now) c.requires.whole (λ k. tick_most c.args.steps.now c.count.new.steps (tick_of x) _ _ c.count.ensures (one_tick code i chosen old x c.requires.inside is k))
+
+pub returns-then-not-is_stable-clause-does : goal.returns-then-not-is_stable-clause-does
+returns-then-not-is_stable-clause-does g c =
+    let m = g.C.Cable in let b = port_breakage m.breakage g.O.Paper.failed in let code = c.args.code.now in let i = c.args.i in let chosen = c.args.chosen.now in
+    let old = c.args.work.now in let new = c.advance.new.work in let x = c.index-as_slice-i.result in let is : x ≡ get_or code.instrs i x = search rules in
+    let job = c.in-Ok-Scans.job in let s = state_of chosen new in
+    does_lack b m.board m.made g.O.Paper.shown c.args.port.now c.args.port.now (job_scan new.memory.shifted job s) (job_lands new.memory.shifted job s)
+    (rest_of code i chosen old) (ticks_from code i chosen old) (λ u k. happened_in_piece new.piece (behind code i (operands_of new) u k)) (λ u k. ticks_after code i (operands_of new) u k) c.args.steps.now c.count.new.steps
+    (goes code i chosen old x c.requires.inside is new c.in-Ok-Scans.field-0 (Scans job) c.in-Ok-Scans.field-0-is c.in-Ok-Scans.ensures.leads)
+    (counts code i chosen old x c.requires.inside is new c.in-Ok-Scans.field-0 (Scans job) c.in-Ok-Scans.field-0-is c.in-Ok-Scans.ensures.ticks c.args.steps.now c.count.new.steps c.count.ensures)
+    (sym c.is_stable.ensures ∙ c.if-not-is_stable.true) (g.met.C.Cable.none_made c.args.port.now.cable.now) c.requires.whole
+
+pub returns-in-Ok-capture-clause-does : goal.returns-in-Ok-capture-clause-does
+returns-in-Ok-capture-clause-does g c =
+    let m = g.C.Cable in let b = port_breakage m.breakage g.O.Paper.failed in let code = c.args.code.now in let i = c.args.i in let chosen = c.args.chosen.now in
+    let old = c.args.work.now in let new = c.advance.new.work in let x = c.index-as_slice-i.result in let is : x ≡ get_or code.instrs i x = search rules in
+    let job = c.in-Ok-Scans.job in let s = state_of chosen new in
+    does_scan b m.board m.made g.O.Paper.shown c.args.port.now c.capture.new.port (job_scan new.memory.shifted job s) (job_lands new.memory.shifted job s)
+    (rest_of code i chosen old) (ticks_from code i chosen old) (λ u k. happened_in_piece new.piece (behind code i (operands_of new) u k)) (λ u k. ticks_after code i (operands_of new) u k) c.args.steps.now c.count.new.steps
+    (goes code i chosen old x c.requires.inside is new c.in-Ok-Scans.field-0 (Scans job) c.in-Ok-Scans.field-0-is c.in-Ok-Scans.ensures.leads)
+    (counts code i chosen old x c.requires.inside is new c.in-Ok-Scans.field-0 (Scans job) c.in-Ok-Scans.field-0-is c.in-Ok-Scans.ensures.ticks c.args.steps.now c.count.new.steps c.count.ensures)
+    (sym c.is_stable.ensures ∙ c.if-not-is_stable.false) (state_in (drop new.next chosen) c.capture.new.memory) (c.in-Ok-capture.ensures.captured (drop new.next chosen))
+
+pub returns-in-Err-capture-clause-does : goal.returns-in-Err-capture-clause-does
+returns-in-Err-capture-clause-does g c =
+    let m = g.C.Cable in let b = port_breakage m.breakage g.O.Paper.failed in let code = c.args.code.now in let i = c.args.i in let chosen = c.args.chosen.now in
+    let old = c.args.work.now in let new = c.advance.new.work in let x = c.index-as_slice-i.result in let is : x ≡ get_or code.instrs i x = search rules in
+    let job = c.in-Ok-Scans.job in let s = state_of chosen new in
+    does_scan_front b m.board m.made g.O.Paper.shown c.args.port.now c.capture.new.port (job_scan new.memory.shifted job s) (job_lands new.memory.shifted job s)
+    (rest_of code i chosen old) (ticks_from code i chosen old) (λ u k. happened_in_piece new.piece (behind code i (operands_of new) u k)) (λ u k. ticks_after code i (operands_of new) u k) c.args.steps.now c.count.new.steps
+    (goes code i chosen old x c.requires.inside is new c.in-Ok-Scans.field-0 (Scans job) c.in-Ok-Scans.field-0-is c.in-Ok-Scans.ensures.leads)
+    (counts code i chosen old x c.requires.inside is new c.in-Ok-Scans.field-0 (Scans job) c.in-Ok-Scans.field-0-is c.in-Ok-Scans.ensures.ticks c.args.steps.now c.count.new.steps c.count.ensures)
+    (sym c.is_stable.ensures ∙ c.if-not-is_stable.false) (c.in-Err-capture.ensures.front (drop new.next chosen))

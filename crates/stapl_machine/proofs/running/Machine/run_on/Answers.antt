@@ -1,4 +1,5 @@
-use Rattle.std.proofs.Common.{◌≡◌, ◌∙◌, [], refl, rules, arith, Some, None}
+use Rattle.std.proofs.Common.{◌≡◌, ◌∙◌, [], refl, ap, rules, arith, Some, None}
+use Rattle.tap_states.specs.Tap.{is_stable_state}
 use Rattle.stapl_code.specs.Safe.{entries_of, constants_of}
 use Rattle.stapl_machine.specs.declared.running.Machine.{Machine}
 use Rattle.stapl_machine.specs.Acts.{state_of}
@@ -17,7 +18,7 @@ unreachable-requires g c =
     let new = c.play_out.new in let port = c.over-port.result in
     let plays = over_code b m.board m.made w lists code chosen v n port new.port c.args.steps.now new.steps c.in-Ok-None.field-0 None (state_of chosen new.work) same c.requires.ready.variables_are c.in-Ok-None.field-0-is c.in-Ok-None.ensures.plays in
     let k = chain_before b m.board m.made w port plays.clocks [] in
-    c.never_stuck.ensures code c.raw.ensures.in_range c.raw.ensures.valid chosen c.requires.chosen (zeros_of_code code) (zeros_fit code.variables c.raw.ensures.in_range.variables.each) n k
+    c.never_stuck.ensures code c.raw.ensures.in_range c.raw.ensures.valid chosen c.requires.chosen (zeros_of_code code) (zeros_fit code.variables c.raw.ensures.in_range.variables.each) n k (ap is_stable_state o.tap)
     (ending_none (play_of code chosen n k).outcome (plays.ended []))
 
 pub returns-in-Ok-Some-clause-played : goal.returns-in-Ok-Some-clause-played

@@ -1,0 +1,421 @@
+//! Scans, paddings, and the states in which scans end.
+ghost use Rattle.std.specs.Prelude.{◌≡◌, ◌≤◌, ◌+◌, ℕ, List, Bool, length, replicate, IfOk, IfErr, true, None, Some};
+ghost use Rattle.std.specs.Option.{option_map};
+ghost use Rattle.bit_list.specs.Ranges.{spliced};
+ghost use Rattle.stapl_meaning.specs.declared.values.Held.TheVariants as arrays;
+ghost use Rattle.stapl_meaning.specs.Values.{Known, then_get, bits_of};
+ghost use Rattle.stapl_meaning.specs.States.{State};
+ghost use Rattle.stapl_meaning.specs.Scans.{with_padding, with_stop, scan_limit, padding_limit, caught, agree, known_or, cell_written, judged, target_asked, compare_asked, scan_asked, scanned, padding_bits, surrounded, stopped};
+ghost use Rattle.stapl_code.specs.Machine.{Constants, known_given, known_scan, does};
+ghost use Rattle.stapl_machine.specs.Found.{IsGot, IsSure};
+ghost use Rattle.stapl_machine.specs.Acts.{IsMade, Told, state_in};
+ghost use Rattle.stapl_machine.specs.Jobs.{is_known, is_given_known, is_scan_known, resolved, compare_resolved, scan_resolved, IsPartIf, HasRoom, IsAsLong, AreCompared, IsCompareFound, AreFound, places_of, cell_of, cell_at, compared_at, compare_at, found_at, compared_by, both_asked, job_compare, job_lands, CanBeDone};
+
+use crate::arrays::store_at;
+use crate::effects::{CellAt, Made, ScanJob, store};
+use crate::memory::{Memory, Shifted};
+use crate::operate::Stop;
+use crate::parts::Part;
+use crate::scan_parts::{
+    ComparedAt, PartsAt, find_known, find_parts, is_given_known, is_scan_known, padding_length,
+    scan_length, take_bits,
+};
+use bit_list::Bits;
+use stapl_code::{Compare, Scan, Source};
+use stapl_lexer::{Padding, Register};
+use stapl_meaning::{Held, RunFault, Value};
+use std::alloc::{AllocError, Global};
+use tap_states::Tap;
+
+// Whether a target has room for so many bits.
+fn test_room(target: Option<Part>, n: u32) -> Result<(), Stop>
+    ensures is { IsSure (λ done g. g ≡ Known (places_of target)) result (target_asked n (places_of target)) }
+    ensures room { IfOk result (λ done. HasRoom target n) }
+{
+    match target {
+        Some(part) => {
+            if n > part.span.count {
+                return Err(Stop::Fault(RunFault::LengthMismatch));
+            }
+            Ok(())
+        }
+        None => Ok(()),
+    }
+}
+
+fn zeros(alloc: Global, n: u32) -> Result<Bits, Stop>
+    requires { n ≤ scan_limit }
+    ensures count { IfOk result (λ bits. length bits ≡ n) }
+    ensures sure { IfErr result (λ stop. stop ≡ Stop.Memory) }
+{
+    match Bits::zeros(alloc, n) {
+        Ok(bits) => Ok(bits),
+        Err(_) => Err(Stop::Memory),
+    }
+}
+
+// The bits that a scan compares with.
+#[derive(Drop)]
+struct ComparedBits {
+    expected: Bits,
+    mask: Bits,
+}
+
+fn take_both(
+    alloc: Global,
+    literals: &[Bits],
+    variables: &[Held],
+    at: ComparedAt,
+    n: u32,
+) -> Result<ComparedBits, Stop>
+    requires few { n ≤ scan_limit }
+    requires there { AreCompared literals.now variables.now at }
+    ensures is { IsGot (λ both g. g ≡ Known (compared_by both.expected both.mask at.cell)) result
+        (both_asked n at (compared_at literals.now variables.now at)) }
+    ensures expected { IfOk result (λ both. length both.expected ≡ n) }
+    ensures mask { IfOk result (λ both. length both.mask ≡ n) }
+{
+    let expected = take_bits(alloc, literals, variables, at.expected, n)?;
+    let mask = take_bits(alloc, literals, variables, at.mask, n)?;
+    Ok(ComparedBits { expected, mask })
+}
+
+// The bits that a scan compares with, if it compares.
+fn take_compared(
+    alloc: Global,
+    literals: &[Bits],
+    variables: &[Held],
+    compare: Option<Compare>,
+    at: Option<ComparedAt>,
+    n: u32,
+) -> Result<ComparedBits, Stop>
+    requires few { n ≤ scan_limit }
+    requires found { IsCompareFound literals.now variables.now compare at }
+    ensures is { IsGot (λ both g. g ≡ Known (job_compare both.expected both.mask (cell_at at))) result
+        (compare_asked n (option_map (compare_resolved literals.now) compare) (compare_at literals.now variables.now at)) }
+    ensures expected { IfOk result (λ both. IsAsLong (cell_at at) n both.expected) }
+    ensures mask { IfOk result (λ both. IsAsLong (cell_at at) n both.mask) }
+{
+    match at {
+        Some(at) => take_both(alloc, literals, variables, at, n),
+        None => Ok(ComparedBits {
+            expected: zeros(alloc, 0)?,
+            mask: zeros(alloc, 0)?,
+        }),
+    }
+}
+
+fn cell_at(compare: Option<ComparedAt>) -> Option<CellAt>
+    ensures { result ≡ cell_at compare }
+{
+    match compare {
+        Some(compare) => Some(compare.cell),
+        None => None,
+    }
+}
+
+// Takes the bits of a scan whose parts were found.
+fn take_scan(
+    literals: &[Bits],
+    scan: &Scan,
+    found: PartsAt,
+    n: u32,
+    memory: &mut Memory,
+) -> Result<Made, Stop>
+    requires found { AreFound literals.now memory.old.variables.items scan.now found }
+    requires some { 1 ≤ n }
+    requires few { n ≤ scan_limit }
+    ensures { (text : List ℕ) (constants : Constants) (states : List Tap) (chosen : List ℕ) →
+        IsMade result (record { text = text; constants = constants; states = states; shifted = memory.new.shifted })
+        (state_in chosen memory.old) (state_in chosen memory.new)
+        (does (scan_asked (scan_resolved literals.now scan.now) (found_at literals.now memory.old.variables.items found)
+        (state_in chosen memory.old) n)) }
+{
+    let alloc = memory.alloc;
+    let data = take_bits(alloc, literals, &memory.variables, found.source, n)?;
+    test_room(found.target, n)?;
+    let both = take_compared(
+        alloc,
+        literals,
+        &memory.variables,
+        scan.compare,
+        found.compare,
+        n,
+    )?;
+    memory.shifted = Shifted {
+        data,
+        captured: zeros(alloc, n)?,
+        expected: both.expected,
+        mask: both.mask,
+    };
+    Ok(Made::Scans(ScanJob {
+        register: scan.register,
+        target: found.target,
+        cell: cell_at(found.compare),
+    }))
+}
+
+fn scan_known(
+    literals: &[Bits],
+    scan: &Scan,
+    values: &[Value],
+    memory: &mut Memory,
+) -> Result<Made, Stop>
+    requires { is_scan_known literals.now scan.now ≡ true }
+    ensures { (text : List ℕ) (constants : Constants) (states : List Tap) (chosen : List ℕ) →
+        IsMade result (record { text = text; constants = constants; states = states; shifted = memory.new.shifted })
+        (state_in chosen memory.old) (state_in chosen memory.new)
+        (does (scanned (scan_resolved literals.now scan.now) values.now (state_in chosen memory.old))) }
+{
+    match values {
+        [Value::Int(length), ..] => {
+            let found = find_parts(literals, scan, &values[1..], &memory.variables)?;
+            let n = scan_length(*length)?;
+            take_scan(literals, scan, found, n, memory)
+        }
+        _ => Err(Stop::Wrong),
+    }
+}
+
+/// Takes the bits of a scan, which is still to be done.
+#[tactic(auto, using(crate::proofs::ScanLemmas::scan_known, crate::proofs::ScanLemmas::scan_unknown))]
+pub fn scan(
+    literals: &[Bits],
+    scan: &Scan,
+    values: &[Value],
+    memory: &mut Memory,
+) -> Result<Made, Stop>
+    ensures { (text : List ℕ) (constants : Constants) (states : List Tap) (chosen : List ℕ) →
+        IsMade result (record { text = text; constants = constants; states = states; shifted = memory.new.shifted })
+        (state_in chosen memory.old) (state_in chosen memory.new)
+        (does (then_get (known_scan literals.now scan.now) (λ parts. scanned parts values.now (state_in chosen memory.old)))) }
+{
+    if !is_scan_known(literals, scan) {
+        return Err(Stop::Wrong);
+    }
+    scan_known(literals, scan, values, memory)
+}
+
+// So many ones.
+#[tactic(auto, using(crate::proofs::ScanLemmas::ones_more, crate::proofs::ScanLemmas::ones_count, crate::proofs::ScanLemmas::ones_all))]
+fn ones(alloc: Global, n: u32) -> Result<Bits, AllocError>
+    requires { n ≤ padding_limit }
+    ensures { IfOk result (λ bits. bits ≡ replicate n true) }
+{
+    let mut bits = Bits::zeros(alloc, n)?;
+    for i in 0..n {
+        bits.set(i, true);
+    }
+    Ok(bits)
+}
+
+fn ones_of(alloc: Global, values: &[Value], length: i32) -> Result<Bits, Stop>
+    ensures { (variables : List Held) →
+        IsGot (λ bits g. g ≡ Known bits) result (padding_bits variables None values.now length) }
+{
+    match values {
+        [] => {
+            let n = padding_length(length)?;
+            match ones(alloc, n) {
+                Ok(bits) => Ok(bits),
+                Err(_) => Err(Stop::Memory),
+            }
+        }
+        _ => Err(Stop::Wrong),
+    }
+}
+
+fn padding_of(
+    alloc: Global,
+    literals: &[Bits],
+    source: Source,
+    values: &[Value],
+    length: i32,
+    variables: &[Held],
+) -> Result<Bits, Stop>
+    requires { is_known literals.now source ≡ true }
+    ensures { IsGot (λ bits g. g ≡ Known bits) result
+        (padding_bits variables.now (Some (resolved literals.now source)) values.now length) }
+{
+    let at = find_known(literals, source, values, variables)?;
+    let n = padding_length(length)?;
+    take_bits(alloc, literals, variables, at, n)
+}
+
+fn set_padding(memory: &mut Memory, which: Padding, bits: Bits)
+    ensures { (chosen : List ℕ) →
+        state_in chosen memory.new ≡ with_padding which bits (state_in chosen memory.old) }
+{
+    match which {
+        Padding::PreData => memory.dr.set_pre(bits),
+        Padding::PostData => memory.dr.set_post(bits),
+        Padding::PreInstruction => memory.ir.set_pre(bits),
+        Padding::PostInstruction => memory.ir.set_post(bits),
+    }
+}
+
+fn padding_bits(
+    literals: &[Bits],
+    source: Option<Source>,
+    values: &[Value],
+    length: i32,
+    memory: &Memory,
+) -> Result<Bits, Stop>
+    requires { is_given_known literals.now source ≡ true }
+    ensures { IsGot (λ bits g. g ≡ Known bits) result
+        (padding_bits memory.now.variables.items (option_map (resolved literals.now) source) values.now length) }
+{
+    match source {
+        None => ones_of(memory.alloc, values, length),
+        Some(source) => padding_of(
+            memory.alloc,
+            literals,
+            source,
+            values,
+            length,
+            &memory.variables,
+        ),
+    }
+}
+
+fn pad_known(
+    literals: &[Bits],
+    which: Padding,
+    source: Option<Source>,
+    values: &[Value],
+    memory: &mut Memory,
+) -> Result<Made, Stop>
+    requires { is_given_known literals.now source ≡ true }
+    ensures { (told : Told) (chosen : List ℕ) →
+        IsMade result told (state_in chosen memory.old) (state_in chosen memory.new)
+        (does (surrounded which (option_map (resolved literals.now) source) values.now (state_in chosen memory.old))) }
+{
+    match values {
+        [Value::Int(length), ..] => {
+            let bits = padding_bits(literals, source, &values[1..], *length, memory)?;
+            set_padding(memory, which, bits);
+            Ok(Made::On)
+        }
+        _ => Err(Stop::Wrong),
+    }
+}
+
+/// A padding is set.
+#[tactic(auto, using(crate::proofs::ScanLemmas::given_known, crate::proofs::ScanLemmas::given_unknown))]
+pub fn pad(
+    literals: &[Bits],
+    which: Padding,
+    source: Option<Source>,
+    values: &[Value],
+    memory: &mut Memory,
+) -> Result<Made, Stop>
+    ensures { (told : Told) (chosen : List ℕ) →
+        IsMade result told (state_in chosen memory.old) (state_in chosen memory.new)
+        (does (then_get (known_given literals.now source)
+        (λ from. surrounded which from values.now (state_in chosen memory.old)))) }
+{
+    if !is_given_known(literals, source) {
+        return Err(Stop::Wrong);
+    }
+    pad_known(literals, which, source, values, memory)
+}
+
+fn set_stop(memory: &mut Memory, register: Register, state: Tap)
+    ensures { (chosen : List ℕ) →
+        state_in chosen memory.new ≡ with_stop register state (state_in chosen memory.old) }
+{
+    match register {
+        Register::Data => memory.dr.set_stop(state),
+        Register::Instruction => memory.ir.set_stop(state),
+    }
+}
+
+/// The state in which scans end is set.
+pub fn stop(
+    register: Register,
+    state: Tap,
+    values: &[Value],
+    memory: &mut Memory,
+) -> Result<Made, Stop>
+    ensures { (told : Told) (chosen : List ℕ) →
+        IsMade result told (state_in chosen memory.old) (state_in chosen memory.new)
+        (does (stopped register state values.now (state_in chosen memory.old))) }
+{
+    match values {
+        [] => {
+            if !state.is_stable() {
+                return Err(Stop::Wrong);
+            }
+            set_stop(memory, register, state);
+            Ok(Made::On)
+        }
+        _ => Err(Stop::Wrong),
+    }
+}
+
+// Captured bits go to the lowest ones of a part of an array.
+#[tactic(auto, using(crate::proofs::ScanLemmas::all_of_it))]
+fn put_captured(held: &mut Held, low: u32, bits: &Bits)
+    requires is_array { held.old ≡ arrays.Bits (bits_of held.old) }
+    requires inside { low + length bits.now ≤ length (bits_of held.old) }
+    ensures { held.new ≡ arrays.Bits (spliced low bits.now (bits_of held.old)) }
+{
+    if let Held::Bits(own) = held {
+        own.copy_range(low, bits, 0, bits.len());
+    }
+}
+
+fn catch(variables: &mut Vec<Held>, target: Option<Part>, bits: &Bits)
+    requires there { IsPartIf variables.old.items target }
+    requires room { HasRoom target (length bits.now) }
+    ensures { variables.new.items ≡ caught (places_of target) bits.now variables.old.items }
+{
+    if let Some(part) = target {
+        put_captured(&mut variables[part.array as usize], part.span.low, bits);
+    }
+}
+
+// Whether each captured bit whose mask bit is 1 is the expected one.
+fn agree(mask: &Bits, expected: &Bits, captured: &Bits) -> bool
+    requires expected { length expected.now ≡ length captured.now }
+    requires mask { length mask.now ≡ length captured.now }
+    ensures { result ≡ agree mask.now expected.now captured.now }
+{
+    captured.masked_equal(expected, mask, captured.len())
+}
+
+fn put_result(variables: &mut Vec<Held>, cell: CellAt, same: bool)
+    ensures { variables.new.items
+        ≡ known_or variables.old.items (cell_written (cell_of cell) same variables.old.items) }
+{
+    match cell {
+        CellAt::Scalar(n) => {
+            store(variables, n, Value::Bit(same));
+        }
+        CellAt::Element(n, index) => {
+            let _written = store_at(variables, n, index, Value::Bit(same));
+        }
+    }
+}
+
+fn judge(variables: &mut Vec<Held>, cell: Option<CellAt>, shifted: &Shifted)
+    requires expected { IsAsLong cell (length shifted.now.captured) shifted.now.expected }
+    requires mask { IsAsLong cell (length shifted.now.captured) shifted.now.mask }
+    ensures { variables.new.items
+        ≡ judged (job_compare shifted.now.expected shifted.now.mask cell) shifted.now.captured variables.old.items }
+{
+    if let Some(cell) = cell {
+        let same = agree(&shifted.mask, &shifted.expected, &shifted.captured);
+        put_result(variables, cell, same);
+    }
+}
+
+/// The captured bits land where they go, and then the result of the comparison does.
+pub fn land(memory: &mut Memory, job: ScanJob)
+    requires { CanBeDone memory.old.variables.items memory.old.shifted job }
+    ensures { (chosen : List ℕ) → state_in chosen memory.new
+        ≡ job_lands memory.old.shifted job (state_in chosen memory.old) memory.old.shifted.captured }
+{
+    catch(&mut memory.variables, job.target, &memory.shifted.captured);
+    judge(&mut memory.variables, job.cell, &memory.shifted);
+}

@@ -1,0 +1,92 @@
+//! How scans go.
+ghost use Rattle.std.specs.Prelude.{◌≡◌, IfOk};
+ghost use Rattle.scan_paths.specs.Scans.{AreInside, paddings_of};
+ghost use Rattle.stapl_meaning.specs.Plays.{first_settings};
+ghost use Rattle.stapl_machine.specs.Settings.{own_paddings};
+
+use bit_list::Bits;
+use scan_paths::Pads;
+use std::alloc::{AllocError, Global};
+use std::marker::Model;
+use tap_states::Tap;
+
+/// How scans through some registers go: the paddings of the program, and the state in which scans end. Contracts see it
+/// as that.
+#[derive(Drop)]
+pub struct Settings {
+    pads: Pads,
+    stop: Tap,
+}
+
+impl Model for Settings {
+    ghost use Rattle.stapl_meaning.specs.States.{ScanSettings};
+
+    ghost Value = { ScanSettings };
+
+    ghost use Rattle.std.specs.Prelude.{◌≡◌};
+    ghost use Rattle.scan_paths.specs.Scans.{AreInside};
+    ghost use Rattle.stapl_machine.specs.PadSettings.{settings_seen};
+
+    ghost view = { λ s. settings_seen s.pads s.stop };
+
+    ghost invariant = { λ s. AreInside s.pads × (s.pads.base_pre ≡ 0) × (s.pads.base_post ≡ 0) };
+}
+
+impl Settings {
+    /// No padding, and scans end in Run-Test/Idle.
+    pub fn first(alloc: Global) -> Result<Settings, AllocError>
+        ensures { IfOk result (λ s. s ≡ first_settings) }
+    {
+        Ok(Settings {
+            pads: Pads {
+                base_pre: 0,
+                pre: 0,
+                pre_bits: Bits::zeros(alloc, 0)?,
+                post: 0,
+                post_bits: Bits::zeros(alloc, 0)?,
+                base_post: 0,
+            },
+            stop: Tap::Idle,
+        })
+    }
+
+    /// The state in which scans end.
+    pub fn stop(&self) -> Tap
+        ensures { result ≡ self.now.stop }
+    {
+        self.stop
+    }
+
+    /// The paddings of scans.
+    pub fn pads(&self) -> &Pads
+        ensures inside { AreInside result.now }
+        ensures paddings { paddings_of result.now ≡ own_paddings self.now }
+    {
+        &self.pads
+    }
+
+    /// Sets the state in which scans end.
+    pub fn set_stop(&mut self, stop: Tap)
+        ensures { self.new ≡ record self.old { stop = stop } }
+    {
+        self.stop = stop;
+    }
+
+    /// Sets the bits before the data.
+    #[tactic(auto, using(crate::proofs::SettingLemmas::all_taken))]
+    pub fn set_pre(&mut self, bits: Bits)
+        ensures { self.new ≡ record self.old { pre = bits } }
+    {
+        self.pads.pre = bits.len();
+        self.pads.pre_bits = bits;
+    }
+
+    /// Sets the bits after the data.
+    #[tactic(auto, using(crate::proofs::SettingLemmas::all_taken))]
+    pub fn set_post(&mut self, bits: Bits)
+        ensures { self.new ≡ record self.old { post = bits } }
+    {
+        self.pads.post = bits.len();
+        self.pads.post_bits = bits;
+    }
+}
