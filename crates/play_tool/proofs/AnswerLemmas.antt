@@ -1,6 +1,6 @@
 -- On answers: which relation holds the answers of which.
 use Rattle.std.proofs.Common.{◌≡◌, ◌<◌, ℕ, pos, List, length, codes, Option, None, Some, Result, Ok, Err, IfOk, IfSome, IsSomeAnd, refl, sym, ap, ◌∙◌, subst, true, false}
-use Rattle.std.proofs.lemmas.Option.{same_Some, none-some}
+use Rattle.std.proofs.lemmas.Option.{same_Some}
 use Rattle.std.specs.Prelude.{is_some, IsSome}
 use Rattle.tool_io.specs.Bytes.{then_bytes, MovesFront}
 use Rattle.stapl_lexer.specs.Pieces.{text_limit}
@@ -8,7 +8,6 @@ use Rattle.stapl_lexer.specs.declared.reason.Reason.{Reason}
 use Rattle.stapl_lexer.specs.declared.reason.Reason.TheVariants as reasons
 use Rattle.stapl_syntax.specs.Trees.{StmtTree}
 use Rattle.stapl_syntax.specs.Programs.{IsProgram, FirstFault, is_too_long}
-use Rattle.stapl_built.specs.Unbuilt.{IsUnbuiltAt, IsBuiltProgram}
 use Rattle.stapl_checker.proofs.UniqueLemmas.{one_program, no_fault}
 use Rattle.dev_card.specs.declared.desc.Desc.{Desc}
 use Rattle.play_tool.specs.declared.mode.Mode.{Mode}
@@ -21,7 +20,7 @@ use Rattle.play_tool.specs.declared.mode.WordKey.{WordKey}
 use Rattle.play_tool.specs.declared.mode.WordKey.TheVariants.{Board, Program, Action}
 use Rattle.play_tool.specs.Words.{needs, has_key, HasNeeded, IsUsage}
 use Rattle.play_tool.specs.Written.{Wrote, WroteFront}
-use Rattle.play_tool.specs.Answers.{PlaysAction, PlaysText, unbuilt, built, Work, TextAnswer, refused, accepted, FileAnswer, Contents, WordsAnswer, usage, SomeTextAnswer, SomeFilesAnswer}
+use Rattle.play_tool.specs.Answers.{PlaysAction, PlaysAsked, Work, TextAnswer, refused, accepted, FileAnswer, Contents, WordsAnswer, usage, SomeTextAnswer, SomeFilesAnswer}
 use Rattle.play_tool.proofs.BoardLemmas.{long_text}
 use Rattle.play_tool.proofs.WrittenLemmas.{IsWithin, wrote_text, wrote_front}
 
@@ -56,37 +55,20 @@ has_program request has none =
     let some : is_some request.program ≡ true = has_needed request request.mode has refl Program (program_needed request.mode) in
     let same : is_some request.program ≡ false = ap (λ (a : Option (List ℕ)). is_some a) none in cc
 
--- The play that is asked of a program that is built is that of the action that is named.
+-- The play that a request asks for is that of the action that it names.
 
-pub plays_asked : (request : Request) (devices : List Desc) (bytes : List ℕ) (program : List StmtTree) {action : List ℕ} → request.action ≡ Some action → IsBuiltProgram bytes program →
-    IsWithin (PlaysAction program action request devices) (PlaysText request devices bytes program)
-plays_asked request devices bytes program {action = action} a is = record {
-  to = λ text status p. built text status is (record { action = action; asked = a; plays = p });
-}
+pub plays_asked : (request : Request) (devices : List Desc) (program : List StmtTree) {action : List ℕ} → request.action ≡ Some action →
+    IsWithin (PlaysAction program action request devices) (PlaysAsked program request devices)
+plays_asked request devices program {action = action} a = record { to = λ text status p. record { action = action; asked = a; plays = p } }
 
--- a program that is built has no piece that is not
-pub not_both : {bytes : List ℕ} {program : List StmtTree} {piece line : ℕ} → IsBuiltProgram bytes program → IsUnbuiltAt bytes program piece line → ⊥
-not_both is at = none-some at.index (sym is.built ∙ at.is_first)
-
-asked_play : {request : Request} {devices : List Desc} {bytes : List ℕ} {program : List StmtTree} {action text : List ℕ} {status : Status} → request.action ≡ Some action → IsBuiltProgram bytes program →
-    PlaysText request devices bytes program text status → PlaysAction program action request devices text status
-asked_play a is (unbuilt piece line at) = absurd (not_both is at)
-asked_play {request = request} {devices = devices} {program = program} {action = action} a is (built text status own p) =
+asked_play : {request : Request} {devices : List Desc} {program : List StmtTree} {action text : List ℕ} {status : Status} → request.action ≡ Some action →
+    PlaysAsked program request devices text status → PlaysAction program action request devices text status
+asked_play {request = request} {devices = devices} {program = program} {action = action} {text = text} {status = status} a p =
     subst (λ (z : List ℕ). PlaysAction program z request devices text status) (same_Some p.action action (sym p.asked ∙ a)) p.plays
 
-pub asked_plays : (request : Request) (devices : List Desc) (bytes : List ℕ) (program : List StmtTree) {action : List ℕ} → request.action ≡ Some action → IsBuiltProgram bytes program →
-    IsWithin (PlaysText request devices bytes program) (PlaysAction program action request devices)
-asked_plays request devices bytes program a is = record { to = λ text status p. asked_play a is p }
-
--- A piece is not built.
-
-pub unbuilt_wrote : {request : Request} {devices : List Desc} {bytes : List ℕ} {program : List StmtTree} {before after : Option (List ℕ)} (piece line : ℕ) → IsUnbuiltAt bytes program piece line →
-    after ≡ then_bytes before (refusal_line piece line reasons.NotYetBuilt) → Wrote (PlaysText request devices bytes program) before after (Refused piece reasons.NotYetBuilt)
-unbuilt_wrote piece line at e = wrote_text (refusal_line piece line reasons.NotYetBuilt) (unbuilt piece line at) e
-
-pub unbuilt_front : {request : Request} {devices : List Desc} {bytes : List ℕ} {program : List StmtTree} {before after : Option (List ℕ)} (piece line : ℕ) → IsUnbuiltAt bytes program piece line →
-    MovesFront before (refusal_line piece line reasons.NotYetBuilt) after → WroteFront (PlaysText request devices bytes program) before after
-unbuilt_front piece line at m = wrote_front (refusal_line piece line reasons.NotYetBuilt) (Refused piece reasons.NotYetBuilt) (unbuilt piece line at) m
+pub asked_plays : (request : Request) (devices : List Desc) (program : List StmtTree) {action : List ℕ} → request.action ≡ Some action →
+    IsWithin (PlaysAsked program request devices) (PlaysAction program action request devices)
+asked_plays request devices program a = record { to = λ text status p. asked_play a p }
 
 -- The answer for a text that is a program is the work on it.
 

@@ -1,10 +1,6 @@
 -- The words and the files have at most one answer.
-use Rattle.std.proofs.Common.{Bool, ◌≡◌, ◌+◌, ℕ, pos, List, refl, sym, ap, ◌∙◌, subst, Option, Some, codes}
+use Rattle.std.proofs.Common.{Bool, ◌≡◌, ℕ, pos, List, refl, sym, ap, ◌∙◌, subst, Option, Some, codes}
 use Rattle.std.proofs.lemmas.Option.{same_Some}
-use Rattle.stapl_lexer.specs.declared.reason.Reason.TheVariants as reasons
-use Rattle.stapl_lexer.proofs.PieceLemmas.{cut_one_way}
-use Rattle.stapl_syntax.specs.Programs.{line_of_index}
-use Rattle.stapl_built.specs.Unbuilt.{IsUnbuiltAt}
 use Rattle.stapl_lexer.specs.declared.reason.Reason.{Reason}
 use Rattle.stapl_syntax.specs.Trees.{StmtTree}
 use Rattle.stapl_checker.proofs.UniqueLemmas.{one_first_fault, one_program, no_fault}
@@ -24,8 +20,7 @@ use Rattle.play_tool.specs.declared.status.Status.TheVariants.{Done, Refused, Bo
 use Rattle.play_tool.specs.Checks.{check_text, Checks, checked}
 use Rattle.play_tool.specs.Listings.{Lists, listed}
 use Rattle.play_tool.specs.Texts.{number_line, refusal_line, board_refusal_line}
-use Rattle.play_tool.specs.Answers.{PlaysText, unbuilt, built, done_with, Plays, no_action, bad_choice, played, PlaysAction, PlaysAsked, Work, TextAnswer, refused, accepted, FileAnswer, Contents, RequestAnswer, board_refused, board_read, WordsAnswer, Answer, usage, asked}
-use Rattle.play_tool.proofs.AnswerLemmas.{not_both}
+use Rattle.play_tool.specs.Answers.{done_with, Plays, no_action, bad_choice, played, PlaysAction, PlaysAsked, Work, TextAnswer, refused, accepted, FileAnswer, Contents, RequestAnswer, board_refused, board_read, WordsAnswer, Answer, usage, asked}
 use Rattle.play_tool.proofs.BoardLemmas.{one_held, one_fault, board_or_fault}
 use Rattle.play_tool.proofs.RequestLemmas.{words_request}
 use Rattle.play_tool.proofs.CheckLemmas.{one_word}
@@ -83,26 +78,6 @@ one_asked : {program : List StmtTree} {request : Request} {devices : List Desc} 
 one_asked {program = program} {request = request} {devices = devices} {ys = ys} {t = t} a b =
     one_play a.plays (subst (λ (z : List ℕ). PlaysAction program z request devices ys t) (same_Some b.action a.action (sym b.asked ∙ a.asked)) b.plays)
 
--- the first piece that is not built is one
-same_unbuilt : (p l q m : ℕ) → p ≡ q → l ≡ m → said (refusal_line p l reasons.NotYetBuilt) (Refused p reasons.NotYetBuilt) ≡ said (refusal_line q m reasons.NotYetBuilt) (Refused q reasons.NotYetBuilt)
-same_unbuilt p l q m a b = rw (a, b) refl
-
-one_unbuilt : {bytes : List ℕ} {program : List StmtTree} {p l q m : ℕ} → IsUnbuiltAt bytes program p l → IsUnbuiltAt bytes program q m → (p ≡ q) × (l ≡ m)
-one_unbuilt {bytes = bytes} {program = program} a b =
-    let index = same_Some a.index b.index (sym a.is_first ∙ b.is_first) in
-    let pieces = cut_one_way bytes a.pieces b.pieces a.cut b.cut in (
-      a.piece_is ∙ ap (λ (i : ℕ). i + 1) index ∙ sym b.piece_is,
-      a.line_is ∙ (λ j. line_of_index bytes (pieces j) (index j)) ∙ sym b.line_is,
-    )
-
--- a program is built or it is not
-one_played : {request : Request} {devices : List Desc} {bytes : List ℕ} {program : List StmtTree} {xs ys : List ℕ} {s t : Status} → PlaysText request devices bytes program xs s →
-    PlaysText request devices bytes program ys t → said xs s ≡ said ys t
-one_played (unbuilt p l a) (unbuilt q m b) = let e = one_unbuilt a b in same_unbuilt p l q m e.0 e.1
-one_played (unbuilt p l a) (built text status is b) = absurd (not_both is a)
-one_played (built text status is a) (unbuilt p l b) = absurd (not_both is b)
-one_played (built text status is a) (built other also_status also b) = one_asked a b
-
 same_check : (program : List StmtTree) (a b : Option CheckWords) → a ≡ b → said (check_text program a) (Done (pos 0)) ≡ said (check_text program b) (Done (pos 0))
 same_check program a b e = rw e refl
 
@@ -115,7 +90,7 @@ one_list listed listed = refl
 -- each mode says one thing of a program
 one_work : (request : Request) (devices : List Desc) (bytes : List ℕ) (program : List StmtTree) (xs ys : List ℕ) (s t : Status) (mode : Mode) → Work request devices bytes program mode xs s →
     Work request devices bytes program mode ys t → said xs s ≡ said ys t
-one_work request devices bytes program xs ys s t modes.Play a b = one_played a b
+one_work request devices bytes program xs ys s t modes.Play a b = one_asked a b
 one_work request devices bytes program xs ys s t modes.Check a b = one_check a b
 one_work request devices bytes program xs ys s t modes.List a b = one_list a b
 

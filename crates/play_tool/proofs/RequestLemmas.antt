@@ -6,12 +6,11 @@ use Rattle.tool_io.specs.Files.{file_of}
 use Rattle.tool_io.proofs.CauseLemmas.{rose_after_at}
 use Rattle.dev_card.specs.declared.desc.Desc.{Desc}
 use Rattle.board_text.specs.declared.reason.BoardReason.{BoardReason}
-use Rattle.play_tool.specs.declared.mode.Mode.TheVariants as modes
 use Rattle.play_tool.specs.declared.status.Status.{Status}
 use Rattle.play_tool.specs.declared.status.Status.TheVariants.{BoardRefused}
 use Rattle.play_tool.specs.declared.words.Request.{Request}
 use Rattle.play_tool.specs.Texts.{board_refusal_line}
-use Rattle.play_tool.specs.Words.{HasMode, IsRequest}
+use Rattle.play_tool.specs.Words.{IsRequest}
 use Rattle.play_tool.specs.Written.{Wrote, WroteFront, IsPrefixOf}
 use Rattle.play_tool.specs.Boards.{file_named, HasBoard, HasBoardFault, ReadsBoard, ReadsBoardFault, HoldsBoard, HasReadCause, program_failed}
 use Rattle.play_tool.specs.Answers.{FileAnswer, SomeTextAnswer, Contents, contents_in, RequestAnswer, board_refused, board_read, SomeRequestAnswer, WordsAnswer, usage, asked, SomeFilesAnswer}

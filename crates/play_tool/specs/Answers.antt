@@ -2,10 +2,8 @@
 -- are read before the answer is found: the board first, and the program after a board that is right.
 use Rattle.std.specs.Prelude.{◌≡◌, ℕ, pos, Bool, List, map, codes, Option, Some}
 use Rattle.stapl_lexer.specs.declared.reason.Reason.{Reason}
-use Rattle.stapl_lexer.specs.declared.reason.Reason.TheVariants as reasons
 use Rattle.stapl_syntax.specs.Trees.{StmtTree}
 use Rattle.stapl_syntax.specs.Programs.{IsProgram, FirstFault}
-use Rattle.stapl_built.specs.Unbuilt.{IsUnbuiltAt, IsBuiltProgram}
 use Rattle.stapl_meaning.specs.declared.events.Ending.{Ending}
 use Rattle.stapl_meaning.specs.declared.events.Ending.TheVariants as endings
 use Rattle.stapl_meaning.specs.Choices.{Choice, choice_of}
@@ -59,17 +57,9 @@ pub record PlaysAsked (program : List StmtTree) (request : Request) (devices : L
   pub asked : request.action ≡ Some action
   pub plays : PlaysAction program action request devices text status
 
--- The play that a request asks for, on a board of these devices, of a text that is a program: a piece of it is not built
--- yet, or the action that is named is played.
-pub data PlaysText (request : Request) (devices : List Desc) (bytes : List ℕ) (program : List StmtTree) : List ℕ → Status → Type 0 where
-  unbuilt : (piece line : ℕ) → IsUnbuiltAt bytes program piece line →
-      PlaysText request devices bytes program (refusal_line piece line reasons.NotYetBuilt) (Refused piece reasons.NotYetBuilt)
-  built : (text : List ℕ) (status : Status) → IsBuiltProgram bytes program → PlaysAsked program request devices text status →
-      PlaysText request devices bytes program text status
-
 -- What each mode does with a text that is a program.
 abbrev pub Work : Request → List Desc → List ℕ → List StmtTree → Mode → (List ℕ → Status → Type 0)
-Work request devices bytes program modes.Play = PlaysText request devices bytes program
+Work request devices bytes program modes.Play = PlaysAsked program request devices
 Work request devices bytes program modes.Check = Checks bytes program
 Work request devices bytes program modes.List = Lists program
 

@@ -2,8 +2,8 @@
 ghost use Rattle.std.specs.Prelude.{◌≡◌, ◌<◌, length, map, Some, IsSome, IsTrue, OnOk, OnErr, IfOk, IsErrOf};
 ghost use Rattle.tool_io.specs.Causes.{HasRisen, NeverFalls};
 ghost use Rattle.tool_io.specs.Lines.{IsWhole, IsOverSame, SinkNeverFalls, sink_of, Puts};
+ghost use Rattle.stapl_syntax.specs.Programs.{IsProgram};
 ghost use Rattle.stapl_syntax.specs.ProgramValues.{trees_of};
-ghost use Rattle.stapl_built.specs.Unbuilt.{IsBuiltProgram};
 ghost use Rattle.stapl_meaning.specs.Choices.{no_action, bad_choice, chosen, choice_of};
 ghost use Rattle.stapl_meaning.specs.Plays.{ending_of};
 ghost use Rattle.stapl_meaning.specs.Scopes.{as_played};
@@ -277,8 +277,8 @@ fn status_of(ending: Ending) -> Status
     }
 }
 
-/// Plays an action of a built program, as a task asks for it: on its board, which is fitted into the rack, the
-/// procedures that run by the choices of the request, for at most so many turns.
+/// Plays an action of a program, as a task asks for it: on its board, which is fitted into the rack, the procedures
+/// that run by the choices of the request, for at most so many turns.
 ///
 /// If the program has no such action, or a name cannot be chosen in it, the rack stays as it was.
 pub fn play_program<K: Sink>(
@@ -289,7 +289,7 @@ pub fn play_program<K: Sink>(
     rack: &mut Vec<Box<dyn Device>>,
     out: &mut K,
 ) -> Result<Status, NoAnswer>
-    requires built { IsBuiltProgram program.now.text (trees_of program.now) }
+    requires program { IsProgram program.now.text (trees_of program.now) }
     requires rack { IsRack (map kind_of rack.old.items) }
     requires devices { CanBeFitted task.now.devices.now }
     ensures answered { IfOk result (λ status. IsFault status → ⊥) }

@@ -1,7 +1,8 @@
 //! The top call.
-ghost use Rattle.std.specs.Prelude.{◌≡◌, ◌≢◌, Some, IsSome, map, string_bytes, IfSome, IfOk, IsErrOf};
+ghost use Rattle.std.specs.Prelude.{◌≡◌, ◌≢◌, IsSome, map, string_bytes, IfSome, IfOk, IsErrOf};
 ghost use Rattle.tool_io.specs.Causes.{HasRisen, HasRisenAt, NeverFalls, NoneFalls};
 ghost use Rattle.tool_io.specs.Files.{file_of};
+ghost use Rattle.stapl_syntax.specs.Programs.{IsProgram};
 ghost use Rattle.stapl_syntax.specs.ProgramValues.{trees_of};
 ghost use Rattle.chain_sim.specs.Rack.{IsRack};
 ghost use Rattle.play_tool.specs.declared.mode.Mode.TheVariants.{Play};
@@ -9,7 +10,7 @@ ghost use Rattle.play_tool.specs.declared.words.Request.{Request};
 ghost use Rattle.play_tool.specs.Words.{HasMode, HasNeeded, IsRequest};
 ghost use Rattle.play_tool.specs.Written.{Wrote, WroteFront, IsPrefixOf};
 ghost use Rattle.play_tool.specs.Boards.{CanBeFitted, HasReadCause};
-ghost use Rattle.play_tool.specs.Answers.{PlaysText, Work, TextAnswer, FileAnswer, SomeTextAnswer, contents_in, RequestAnswer, SomeRequestAnswer, Answer, SomeFilesAnswer, IsFault};
+ghost use Rattle.play_tool.specs.Answers.{Work, TextAnswer, FileAnswer, SomeTextAnswer, contents_in, RequestAnswer, SomeRequestAnswer, Answer, SomeFilesAnswer, IsFault};
 ghost use Rattle.play_tool.specs.Racks.{ComesBeforeFitting};
 
 use crate::boards::{BoardNotRead, board_asked};
@@ -20,50 +21,11 @@ use crate::status::NoAnswer;
 use crate::writing::{write_board_refusal, write_refusal, write_usage};
 use crate::{Mode, Request, Status, WordsRefused, read_words};
 use dev_card::Device;
-use stapl_built::first_unbuilt;
 use stapl_checker::{CheckRefused, check};
 use stapl_lexer::{Name, Reason, TEXT_LIMIT};
 use stapl_syntax::Program;
 use std::alloc::Global;
 use tool_io::{ReadRefused, Shelf, Sink, read_whole};
-
-// Plays the action of this name, which the request names, if all pieces of the program are built.
-#[tactic(auto, using(crate::proofs::AnswerLemmas::unbuilt_wrote, crate::proofs::AnswerLemmas::unbuilt_front, crate::proofs::WrittenLemmas::nothing_written))]
-fn play_text<K: Sink>(
-    alloc: Global,
-    task: &Task,
-    action: &Name,
-    program: &Program,
-    rack: &mut Vec<Box<dyn Device>>,
-    out: &mut K,
-) -> Result<Status, NoAnswer>
-    requires action { task.now.request.now.action ≡ Some action.now }
-    requires rack { IsRack (map kind_of rack.old.items) }
-    requires devices { CanBeFitted task.now.devices.now }
-    ensures answered { IfOk result (λ status. IsFault status → ⊥) }
-    ensures ok { IfOk result (Wrote
-        (PlaysText task.now.request.now task.now.devices.now program.now.text (trees_of program.now))
-        (K.written out.old) (K.written out.new)) }
-    ensures read { IsErrOf result NoAnswer.Read → ⊥ }
-    ensures write { IsErrOf result NoAnswer.Write → HasRisen K.faults K.is_last out.old out.new }
-    ensures front { IsErrOf result NoAnswer.Write →
-        WroteFront (PlaysText task.now.request.now task.now.devices.now program.now.text (trees_of program.now))
-        (K.written out.old) (K.written out.new) }
-    ensures memory { IsErrOf result NoAnswer.Memory →
-        IsPrefixOf (PlaysText task.now.request.now task.now.devices.now program.now.text (trees_of program.now))
-        (K.written out.old) (K.written out.new) }
-    ensures later { NeverFalls K.faults K.is_last out.old out.new }
-    ensures before { IfOk result (λ status. ComesBeforeFitting status → rack.new.items ≡ rack.old.items) }
-    ensures kinds { map kind_of rack.new.items ≡ map kind_of rack.old.items }
-{
-    match first_unbuilt(alloc, program)? {
-        Some(unbuilt) => {
-            write_refusal(out, unbuilt.piece, unbuilt.line, Reason::NotYetBuilt)?;
-            Ok(Status::Refused(unbuilt.piece, Reason::NotYetBuilt))
-        }
-        None => play_program(alloc, program, action, task, rack, out),
-    }
-}
 
 // Does with a program what is asked.
 fn work<K: Sink>(
@@ -74,6 +36,7 @@ fn work<K: Sink>(
     out: &mut K,
 ) -> Result<Status, NoAnswer>
     requires needed { HasNeeded task.now.request.now }
+    requires program { IsProgram program.now.text (trees_of program.now) }
     requires rack { IsRack (map kind_of rack.old.items) }
     requires devices { IsSome task.now.request.now.board → CanBeFitted task.now.devices.now }
     ensures answered { IfOk result (λ status. IsFault status → ⊥) }
@@ -98,7 +61,7 @@ fn work<K: Sink>(
             let Some(action) = &task.request.action else {
                 unreachable!()
             };
-            play_text(alloc, task, action, program, rack, out)
+            play_program(alloc, program, action, task, rack, out)
         }
         Mode::Check => check_program(alloc, program.text(), program.statements(), out),
         Mode::List => list_program(program.statements(), out),

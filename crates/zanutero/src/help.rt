@@ -14,13 +14,13 @@ const HELP: &[u8] = b"zanutero: checks, lists and plays STAPL programs (JEDEC JE
       [turns=N] [pins=yes|no]
       plays the action NAME of the program on the board in the file board=PATH,
       and writes what it prints and how it ends
-      board=PATH    the devices of the chain, a line for each: plain NAME IRLEN;
+      board=PATH    the devices of the chain, a line for each, as plain U1 4;
                     the first is nearest TDO
       do=NAME,..    runs these OPTIONAL procedures, too
       skip=NAME,..  leaves out these RECOMMENDED procedures
       turns=N       the most turns of the play, 0 to 1000000000, or 100000000 if
                     it is missing; each statement that is played takes one
-      pins=yes      writes the clocks, too; no statement makes one yet
+      pins=yes      writes the clocks of the chain, too
   zanutero --help
   zanutero --version
 

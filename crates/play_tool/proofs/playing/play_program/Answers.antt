@@ -12,7 +12,7 @@ pub returns-in_err-code-clause-memory : goal.returns-in_err-code-clause-memory
 returns-in_err-code-clause-memory g c = λ _. nothing_written refl
 
 pub choose_asked-requires-clause-typed : goal.choose_asked-requires-clause-typed
-choose_asked-requires-clause-typed g c = c.programs_are_typed.ensures c.args.program.now.text (trees_of c.args.program.now) c.requires.built
+choose_asked-requires-clause-typed g c = c.programs_are_typed.ensures c.args.program.now.text (trees_of c.args.program.now) c.requires.program
 
 pub play_on_board-requires-clause-fit : goal.play_on_board-requires-clause-fit
 play_on_board-requires-clause-fit g c = zeros_fit _ c.in_ok-code.code c.in_ok-code.ensures
