@@ -30,6 +30,7 @@ pub enum Op {
     Print(&'static [bool]),
     Export(ExportPart),
     Exit,
+    Scan(stapl_code::Scan),
     State(&'static [Tap]),
     Wait(Tap, WaitKind, Tap),
     Frequency(bool),
@@ -37,7 +38,7 @@ pub enum Op {
 
 pub use Op::{
     Binary, Call, EndProc, Exit, Export, For, Frequency, Jump, JumpIfZero, Load, Next, PopRecord,
-    Print, Push, PushBit, PushRecord, State, Store, Turn, Wait,
+    Print, Push, PushBit, PushRecord, Scan, State, Store, Turn, Wait,
 };
 
 const ADD: Op = Binary(0);
@@ -51,7 +52,7 @@ pub const BOOLEAN: u32 = 1;
 
 const INTEGERS: u32 = 2;
 
-const BOOLEANS: u32 = 3;
+pub const BOOLEANS: u32 = 3;
 
 fn instr_of(alloc: Global, op: Op) -> Result<Instr, Fail> {
     Ok(match op {
@@ -82,6 +83,7 @@ fn instr_of(alloc: Global, op: Op) -> Result<Instr, Fail> {
         }
         Export(part) => Instr::Export(0, part),
         Exit => Instr::Exit,
+        Scan(scan) => Instr::Scan(scan),
         State(states) => Instr::State(ItemList::of(states.to_vec(alloc)?)),
         Wait(at, kind, last) => Instr::Wait(at, kind, last),
         Frequency(stated) => Instr::Frequency(stated),

@@ -2,12 +2,13 @@
 ghost use Rattle.std.specs.Prelude.{◌≡◌, ◌<◌};
 
 use crate::codes::{
-    Binary, Call, EndProc, Exit, Export, For, Frequency, INTEGER, Load, Next, Op, Print, Push,
-    State, Store, Turn, VARIABLES, Wait, lists,
+    BOOLEANS, Binary, Call, EndProc, Exit, Export, For, Frequency, INTEGER, Load, Next, Op, Print,
+    Push, Scan, State, Store, Turn, VARIABLES, Wait, lists,
 };
 use crate::wire::Wire;
 use base::Steps;
-use stapl_code::{Code, ExportPart, RawCode, Source, validate};
+use stapl_code::{Code, Dest, ExportPart, RawCode, Source, validate};
+use stapl_lexer::Register;
 use stapl_machine::{Machine, Trouble};
 use stapl_meaning::{Ending, WaitKind};
 use std::marker::Brand;
@@ -142,9 +143,16 @@ fn runs_the_prologue_and_chosen_procedures(rt: HostRuntime) -> Result<(), Fail> 
 }
 
 // A code that clocks a cable with TDO 1. Its clocks are those of the state diagram of IEEE 1149.1, as digits: TMS counts
-// 4 and TDO counts 1.
+// 4, TDI counts 2 and TDO counts 1.
 #[test]
 fn clocks_the_chain(rt: HostRuntime) -> Result<(), Fail> {
+    // The lowest bits of an integer are shifted in, and what comes out stands in an array of 4.
+    let scan = stapl_code::Scan {
+        register: Register::Data,
+        source: Source::FromInt,
+        target: Some(Dest::Whole(BOOLEANS)),
+        compare: None,
+    };
     let instructions = [
         Turn(3),
         Push(66),
@@ -161,22 +169,30 @@ fn clocks_the_chain(rt: HostRuntime) -> Result<(), Fail> {
         Push(1_000_000),
         Frequency(true),
         Turn(10),
+        Push(3),
+        Push(5),
+        Scan(scan),
+        Turn(11),
+        Export(ExportPart::Array(Source::Whole(BOOLEANS))),
+        Turn(12),
         EndProc,
     ];
     let chain = code(&rt, &[0, 5], &instructions)?;
     let clocks =
-        b"C 5555515515155555111\nW 5\nF 1000000\nC 1111111111111111111111111111111111111111111111111111111111111111\nC 11\n";
+        b"C 5555515515155555111\nW 5\nF 1000000\nC 51131751\nX A = $7\nC 1111111111111111111111111111111111111111111111111111111111111111\nC 11\n";
     let table = [
         (100, true, Ok(Ending::Exit(0)), clocks.as_slice()),
         (
             100,
             false,
             Ok(Ending::Exit(0)),
-            b"W 5\nF 1000000\n".as_slice(),
+            b"W 5\nF 1000000\nX A = $7\n".as_slice(),
         ),
         // Behind the five first clocks and fourteen others stands the wait of 5 microseconds, and then the frequency.
+        // Behind these stands the scan, which shifts its first bit by its fourth clock.
         (19, true, Err(Trouble::CableFault), b"".as_slice()),
         (20, true, Err(Trouble::CableFault), b"".as_slice()),
+        (25, true, Err(Trouble::CableFault), b"".as_slice()),
     ];
     for (calls, pins, ending, text) in table {
         let (ended, written) = run::<Brand>(&rt, &chain, calls, pins, 10, Blank::new(1))?;

@@ -142,7 +142,7 @@ fn gives_exit_codes(rt: HostRuntime) -> Result<(), Fail> {
         (Status::Done(256), 1),
         (Status::Fault(RunFault::ShiftCount, 4), 2),
         (Status::Spent, 3),
-        (Status::Refused(1, Reason::NotYetBuilt), 4),
+        (Status::Refused(1, Reason::Syntax), 4),
         (Status::BoardRefused(1, BoardReason::Empty), 5),
         (Status::NoAction, 6),
         (Status::BadChoice, 6),
