@@ -1,4 +1,5 @@
-/* A yardstick for bench/scans.py: a chain of devices in BYPASS, each with a controller and two registers.
+/* A yardstick for bench/scans.py: a chain of devices in BYPASS, each with a controller and two registers. As the devices of
+ * the program, each stands in a place of its own on the heap, and is called through the functions of its kind.
  *
  *     chain DEVICES BITS
  *
@@ -24,15 +25,23 @@ static const uint8_t after[16][2] = {
     {IDLE, DR_SELECT}
 };
 
-struct device { uint8_t state, instruction, instruction_list, data_list; };
+struct device;
 
-static struct device chain[MOST_DEVICES];
+/* What a kind of devices drives at TDO, and what it does at a clock. */
+struct kind {
+    int (*tdo)(const struct device *it);
+    void (*clock)(struct device *it, int tms, int tdi);
+};
 
-static int tdo(const struct device *it) {
+struct device { const struct kind *kind; uint8_t state, instruction, instruction_list, data_list; };
+
+static struct device *chain[MOST_DEVICES];
+
+static int tdo_of_bypass(const struct device *it) {
     return it->state == DR_SHIFT ? it->data_list : it->state == IR_SHIFT ? it->instruction_list & 1 : 1;
 }
 
-static void clock_device(struct device *it, int tms, int tdi) {
+static void clock_bypass(struct device *it, int tms, int tdi) {
     switch (it->state) {
     case IR_CAPTURE: it->instruction_list = 1; break;
     case IR_SHIFT: it->instruction_list = (uint8_t)(it->instruction_list >> 1 | tdi << (INSTRUCTION_BITS - 1)); break;
@@ -45,10 +54,15 @@ static void clock_device(struct device *it, int tms, int tdi) {
     if (it->state == RESET) it->instruction = ALL_ONES;
 }
 
+static const struct kind bypass = {tdo_of_bypass, clock_bypass};
+
 /* One clock of the chain, the device nearest TDO first: each gets the TDO of the next one before the clock. */
 static int clock_chain(int devices, int tms, int tdi) {
-    int out = tdo(&chain[0]);
-    for (int i = 0; i < devices; i++) clock_device(&chain[i], tms, i + 1 < devices ? tdo(&chain[i + 1]) : tdi);
+    int out = chain[0]->kind->tdo(chain[0]);
+    for (int i = 0; i < devices; i++) {
+        int in = i + 1 < devices ? chain[i + 1]->kind->tdo(chain[i + 1]) : tdi;
+        chain[i]->kind->clock(chain[i], tms, in);
+    }
     return out;
 }
 
@@ -59,11 +73,16 @@ int main(int argc, char **argv) {
     if (devices < 1 || devices > MOST_DEVICES || bits < 1) return 2;
     uint8_t *data = calloc(1, (size_t)bits), *captured = malloc((size_t)bits);
     if (!data || !captured) return 2;
+    for (int i = 0; i < devices; i++) {
+        chain[i] = calloc(1, sizeof *chain[i]);
+        if (!chain[i]) return 2;
+        chain[i]->kind = &bypass;
+    }
     clock_t begun = clock();
     for (int i = 0; i < 9; i++) clock_chain(devices, entry[i], 0);
     for (long i = 0; i < bits; i++) captured[i] = (uint8_t)clock_chain(devices, i == bits - 1, data[i]);
     for (int i = 0; i < 4; i++) clock_chain(devices, ending[i], 0);
     printf("%f\n", (double)(clock() - begun) / CLOCKS_PER_SEC);
     for (long i = 0; i < bits; i++) ones += captured[i];
-    return ones != 0 || chain[0].state != IDLE;
+    return ones != 0 || chain[0]->state != IDLE;
 }

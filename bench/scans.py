@@ -35,8 +35,8 @@ PEAKS = (
     ("an array of 4 Mbit, and a scan of 1 bit", program("DRSCAN 1,#0;", "D")),
     ("a scan of 4 Mbit of an array", program(f"DRSCAN {MOST_BITS},D[];", "D")),
     ("the same, which captures into another one", program(f"DRSCAN {MOST_BITS},D[],CAPTURE X[];", "D", "X")),
-    ("the same, which compares with two others, too",
-     program(f"DRSCAN {MOST_BITS},D[],CAPTURE X[],COMPARE E[],M[],R;", "D", "X", "E", "M")),
+    ("the same, which compares with a third one, too, under the first",
+     program(f"DRSCAN {MOST_BITS},D[],CAPTURE X[],COMPARE E[],D[],R;", "D", "X", "E")),
 )
 
 
