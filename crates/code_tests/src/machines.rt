@@ -179,7 +179,7 @@ fn clocks_the_chain(rt: HostRuntime) -> Result<(), Fail> {
     ];
     let chain = code(&rt, &[0, 5], &instructions)?;
     let clocks =
-        b"C 5555515515155555111\nW 5\nF 1000000\nC 51131751\nX A = $7\nC 1111111111111111111111111111111111111111111111111111111111111111\nC 11\n";
+        b"C 5555515515155555111\nW 5\nF 1000000\nC 5113171551\nX A = $7\nC 1111111111111111111111111111111111111111111111111111111111111111\nC 11\n";
     let table = [
         (100, true, Ok(Ending::Exit(0)), clocks.as_slice()),
         (
