@@ -8,7 +8,7 @@ use Rattle.tap_states.specs.declared.Tap.TheVariants.{Reset, Idle, DrCapture, Dr
 use Rattle.tap_states.specs.Tap.{next_of, is_stable_state}
 use Rattle.dev_card.specs.declared.desc.Desc.{Desc}
 use Rattle.dev_card.specs.Card.{Card, step, during, entered}
-use Rattle.dev_card.specs.Board.{board_tdo, board_step, board_after, EachCard, AllIn}
+use Rattle.dev_card.specs.Board.{Input, board_tdo, board_step, board_after, after_input, EachCard, AllIn}
 use Rattle.dev_card.specs.Line.{shift_state, line_of}
 use Rattle.dev_card.specs.Padding.{Paddings, instruction_lengths, base_around, base_pre_of, base_post_of}
 use Rattle.dev_card.specs.Clocks.{with_zero, entry_tms, at_shift}
@@ -73,6 +73,10 @@ descriptions_of_step [] m b = refl
 descriptions_of_step (c ∷ cs) m b =
     let d : (step c m (board_tdo cs b)).desc ≡ c.desc = desc_of_entered (next_of c.tap m) (during c.tap (board_tdo cs b) c) ∙ desc_of_during c.tap (board_tdo cs b) c in
     ap (λ t. t ∷ descriptions_of (board_step cs m b)) d ∙ ap (λ t. c.desc ∷ t) (descriptions_of_step cs m b)
+
+pub descriptions_after : (inputs : List Input) (cs : List Card) → descriptions_of (board_after cs inputs) ≡ descriptions_of cs
+descriptions_after [] cs = refl
+descriptions_after (i ∷ is) cs = descriptions_after is (after_input cs i) ∙ descriptions_of_step cs i.tms i.tdi
 
 abbrev NoShift : Tap → List Bool → Type 0
 NoShift s [] = Unit {0}

@@ -8,3 +8,6 @@ pub mod Sound
 pub mod PaddedScan
 pub mod Scans
 pub mod FarEnds
+pub mod Hexadecimal
+pub mod Reports
+pub mod ReportExample

@@ -13,6 +13,8 @@ ghost use Rattle.dev_card.specs.Padding.{Paddings, base_pre_of, base_post_of, ba
 ghost use Rattle.dev_card.specs.PaddedScan.{IsSameScan, IsOneScan, base_of_cards, descriptions_of};
 ghost use Rattle.dev_card.specs.Clocks.{with_zero, move_inputs, is_nil, shift_inputs, part_inputs, at_shift, board_scanned, StaysShifting, ShiftsAsLine, ScansAsLine};
 ghost use Rattle.dev_card.specs.Scans.{BoardScan, inputs_of_scan, clocks_of_scan, captured_bits, captured_from, HasBaseAround, IsScanOfRun};
+ghost use Rattle.dev_card.specs.Reports.{report_of};
+ghost use Rattle.dev_card.specs.ReportExample.{example_plain, example_registers, example_flash, example_report};
 ghost use Rattle.dev_card.specs.Sound.{IsSound, AllSound, AllBypass, register_lengths, SoundCard, card_in};
 
 /// Every opcode that a description doesn't name selects BYPASS.
@@ -146,4 +148,15 @@ pub fn a_bypass_line_has_one_bit_a_card()
 /// Five clocks with TMS 1 bring every board to reset, whatever states its controllers are in.
 pub fn five_ones_reset_a_board()
     ensures { (cs : List Card) → AllIn Reset (board_after cs (with_zero five_ones)) }
+{}
+
+/// Clocks keep the descriptions of a board.
+pub fn clocks_keep_the_descriptions()
+    ensures { (cs : List Card) (inputs : List Input) → descriptions_of (board_after cs inputs) ≡ descriptions_of cs }
+{}
+
+/// The report of a device of each kind, written out: the Regs has a register with a constant that holds another value, and the Flash words of
+/// ones behind those that were programmed.
+pub fn a_report_of_three_devices()
+    ensures { report_of (example_plain ∷ example_registers ∷ example_flash ∷ []) ≡ example_report }
 {}
