@@ -9,6 +9,7 @@ use Rattle.dev_card.specs.declared.desc.Kind.TheVariants.{Plain, Regs, Flash}
 use Rattle.dev_card.specs.Board.{most_devices}
 use Rattle.dev_card.specs.declared.desc.Desc.{Desc}
 use Rattle.dev_card.specs.Card.{Card, fresh}
+use Rattle.dev_card.specs.PaddedScan.{descriptions_of}
 use Rattle.dev_card.specs.Sound.{SoundCard}
 use Rattle.chain_sim.specs.Places.{card_at, joined, cards_at, IsAbsent, is_absent, are_apart, is_some_place, is_chain}
 use Rattle.chain_sim.specs.Rack.{IsRack, rack_kinds, kind_number, place_of, places_from, places_of}
@@ -21,6 +22,11 @@ some_same e = cc
 pub kind_read : {A : Type 0} (f : A → Kind) (xs : List A) (i : ℕ) (x : A) (k : Kind) → x ≡ get_or xs i x → i < length xs → slice_get (map f xs) i ≡ Some k → k ≡ f x
 kind_read f xs i x k e h s =
     some_same (sym s ∙ slice_get-map f xs i ∙ ap (λ o. option_map f o) (slice_get_read xs (length xs) i x refl h e))
+
+-- devices that were just fitted have the descriptions that they were given
+pub fresh_described : (ds : List Desc) → descriptions_of (map fresh ds) ≡ ds
+fresh_described [] = refl
+fresh_described (d ∷ ds) = ap (λ (l : List Desc). d ∷ l) (fresh_described ds)
 
 -- The kinds of a rack.
 

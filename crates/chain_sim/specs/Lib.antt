@@ -3,3 +3,4 @@ pub mod Rack
 pub mod Runs
 pub mod RunLaws
 pub mod Chains
+pub mod Reports

@@ -5,7 +5,9 @@ mod chain;
 mod fit;
 mod kinds;
 mod rack;
+mod report;
 
 pub use chain::{Chain, ChainOf};
 pub use fit::fit_board;
 pub use kinds::is_rack;
+pub use report::put_report;

@@ -1,0 +1,68 @@
+use Rattle.std.proofs.Common.{rules, ◌+◌, map, drop, refl, arith}
+use Rattle.dev_card.specs.Sound.{card_in}
+use Rattle.tool_io.proofs.BytesLemmas.{on_err}
+use Rattle.tool_io.proofs.CauseLemmas.{kept_start, kept_then}
+use Rattle.chain_sim.specs.Places.{cards_at}
+use Rattle.chain_sim.specs.Reports.{line_in, report_in}
+use Rattle.chain_sim.proofs.PutParts.{nothing_put, part_put, part_failed, all_put}
+use Rattle.chain_sim.proofs.ReportCards.{same_count, place_inside, described_there, line_more, report_end}
+use Rattle.chain_sim.proofs.report.put_report.Goals as goal
+
+pub loop-i-init : goal.loop-i-init
+loop-i-init g c =
+    let whole = report_in (cards_at (map g.D.Device.fitted c.args.rack.now) c.args.places.now) in
+    record {
+      same_sink = refl;
+      whole = c.requires.whole;
+      puts = nothing_put whole c.args.out.now whole refl;
+      kept = kept_start _ _;
+    }
+
+pub bounds-places-i : goal.bounds-places-i
+bounds-places-i g c =
+    omega (arith, same_count (map g.D.Device.fitted c.args.rack.now) c.args.places.now c.args.descs.now c.requires.board)
+
+pub offset_bounds-rack-place : goal.offset_bounds-rack-place
+offset_bounds-rack-place g c =
+    omega (arith, place_inside g.D.Device.fitted c.args.rack.now c.args.places.now c.args.descs.now c.loop-i.i c.index-descs-i.result c.requires.board (omega arith) c.index-descs-i.is)
+
+pub bounds-rack-place : goal.bounds-rack-place
+bounds-rack-place g c =
+    place_inside g.D.Device.fitted c.args.rack.now c.args.places.now c.args.descs.now c.loop-i.i c.index-descs-i.result c.requires.board (omega arith) c.index-descs-i.is
+
+pub put_line-requires-clause-desc : goal.put_line-requires-clause-desc
+put_line-requires-clause-desc g c =
+    described_there g.D.Device.fitted c.args.rack.now c.args.places.now c.args.descs.now c.loop-i.i c.index-descs-i.result c.requires.board (omega arith) c.index-descs-i.is
+    c.index-rack-place.result c.index-rack-place.is
+
+pub loop-i-preserved : goal.loop-i-preserved
+loop-i-preserved g c =
+    let rack = map g.D.Device.fitted c.args.rack.now in
+    let places = c.args.places.now in
+    let i = c.loop-i.i in
+    record {
+      same_sink = search rules;
+      whole = search rules;
+      puts = part_put (report_in (cards_at rack places)) (report_in (cards_at rack (drop i places))) (line_in (card_in (g.D.Device.fitted c.index-rack-place.result)))
+          (report_in (cards_at rack (drop (i + 1) places)))
+          (line_more g.D.Device.fitted c.args.rack.now places c.args.descs.now i c.index-descs-i.result c.requires.board (omega arith) c.index-descs-i.is
+          c.index-rack-place.result c.index-rack-place.is) c.loop-i.invariant.puts c.in_ok-put_line.ensures.ok;
+      kept = kept_then c.loop-i.invariant.kept c.in_ok-put_line.ensures.cause.kept;
+    }
+
+pub returns-in_err-put_line-clause-front : goal.returns-in_err-put_line-clause-front
+returns-in_err-put_line-clause-front g c =
+    let rack = map g.D.Device.fitted c.args.rack.now in
+    let places = c.args.places.now in
+    let i = c.loop-i.i in
+    on_err c.from_residual.result
+    (part_failed (report_in (cards_at rack places)) (report_in (cards_at rack (drop i places))) (line_in (card_in (g.D.Device.fitted c.index-rack-place.result)))
+    (report_in (cards_at rack (drop (i + 1) places)))
+    (line_more g.D.Device.fitted c.args.rack.now places c.args.descs.now i c.index-descs-i.result c.requires.board (omega arith) c.index-descs-i.is
+    c.index-rack-place.result c.index-rack-place.is) c.loop-i.invariant.puts c.in_err-put_line.ensures.front)
+
+pub returns-clause-ok : goal.returns-clause-ok
+returns-clause-ok g c =
+    let rack = map g.D.Device.fitted c.args.rack.now in
+    let places = c.args.places.now in
+    all_put (report_in (cards_at rack places)) (report_in (cards_at rack (drop c.loop-i.i places))) (report_end rack places c.loop-i.i (omega (arith, same_count rack places c.args.descs.now c.requires.board))) c.loop-i.invariant.puts

@@ -1,0 +1,373 @@
+//! The report of a board: a line for each device, with what it holds.
+ghost use Rattle.std.specs.Prelude.{◌≡◌, ◌<◌, ◌≤◌, ◌+◌, ◌-◌, ◌*◌, ◌^◌, ◌++◌, ◌∷◌, [], false, pos, codes, drop, length, map, slice_index_or, IsSomeAnd, OnOk, OnErr};
+ghost use Rattle.std.specs.Fmt.{signed_decimal};
+ghost use Rattle.base.specs.Bits.{bit_value, low_bits, number_of};
+ghost use Rattle.bit_list.specs.Ranges.{taken};
+ghost use Rattle.dev_card.specs.declared.desc.Kind.TheVariants as kinds;
+ghost use Rattle.dev_card.specs.Hexadecimal.{hex_digit, all_hex_digits};
+ghost use Rattle.dev_card.specs.PaddedScan.{descriptions_of};
+ghost use Rattle.dev_card.specs.Reports.{named_text, registers_text, are_ones, word_text, words_text, memory_text};
+ghost use Rattle.dev_card.specs.Sound.{card_in};
+ghost use Rattle.tool_io.specs.Lines.{IsWhole, IsOverSame, HasSinkCause, Puts, PutsFront};
+ghost use Rattle.chain_sim.specs.Places.{card_at, cards_at};
+ghost use Rattle.chain_sim.specs.Reports.{cells_in, cell_in, instruction_in, held_in, line_in, report_in};
+
+use dev_card::{Desc, Device, Kind, RegDesc};
+use tool_io::{Failed, Lines, Sink};
+
+// An upper-case hexadecimal digit.
+fn hex_byte(digit: u8) -> u8
+    requires { digit < 16 }
+    ensures { result ≡ hex_digit digit }
+{
+    if digit < 10 { 48 + digit } else { 55 + digit }
+}
+
+// The length of a cell in bits.
+fn length_of<D: Device>(device: &D, cell: u32) -> u32
+    requires { cell < length (cells_in (card_in (D.fitted device.now))) }
+    ensures { result ≡ length (cell_in (card_in (D.fitted device.now)) cell) }
+{
+    device.cell_len(cell)
+}
+
+// What bit i of a cell counts at the lowest place, and 0 past the last bit.
+fn bit_number<D: Device>(device: &D, cell: u32, i: usize) -> u8
+    requires { cell < length (cells_in (card_in (D.fitted device.now))) }
+    ensures value { result ≡ bit_value (slice_index_or (cell_in (card_in (D.fitted device.now)) cell) i false) }
+    ensures small { result ≤ 1 }
+{
+    if i < length_of(device, cell) as usize && device.cell_bit(cell, i as u32) {
+        1
+    } else {
+        0
+    }
+}
+
+// The digit that stands for the four bits of a cell from index 4 * k on.
+fn digit_at<D: Device>(device: &D, cell: u32, k: u32) -> u8
+    requires { cell < length (cells_in (card_in (D.fitted device.now))) }
+    ensures { result ≡ hex_digit (number_of (taken (4 * k) 4 (cell_in (card_in (D.fitted device.now)) cell))) }
+{
+    let low = 4 * k as usize;
+    let (first, second) = (
+        bit_number(device, cell, low),
+        bit_number(device, cell, low + 1),
+    );
+    let (third, fourth) = (
+        bit_number(device, cell, low + 2),
+        bit_number(device, cell, low + 3),
+    );
+    hex_byte(first + 2 * second + 4 * third + 8 * fourth)
+}
+
+// Puts all digits of a cell, the highest first.
+fn put_cell<D: Device, K: Sink>(out: &mut Lines<K>, device: &D, cell: u32) -> Result<(), Failed>
+    requires whole { IsWhole out.old }
+    requires cell { cell < length (cells_in (card_in (D.fitted device.now))) }
+    ensures same_sink { IsOverSame out.old out.new }
+    ensures whole { OnOk result (IsWhole out.new) }
+    ensures ok { OnOk result (Puts K.written out.old
+        (all_hex_digits (cell_in (card_in (D.fitted device.now)) cell)) out.new) }
+    ensures front { OnErr result (PutsFront K.written out.old
+        (all_hex_digits (cell_in (card_in (D.fitted device.now)) cell)) out.new) }
+    ensures cause { HasSinkCause K.faults K.is_last out.old out.new result }
+{
+    let mut left = length_of(device, cell).div_ceil(4);
+    'down: while left > 0 {
+        left -= 1;
+        out.put(&[digit_at(device, cell, left)])?;
+    }
+    Ok(())
+}
+
+// The digit that stands for the four bits of a number from index 4 * k on.
+fn digit_of(number: u64, len: u32, k: u32) -> u8
+    requires some { 4 * k < len }
+    requires most { len ≤ 64 }
+    requires fits { number < 2 ^ len }
+    ensures { result ≡ hex_digit (number_of (taken (4 * k) 4 (low_bits len number))) }
+{
+    hex_byte(((number >> (4 * k)) % 16) as u8)
+}
+
+// Puts all digits of the bits of a number, the highest first.
+fn put_number<K: Sink>(out: &mut Lines<K>, number: u64, len: u32) -> Result<(), Failed>
+    requires whole { IsWhole out.old }
+    requires most { len ≤ 64 }
+    requires fits { number < 2 ^ len }
+    ensures same_sink { IsOverSame out.old out.new }
+    ensures whole { OnOk result (IsWhole out.new) }
+    ensures ok { OnOk result (Puts K.written out.old (all_hex_digits (low_bits len number)) out.new) }
+    ensures front { OnErr result (PutsFront K.written out.old (all_hex_digits (low_bits len number)) out.new) }
+    ensures cause { HasSinkCause K.faults K.is_last out.old out.new result }
+{
+    let mut left = len.div_ceil(4);
+    'down: while left > 0 {
+        left -= 1;
+        out.put(&[digit_of(number, len, left)])?;
+    }
+    Ok(())
+}
+
+// Puts a name, between a space and an equals sign.
+fn put_name<K: Sink>(out: &mut Lines<K>, name: &[u8]) -> Result<(), Failed>
+    requires { IsWhole out.old }
+    ensures same_sink { IsOverSame out.old out.new }
+    ensures whole { OnOk result (IsWhole out.new) }
+    ensures ok { OnOk result (Puts K.written out.old (codes " " ++ name.now ++ codes "=") out.new) }
+    ensures front { OnErr result (PutsFront K.written out.old (codes " " ++ name.now ++ codes "=") out.new) }
+    ensures cause { HasSinkCause K.faults K.is_last out.old out.new result }
+{
+    out.put(b" ")?;
+    out.put(name)?;
+    out.put(b"=")?;
+    Ok(())
+}
+
+// Puts a cell under a name.
+fn put_named_cell<D: Device, K: Sink>(
+    out: &mut Lines<K>,
+    name: &[u8],
+    device: &D,
+    cell: u32,
+) -> Result<(), Failed>
+    requires whole { IsWhole out.old }
+    requires cell { cell < length (cells_in (card_in (D.fitted device.now))) }
+    ensures same_sink { IsOverSame out.old out.new }
+    ensures whole { OnOk result (IsWhole out.new) }
+    ensures ok { OnOk result (Puts K.written out.old
+        (named_text name.now (all_hex_digits (cell_in (card_in (D.fitted device.now)) cell))) out.new) }
+    ensures front { OnErr result (PutsFront K.written out.old
+        (named_text name.now (all_hex_digits (cell_in (card_in (D.fitted device.now)) cell))) out.new) }
+    ensures cause { HasSinkCause K.faults K.is_last out.old out.new result }
+{
+    put_name(out, name)?;
+    put_cell(out, device, cell)?;
+    Ok(())
+}
+
+// Puts the registers of a Regs.
+fn put_registers<D: Device, K: Sink>(
+    out: &mut Lines<K>,
+    device: &D,
+    registers: &[RegDesc],
+) -> Result<(), Failed>
+    requires whole { IsWhole out.old }
+    requires cells { length registers.now ≡ length (cells_in (card_in (D.fitted device.now))) }
+    requires few { length registers.now ≤ 64 }
+    ensures same_sink { IsOverSame out.old out.new }
+    ensures whole { OnOk result (IsWhole out.new) }
+    ensures ok { OnOk result (Puts K.written out.old
+        (registers_text registers.now (cells_in (card_in (D.fitted device.now)))) out.new) }
+    ensures front { OnErr result (PutsFront K.written out.old
+        (registers_text registers.now (cells_in (card_in (D.fitted device.now)))) out.new) }
+    ensures cause { HasSinkCause K.faults K.is_last out.old out.new result }
+{
+    for i in 0..registers.len() {
+        put_named_cell(out, registers[i].name.bytes(), device, i as u32)?;
+    }
+    Ok(())
+}
+
+// Whether all bits of a cell are 1.
+fn is_ones<D: Device>(device: &D, cell: u32) -> bool
+    requires { cell < length (cells_in (card_in (D.fitted device.now))) }
+    ensures { result ≡ are_ones (cell_in (card_in (D.fitted device.now)) cell) }
+{
+    for i in 0..length_of(device, cell) {
+        if !device.cell_bit(cell, i) {
+            return false;
+        }
+    }
+    true
+}
+
+// Puts a number in decimal digits.
+fn put_count<K: Sink>(out: &mut Lines<K>, n: u32) -> Result<(), Failed>
+    requires { IsWhole out.old }
+    ensures same_sink { IsOverSame out.old out.new }
+    ensures whole { OnOk result (IsWhole out.new) }
+    ensures ok { OnOk result (Puts K.written out.old (signed_decimal (pos n)) out.new) }
+    ensures front { OnErr result (PutsFront K.written out.old (signed_decimal (pos n)) out.new) }
+    ensures cause { HasSinkCause K.faults K.is_last out.old out.new result }
+{
+    out.put_int(i64::from(n))
+}
+
+// Puts a cell under a number.
+fn put_numbered_cell<D: Device, K: Sink>(
+    out: &mut Lines<K>,
+    number: u32,
+    device: &D,
+    cell: u32,
+) -> Result<(), Failed>
+    requires whole { IsWhole out.old }
+    requires cell { cell < length (cells_in (card_in (D.fitted device.now))) }
+    ensures same_sink { IsOverSame out.old out.new }
+    ensures whole { OnOk result (IsWhole out.new) }
+    ensures ok { OnOk result (Puts K.written out.old (named_text (signed_decimal (pos number))
+        (all_hex_digits (cell_in (card_in (D.fitted device.now)) cell))) out.new) }
+    ensures front { OnErr result (PutsFront K.written out.old (named_text (signed_decimal (pos number))
+        (all_hex_digits (cell_in (card_in (D.fitted device.now)) cell))) out.new) }
+    ensures cause { HasSinkCause K.faults K.is_last out.old out.new result }
+{
+    out.put(b" ")?;
+    put_count(out, number)?;
+    out.put(b"=")?;
+    put_cell(out, device, cell)?;
+    Ok(())
+}
+
+// Puts a word of a Flash, which stands in the cell after that of its number. Nothing is put of a word of ones.
+fn put_word<D: Device, K: Sink>(out: &mut Lines<K>, device: &D, number: u32) -> Result<(), Failed>
+    requires whole { IsWhole out.old }
+    requires cell { number + 1 < length (cells_in (card_in (D.fitted device.now))) }
+    requires fits { number + 1 < 2 ^ 32 }
+    ensures same_sink { IsOverSame out.old out.new }
+    ensures whole { OnOk result (IsWhole out.new) }
+    ensures ok { OnOk result (Puts K.written out.old
+        (word_text number (cell_in (card_in (D.fitted device.now)) (number + 1))) out.new) }
+    ensures front { OnErr result (PutsFront K.written out.old
+        (word_text number (cell_in (card_in (D.fitted device.now)) (number + 1))) out.new) }
+    ensures cause { HasSinkCause K.faults K.is_last out.old out.new result }
+{
+    if is_ones(device, number + 1) {
+        return Ok(());
+    }
+    put_numbered_cell(out, number, device, number + 1)
+}
+
+// How many cells the device has.
+fn count_of<D: Device>(device: &D) -> u32
+    requires { 1 ≤ length (cells_in (card_in (D.fitted device.now))) }
+    ensures { result ≡ length (cells_in (card_in (D.fitted device.now))) }
+{
+    device.cells()
+}
+
+// Puts the words of a Flash, which stand in all cells but the first.
+fn put_words<D: Device, K: Sink>(out: &mut Lines<K>, device: &D) -> Result<(), Failed>
+    requires whole { IsWhole out.old }
+    requires address { 1 ≤ length (cells_in (card_in (D.fitted device.now))) }
+    ensures same_sink { IsOverSame out.old out.new }
+    ensures whole { OnOk result (IsWhole out.new) }
+    ensures ok { OnOk result (Puts K.written out.old
+        (words_text 0 (drop 1 (cells_in (card_in (D.fitted device.now))))) out.new) }
+    ensures front { OnErr result (PutsFront K.written out.old
+        (words_text 0 (drop 1 (cells_in (card_in (D.fitted device.now))))) out.new) }
+    ensures cause { HasSinkCause K.faults K.is_last out.old out.new result }
+{
+    for number in 0..count_of(device) - 1 {
+        put_word(out, device, number)?;
+    }
+    Ok(())
+}
+
+// Puts the address of a Flash and its words.
+fn put_memory<D: Device, K: Sink>(out: &mut Lines<K>, device: &D) -> Result<(), Failed>
+    requires whole { IsWhole out.old }
+    requires address { 1 ≤ length (cells_in (card_in (D.fitted device.now))) }
+    ensures same_sink { IsOverSame out.old out.new }
+    ensures whole { OnOk result (IsWhole out.new) }
+    ensures ok { OnOk result (Puts K.written out.old
+        (memory_text (cells_in (card_in (D.fitted device.now)))) out.new) }
+    ensures front { OnErr result (PutsFront K.written out.old
+        (memory_text (cells_in (card_in (D.fitted device.now)))) out.new) }
+    ensures cause { HasSinkCause K.faults K.is_last out.old out.new result }
+{
+    put_named_cell(out, b"addr", device, 0)?;
+    put_words(out, device)?;
+    Ok(())
+}
+
+// Puts what a device with this description holds.
+fn put_held<D: Device, K: Sink>(out: &mut Lines<K>, device: &D, desc: &Desc) -> Result<(), Failed>
+    requires whole { IsWhole out.old }
+    requires desc { IsSomeAnd (card_in (D.fitted device.now)) (λ c. c.desc ≡ desc.now) }
+    ensures same_sink { IsOverSame out.old out.new }
+    ensures whole { OnOk result (IsWhole out.new) }
+    ensures ok { OnOk result (Puts K.written out.old (held_in (card_in (D.fitted device.now))) out.new) }
+    ensures front { OnErr result (PutsFront K.written out.old
+        (held_in (card_in (D.fitted device.now))) out.new) }
+    ensures cause { HasSinkCause K.faults K.is_last out.old out.new result }
+{
+    match desc.kind {
+        Kind::Plain => Ok(()),
+        Kind::Regs => put_registers(out, device, desc.registers.as_slice()),
+        Kind::Flash => put_memory(out, device),
+    }
+}
+
+// Puts the instruction in force under its name.
+fn put_instruction<D: Device, K: Sink>(
+    out: &mut Lines<K>,
+    device: &D,
+    desc: &Desc,
+) -> Result<(), Failed>
+    requires whole { IsWhole out.old }
+    requires desc { IsSomeAnd (card_in (D.fitted device.now)) (λ c. c.desc ≡ desc.now) }
+    ensures same_sink { IsOverSame out.old out.new }
+    ensures whole { OnOk result (IsWhole out.new) }
+    ensures ok { OnOk result (Puts K.written out.old
+        (instruction_in (card_in (D.fitted device.now))) out.new) }
+    ensures front { OnErr result (PutsFront K.written out.old
+        (instruction_in (card_in (D.fitted device.now))) out.new) }
+    ensures cause { HasSinkCause K.faults K.is_last out.old out.new result }
+{
+    let opcode = device.instruction();
+    put_name(out, b"ir")?;
+    put_number(out, opcode, desc.ir_len)?;
+    Ok(())
+}
+
+// Puts the line of a device with this description.
+fn put_line<D: Device, K: Sink>(out: &mut Lines<K>, device: &D, desc: &Desc) -> Result<(), Failed>
+    requires whole { IsWhole out.old }
+    requires desc { IsSomeAnd (card_in (D.fitted device.now)) (λ c. c.desc ≡ desc.now) }
+    ensures same_sink { IsOverSame out.old out.new }
+    ensures whole { OnOk result (IsWhole out.new) }
+    ensures ok { OnOk result (Puts K.written out.old (line_in (card_in (D.fitted device.now))) out.new) }
+    ensures front { OnErr result (PutsFront K.written out.old
+        (line_in (card_in (D.fitted device.now))) out.new) }
+    ensures cause { HasSinkCause K.faults K.is_last out.old out.new result }
+{
+    let name = desc.name.bytes();
+    out.put(b"D ")?;
+    out.put(name)?;
+    put_instruction(out, device, desc)?;
+    put_held(out, device, desc)?;
+    out.put(b"\n")?;
+    Ok(())
+}
+
+/// Puts the report of a board: for each of these places of the rack the line of its device, in their order. The devices
+/// are fitted, and these are their descriptions.
+///
+/// A line has the device's name, the instruction in force, and what a `Regs` or a `Flash` holds. It takes no memory, no
+/// device changes, and the time is linear in the bits that the devices hold.
+///
+/// `Failed` as of the sink.
+pub fn put_report<D: Device, K: Sink>(
+    out: &mut Lines<K>,
+    rack: &[D],
+    places: &[u32],
+    descs: &[Desc],
+) -> Result<(), Failed>
+    requires whole { IsWhole out.old }
+    requires board { IsSomeAnd (cards_at (map D.fitted rack.now) places.now) (λ cs. descriptions_of cs ≡ descs.now) }
+    ensures same_sink { IsOverSame out.old out.new }
+    ensures whole { OnOk result (IsWhole out.new) }
+    ensures ok { OnOk result (Puts K.written out.old
+        (report_in (cards_at (map D.fitted rack.now) places.now)) out.new) }
+    ensures front { OnErr result (PutsFront K.written out.old
+        (report_in (cards_at (map D.fitted rack.now) places.now)) out.new) }
+    ensures cause { HasSinkCause K.faults K.is_last out.old out.new result }
+{
+    for i in 0..descs.len() {
+        let desc = &descs[i];
+        let place = places[i] as usize;
+        put_line(out, &rack[place], desc)?;
+    }
+    Ok(())
+}
