@@ -9,7 +9,8 @@ use Rattle.dev_card.specs.Clocks.{is_nil, part_inputs}
 use Rattle.dev_card.specs.Padding.{Paddings, padded}
 use Rattle.dev_card.proofs.Scanning.{inputs_of_both}
 use Rattle.scan_paths.specs.declared.pads.Pads.{Pads}
-use Rattle.scan_paths.specs.Scans.{AreInside, paddings_of}
+use Rattle.scan_paths.specs.declared.scans.ScanPlan.{ScanPlan}
+use Rattle.scan_paths.specs.Scans.{AreInside, planned_pre, planned_post, paddings_of}
 use Rattle.scan_paths.proofs.Arriving.{minus_zero}
 
 -- the last bit of a part of n bits
@@ -92,42 +93,56 @@ inputs_of_padded p bits no_post no_base h a b =
     ∙ ap (λ z. part_inputs no_post bits ++ z) (inputs_of_both true p.post last ∙ ap (λ t. part_inputs t p.post ++ i5) (sym b))))
 
 -- what goes in at the five parts of the shift clocks
-abbrev pub base_before : Pads → List Input
-base_before pads = part_inputs false (replicate pads.base_pre true)
+abbrev pub base_before : ℕ → List Input
+base_before before = part_inputs false (replicate before true)
 
 abbrev pub program_before : Pads → List Input
 program_before pads = part_inputs false (take pads.pre pads.pre_bits)
 
-abbrev pub data_part : Pads → List Bool → ℕ → List Input
-data_part pads bits n = part_inputs (nat_eq pads.post 0 && nat_eq pads.base_post 0) (take n bits)
+abbrev pub data_part : Pads → ℕ → List Bool → ℕ → List Input
+data_part pads after bits n = part_inputs (nat_eq pads.post 0 && nat_eq after 0) (take n bits)
 
-abbrev pub program_after : Pads → List Input
-program_after pads = part_inputs (nat_eq pads.base_post 0) (take pads.post pads.post_bits)
+abbrev pub program_after : Pads → ℕ → List Input
+program_after pads after = part_inputs (nat_eq after 0) (take pads.post pads.post_bits)
 
-abbrev pub base_after : Pads → List Input
-base_after pads = part_inputs true (replicate pads.base_post true)
+abbrev pub base_after : ℕ → List Input
+base_after after = part_inputs true (replicate after true)
 
-pub parts_of_pads : (pads : Pads) (bits : List Bool) (n : ℕ) → 1 ≤ n → n ≤ length bits → AreInside pads →
-    part_inputs true (padded (paddings_of pads) (take n bits)) ≡ base_before pads ++ (program_before pads ++ (data_part pads bits n ++ (program_after pads ++ base_after pads)))
-parts_of_pads pads bits n some h w =
-    let no_base : Bool = nat_eq pads.base_post 0 in
+-- the paddings of the program between so many ones
+abbrev within : ℕ → Pads → ℕ → Paddings
+within before pads after = record { base_pre = before; pre = take pads.pre pads.pre_bits; post = take pads.post pads.post_bits; base_post = after }
+
+parts_within : (before : ℕ) (pads : Pads) (after : ℕ) (bits : List Bool) (n : ℕ) → 1 ≤ n → n ≤ length bits → AreInside pads →
+    part_inputs true (padded (within before pads after) (take n bits))
+    ≡ base_before before ++ (program_before pads ++ (data_part pads after bits n ++ (program_after pads after ++ base_after after)))
+parts_within before pads after bits n some h w =
+    let no_base : Bool = nat_eq after 0 in
     let no_post : Bool = nat_eq pads.post 0 && no_base in
-    inputs_of_padded (paddings_of pads) (take n bits) no_post no_base (omega (arith, length-take-le n bits h, some))
+    inputs_of_padded (within before pads after) (take n bits) no_post no_base (omega (arith, length-take-le n bits h, some))
     (ap (λ t. t && no_base) (sym (nil_of_list pads.post pads.post_bits w.post))
-    ∙ ap (λ t. is_nil (take pads.post pads.post_bits) && t) (sym (nil_of_ones pads.base_post))
-    ∙ sym (both_nil (take pads.post pads.post_bits) (replicate pads.base_post true)))
-    (sym (nil_of_ones pads.base_post))
+    ∙ ap (λ t. is_nil (take pads.post pads.post_bits) && t) (sym (nil_of_ones after))
+    ∙ sym (both_nil (take pads.post pads.post_bits) (replicate after true)))
+    (sym (nil_of_ones after))
+
+pub parts_of_pads : (plan : ScanPlan) (pads : Pads) (bits : List Bool) (before after : ℕ) → before ≡ planned_pre plan → after ≡ planned_post plan →
+    1 ≤ plan.len → plan.len ≤ length bits → AreInside pads →
+    part_inputs true (padded (paddings_of plan pads) (take plan.len bits))
+    ≡ base_before before ++ (program_before pads ++ (data_part pads after bits plan.len ++ (program_after pads after ++ base_after after)))
+parts_of_pads plan pads bits before after e k some h w =
+    ap (λ m. part_inputs true (padded (within m pads (planned_post plan)) (take plan.len bits))) (sym e)
+    ∙ ap (λ m. part_inputs true (padded (within before pads m) (take plan.len bits))) (sym k)
+    ∙ parts_within before pads after bits plan.len some h w
 
 length_of_inputs : (last : Bool) (xs : List Bool) → length (part_inputs last xs) ≡ length xs
 length_of_inputs last [] = refl
 length_of_inputs last (x ∷ xs) = omega (arith, length_of_inputs last xs)
 
-pub place_of_data : (pads : Pads) → AreInside pads → length (base_before pads) + (length (program_before pads) + 0) ≡ pads.base_pre + pads.pre
-place_of_data pads w =
+pub place_of_data : (before : ℕ) (pads : Pads) → AreInside pads → length (base_before before) + (length (program_before pads) + 0) ≡ before + pads.pre
+place_of_data before pads w =
     omega (
       arith,
-      length_of_inputs false (replicate pads.base_pre true),
-      length-replicate pads.base_pre true,
+      length_of_inputs false (replicate before true),
+      length-replicate before true,
       length_of_inputs false (take pads.pre pads.pre_bits),
       length-take-le pads.pre pads.pre_bits w.pre,
     )

@@ -4,8 +4,9 @@ use Rattle.std.specs.Option.{option_map}
 use Rattle.tap_states.specs.declared.Tap.{Tap}
 use Rattle.dev_card.specs.Card.{Card}
 use Rattle.dev_card.specs.Board.{Clock, Input, tdos}
-use Rattle.dev_card.specs.Padding.{Paddings}
+use Rattle.dev_card.specs.Padding.{Paddings, BaseLengths, base_pre_of, base_post_of}
 use Rattle.dev_card.specs.Scans.{BoardScan, inputs_of_scan, clocks_of_scan, board_after_scan, captured_from}
+use Rattle.scan_paths.specs.declared.pads.BasePads.{BasePads}
 use Rattle.scan_paths.specs.declared.pads.Pads.{Pads}
 use Rattle.scan_paths.specs.declared.scans.ScanPlan.{ScanPlan}
 use Rattle.scan_paths.specs.Cables.{HasMadeClocks, HasMadeFront}
@@ -15,12 +16,24 @@ pub record AreInside (p : Pads) : Type 0 where
   pub pre : p.pre ≤ length p.pre_bits
   pub post : p.post ≤ length p.post_bits
 
-abbrev pub paddings_of : Pads → Paddings
-paddings_of p = record { base_pre = p.base_pre; pre = take p.pre p.pre_bits; post = take p.post p.post_bits; base_post = p.base_post }
+-- base padding as its lengths
+abbrev pub lengths_of : BasePads → BaseLengths
+lengths_of base = record { ir_pre = base.pre_ir; ir_post = base.post_ir; dr_pre = base.pre_dr; dr_post = base.post_dr }
 
--- the scan that is asked of a board: by its plan, the list with its data, and its paddings
+-- base PRE and base POST of a planned scan
+abbrev pub planned_pre : ScanPlan → ℕ
+planned_pre plan = base_pre_of plan.ir (lengths_of plan.base)
+
+abbrev pub planned_post : ScanPlan → ℕ
+planned_post plan = base_post_of plan.ir (lengths_of plan.base)
+
+-- the paddings of a planned scan, of which these are the program's
+abbrev pub paddings_of : ScanPlan → Pads → Paddings
+paddings_of plan p = record { base_pre = planned_pre plan; pre = take p.pre p.pre_bits; post = take p.post p.post_bits; base_post = planned_post plan }
+
+-- the scan that is asked of a board: by its plan, the list with its data, and the program's paddings
 abbrev pub scan_of : ScanPlan → List Bool → Pads → BoardScan
-scan_of plan bits pads = record { ir = plan.ir; paddings = paddings_of pads; bits = take plan.len bits; stop = plan.stop }
+scan_of plan bits pads = record { ir = plan.ir; paddings = paddings_of plan pads; bits = take plan.len bits; stop = plan.stop }
 
 -- Clocks were made with exactly these inputs, and these are the TDO bits that were seen from this place on.
 pub record HasSeen {C : Type 0} (board : C → Option (List Card)) (makes : C → List Clock → C → Type 0) (old new : C) (inputs : List Input) (place : ℕ) (captured : List Bool) : Type 0 where

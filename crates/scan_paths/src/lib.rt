@@ -9,5 +9,5 @@ mod shifts;
 
 pub use cable::Cable;
 pub use moves::{move_to, reset_chain, stay};
-pub use pads::Pads;
+pub use pads::{BasePads, Pads};
 pub use scans::{ScanPlan, scan};

@@ -12,13 +12,14 @@ ghost use Rattle.scan_paths.specs.Scans.{AreInside, scan_of, HasScanned, HasScan
 
 use crate::cable::Cable;
 use crate::moves::{move_to, send};
-use crate::pads::Pads;
+use crate::pads::{BasePads, Pads};
 use crate::shifts::shift_padded;
 use bit_list::Bits;
 use tap_states::Tap;
 use tool_io::Failed;
 
-/// What a scan is to do: through which registers it goes, how many bits of data it shifts, and to which state it leads.
+/// What a scan is to do: through which registers it goes, how many bits of data it shifts, to which state it leads, and
+/// how many ones stand before and after what the program shifts.
 #[derive(Clone, Copy, Debug)]
 pub struct ScanPlan {
     /// True for the instruction registers (JESD71, IRSCAN), false for the data registers (DRSCAN).
@@ -27,10 +28,13 @@ pub struct ScanPlan {
     pub len: u32,
     /// The state in which the controllers are then.
     pub stop: Tap,
+    /// The base padding, of which the scan takes that of its registers.
+    pub base: BasePads,
 }
 
 /// Scans the lowest bits of `bits`, as many as the plan says, through the instruction registers or the data registers,
-/// between the paddings, and answers the state in which the controllers are then (JESD71, IRSCAN and DRSCAN).
+/// between the program's paddings and the base padding around these, and answers the state in which the controllers are
+/// then (JESD71, IRSCAN and DRSCAN).
 ///
 /// The clocks are those from the stable state `at` to the shift, one for each bit, paddings included, one to the pause
 /// state, and those of the move to the stop state. TMS is 1 at the last bit alone of the shift, and TDI is 0 outside
@@ -77,7 +81,7 @@ pub fn scan<C: Cable>(
 {
     let (tms, count) = entry(at, plan.ir);
     send(cable, tms, count)?;
-    shift_padded(cable, bits, plan.len, captured, pads)?;
+    shift_padded(cable, plan, bits, captured, pads)?;
     send(cable, 0, 1)?;
     let state = move_to(cable, pause(plan.ir), plan.stop)?;
     Ok(state)

@@ -3,43 +3,46 @@ ghost use Rattle.std.specs.Prelude.{◌≡◌, ◌≢◌, ◌≤◌, ◌<◌, �
 ghost use Rattle.dev_card.specs.Padding.{padded};
 ghost use Rattle.dev_card.specs.Clocks.{part_inputs};
 ghost use Rattle.scan_paths.specs.Cables.{whole, line, pins, HasPartCause, HasMade, HasMadeFront};
-ghost use Rattle.scan_paths.specs.Scans.{AreInside, paddings_of, HasSeen};
+ghost use Rattle.scan_paths.specs.Scans.{AreInside, planned_pre, paddings_of, HasSeen};
 
 use crate::cable::Cable;
 use crate::pads::Pads;
+use crate::scans::ScanPlan;
 use bit_list::Bits;
 use tool_io::Failed;
 
-/// Shifts all bits of a scan, with TMS 1 at the last one alone, and captures TDO at the places of its n bits of data.
+/// Shifts all bits of a scan, with TMS 1 at the last one alone, and captures TDO at the places of its data.
 pub fn shift_padded<C: Cable>(
     cable: &mut C,
+    plan: ScanPlan,
     bits: &Bits,
-    n: u32,
     captured: &mut Bits,
     pads: &Pads,
 ) -> Result<(), Failed>
     requires whole { C.breakage cable.old ≡ whole }
-    requires some { 1 ≤ n }
-    requires inside { n ≤ length bits.now }
-    requires room { n ≤ length captured.old }
+    requires some { 1 ≤ plan.len }
+    requires inside { plan.len ≤ length bits.now }
+    requires room { plan.len ≤ length captured.old }
     requires pads { AreInside pads.now }
     ensures made { OnOk result (HasSeen C.board C.made cable.old cable.new
-        (part_inputs true (padded (paddings_of pads.now) (take n bits.now)))
-        (pads.now.base_pre + pads.now.pre) (take n captured.new)) }
-    ensures rest { drop n captured.new ≡ drop n captured.old }
+        (part_inputs true (padded (paddings_of plan pads.now) (take plan.len bits.now)))
+        (planned_pre plan + pads.now.pre) (take plan.len captured.new)) }
+    ensures rest { drop plan.len captured.new ≡ drop plan.len captured.old }
     ensures length { length captured.new ≡ length captured.old }
     ensures front { OnErr result (HasMadeFront C.board C.made cable.old cable.new
-        (part_inputs true (padded (paddings_of pads.now) (take n bits.now)))) }
+        (part_inputs true (padded (paddings_of plan pads.now) (take plan.len bits.now)))) }
     ensures unbroken { OnOk result (C.breakage cable.new ≡ whole) }
     ensures broken { OnErr result (C.breakage cable.new ≢ whole) }
     ensures line { HasPartCause line C.line_faults C.is_line_last C.breakage cable.old cable.new }
     ensures pins { HasPartCause pins C.pin_faults C.is_pin_last C.breakage cable.old cable.new }
 {
-    shift_ones(cable, pads.base_pre, false)?;
+    let before = plan.base.pre(plan.ir);
+    let after = plan.base.post(plan.ir);
+    shift_ones(cable, before, false)?;
     shift_padding(cable, &pads.pre_bits, pads.pre, false)?;
-    shift_data(cable, bits, n, captured, ends_with_data(pads))?;
-    shift_padding(cable, &pads.post_bits, pads.post, pads.base_post == 0)?;
-    shift_ones(cable, pads.base_post, true)?;
+    shift_data(cable, bits, plan.len, captured, ends_with_data(pads, after))?;
+    shift_padding(cable, &pads.post_bits, pads.post, after == 0)?;
+    shift_ones(cable, after, true)?;
     Ok(())
 }
 
@@ -108,10 +111,10 @@ fn shift_data<C: Cable>(
 }
 
 // Whether a scan ends with its data, since no padding follows.
-fn ends_with_data(pads: &Pads) -> bool
-    ensures { result ≡ (pads.now.post == 0 && pads.now.base_post == 0) }
+fn ends_with_data(pads: &Pads, base_post: u32) -> bool
+    ensures { result ≡ (pads.now.post == 0 && base_post == 0) }
 {
-    pads.post == 0 && pads.base_post == 0
+    pads.post == 0 && base_post == 0
 }
 
 // TMS at bit i of n: 1 at the last one, if the scan ends there.

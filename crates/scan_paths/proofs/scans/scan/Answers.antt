@@ -1,7 +1,7 @@
 use Rattle.std.proofs.Common.{◌≡◌, ◌+◌, ap, length, take, sym, ◌∙◌, arith}
 use Rattle.std.proofs.lemmas.List.{length-take-le}
 use Rattle.tool_io.proofs.BytesLemmas.{on_err}
-use Rattle.scan_paths.specs.Scans.{scan_of}
+use Rattle.scan_paths.specs.Scans.{planned_pre, scan_of}
 use Rattle.scan_paths.proofs.Scanning.{some_taken, scan_made, scan_failed_1, scan_failed_2, scan_failed_3, scan_failed_4, at_the_pause, scanned, scanned_front, captured_of_line, captured_of_runs}
 use Rattle.scan_paths.proofs.scans.scan.Goals as goal
 
@@ -59,7 +59,7 @@ returns-clause-scanned g c =
     let n = c.args.plan.len in
     let m1 = rw c.entry-tms.ensures at c.in_ok-send.ensures.made in
     let m4 = rw c.pause.ensures at c.in_ok-state.ensures.made in
-    let e : pads.base_pre + pads.pre ≡ s.paddings.base_pre + length s.paddings.pre = ap (λ k. pads.base_pre + k) (sym (length-take-le pads.pre pads.pre_bits c.requires.pads.pre)) in
+    let e : planned_pre c.args.plan + pads.pre ≡ s.paddings.base_pre + length s.paddings.pre = ap (λ k. planned_pre c.args.plan + k) (sym (length-take-le pads.pre pads.pre_bits c.requires.pads.pre)) in
     let n1 : length s.bits ≡ n = length-take-le n c.args.bits.now c.requires.inside in
     let n2 : length (take n c.shift_padded.new.captured) ≡ n = length-take-le n c.shift_padded.new.captured (omega (arith, c.requires.room, c.shift_padded.ensures.length)) in
     scanned m.board m.made c.args.cable.now c.args.at s c.requires.stable (some_taken n c.args.bits.now c.requires.some c.requires.inside) c.requires.at (g.met.C.Cable.sound c.args.cable.now) c.move_to.new.cable _ _ e (n2 ∙ sym n1)
