@@ -5,6 +5,7 @@ use Rattle.tap_states.specs.declared.Tap.TheVariants.{Reset, Idle}
 use Rattle.tap_states.specs.Path.{five_ones}
 use Rattle.dev_card.specs.Board.{Input}
 use Rattle.dev_card.specs.Clocks.{with_zero}
+use Rattle.dev_card.specs.Padding.{BaseLengths}
 use Rattle.dev_card.specs.FarEnds.{FarEnd, far_clocks, far_after}
 use Rattle.stapl_meaning.specs.declared.events.Event.{Event}
 use Rattle.stapl_meaning.specs.declared.events.Ending.{Ending}
@@ -83,12 +84,12 @@ reset_inputs = with_zero five_ones
 abbrev pub reset_events : FarEnd → List Event
 reset_events far = pulses (far_clocks far reset_inputs)
 
-abbrev pub chain_reset : FarEnd → Chain
-chain_reset far = record { tap = Reset; far = far_after far reset_inputs }
+abbrev pub chain_reset : BaseLengths → FarEnd → Chain
+chain_reset base far = record { tap = Reset; base = base; far = far_after far reset_inputs }
 
--- the play of the chosen procedures, for at most n turns
-abbrev pub play : Played → List ℕ → ℕ → FarEnd → Run
-play program chosen n far = after (reset_events far) (procedures_run program chosen n (chain_reset far))
+-- the play of the chosen procedures, for at most n turns, whose scans have this base padding
+abbrev pub play : Played → List ℕ → ℕ → BaseLengths → FarEnd → Run
+play program chosen n base far = after (reset_events far) (procedures_run program chosen n (chain_reset base far))
 
 -- the ending of a run that stands so: one that still goes on has spent its turns
 abbrev pub ending_of : Outcome → Option Ending

@@ -1,9 +1,13 @@
--- The written text of a play: a line for each event, and one for its ending. The format is this profile's.
-use Rattle.std.specs.Prelude.{ℕ, zero, suc, pos, ◌+◌, ◌*◌, ◌/◌, ◌%◌, List, [], ◌∷◌, ◌++◌, length, Bool, true, false, ◌&&◌, ◌==◌, nat_le, nat_lt, not, codes, if◌then◌else◌}
+-- The written text of a play: a line for each event, a report of the devices if it is asked for, and a line for its ending.
+-- The format is this profile's.
+use Rattle.std.specs.Prelude.{ℕ, pos, ◌+◌, ◌*◌, ◌/◌, ◌%◌, List, [], ◌∷◌, ◌++◌, length, Bool, true, false, ◌&&◌, ◌==◌, nat_le, not, codes, if◌then◌else◌}
 use Rattle.std.specs.List.{flat_map}
 use Rattle.std.specs.Fmt.{signed_decimal}
-use Rattle.base.specs.Bits.{bit_value, number_of}
-use Rattle.bit_list.specs.Ranges.{taken}
+use Rattle.base.specs.Bits.{bit_value}
+use Rattle.dev_card.specs.FarEnds.{FarEnd, Told, Heard}
+pub use Rattle.dev_card.specs.Hexadecimal.{hex_digit, digits_needed, hex_digits}
+use Rattle.dev_card.specs.Hexadecimal.{all_hex_digits}
+use Rattle.dev_card.specs.Reports.{report_of}
 use Rattle.stapl_meaning.specs.declared.events.Event.{Event}
 use Rattle.stapl_meaning.specs.declared.events.Event.TheVariants.{Print, Export, Clock, Usec, Hertz}
 use Rattle.stapl_meaning.specs.declared.events.ExportValue.{ExportValue}
@@ -13,10 +17,6 @@ use Rattle.stapl_meaning.specs.declared.events.RunFault.TheVariants.{DivideByZer
 use Rattle.stapl_meaning.specs.declared.events.Ending.{Ending}
 use Rattle.stapl_meaning.specs.declared.events.Ending.TheVariants.{Exit, Fault, Spent}
 use Rattle.stapl_meaning.specs.Effects.{digit_of}
-
--- an upper-case hexadecimal digit, for a number below 16
-abbrev pub hex_digit : ℕ → ℕ
-hex_digit n = if nat_lt n 10 then 48 + n else 55 + n
 
 -- the byte is written as it is: it is one of 32 to 126, and no backslash
 abbrev pub is_plain : ℕ → Bool
@@ -29,21 +29,11 @@ escaped_byte b = if is_plain b then b ∷ [] else 92 ∷ hex_digit (b / 16) ∷ 
 abbrev pub escaped : List ℕ → List ℕ
 escaped bytes = flat_map escaped_byte bytes
 
--- how many hexadecimal digits so many bits need
-abbrev pub digits_needed : ℕ → ℕ
-digits_needed n = (n + 3) / 4
-
--- the lowest so many hexadecimal digits of bits, the highest first; each digit stands for four bits, of which missing ones
--- are 0
-abbrev pub hex_digits : ℕ → List Bool → List ℕ
-hex_digits zero bits = []
-hex_digits (suc n) bits = hex_digit (number_of (taken (4 * n) 4 bits)) ∷ hex_digits n bits
-
 -- what is exported, as it is written: an integer in decimal, a Boolean as 0 or 1, bits in hexadecimal
 abbrev pub export_text : ExportValue → List ℕ
 export_text (Int z) = signed_decimal z
 export_text (Bit b) = digit_of b ∷ []
-export_text (Array bits) = codes "$" ++ hex_digits (digits_needed (length bits)) bits
+export_text (Array bits) = codes "$" ++ all_hex_digits bits
 
 -- the line of an event; a clock has a digit in a line of clocks, and no line of its own
 abbrev pub event_line : Event → List ℕ
@@ -121,6 +111,16 @@ ending_line (Exit k) = codes "E exit " ++ signed_decimal k ++ 10 ∷ []
 ending_line (Fault k piece) = codes "E fault " ++ fault_name k ++ codes " at " ++ signed_decimal (pos piece) ++ 10 ∷ []
 ending_line Spent = codes "E spent" ++ 10 ∷ []
 
--- the text of a play that has ended; true asks for its clocks
-abbrev pub text_of : Bool → List Event → Ending → List ℕ
-text_of pins events ending = events_text pins [] events ++ ending_line ending
+-- the report of what stands at a far end: the devices of a board that is told
+abbrev pub far_report : FarEnd → List ℕ
+far_report (Told cs) = report_of cs
+far_report (Heard bs) = []
+
+-- the same, if it is asked for
+abbrev pub asked_report : Bool → FarEnd → List ℕ
+asked_report false far = []
+asked_report true far = far_report far
+
+-- the text of a play that has ended, with this report; true asks for its clocks
+abbrev pub text_of : Bool → List Event → List ℕ → Ending → List ℕ
+text_of pins events report ending = events_text pins [] events ++ report ++ ending_line ending
