@@ -1,0 +1,3 @@
+pub mod KeptWalks
+pub mod KeptScans
+pub mod FirstRuns

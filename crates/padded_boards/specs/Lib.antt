@@ -1,0 +1,2 @@
+pub mod QuietClocks
+pub mod PaddedRuns

@@ -1,0 +1,4 @@
+pub mod QuietPlays
+pub mod SamePlays
+pub mod LoadedDeeds
+pub mod QuietExamples

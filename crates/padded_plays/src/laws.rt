@@ -1,0 +1,90 @@
+//! Laws of the definitions.
+ghost use Rattle.std.specs.Prelude.{◌≡◌, ◌<◌, ◌≤◌, ◌-◌, ℕ, Bool, true, false, List, [], ◌∷◌, ◌++◌, All, Option};
+ghost use Rattle.std.specs.Prelude.{Some, length, slice_get};
+ghost use Rattle.tap_states.specs.declared.Tap.{Tap};
+ghost use Rattle.tap_states.specs.Tap.{is_stable_state};
+ghost use Rattle.dev_card.specs.declared.desc.Desc.{Desc};
+ghost use Rattle.dev_card.specs.Descriptions.{IsGood};
+ghost use Rattle.dev_card.specs.Clocks.{entry_inputs};
+ghost use Rattle.dev_card.specs.FarEnds.{FarEnd, Told};
+ghost use Rattle.dev_card.specs.Padding.{BaseLengths, base_lengths};
+ghost use Rattle.padded_boards.specs.PaddedRuns.{fresh_board};
+ghost use Rattle.stapl_meaning.specs.Deeds.{Deed, Chain, deeds_events};
+ghost use Rattle.stapl_meaning.specs.Scopes.{Played};
+ghost use Rattle.stapl_meaning.specs.Plays.{play, chain_reset, reset_events};
+ghost use Rattle.padded_plays.specs.LoadedDeeds.{StaysOutOfReset, AreWholeScans, WasLoaded, EachIsQuiet};
+ghost use Rattle.padded_plays.specs.QuietPlays.{AreQuietDeeds, loaded_by_deeds, deeds_of_play, first_chain};
+ghost use Rattle.padded_plays.specs.QuietPlays.{IsQuietPlay, play_alone, padded_play};
+ghost use Rattle.padded_plays.specs.QuietExamples.{example_chain, quiet_deeds, without_instruction, reset_between};
+ghost use Rattle.padded_plays.specs.QuietExamples.{too_long, into_the_shift};
+ghost use Rattle.padded_plays.specs.SamePlays.{IsSamePlay, IsSameText};
+
+/// If the play on a run of devices alone is quiet for n turns, then after each number of turns up to n it is the same
+/// play in a board with base padding around the run, whatever devices stand before and after it. It has the same
+/// outcome, state and TAP state, the same events but for the clocks, and the same cards of the run.
+pub fn a_quiet_play_is_the_same_at_each_place()
+    ensures { (program : Played) (chosen : List ℕ) (before run after : List Desc) (n k : ℕ) →
+        All IsGood (before ++ (run ++ after)) → 0 < length run → IsQuietPlay program chosen n run → k ≤ n →
+        IsSamePlay before run after (padded_play program chosen k before run after) (play_alone program chosen k run) }
+{}
+
+/// Plays that are the same have the same text without pins and the same ending, and the same cards of the run, so the
+/// same report of it.
+pub fn the_same_play_has_the_same_text()
+    ensures { (program : Played) (chosen : List ℕ) (before run after : List Desc) (k : ℕ) →
+        IsSamePlay before run after (padded_play program chosen k before run after) (play_alone program chosen k run) →
+        IsSameText (length before) (length run)
+        (padded_play program chosen k before run after) (play_alone program chosen k run) }
+{}
+
+/// A play that is quiet on the device of a place alone has the same text, ending and report of this device on the whole
+/// board, with base padding for the place, which is counted from 1.
+pub fn a_quiet_play_of_a_place_has_the_text_of_its_device()
+    ensures { (program : Played) (chosen : List ℕ) (devices : List Desc) (place : ℕ) (device : Desc) (n k : ℕ) →
+        All IsGood devices → 1 ≤ place → slice_get devices (place - 1) ≡ Some device →
+        IsQuietPlay program chosen n (device ∷ []) → k ≤ n →
+        IsSameText (place - 1) 1
+        (play program chosen k (base_lengths devices (Some place)) (Told (fresh_board devices)))
+        (play_alone program chosen k (device ∷ [])) }
+{}
+
+/// The events of a play are those of the five first clocks, and then those of its deeds.
+pub fn a_play_has_the_events_of_its_deeds()
+    ensures { (program : Played) (chosen : List ℕ) (n : ℕ) (base : BaseLengths) (far : FarEnd) →
+        (play program chosen n base far).events
+        ≡ reset_events far
+        ++ deeds_events (chain_reset base far) (deeds_of_play program chosen n (chain_reset base far)) }
+{}
+
+/// A quiet play takes an instruction for loaded exactly if a scan of the instruction registers was made, and no clock
+/// since its last shift clock has led into Test-Logic-Reset. On its way to the shift no scan comes there. The scans of
+/// a play are whole.
+pub fn what_it_is_that_an_instruction_was_loaded()
+    ensures loaded { (k : Chain) (deeds : List Deed) → AreWholeScans k deeds →
+        loaded_by_deeds false k deeds ≡ true → WasLoaded k deeds }
+    ensures taken { (k : Chain) (deeds : List Deed) → AreWholeScans k deeds →
+        WasLoaded k deeds → loaded_by_deeds false k deeds ≡ true }
+    ensures whole { (program : Played) (chosen : List ℕ) (n : ℕ) (k : Chain) →
+        AreWholeScans k (deeds_of_play program chosen n k) }
+    ensures entry { (at : Tap) (ir : Bool) → is_stable_state at ≡ true → StaysOutOfReset at (entry_inputs at ir) }
+{}
+
+/// A play is quiet exactly if each of its deeds is quiet after those before it.
+pub fn what_a_quiet_play_is()
+    ensures each { (program : Played) (chosen : List ℕ) (n : ℕ) (run : List Desc) → IsQuietPlay program chosen n run →
+        EachIsQuiet (first_chain run) (deeds_of_play program chosen n (first_chain run)) }
+    ensures all { (program : Played) (chosen : List ℕ) (n : ℕ) (run : List Desc) →
+        EachIsQuiet (first_chain run) (deeds_of_play program chosen n (first_chain run)) →
+        IsQuietPlay program chosen n run }
+{}
+
+/// A scan of an instruction and then scans of the bypass register are quiet. A scan of data is not quiet if no
+/// instruction was loaded since the last reset. Nor is a scan of more bits than the register has, or a move into a
+/// shift state.
+pub fn examples_of_quiet_deeds()
+    ensures quiet { AreQuietDeeds false example_chain quiet_deeds }
+    ensures loaded { ¬ AreQuietDeeds false example_chain without_instruction }
+    ensures since { ¬ AreQuietDeeds false example_chain reset_between }
+    ensures bits { ¬ AreQuietDeeds false example_chain too_long }
+    ensures shift { ¬ AreQuietDeeds false example_chain into_the_shift }
+{}
