@@ -15,7 +15,7 @@ use Rattle.dev_card.specs.Board.{Input, clocks_of, after_input}
 use Rattle.dev_card.proofs.Scanning.{length_of_captured}
 use Rattle.dev_card.specs.FarEnds.{FarEnd, Told, Heard, far_clocks, heard_clocks, then_heard}
 use Rattle.dev_card.specs.Scans.{BoardScan, inputs_of_scan}
-use Rattle.stapl_meaning.specs.Deeds.{Chain, captured_on}
+use Rattle.stapl_meaning.specs.Deeds.{Chain, based, captured_on}
 use Rattle.stapl_meaning.specs.declared.events.RunFault.TheVariants.{IndexOutOfRange, LengthMismatch, BadLength}
 use Rattle.stapl_meaning.specs.declared.values.Held.{Held}
 use Rattle.stapl_meaning.specs.declared.values.Held.TheVariants as held
@@ -62,7 +62,8 @@ far_count (Heard bs) is = count_heard is bs
 -- a scan captures as many bits as its data has
 pub captured_count : (k : Chain) (scan : BoardScan) → length (captured_on k scan) ≡ length scan.bits
 captured_count k scan =
-    length_of_captured k.tap scan (far_clocks k.far (inputs_of_scan k.tap scan)) (far_count k.far (inputs_of_scan k.tap scan))
+    let whole = based k.base scan in
+    length_of_captured k.tap whole (far_clocks k.far (inputs_of_scan k.tap whole)) (far_count k.far (inputs_of_scan k.tap whole))
 
 -- ---- values in front of others
 
