@@ -6,17 +6,18 @@ use Rattle.dev_card.specs.Card.{Card}
 use Rattle.std.specs.Option.{option_map}
 use Rattle.dev_card.specs.Board.{Clock, Input, clocks_of, board_after, tdos}
 use Rattle.dev_card.specs.FarEnds.{FarEnd, far_clocks, far_after, far_end}
+use Rattle.dev_card.specs.Padding.{BaseLengths}
 use Rattle.scan_paths.specs.Cables.{Breakage, whole, input_of}
 use Rattle.scan_paths.proofs.Parts.{line_start, pins_start, part_then}
 use Rattle.stapl_meaning.specs.declared.events.Event.{Event}
 use Rattle.stapl_meaning.specs.declared.events.Event.TheVariants.{Clock as Pulse, Print, Export, Usec, Hertz}
 use Rattle.dev_card.specs.Scans.{BoardScan, inputs_of_scan, captured_from}
-use Rattle.stapl_meaning.specs.Deeds.{Deed, Says, Goes, Scans, Chain, pulse, pulses, deed_events, deed_chain, deeds_events, deeds_chain}
+use Rattle.stapl_meaning.specs.Deeds.{Deed, Says, Goes, Scans, Chain, based, pulse, pulses, deed_events, deed_chain, deeds_events, deeds_chain}
 use Rattle.stapl_meaning.specs.Texts.{bytes_of, event_bytes, digits_after, pin_line, event_line}
 use Rattle.stapl_machine.specs.declared.pin_cable.PinCable.{PinCable}
 use Rattle.stapl_machine.specs.Papers.{Shown, Puts, PutsFront}
 use Rattle.stapl_machine.specs.PaperLaws.{put_then, put_then_front, front_with}
-use Rattle.stapl_machine.specs.Pins.{cable_of, lines_of, tap_of, digits_of, writes_pins, IsSamePort, PutsEvents, port_chain}
+use Rattle.stapl_machine.specs.Pins.{cable_of, lines_of, tap_of, base_of, digits_of, writes_pins, IsSamePort, PutsEvents, port_chain}
 use Rattle.stapl_machine.specs.PinLaws.{same_port, same_both, put_none, events_both, events_both_front}
 use Rattle.stapl_machine.specs.Ports.{IsKept, Passes, PassesFront, chain_before, Did, DidFront, DidScan}
 use Rattle.stapl_machine.proofs.FarLemmas.{heard_both, far_made, far_left, far_append}
@@ -70,6 +71,14 @@ none_wait_after (Usec n) h true ds = refl
 none_wait_after (Usec n) h false ds = refl
 none_wait_after (Hertz n) h true ds = refl
 none_wait_after (Hertz n) h false ds = refl
+
+-- the chain at the end of ports with the same state, the same base padding and the same board
+pub same_chain : {C O : Type 0} (board : C → Option (List Card)) (a b : PinCable C O) (more : List Bool) → tap_of b ≡ tap_of a → base_of b ≡ base_of a →
+    board (cable_of b) ≡ board (cable_of a) → port_chain board a more ≡ port_chain board b more
+same_chain board a b more tap base cards =
+    ap (λ (t : Tap). let k : Chain = record { tap = t; base = base_of a; far = far_end (board (cable_of a)) more } in k) (sym tap)
+    ∙ ap (λ (l : BaseLengths). let k : Chain = record { tap = tap_of b; base = l; far = far_end (board (cable_of a)) more } in k) (sym base)
+    ∙ ap (λ (o : Option (List Card)). let k : Chain = record { tap = tap_of b; base = base_of b; far = far_end o more } in k) (sym cards)
 
 module _ {C O : Type 0} (breakage : PinCable C O → Breakage) (board : C → Option (List Card)) (makes : C → List Clock → C → Type 0) (shown : O → Shown) where
   -- nothing happens
@@ -146,9 +155,7 @@ module _ {C O : Type 0} (breakage : PinCable C O → Breakage) (board : C → Op
         Puts shown (lines_of a) (pin_line (digits_of a)) (lines_of m) → Puts shown (lines_of m) (event_line event) (lines_of b) → digits_of b ≡ [] →
         Did breakage board makes shown (Says event ∷ rest) a rest b
     did_said a m b made cards tap same w first second none =
-        let before : (more : List Bool) → port_chain board a more ≡ port_chain board b more =
-        λ more. ap (λ (t : Tap). let k : Chain = record { tap = t; far = far_end (board (cable_of a)) more } in k) (sym tap)
-        ∙ ap (λ (o : Option (List Card)). let k : Chain = record { tap = tap_of b; far = far_end o more } in k) (sym cards) in
+        let before : (more : List Bool) → port_chain board a more ≡ port_chain board b more = λ more. same_chain board a b more tap same.base cards in
         record {
           events = event ∷ [];
           clocks = [];
@@ -202,8 +209,8 @@ module _ {C O : Type 0} (breakage : PinCable C O → Breakage) (board : C → Op
   -- ---- a deed of clocks
 
   module _ (old new : PinCable C O) (to : Tap) (d : Deed) (inputs : List Input)
-      (events_are : (far : FarEnd) → deed_events (record { tap = tap_of old; far = far }) d ≡ pulses (far_clocks far inputs))
-      (chain_is : (far : FarEnd) → deed_chain (record { tap = tap_of old; far = far }) d ≡ (let k : Chain = record { tap = to; far = far_after far inputs } in k)) (rest : List Deed) where
+      (events_are : (far : FarEnd) → deed_events (record { tap = tap_of old; base = base_of old; far = far }) d ≡ pulses (far_clocks far inputs))
+      (chain_is : (far : FarEnd) → deed_chain (record { tap = tap_of old; base = base_of old; far = far }) d ≡ (let k : Chain = record { tap = to; base = base_of old; far = far_after far inputs } in k)) (rest : List Deed) where
     abbrev far_before : List Clock → List Bool → FarEnd
     far_before clocks more = far_end (board (cable_of old)) (tdos clocks ++ more)
 
@@ -214,8 +221,9 @@ module _ {C O : Type 0} (breakage : PinCable C O → Breakage) (board : C → Op
     one_did clocks tap same made put went_in seen cards =
         let after : (more : List Bool) → deed_chain (chain_before breakage board makes shown old clocks more) d ≡ port_chain board new more =
         λ more. chain_is (far_before clocks more)
-        ∙ ap (λ (far : FarEnd). let k : Chain = record { tap = to; far = far } in k) (far_left (board (cable_of old)) (board (cable_of new)) clocks inputs went_in more cards)
-        ∙ ap (λ (t : Tap). let k : Chain = record { tap = t; far = far_end (board (cable_of new)) more } in k) (sym tap) in
+        ∙ ap (λ (far : FarEnd). let k : Chain = record { tap = to; base = base_of old; far = far } in k) (far_left (board (cable_of old)) (board (cable_of new)) clocks inputs went_in more cards)
+        ∙ ap (λ (t : Tap). let k : Chain = record { tap = t; base = base_of old; far = far_end (board (cable_of new)) more } in k) (sym tap)
+        ∙ ap (λ (l : BaseLengths). let k : Chain = record { tap = tap_of new; base = l; far = far_end (board (cable_of new)) more } in k) (sym same.base) in
         record {
           events = pulses clocks;
           clocks = clocks;
@@ -247,17 +255,35 @@ module _ {C O : Type 0} (breakage : PinCable C O → Breakage) (board : C → Op
           ∙ append_assoc (pulses clocks) others behind);
     }
 
-  -- ---- a scan, and what it captured
-  module _ (old new : PinCable C O) (s : BoardScan) where
+  -- ---- a scan with base padding, and what it captured
+
+  module _ (old new : PinCable C O) (s whole_scan : BoardScan) (e : whole_scan ≡ based (base_of old) s) where
+    abbrev scan_inputs : List Input
+    scan_inputs = inputs_of_scan (tap_of old) (based (base_of old) s)
+
+    same_inputs : inputs_of_scan (tap_of old) whole_scan ≡ scan_inputs
+    same_inputs = ap (inputs_of_scan (tap_of old)) e
+
     pub scan_did : (clocks : List Clock) (captured : List Bool) → tap_of new ≡ s.stop → IsSamePort old new → makes (cable_of old) clocks (cable_of new) → PutsEvents breakage shown old (pulses clocks) new →
-        map input_of clocks ≡ inputs_of_scan (tap_of old) s → ((cs : List Card) → board (cable_of old) ≡ Some cs → clocks ≡ clocks_of cs (inputs_of_scan (tap_of old) s)) →
-        board (cable_of new) ≡ option_map (λ cs. board_after cs (inputs_of_scan (tap_of old) s)) (board (cable_of old)) → captured ≡ captured_from (tap_of old) s clocks → DidScan breakage board makes shown s captured old new
+        map input_of clocks ≡ inputs_of_scan (tap_of old) whole_scan → ((cs : List Card) → board (cable_of old) ≡ Some cs → clocks ≡ clocks_of cs (inputs_of_scan (tap_of old) whole_scan)) →
+        board (cable_of new) ≡ option_map (λ cs. board_after cs (inputs_of_scan (tap_of old) whole_scan)) (board (cable_of old)) → captured ≡ captured_from (tap_of old) whole_scan clocks → DidScan breakage board makes shown s captured old new
     unfolding one_did
     scan_did clocks captured tap same made put went_in seen cards is =
-        let one = one_did old new s.stop (Scans s) (inputs_of_scan (tap_of old) s) (λ far. refl) (λ far. refl) [] clocks tap same made put went_in seen cards in
+        let went = went_in ∙ same_inputs in
+        let clocks_are : (cs : List Card) → board (cable_of old) ≡ Some cs → clocks ≡ clocks_of cs scan_inputs = λ cs t. seen cs t ∙ ap (clocks_of cs) same_inputs in
+        let after = cards ∙ ap (λ (is : List Input). option_map (λ cs. board_after cs is) (board (cable_of old))) same_inputs in
+        let one = one_did old new s.stop (Scans s) scan_inputs (λ far. refl) (λ far. refl) [] clocks tap same made put went clocks_are after in
         let did : Did breakage board makes shown (Scans s ∷ []) old [] new = record { events = pulses clocks; clocks = clocks; passed = record { same = same; made = made; put = put }; happened = one.happened; chain = one.chain } in
         record {
           did = did;
           captured_is = λ more.
-              ap (captured_from (tap_of old) s) (far_made (board (cable_of old)) (board (cable_of new)) clocks (inputs_of_scan (tap_of old) s) went_in more seen) ∙ sym is;
+              ap (captured_from (tap_of old) (based (base_of old) s)) (far_made (board (cable_of old)) (board (cable_of new)) clocks scan_inputs went more clocks_are)
+              ∙ sym (is ∙ ap (λ (x : BoardScan). captured_from (tap_of old) x clocks) e);
         }
+
+    -- a front of it
+    pub scan_did_front : (front more_inputs : List Input) (clocks : List Clock) → inputs_of_scan (tap_of old) whole_scan ≡ front ++ more_inputs → makes (cable_of old) clocks (cable_of new) →
+        PutsFront shown (lines_of old) (bytes_of (writes_pins old) (digits_of old) (pulses clocks)) (lines_of new) → map input_of clocks ≡ front →
+        ((cs : List Card) → board (cable_of old) ≡ Some cs → clocks ≡ clocks_of cs front) → DidFront breakage board makes shown (Scans s ∷ []) old new
+    scan_did_front front more_inputs clocks parts made put went_in seen =
+        one_did_front old new s.stop (Scans s) scan_inputs (λ far. refl) (λ far. refl) [] front more_inputs clocks (sym same_inputs ∙ parts) made put went_in seen

@@ -6,6 +6,7 @@ use Rattle.tap_states.specs.declared.Tap.TheVariants.{Reset}
 use Rattle.dev_card.specs.Card.{Card}
 use Rattle.dev_card.specs.Board.{Clock, tdos}
 use Rattle.dev_card.specs.FarEnds.{far_end}
+use Rattle.dev_card.specs.Padding.{BaseLengths}
 use Rattle.scan_paths.specs.Cables.{Breakage, whole, line, pins, cable_faults, IsCableLast}
 use Rattle.stapl_meaning.specs.declared.events.Event.{Event}
 use Rattle.stapl_meaning.specs.declared.events.Ending.{Ending}
@@ -24,22 +25,23 @@ use Rattle.stapl_machine.specs.Acts.{state_of}
 use Rattle.stapl_machine.specs.Machines.{play_of, play_ticks_of, chain_at, IsPlayed, IsPlayedFront}
 use Rattle.stapl_machine.specs.Papers.{Shown, Puts, PutsFront}
 use Rattle.stapl_machine.specs.PaperLaws.{put_then, put_then_front, front_with}
-use Rattle.stapl_machine.specs.Pins.{cable_of, lines_of, tap_of, digits_of, writes_pins, is_torn, broken_as, port_breakage}
+use Rattle.stapl_machine.specs.Pins.{cable_of, lines_of, tap_of, base_of, digits_of, writes_pins, is_torn, broken_as, port_breakage}
 use Rattle.stapl_machine.specs.PinLaws.{events_front_with}
 use Rattle.stapl_machine.specs.Ports.{BrokeSo, IsKept, IfFault, IfMemory, LeavesSo, chain_before, RunsTo, RunsFront, PlaysTo, PlaysFront}
 use Rattle.stapl_machine.specs.Resets.{kept_digits}
 use Rattle.stapl_machine.specs.Runs.{play_from, play_ticks_from}
 use Rattle.stapl_machine.specs.Zeros.{zeros_of_code}
+use Rattle.stapl_machine.proofs.DeedLemmas.{same_chain}
 
 module _ {C O : Type 0} (breakage : PinCable C O → Breakage) (board : C → Option (List Card)) (makes : C → List Clock → C → Type 0) (shown : O → Shown) (all : Chain → Run) (count : Chain → ℕ) where
   still_made : (a b c : C) (clocks : List Clock) → c ≡ b → makes a clocks b → makes a clocks c
   still_made a b c clocks e m = subst (λ (x : C). makes a clocks x) (sym e) m
 
   -- the run, and the line of the digits that wait
-  pub plays_end : (a b c : PinCable C O) (steps now : ℕ) (ending : Option Ending) (s : State) → cable_of c ≡ cable_of b → tap_of c ≡ tap_of b →
+  pub plays_end : (a b c : PinCable C O) (steps now : ℕ) (ending : Option Ending) (s : State) → cable_of c ≡ cable_of b → tap_of c ≡ tap_of b → base_of c ≡ base_of b →
       RunsTo breakage board makes shown all count a steps ending s b now → Puts shown (lines_of b) (pin_line (digits_of b)) (lines_of c) →
       PlaysTo breakage board makes shown all count a steps ending s c now
-  plays_end a b c steps now ending s same tap p put = record {
+  plays_end a b c steps now ending s same tap base p put = record {
     events = p.events;
     clocks = p.clocks;
     made = still_made (cable_of a) (cable_of b) (cable_of c) p.clocks same p.passed.made;
@@ -48,8 +50,7 @@ module _ {C O : Type 0} (breakage : PinCable C O → Breakage) (board : C → Op
     ended = p.ended;
     leaves = λ more.
         subst (λ (k : Chain). LeavesSo (all (chain_before breakage board makes shown a p.clocks more)) ending s k)
-        (ap (λ (t : Tap). let k : Chain = record { tap = t; far = far_end (board (cable_of b)) more } in k) (sym tap)
-        ∙ ap (λ (d : C). let k : Chain = record { tap = tap_of c; far = far_end (board d) more } in k) (sym same)) (p.leaves more);
+        (same_chain board b c more tap base (ap board same)) (p.leaves more);
     ticked = p.ticked;
   }
 
@@ -126,14 +127,15 @@ over_code_front breakage board makes shown lists code chosen v n a b steps now s
 
 -- the play of a machine, over the parts of its port
 module _ {C O : Type 0} (breakage : PinCable C O → Breakage) (board : C → Option (List Card)) (makes : C → List Clock → C → Type 0) (shown : O → Shown) (chosen : List ℕ)
-    (machine : Machine) (p : Bool) (digits : List ℕ) (cable new_cable : C) (out new : O)
+    (machine : Machine) (p : Bool) (digits : List ℕ) (base : BaseLengths) (cable new_cable : C) (out new : O)
     (a b : PinCable C O) (cable_is : cable_of a ≡ cable) (out_is : lines_of a ≡ out) (digits_are : digits_of a ≡ kept_digits p digits) (pins_are : writes_pins a ≡ p)
-    (tap_is : tap_of a ≡ Reset) (new_out_is : new ≡ lines_of b) (new_cable_is : new_cable ≡ cable_of b) (run : Chain → Run) (count : Chain → ℕ) (steps now : ℕ) where
+    (tap_is : tap_of a ≡ Reset) (base_is : base_of a ≡ base) (new_out_is : new ≡ lines_of b) (new_cable_is : new_cable ≡ cable_of b) (run : Chain → Run) (count : Chain → ℕ) (steps now : ℕ) where
   -- the chain before
-  begins : (clocks : List Clock) (more : List Bool) → chain_before breakage board makes shown a clocks more ≡ chain_at board cable (tdos clocks ++ more)
+  begins : (clocks : List Clock) (more : List Bool) → chain_before breakage board makes shown a clocks more ≡ chain_at base board cable (tdos clocks ++ more)
   begins clocks more =
-      ap (λ (t : Tap). let k : Chain = record { tap = t; far = far_end (board (cable_of a)) (tdos clocks ++ more) } in k) tap_is
-      ∙ ap (λ (d : C). chain_at board d (tdos clocks ++ more)) cable_is
+      ap (λ (t : Tap). let k : Chain = record { tap = t; base = base_of a; far = far_end (board (cable_of a)) (tdos clocks ++ more) } in k) tap_is
+      ∙ ap (λ (l : BaseLengths). chain_at l board (cable_of a) (tdos clocks ++ more)) base_is
+      ∙ ap (λ (d : C). chain_at base board d (tdos clocks ++ more)) cable_is
 
   made_over : (clocks : List Clock) → makes (cable_of a) clocks (cable_of b) → makes cable clocks new_cable
   made_over clocks m =
@@ -155,7 +157,7 @@ module _ {C O : Type 0} (breakage : PinCable C O → Breakage) (board : C → Op
 
   pub machine_played : (ending : Ending) (work : Workspace) → machine.work ≡ work →
       PlaysTo breakage board makes shown run count a steps (Some ending) (state_of chosen work) b now →
-      IsPlayed board makes shown p digits run count cable out steps ending new_cable new now machine
+      IsPlayed board makes shown p digits base run count cable out steps ending new_cable new now machine
   machine_played ending work is q = record {
     events = q.events;
     clocks = q.clocks;
@@ -175,12 +177,12 @@ module _ {C O : Type 0} (breakage : PinCable C O → Breakage) (board : C → Op
     ticked = λ more. q.ticked more ∙ ap (λ (k : Chain). steps + count k) (begins q.clocks more);
   }
 
-  pub machine_front : PlaysFront breakage board makes shown run count a steps b now → IsPlayedFront board makes shown p digits run count cable out steps new_cable new now
+  pub machine_front : PlaysFront breakage board makes shown run count a steps b now → IsPlayedFront board makes shown p digits base run count cable out steps new_cable new now
   machine_front q = record {
     clocks = q.clocks;
     made = made_over q.clocks q.made;
     front = λ more.
-        front_over (run (chain_at board cable (tdos q.clocks ++ more))).events
+        front_over (run (chain_at base board cable (tdos q.clocks ++ more))).events
         (subst (λ (k : Chain). PutsFront shown (lines_of a) (events_text (writes_pins a) (digits_of a) (run k).events) (lines_of b)) (begins q.clocks more) (q.front more));
     most = λ more. subst (λ (k : Chain). now ≤ steps + count k) (begins q.clocks more) (q.most more);
   }

@@ -3,25 +3,27 @@ use Rattle.std.proofs.Common.{◌≡◌, ℕ, Bool, List, length, take, arith, a
 use Rattle.std.proofs.lemmas.List.{take_all}
 use Rattle.stapl_lexer.specs.declared.terminal.Register.{Register}
 use Rattle.tap_states.specs.declared.Tap.{Tap}
-use Rattle.dev_card.specs.Padding.{Paddings}
 use Rattle.dev_card.specs.Scans.{BoardScan}
+use Rattle.scan_paths.specs.declared.pads.BasePads.{BasePads}
 use Rattle.scan_paths.specs.declared.pads.Pads.{Pads}
-use Rattle.scan_paths.specs.Scans.{paddings_of}
+use Rattle.scan_paths.specs.Scans.{lengths_of}
 use Rattle.scan_paths.specs.Scans as paths
+use Rattle.stapl_meaning.specs.Deeds.{based}
 use Rattle.stapl_meaning.specs.States.{ScanSettings}
 use Rattle.stapl_meaning.specs.Scans.{is_instruction, scan_of}
-use Rattle.stapl_machine.specs.Settings.{own_paddings}
+use Rattle.stapl_machine.specs.PadSettings.{settings_seen}
 
 pub all_taken : (n : ℕ) (bits : List Bool) → n ≡ length bits → take n bits ≡ bits
 all_taken n bits e = take_all n bits (omega (arith, e))
 
--- a scan by its plan is the scan by its settings
-pub same_scan : (register : Register) (settings : ScanSettings) (data_bits : List Bool) (ir : Bool) (n : ℕ) (stop : Tap) (pads : Pads) →
-    ir ≡ is_instruction register → n ≡ length data_bits → stop ≡ settings.stop → paddings_of pads ≡ own_paddings settings →
-    paths.scan_of (record { ir = ir; len = n; stop = stop }) data_bits pads ≡ scan_of register settings data_bits
-same_scan register settings data_bits ir n stop pads is_ir is_n is_stop is_pads =
-    let made : Bool → Paddings → List Bool → Tap → BoardScan = λ ir paddings list stop. record { ir = ir; paddings = paddings; bits = list; stop = stop } in
-    ap (λ x. made x (paddings_of pads) (take n data_bits) stop) is_ir
-    ∙ ap (λ x. made (is_instruction register) x (take n data_bits) stop) is_pads
-    ∙ ap (λ x. made (is_instruction register) (own_paddings settings) x stop) (all_taken n data_bits is_n)
-    ∙ ap (λ x. made (is_instruction register) (own_paddings settings) data_bits x) is_stop
+-- a scan by its plan is the scan by its settings, with the base padding of the plan
+pub same_scan : (base : BasePads) (register : Register) (settings : ScanSettings) (data_bits : List Bool) (ir : Bool) (n : ℕ) (stop : Tap) (pads : Pads) →
+    ir ≡ is_instruction register → n ≡ length data_bits → stop ≡ settings.stop → settings_seen pads settings.stop ≡ settings →
+    paths.scan_of (record { ir = ir; len = n; stop = stop; base = base }) data_bits pads ≡ based (lengths_of base) (scan_of register settings data_bits)
+same_scan base register settings data_bits ir n stop pads is_ir is_n is_stop is_pads =
+    let made : Bool → ScanSettings → List Bool → BoardScan =
+    λ ir s list. based (lengths_of base) (record { ir = ir; paddings = record { base_pre = 0; pre = s.pre; post = s.post; base_post = 0 }; bits = list; stop = s.stop }) in
+    ap (λ x. made x (settings_seen pads stop) (take n data_bits)) is_ir
+    ∙ ap (λ x. made (is_instruction register) (settings_seen pads x) (take n data_bits)) is_stop
+    ∙ ap (λ x. made (is_instruction register) x (take n data_bits)) is_pads
+    ∙ ap (λ x. made (is_instruction register) settings x) (all_taken n data_bits is_n)

@@ -9,7 +9,6 @@ pub mod Ports
 pub mod Resets
 pub mod Records
 pub mod PadSettings
-pub mod Settings
 pub mod Arrays
 pub mod Jobs
 pub mod Acts

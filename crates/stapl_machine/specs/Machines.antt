@@ -4,6 +4,7 @@ use Rattle.tap_states.specs.declared.Tap.TheVariants.{Reset}
 use Rattle.dev_card.specs.Card.{Card}
 use Rattle.dev_card.specs.Board.{Clock, tdos}
 use Rattle.dev_card.specs.FarEnds.{far_end}
+use Rattle.dev_card.specs.Padding.{BaseLengths}
 use Rattle.stapl_meaning.specs.declared.events.Event.{Event}
 use Rattle.stapl_meaning.specs.declared.events.Ending.{Ending}
 use Rattle.stapl_meaning.specs.declared.records.Record.{Record}
@@ -50,28 +51,28 @@ pub record IsPrepared (code : CodeLists) (machine : Machine) : Type 0 where
   pub no_digit : digits_in machine ≡ []
 
 -- the chain over a cable with all controllers in the reset state, with TDO bits that are still to be heard where no board is told
-abbrev pub chain_at : {C : Type 0} → (C → Option (List Card)) → C → List Bool → Chain
-chain_at board cable heard = record { tap = Reset; far = far_end (board cable) heard }
+abbrev pub chain_at : {C : Type 0} → BaseLengths → (C → Option (List Card)) → C → List Bool → Chain
+chain_at base board cable heard = record { tap = Reset; base = base; far = far_end (board cable) heard }
 
 -- A run on the far end that the cable is: its board, where that is told, else the TDO bits of the clocks that were made, with
 -- any that may follow.
-module _ {C O : Type 0} (board : C → Option (List Card)) (makes : C → List Clock → C → Type 0) (shown : O → Shown) (pins : Bool) (digits : List ℕ) (run : Chain → Run) (count : Chain → ℕ) where
+module _ {C O : Type 0} (board : C → Option (List Card)) (makes : C → List Clock → C → Type 0) (shown : O → Shown) (pins : Bool) (digits : List ℕ) (base : BaseLengths) (run : Chain → Run) (count : Chain → ℕ) where
   -- The whole text of the run was put, and the run, the cable and the machine stand so.
   pub record IsPlayed (old : C) (out : O) (steps : ℕ) (ending : Ending) (new : C) (new_out : O) (now : ℕ) (machine : Machine) : Type 0 where
     pub events : List Event
     pub clocks : List Clock
     pub made : makes old clocks new
     pub put : Puts shown out (events_text pins (kept_digits pins digits) events) new_out
-    pub runs : (more : List Bool) → (run (chain_at board old (tdos clocks ++ more))).events ≡ events
-    pub ended : (more : List Bool) → ending_of (run (chain_at board old (tdos clocks ++ more))).outcome ≡ Some ending
-    pub far : (more : List Bool) → (run (chain_at board old (tdos clocks ++ more))).chain.far ≡ far_end (board new) more
-    pub variables : (more : List Bool) → (run (chain_at board old (tdos clocks ++ more))).state.store.variables ≡ variables_in machine
-    pub records : (more : List Bool) → (run (chain_at board old (tdos clocks ++ more))).state.records ≡ records_in machine
-    pub ticked : (more : List Bool) → now ≡ steps + count (chain_at board old (tdos clocks ++ more))
+    pub runs : (more : List Bool) → (run (chain_at base board old (tdos clocks ++ more))).events ≡ events
+    pub ended : (more : List Bool) → ending_of (run (chain_at base board old (tdos clocks ++ more))).outcome ≡ Some ending
+    pub far : (more : List Bool) → (run (chain_at base board old (tdos clocks ++ more))).chain.far ≡ far_end (board new) more
+    pub variables : (more : List Bool) → (run (chain_at base board old (tdos clocks ++ more))).state.store.variables ≡ variables_in machine
+    pub records : (more : List Bool) → (run (chain_at base board old (tdos clocks ++ more))).state.records ≡ records_in machine
+    pub ticked : (more : List Bool) → now ≡ steps + count (chain_at base board old (tdos clocks ++ more))
 
   -- A front of its text was put.
   pub record IsPlayedFront (old : C) (out : O) (steps : ℕ) (new : C) (new_out : O) (now : ℕ) : Type 0 where
     pub clocks : List Clock
     pub made : makes old clocks new
-    pub front : (more : List Bool) → PutsFront shown out (events_text pins (kept_digits pins digits) (run (chain_at board old (tdos clocks ++ more))).events) new_out
-    pub most : (more : List Bool) → now ≤ steps + count (chain_at board old (tdos clocks ++ more))
+    pub front : (more : List Bool) → PutsFront shown out (events_text pins (kept_digits pins digits) (run (chain_at base board old (tdos clocks ++ more))).events) new_out
+    pub most : (more : List Bool) → now ≤ steps + count (chain_at base board old (tdos clocks ++ more))

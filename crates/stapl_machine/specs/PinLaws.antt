@@ -23,10 +23,10 @@ waiting_both p digits [] ys = refl
 waiting_both p digits (x ∷ xs) ys = waiting_both p (digits_after p digits x) xs ys
 
 pub same_port : {C O : Type 0} (a : PinCable C O) → IsSamePort a a
-same_port a = record { cable = refl; out = refl; pins = refl }
+same_port a = record { cable = refl; out = refl; pins = refl; base = refl }
 
 pub same_both : {C O : Type 0} {a b c : PinCable C O} → IsSamePort a b → IsSamePort b c → IsSamePort a c
-same_both p q = record { cable = q.cable ∙ p.cable; out = q.out ∙ p.out; pins = q.pins ∙ p.pins }
+same_both p q = record { cable = q.cable ∙ p.cable; out = q.out ∙ p.out; pins = q.pins ∙ p.pins; base = q.base ∙ p.base }
 
 -- nothing is a front of any bytes
 pub front_nothing : {O : Type 0} (shown : O → Shown) (lines : O) (bytes : List ℕ) → PutsFront shown lines bytes lines

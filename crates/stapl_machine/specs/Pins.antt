@@ -5,7 +5,9 @@ use Rattle.tap_states.specs.declared.Tap.{Tap}
 use Rattle.dev_card.specs.Card.{Card}
 use Rattle.dev_card.specs.Board.{Clock}
 use Rattle.dev_card.specs.FarEnds.{far_end}
+use Rattle.dev_card.specs.Padding.{BaseLengths}
 use Rattle.scan_paths.specs.Cables.{Breakage, whole, line, pins, cable_faults, IsCableLast}
+use Rattle.scan_paths.specs.Scans.{lengths_of}
 use Rattle.stapl_meaning.specs.declared.events.Event.{Event}
 use Rattle.stapl_meaning.specs.Deeds.{Chain, pulses}
 use Rattle.stapl_meaning.specs.Texts.{bytes_of, waiting}
@@ -21,6 +23,10 @@ lines_of port = port.out.now
 -- the state of the controllers
 abbrev pub tap_of : {C O : Type 0} → PinCable C O → Tap
 tap_of port = port.tap
+
+-- the base padding of its scans
+abbrev pub base_of : {C O : Type 0} → PinCable C O → BaseLengths
+base_of port = lengths_of port.base
 
 -- the digits that wait for their line
 abbrev pub digits_of : {C O : Type 0} → PinCable C O → List ℕ
@@ -75,15 +81,16 @@ IsSameCable old new = new.cable.ghost_name ≡ old.cable.ghost_name
 abbrev pub IsSameOut : {C O : Type 0} → PinCable C O → PinCable C O → Type 0
 IsSameOut old new = new.out.ghost_name ≡ old.out.ghost_name
 
--- it stands over the same cable and the same lines, and writes the same
+-- it stands over the same cable and the same lines, writes the same, and has the same base padding
 pub record IsSamePort {C O : Type 0} (old new : PinCable C O) : Type 0 where
   pub cable : new.cable.ghost_name ≡ old.cable.ghost_name
   pub out : new.out.ghost_name ≡ old.out.ghost_name
   pub pins : writes_pins new ≡ writes_pins old
+  pub base : base_of new ≡ base_of old
 
 -- the chain at its end, with TDO bits that are still to be heard where no board is told
 abbrev pub port_chain : {C O : Type 0} → (C → Option (List Card)) → PinCable C O → List Bool → Chain
-port_chain board port heard = record { tap = tap_of port; far = far_end (board (cable_of port)) heard }
+port_chain board port heard = record { tap = tap_of port; base = base_of port; far = far_end (board (cable_of port)) heard }
 
 -- Events are put wholly where nothing is broken afterwards, and else in part. A clock that the line answers with a failure
 -- may be made, and has no digit.

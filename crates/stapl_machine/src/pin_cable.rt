@@ -1,5 +1,5 @@
 //! A cable whose clocks are written, and what a turn does over it.
-ghost use Rattle.std.specs.Prelude.{◌≡◌, ◌≢◌, ◌≤◌, ◌∷◌, ◌++◌, [], false, length, take, List, OnOk, OnErr, IsTrue};
+ghost use Rattle.std.specs.Prelude.{◌≡◌, ◌≢◌, ◌≤◌, ◌∷◌, ◌++◌, [], false, length, List, OnOk, OnErr, IsTrue};
 ghost use Rattle.base.specs.Bits.{bit_value};
 ghost use Rattle.tool_io.specs.Causes.{HasCause};
 ghost use Rattle.tap_states.specs.declared.Tap.TheVariants as taps;
@@ -7,8 +7,9 @@ ghost use Rattle.tap_states.specs.Tap.{is_stable_state};
 ghost use Rattle.scan_paths.specs.Cables.{whole, line, pins, HasPartCause};
 ghost use Rattle.stapl_meaning.specs.declared.events.Event.TheVariants.{Print, Usec, Hertz};
 ghost use Rattle.stapl_meaning.specs.Texts.{pin_digit, pin_line, full_line, with_digit, event_line};
-ghost use Rattle.scan_paths.specs.Scans.{AreInside, scan_of};
+ghost use Rattle.scan_paths.specs.Scans.{lengths_of};
 ghost use Rattle.stapl_meaning.specs.Deeds.{Deed, Says, Goes, Stays, Scans};
+ghost use Rattle.stapl_meaning.specs.Scans.{is_instruction, scan_of};
 ghost use Rattle.stapl_code.specs.Safe.{constants_of};
 ghost use Rattle.stapl_machine.specs.Exports.{export_event};
 ghost use Rattle.stapl_machine.specs.Papers.{IsOverSame, Puts, PutsFront};
@@ -17,20 +18,23 @@ ghost use Rattle.stapl_machine.specs.Ports.{IsInStep, IsKept, Did, DidFront, Did
 use crate::digits::Digits;
 use crate::effects::Export;
 use crate::paper::Paper;
+use crate::settings::Settings;
 use bit_list::Bits;
-use scan_paths::{Cable, Pads, ScanPlan, move_to, scan, stay};
+use scan_paths::{BasePads, Cable, ScanPlan, move_to, scan, stay};
 use stapl_code::CodeLists;
+use stapl_lexer::Register;
 use stapl_meaning::Held;
 use tap_states::Tap;
 use tool_io::Failed;
 
 /// A cable over another one, which puts the digits of its clocks if that is wanted, and keeps the state of the
-/// controllers. It takes no memory.
+/// controllers and the base padding of the scans. It takes no memory.
 #[derive(Drop)]
 pub struct PinCable<'a, C, O> {
     cable: &'a mut C,
     out: &'a mut O,
     tap: Tap,
+    base: BasePads,
     digits: Digits,
     pins: bool,
     torn: bool,
@@ -47,6 +51,15 @@ pub fn digit(tms: bool, tdi: bool, tdo: bool) -> u8
     ensures { result ≡ pin_digit tms tdi tdo }
 {
     48 + (4 * bit(tms) + (2 * bit(tdi) + bit(tdo)))
+}
+
+fn is_instruction(register: Register) -> bool
+    ensures { result ≡ is_instruction register }
+{
+    match register {
+        Register::Data => false,
+        Register::Instruction => true,
+    }
 }
 
 // Puts the line of digits that are full, and adds a digit.
@@ -71,15 +84,23 @@ fn note<O: Paper>(out: &mut O, digits: &mut Digits, digit: u8) -> Result<(), Fai
 }
 
 impl<'a, C: Cable, O: Paper> PinCable<'a, C, O> {
-    ghost use Rattle.stapl_machine.specs.Pins.{cable_of, lines_of, tap_of, digits_of, writes_pins, port_breakage, is_torn, port_line_faults, IsPortLineLast, port_pin_faults, IsPortPinLast, IsSamePort, IsOverCable, IsOverLines, PutsEvents};
+    ghost use Rattle.stapl_machine.specs.Pins.{cable_of, lines_of, tap_of, base_of, digits_of, writes_pins, port_breakage, is_torn, port_line_faults, IsPortLineLast, port_pin_faults, IsPortPinLast, IsSamePort, IsOverCable, IsOverLines, PutsEvents};
 
-    /// Over this cable, whose controllers are in the reset state, and these lines, where these digits wait.
-    pub fn over(cable: &'a mut C, out: &'a mut O, digits: Digits, pins: bool) -> PinCable<'a, C, O>
+    /// Over this cable, whose controllers are in the reset state, and these lines, where these digits wait, with this
+    /// base padding.
+    pub fn over(
+        cable: &'a mut C,
+        out: &'a mut O,
+        digits: Digits,
+        pins: bool,
+        base: BasePads,
+    ) -> PinCable<'a, C, O>
         ensures same_cable { IsOverCable result cable.entry }
         ensures same_out { IsOverLines result out.entry }
         ensures cable { cable_of result ≡ cable.old }
         ensures out { lines_of result ≡ out.old }
         ensures tap { tap_of result ≡ taps.Reset }
+        ensures base { base_of result ≡ lengths_of base }
         ensures digits { digits_of result ≡ digits }
         ensures pins { writes_pins result ≡ pins }
         ensures untorn { is_torn result ≡ false }
@@ -88,6 +109,7 @@ impl<'a, C: Cable, O: Paper> PinCable<'a, C, O> {
             cable,
             out,
             tap: Tap::Reset,
+            base,
             digits,
             pins,
             torn: false,
@@ -233,35 +255,39 @@ impl<C: Cable, O: Paper> PinCable<'_, C, O> {
         self.tap.is_stable()
     }
 
-    /// Scans the lowest bits of `bits`, as many as the plan says, between the paddings, from the stable state in which all
-    /// controllers are. As many of the lowest bits of `captured` become what was captured.
+    /// Scans these bits through these registers by their settings, with the base padding that is kept here, from the
+    /// stable state in which all controllers are. `captured` becomes what was captured.
     pub fn scan(
         &mut self,
-        plan: ScanPlan,
+        register: Register,
+        settings: &Settings,
         bits: &Bits,
         captured: &mut Bits,
-        pads: &Pads,
     ) -> Result<(), Failed>
         requires whole { port_breakage C.breakage O.failed self.old ≡ whole }
         requires in_step { IsInStep C.board self.old }
         requires stable { IsTrue (is_stable_state (tap_of self.old)) }
-        requires some { 1 ≤ plan.len }
-        requires inside { plan.len ≤ length bits.now }
-        requires room { plan.len ≤ length captured.old }
-        requires pads { AreInside pads.now }
+        requires some { 1 ≤ length bits.now }
+        requires room { length captured.old ≡ length bits.now }
         ensures in_step { OnOk result (IsInStep C.board self.new) }
         ensures did { OnOk result (DidScan (port_breakage C.breakage O.failed) C.board C.made O.shown
-            (scan_of plan bits.now pads.now) (take plan.len captured.new) self.old self.new) }
+            (scan_of register settings.now bits.now) captured.new self.old self.new) }
         ensures front { OnErr result (DidFront (port_breakage C.breakage O.failed) C.board C.made O.shown
-            (Scans (scan_of plan bits.now pads.now) ∷ []) self.old self.new) }
+            (Scans (scan_of register settings.now bits.now) ∷ []) self.old self.new) }
         ensures length { length captured.new ≡ length captured.old }
         ensures unbroken { OnOk result (port_breakage C.breakage O.failed self.new ≡ whole) }
         ensures broken { OnErr result (port_breakage C.breakage O.failed self.new ≢ whole) }
         ensures kept { IsKept (port_breakage C.breakage O.failed) C.line_faults C.is_line_last
             C.pin_faults C.is_pin_last O.shown O.faults O.is_last self.old self.new }
     {
+        let plan = ScanPlan {
+            ir: is_instruction(register),
+            len: bits.len(),
+            stop: settings.stop(),
+            base: self.base,
+        };
         let at = self.tap;
-        let _state = scan(self, at, plan, bits, captured, pads)?;
+        let _state = scan(self, at, plan, bits, captured, settings.pads())?;
         self.tap = plan.stop;
         Ok(())
     }

@@ -6,6 +6,7 @@ ghost use Rattle.tool_io.specs.Lines as io;
 ghost use Rattle.tap_states.specs.declared.Tap.TheVariants as taps;
 ghost use Rattle.dev_card.specs.Board.{AllIn};
 ghost use Rattle.scan_paths.specs.Cables.{whole, line, pins, WhereTold, HasPartCause, HasMadeFront, cable_faults, IsCableLast};
+ghost use Rattle.scan_paths.specs.Scans.{lengths_of};
 ghost use Rattle.stapl_meaning.specs.Plays.{reset_inputs};
 ghost use Rattle.stapl_code.specs.Safe.{AllBelow};
 ghost use Rattle.stapl_machine.specs.Papers.{IsOverSame, shown_of};
@@ -25,7 +26,7 @@ use crate::settings::Settings;
 use crate::turns::Trouble;
 use crate::zeros::zeros;
 use base::Steps;
-use scan_paths::Cable;
+use scan_paths::{BasePads, Cable};
 use stapl_code::Code;
 use stapl_code::laws::{never_stuck, plays_are_bounded};
 use stapl_meaning::Ending;
@@ -106,6 +107,7 @@ impl Machine {
         &mut self,
         code: &Code,
         chosen: &[u32],
+        base: &BasePads,
         cable: &mut C,
         out: &mut O,
         pins: bool,
@@ -121,9 +123,11 @@ impl Machine {
         ensures whole { OnOk result (O.failed out.new ≡ false) }
         ensures whole_cable { OnOk result (C.breakage cable.new ≡ whole) }
         ensures played { IfOk result (λ ending. IsPlayed C.board C.made O.shown pins (digits_in self.old)
+            (lengths_of base.now)
             (play_of code.now chosen.now turns) (play_ticks_of code.now chosen.now turns)
             cable.old out.old steps.old ending cable.new out.new steps.new self.new) }
         ensures front { OnErr result (IsPlayedFront C.board C.made O.shown pins (digits_in self.old)
+            (lengths_of base.now)
             (play_of code.now chosen.now turns) (play_ticks_of code.now chosen.now turns)
             cable.old out.old steps.old cable.new out.new steps.new) }
         ensures bounded { steps.new ≤ steps.old + (turns + 1) * length code.now.instrs }
@@ -138,7 +142,7 @@ impl Machine {
         never_stuck();
         plays_are_bounded();
         let lists = code.raw().lists();
-        let mut port = PinCable::over(cable, out, self.first_digits(pins), pins);
+        let mut port = PinCable::over(cable, out, self.first_digits(pins), pins, *base);
         match play_out(lists, chosen, &mut self.work, &mut port, turns, steps) {
             Ok(Some(ending)) => Ok(ending),
             Ok(None) => unreachable!(),
@@ -147,9 +151,9 @@ impl Machine {
     }
 
     /// Runs the prologue of the code, and then at most so many turns of the chosen procedures, which are told by their
-    /// numbers, over a cable whose controllers are all in the reset state. It puts the lines of the events, with those
-    /// of the clocks if `pins` is true, and answers how the run ended: with `Spent` if it still goes on after these
-    /// turns. Each instruction is one step.
+    /// numbers, over a cable whose controllers are all in the reset state. Each scan has this base padding around what
+    /// the program shifts. It puts the lines of the events, with those of the clocks if `pins` is true, and answers how
+    /// the run ended: with `Spent` if it still goes on after these turns. Each instruction is one step.
     ///
     /// `CableFault` comes only if the count of faults of the cable rose, or stands at its last value, `WriteFault` only
     /// if that of the sink did, and `Memory` only for want of memory, before any call on the lines has failed.
@@ -157,6 +161,7 @@ impl Machine {
         &mut self,
         code: &Code,
         chosen: &[u32],
+        base: &BasePads,
         cable: &mut C,
         out: &mut Lines<K>,
         pins: bool,
@@ -172,9 +177,11 @@ impl Machine {
         ensures whole { OnOk result (IsWhole out.new) }
         ensures whole_cable { OnOk result (C.breakage cable.new ≡ whole) }
         ensures played { IfOk result (λ ending. IsPlayed C.board C.made (shown_of K.written) pins (digits_in self.old)
+            (lengths_of base.now)
             (play_of code.now chosen.now turns) (play_ticks_of code.now chosen.now turns)
             cable.old out.old steps.old ending cable.new out.new steps.new self.new) }
         ensures front { OnErr result (IsPlayedFront C.board C.made (shown_of K.written) pins (digits_in self.old)
+            (lengths_of base.now)
             (play_of code.now chosen.now turns) (play_ticks_of code.now chosen.now turns)
             cable.old out.old steps.old cable.new out.new steps.new) }
         ensures bounded { steps.new ≤ steps.old + (turns + 1) * length code.now.instrs }
@@ -186,7 +193,7 @@ impl Machine {
             cable.old cable.new) (HasRisen K.faults K.is_last (sink_of out.old) (sink_of out.new))) }
         ensures memory { IfErr result (λ trouble. IfMemory trouble (IsWhole out.new)) }
     {
-        match self.run_on(code, chosen, cable, out, pins, turns, steps) {
+        match self.run_on(code, chosen, base, cable, out, pins, turns, steps) {
             Ok(ending) => Ok(ending),
             Err(trouble) => Err(trouble),
         }

@@ -1,8 +1,8 @@
 //! How scans go.
 ghost use Rattle.std.specs.Prelude.{◌≡◌, IfOk};
-ghost use Rattle.scan_paths.specs.Scans.{AreInside, paddings_of};
+ghost use Rattle.scan_paths.specs.Scans.{AreInside};
 ghost use Rattle.stapl_meaning.specs.Plays.{first_settings};
-ghost use Rattle.stapl_machine.specs.Settings.{own_paddings};
+ghost use Rattle.stapl_machine.specs.PadSettings.{settings_seen};
 
 use bit_list::Bits;
 use scan_paths::Pads;
@@ -23,13 +23,12 @@ impl Model for Settings {
 
     ghost Value = { ScanSettings };
 
-    ghost use Rattle.std.specs.Prelude.{◌≡◌};
     ghost use Rattle.scan_paths.specs.Scans.{AreInside};
     ghost use Rattle.stapl_machine.specs.PadSettings.{settings_seen};
 
     ghost view = { λ s. settings_seen s.pads s.stop };
 
-    ghost invariant = { λ s. AreInside s.pads × (s.pads.base_pre ≡ 0) × (s.pads.base_post ≡ 0) };
+    ghost invariant = { λ s. AreInside s.pads };
 }
 
 impl Settings {
@@ -39,12 +38,10 @@ impl Settings {
     {
         Ok(Settings {
             pads: Pads {
-                base_pre: 0,
                 pre: 0,
                 pre_bits: Bits::zeros(alloc, 0)?,
                 post: 0,
                 post_bits: Bits::zeros(alloc, 0)?,
-                base_post: 0,
             },
             stop: Tap::Idle,
         })
@@ -60,7 +57,7 @@ impl Settings {
     /// The paddings of scans.
     pub fn pads(&self) -> &Pads
         ensures inside { AreInside result.now }
-        ensures paddings { paddings_of result.now ≡ own_paddings self.now }
+        ensures seen { settings_seen result.now self.now.stop ≡ self.now }
     {
         &self.pads
     }

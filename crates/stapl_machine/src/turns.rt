@@ -3,7 +3,7 @@ ghost use Rattle.std.specs.Prelude.{◌≡◌, ◌≢◌, ◌<◌, ◌≤◌, �
 ghost use Rattle.tap_states.specs.Tap.{is_stable_state};
 ghost use Rattle.scan_paths.specs.Cables.{whole};
 ghost use Rattle.stapl_meaning.specs.Deeds.{Chain, Deed, Goes, Scans};
-ghost use Rattle.stapl_meaning.specs.Scans.{is_instruction, settings_of, scan_of};
+ghost use Rattle.stapl_meaning.specs.Scans.{settings_of, scan_of};
 ghost use Rattle.stapl_code.specs.Ticks.{tick_of};
 ghost use Rattle.stapl_machine.specs.Acts.{state_in, state_of, states_of, told_by, stays_for, pauses_for, waited_deeds, deeds_told, RestsIn};
 ghost use Rattle.stapl_machine.specs.Jobs.{CanBeDone, job_scan, job_lands, with_captured};
@@ -23,7 +23,7 @@ use crate::scanning::land;
 use crate::settings::Settings;
 use crate::tries::{Tried, try_step};
 use base::Steps;
-use scan_paths::{Cable, ScanPlan};
+use scan_paths::Cable;
 use stapl_code::{CodeLists, Instr};
 use stapl_lexer::Register;
 use std::sync::ledger::Ledger;
@@ -191,15 +191,6 @@ fn perform<C: Cable, O: Paper>(
     }
 }
 
-fn is_instruction(register: Register) -> bool
-    ensures { result ≡ is_instruction register }
-{
-    match register {
-        Register::Data => false,
-        Register::Instruction => true,
-    }
-}
-
 // Scans by the settings of the registers.
 fn shift<C: Cable, O: Paper>(
     register: Register,
@@ -224,13 +215,7 @@ fn shift<C: Cable, O: Paper>(
     ensures kept { IsKept (port_breakage C.breakage O.failed) C.line_faults C.is_line_last
         C.pin_faults C.is_pin_last O.shown O.faults O.is_last port.old port.new }
 {
-    let plan = ScanPlan {
-        ir: is_instruction(register),
-        len: shifted.data.len(),
-        stop: settings.stop(),
-    };
-    port.scan(plan, &shifted.data, &mut shifted.captured, settings.pads())?;
-    Ok(())
+    port.scan(register, settings, &shifted.data, &mut shifted.captured)
 }
 
 // The same by the settings of these registers in a memory.

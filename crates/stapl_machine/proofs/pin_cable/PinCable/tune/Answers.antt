@@ -29,4 +29,4 @@ returns-clause-did g c =
     let m = g.C.Cable in let same = c.finish.ensures.same in
     let made = subst (λ x. m.made c.args.self.now.cable.now [] x) (sym c.finish.ensures.cable) c.hertz.ensures.unclocked.made in
     λ rest. did_said (port_breakage m.breakage g.O.Paper.failed) m.board m.made g.O.Paper.shown (Hertz c.args.n) tt rest c.args.self.now c.finish.new.self _ made (ap m.board c.finish.ensures.cable ∙ c.hertz.ensures.unclocked.cards) c.finish.ensures.tap
-    (record { cable = same.cable; out = same.out; pins = same.pins }) c.requires.whole c.in_ok-finish.ensures.put c.in_ok-put_hertz.ensures.ok c.in_ok-finish.ensures.none
+    (record { cable = same.cable; out = same.out; pins = same.pins; base = same.base }) c.requires.whole c.in_ok-finish.ensures.put c.in_ok-put_hertz.ensures.ok c.in_ok-finish.ensures.none

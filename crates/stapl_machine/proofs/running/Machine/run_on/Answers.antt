@@ -1,5 +1,6 @@
 use Rattle.std.proofs.Common.{◌≡◌, ◌∙◌, [], refl, ap, rules, arith, Some, None}
 use Rattle.tap_states.specs.Tap.{is_stable_state}
+use Rattle.scan_paths.specs.Scans.{lengths_of}
 use Rattle.stapl_code.specs.Safe.{entries_of, constants_of}
 use Rattle.stapl_machine.specs.declared.running.Machine.{Machine}
 use Rattle.stapl_machine.specs.Acts.{state_of}
@@ -28,7 +29,7 @@ returns-in-Ok-Some-clause-played g c =
     let new = c.play_out.new in let port = c.over-port.result in
     let plays = over_code b m.board m.made w lists code chosen v n port new.port c.args.steps.now new.steps c.in-Ok-Some.field-0 (Some c.in-Ok-Some.ending) (state_of chosen new.work) same c.requires.ready.variables_are c.in-Ok-Some.field-0-is c.in-Ok-Some.ensures.plays in
     let machine : Machine = record { work = new.work; digits = old.digits } in
-    machine_played b m.board m.made w chosen machine c.args.pins (digits_in old) c.args.cable.now _ c.args.out.now _ port new.port o.cable o.out (o.digits ∙ c.first_digits.ensures) o.pins o.tap (search rules) (search rules)
+    machine_played b m.board m.made w chosen machine c.args.pins (digits_in old) (lengths_of c.args.base.now) c.args.cable.now _ c.args.out.now _ port new.port o.cable o.out (o.digits ∙ c.first_digits.ensures) o.pins o.tap o.base (search rules) (search rules)
     (play_of code chosen n) (play_ticks_of code chosen n) c.args.steps.now new.steps c.in-Ok-Some.ending new.work refl plays
 
 pub returns-in-Err-clause-front : goal.returns-in-Err-clause-front
@@ -38,7 +39,7 @@ returns-in-Err-clause-front g c =
     let new = c.play_out.new in let port = c.over-port.result in
     let plays = over_code_front b m.board m.made w lists code chosen v n port new.port c.args.steps.now new.steps same c.requires.ready.variables_are c.in-Err.ensures.front in
     let machine : Machine = record { work = new.work; digits = old.digits } in
-    machine_front b m.board m.made w chosen machine c.args.pins (digits_in old) c.args.cable.now _ c.args.out.now _ port new.port o.cable o.out (o.digits ∙ c.first_digits.ensures) o.pins o.tap (search rules) (search rules)
+    machine_front b m.board m.made w chosen machine c.args.pins (digits_in old) (lengths_of c.args.base.now) c.args.cable.now _ c.args.out.now _ port new.port o.cable o.out (o.digits ∙ c.first_digits.ensures) o.pins o.tap o.base (search rules) (search rules)
     (play_of code chosen n) (play_ticks_of code chosen n) c.args.steps.now new.steps plays
 
 pub returns-in-Ok-Some-clause-bounded : goal.returns-in-Ok-Some-clause-bounded
