@@ -4,6 +4,7 @@ use Rattle.tap_states.specs.declared.Tap.TheVariants.{Reset}
 use Rattle.dev_card.specs.Card.{Card}
 use Rattle.dev_card.specs.Board.{Clock, tdos}
 use Rattle.dev_card.specs.FarEnds.{FarEnd, far_end, far_clocks}
+use Rattle.dev_card.specs.Padding.{BaseLengths}
 use Rattle.scan_paths.specs.Cables.{HasMadeFront}
 use Rattle.stapl_meaning.specs.declared.events.Ending.{Ending}
 use Rattle.stapl_meaning.specs.Deeds.{Chain}
@@ -24,10 +25,10 @@ use Rattle.stapl_machine.specs.declared.turns.Trouble.TheVariants.{CableFault, W
 use Rattle.stapl_machine.specs.Ports.{IfFault}
 use Rattle.stapl_player.specs.Plays.{whole_play, whole_ticks, far_before, HasPlayed, HasPlayedFront}
 
-module _ {C O : Type 0} (board : C → Option (List Card)) (makes : C → List Clock → C → Type 0) (shown : O → Shown) (pins : Bool) (code : CodeLists) (chosen : List ℕ) (n : ℕ)
+module _ {C O : Type 0} (board : C → Option (List Card)) (makes : C → List Clock → C → Type 0) (shown : O → Shown) (pins : Bool) (code : CodeLists) (chosen : List ℕ) (n : ℕ) (base : BaseLengths)
     (both : (a b c : C) (front back : List Clock) → makes a front b → makes b back c → makes a (front ++ back) c) where
   abbrev before : C → List Clock → List Bool → FarEnd
-  before = far_before board makes shown pins (whole_play code chosen n) (whole_ticks code chosen n)
+  before = far_before board makes shown pins (whole_play code chosen n base) (whole_ticks code chosen n base)
 
   module _ (start mid : C) (digits : List ℕ) (r : IsReset board makes start mid digits) (clocks : List Clock) (more : List Bool) where
     abbrev far : FarEnd
@@ -37,10 +38,10 @@ module _ {C O : Type 0} (board : C → Option (List Card)) (makes : C → List C
     same_far = ap (far_end (board start)) (heard_both r.made.clocks clocks more)
 
     -- the chain after the first clocks
-    chain_is : chain_reset far ≡ chain_at board mid (tdos clocks ++ more)
+    chain_is : chain_reset base far ≡ chain_at base board mid (tdos clocks ++ more)
     chain_is =
-        ap chain_reset same_far
-        ∙ ap (λ (f : FarEnd). let k : Chain = record { tap = Reset; far = f } in k)
+        ap (chain_reset base) same_far
+        ∙ ap (λ (f : FarEnd). let k : Chain = record { tap = Reset; base = base; far = f } in k)
         (far_left (board start) (board mid) r.made.clocks reset_inputs r.made.made.went_in (tdos clocks ++ more) r.made.made.cards)
 
     -- their digits
@@ -50,16 +51,16 @@ module _ {C O : Type 0} (board : C → Option (List Card)) (makes : C → List C
         ∙ ap (map digit_of_clock) (sym (ap (λ (f : FarEnd). far_clocks f reset_inputs) same_far
         ∙ far_made (board start) (board mid) r.made.clocks reset_inputs r.made.made.went_in (tdos clocks ++ more) r.made.made.seen))
 
-    text_is : events_text pins (kept_digits pins digits) (play_of code chosen n (chain_at board mid (tdos clocks ++ more))).events ≡ events_text pins [] (whole_play code chosen n far).events
+    text_is : events_text pins (kept_digits pins digits) (play_of code chosen n (chain_at base board mid (tdos clocks ++ more))).events ≡ events_text pins [] (whole_play code chosen n base far).events
     text_is =
-        ap (λ (ds : List ℕ). events_text pins (kept_digits pins ds) (play_of code chosen n (chain_at board mid (tdos clocks ++ more))).events) digits_are
-        ∙ keeps_text pins far (play_of code chosen n (chain_at board mid (tdos clocks ++ more))).events
+        ap (λ (ds : List ℕ). events_text pins (kept_digits pins ds) (play_of code chosen n (chain_at base board mid (tdos clocks ++ more))).events) digits_are
+        ∙ keeps_text pins far (play_of code chosen n (chain_at base board mid (tdos clocks ++ more))).events
         ∙ ap (λ (k : Chain). events_text pins [] (reset_events far ++ (play_of code chosen n k).events)) (sym chain_is)
 
   module _ (start mid new : C) (out new_out : O) (digits : List ℕ) (steps now : ℕ) (r : IsReset board makes start mid digits) where
     pub played : (ending : Ending) (machine : Machine) →
-        IsPlayed board makes shown pins digits (play_of code chosen n) (play_ticks_of code chosen n) mid out steps ending new new_out now machine →
-        HasPlayed board makes shown pins (whole_play code chosen n) (whole_ticks code chosen n) start out steps ending new new_out now machine
+        IsPlayed board makes shown pins digits base (play_of code chosen n) (play_ticks_of code chosen n) mid out steps ending new new_out now machine →
+        HasPlayed board makes shown pins (whole_play code chosen n base) (whole_ticks code chosen n base) start out steps ending new new_out now machine
     played ending machine p = record {
       clocks = r.made.clocks ++ p.clocks;
       made = both start mid new r.made.clocks p.clocks r.made.made.made p.made;
@@ -72,8 +73,8 @@ module _ {C O : Type 0} (board : C → Option (List Card)) (makes : C → List C
       ticked = λ more. p.ticked more ∙ ap (λ (k : Chain). steps + play_ticks_of code chosen n k) (sym (chain_is start mid digits r p.clocks more));
     }
 
-    pub played_front : IsPlayedFront board makes shown pins digits (play_of code chosen n) (play_ticks_of code chosen n) mid out steps new new_out now →
-        HasPlayedFront board makes shown pins (whole_play code chosen n) (whole_ticks code chosen n) start out steps new new_out now
+    pub played_front : IsPlayedFront board makes shown pins digits base (play_of code chosen n) (play_ticks_of code chosen n) mid out steps new new_out now →
+        HasPlayedFront board makes shown pins (whole_play code chosen n base) (whole_ticks code chosen n base) start out steps new new_out now
     played_front p = record {
       clocks = r.made.clocks ++ p.clocks;
       made = both start mid new r.made.clocks p.clocks r.made.made.made p.made;
@@ -83,7 +84,7 @@ module _ {C O : Type 0} (board : C → Option (List Card)) (makes : C → List C
 
   -- the first clocks were broken off
   pub broken_off : (start new : C) (out : O) (steps : ℕ) → HasMadeFront board makes start new reset_inputs →
-      HasPlayedFront board makes shown pins (whole_play code chosen n) (whole_ticks code chosen n) start out steps new out steps
+      HasPlayedFront board makes shown pins (whole_play code chosen n base) (whole_ticks code chosen n base) start out steps new out steps
   broken_off start new out steps f = record {
     clocks = f.made.clocks;
     made = f.made.made;

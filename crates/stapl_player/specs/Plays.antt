@@ -4,6 +4,7 @@ use Rattle.std.specs.Prelude.{◌≡◌, ◌≤◌, ℕ, ◌+◌, Bool, List, []
 use Rattle.dev_card.specs.Card.{Card}
 use Rattle.dev_card.specs.Board.{Clock, tdos}
 use Rattle.dev_card.specs.FarEnds.{FarEnd, far_end}
+use Rattle.dev_card.specs.Padding.{BaseLengths}
 use Rattle.stapl_meaning.specs.declared.events.Ending.{Ending}
 use Rattle.stapl_meaning.specs.Plays.{Run, after, ending_of, reset_events, chain_reset}
 use Rattle.stapl_meaning.specs.Texts.{events_text}
@@ -12,13 +13,13 @@ use Rattle.stapl_machine.specs.declared.running.Machine.{Machine}
 use Rattle.stapl_machine.specs.Papers.{Shown, Puts, PutsFront}
 use Rattle.stapl_machine.specs.Machines.{play_of, play_ticks_of, variables_in}
 
--- the play of a code at the far end of a cable, for at most n turns of the chosen procedures, and how many instructions it
--- takes
-abbrev pub whole_play : CodeLists → List ℕ → ℕ → FarEnd → Run
-whole_play code chosen n far = after (reset_events far) (play_of code chosen n (chain_reset far))
+-- the play of a code at the far end of a cable, for at most n turns of the chosen procedures, with this base padding of its
+-- scans, and how many instructions it takes
+abbrev pub whole_play : CodeLists → List ℕ → ℕ → BaseLengths → FarEnd → Run
+whole_play code chosen n base far = after (reset_events far) (play_of code chosen n (chain_reset base far))
 
-abbrev pub whole_ticks : CodeLists → List ℕ → ℕ → FarEnd → ℕ
-whole_ticks code chosen n far = play_ticks_of code chosen n (chain_reset far)
+abbrev pub whole_ticks : CodeLists → List ℕ → ℕ → BaseLengths → FarEnd → ℕ
+whole_ticks code chosen n base far = play_ticks_of code chosen n (chain_reset base far)
 
 -- The far end is the board of the cable, where that is told, else the TDO bits of the clocks that were made, with any that
 -- may follow.
