@@ -50,7 +50,10 @@ fn judge(alloc: Global, text: &[u8]) -> Result<Verdict, AllocError>
     let pieces = cut(alloc, text)?;
     let reading = read_pieces(alloc, text, &pieces)?;
     let names = collect(alloc, &reading.numbers, &reading.statements)?;
-    Ok(judge_read(text, &pieces, &names, reading))
+    let verdict = judge_read(text, &pieces, &names, reading);
+    // Dropped by a call, which is cheap to prove for a struct of many tables.
+    drop(names);
+    Ok(verdict)
 }
 
 /// Why a text has no program.

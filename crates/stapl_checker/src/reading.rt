@@ -70,8 +70,8 @@ impl Reading {
     {
         match read {
             Read::Statement(statement) => {
-                self.numbers.push(index + 1)?;
                 self.statements.push(statement)?;
+                self.numbers.push(index + 1)?;
             }
             Read::Faulty(reason) => {
                 if self.unread.is_none() {

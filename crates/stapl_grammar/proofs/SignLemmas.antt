@@ -1,6 +1,5 @@
 -- On what a token is seen as.
-use Rattle.std.proofs.Common.{◌≡◌, ℕ, List, Bool, true, false, Option, None, refl, if◌then◌else◌}
-use Rattle.stapl_lexer.specs.declared.terminal.BinOp.{BinOp}
+use Rattle.std.proofs.Common.{◌≡◌, ℕ, List, Bool, true, false, None, refl, if◌then◌else◌}
 use Rattle.stapl_lexer.specs.declared.terminal.JoinWord.{JoinWord}
 use Rattle.stapl_lexer.specs.declared.terminal.Mark.{Mark}
 use Rattle.stapl_lexer.specs.Names.{is_name}

@@ -37,10 +37,13 @@ fn parse_tokens(alloc: Global, text: &[u8], tokens: &[Token]) -> Result<Stmt, Pa
 {
     let cursor = Cursor::new(text, tokens);
     let mut ahead = cursor.ahead();
-    match ahead.statement(alloc) {
-        Ok(statement) => Ok(statement),
-        Err(Refused::Memory) => Err(ParseRefused::Memory),
-        Err(Refused::Syntax) => Err(ParseRefused::Because(cursor.reason())),
+    let refused = match ahead.statement(alloc) {
+        Ok(statement) => return Ok(statement),
+        Err(refused) => refused,
+    };
+    match refused {
+        Refused::Memory => Err(ParseRefused::Memory),
+        Refused::Syntax => Err(ParseRefused::Because(cursor.reason())),
     }
 }
 

@@ -10,7 +10,8 @@ impl<'a> Cursor<'a> {
     ghost use Rattle.std.specs.Option.{option_map};
     ghost use Rattle.std.specs.Box.{box_value};
     ghost use Rattle.stapl_syntax.specs.Trees.{expr_tree, array_tree, compare_tree, body_tree, frequency};
-    ghost use Rattle.stapl_syntax.specs.Parts.{capture_part, compared_part, compare_part, scan_part, pad_part, last_part, usec_part, first_part, frequency_part};
+    ghost use Rattle.stapl_syntax.specs.Parts.{an_array, a_cell, after, both, comma, join, capture_part, compared_part, compare_part, scan_part, pad_part, last_part, usec_part, first_part, frequency_part};
+    ghost use Rattle.stapl_lexer.specs.declared.terminal.JoinWord.TheVariants as joins;
     ghost use Rattle.stapl_grammar.specs.Given.{Gives};
     ghost use Rattle.stapl_grammar.specs.PartReading.{part_at};
     ghost use Rattle.stapl_grammar.specs.BodyReading.{mapped, scan_of, pad_of, wait_of, wait_part, port_from};
@@ -27,16 +28,26 @@ impl<'a> Cursor<'a> {
         Ok(Some(Box::new(alloc, target)?))
     }
 
+    // "," array "," cell
+    #[tactic(auto, unfolding(crate::specs::PartReading::part_at))]
+    fn mask_and_cell(&mut self, alloc: Global) -> Result<(ArrayExpr, Expr), Refused>
+        ensures { Gives (λ x. ((array_tree x.0, expr_tree x.1), self.new)) result
+            (part_at (after comma (both an_array (after comma a_cell))) self.old) }
+    {
+        self.expect_mark(Mark::Comma)?;
+        let mask = self.array(alloc)?;
+        self.expect_mark(Mark::Comma)?;
+        let cell = self.cell(alloc)?;
+        Ok((mask, cell))
+    }
+
     // array "," array "," cell
     #[tactic(auto, unfolding(crate::specs::PartReading::part_at))]
     fn compare_parts(&mut self, alloc: Global) -> Result<Compare, Refused>
         ensures { Gives (λ c. (compare_tree c, self.new)) result (part_at compared_part self.old) }
     {
         let expected = self.array(alloc)?;
-        self.expect_mark(Mark::Comma)?;
-        let mask = self.array(alloc)?;
-        self.expect_mark(Mark::Comma)?;
-        let cell = self.cell(alloc)?;
+        let (mask, cell) = self.mask_and_cell(alloc)?;
         Ok(Compare {
             expected,
             mask,
@@ -56,6 +67,19 @@ impl<'a> Cursor<'a> {
         Ok(Some(Box::new(alloc, parts)?))
     }
 
+    // ["," CAPTURE target] ["," COMPARE array "," array "," cell]
+    #[tactic(auto, unfolding(crate::specs::PartReading::part_at))]
+    fn captures(
+        &mut self,
+        alloc: Global,
+    ) -> Result<(Option<Box<ArrayExpr>>, Option<Box<Compare>>), Refused>
+        ensures { Gives (λ x. ((option_map (λ a. array_tree (box_value a)) x.0, option_map (λ c. compare_tree (box_value c)) x.1), self.new)) result (part_at (both capture_part compare_part) self.old) }
+    {
+        let target = self.capture(alloc)?;
+        let compare = self.compare(alloc)?;
+        Ok((target, compare))
+    }
+
     // (DRSCAN | IRSCAN) expr "," array ["," CAPTURE target] ["," COMPARE array "," array "," cell]
     #[tactic(auto, unfolding(crate::specs::PartReading::part_at))]
     fn scan(&mut self, alloc: Global, register: Register) -> Result<Body, Refused>
@@ -64,8 +88,7 @@ impl<'a> Cursor<'a> {
         let length = self.expr(alloc)?;
         self.expect_mark(Mark::Comma)?;
         let source = self.array(alloc)?;
-        let target = self.capture(alloc)?;
-        let compare = self.compare(alloc)?;
+        let (target, compare) = self.captures(alloc)?;
         let scan = Scan {
             register,
             length,
@@ -81,16 +104,12 @@ impl<'a> Cursor<'a> {
     fn pad(&mut self, alloc: Global, padding: Padding) -> Result<Body, Refused>
         ensures { Gives (λ b. (body_tree b, self.new)) result (mapped (pad_of padding) (part_at pad_part self.old)) }
     {
-        let count = self.expr(alloc)?;
+        let count = self.boxed_expr(alloc)?;
         if !self.take_mark(Mark::Comma) {
-            return Ok(Body::Pad(padding, Box::new(alloc, count)?, None));
+            return Ok(Body::Pad(padding, count, None));
         }
-        let bits = self.array(alloc)?;
-        Ok(Body::Pad(
-            padding,
-            Box::new(alloc, count)?,
-            Some(Box::new(alloc, bits)?),
-        ))
+        let bits = self.boxed_array(alloc)?;
+        Ok(Body::Pad(padding, count, Some(bits)))
     }
 
     // [state ","]
@@ -127,9 +146,19 @@ impl<'a> Cursor<'a> {
             return Ok(None);
         }
         self.expect_mark(Mark::Comma)?;
-        let count = self.expr(alloc)?;
+        let count = self.boxed_expr(alloc)?;
         self.expect_join(JoinWord::Usec)?;
-        Ok(Some(Box::new(alloc, count)?))
+        Ok(Some(count))
+    }
+
+    // USEC ["," state]
+    #[tactic(auto, unfolding(crate::specs::PartReading::part_at))]
+    fn usec_and_last(&mut self) -> Result<Option<u8>, Refused>
+        ensures { Gives (λ k. (k, self.new)) result (part_at (after (join joins.Usec) last_part) self.old) }
+    {
+        self.expect_join(JoinWord::Usec)?;
+        let last = self.last_state()?;
+        Ok(last)
     }
 
     // WAIT [state ","] expr, and then CYCLES ["," expr USEC] ["," state] | USEC ["," state]
@@ -140,12 +169,12 @@ impl<'a> Cursor<'a> {
         let first = self.first_state()?;
         let count = self.expr(alloc)?;
         if self.take_join(JoinWord::Cycles) {
+            let count = Box::new(alloc, count)?;
             let usec = self.usec(alloc)?;
             let last = self.last_state()?;
-            return Ok(Body::WaitCycles(first, Box::new(alloc, count)?, usec, last));
+            return Ok(Body::WaitCycles(first, count, usec, last));
         }
-        self.expect_join(JoinWord::Usec)?;
-        let last = self.last_state()?;
+        let last = self.usec_and_last()?;
         Ok(Body::WaitUsec(first, count, last))
     }
 
@@ -157,9 +186,9 @@ impl<'a> Cursor<'a> {
         if !self.begins_anything() {
             return Ok(Body::Frequency(None));
         }
-        let count = self.expr(alloc)?;
+        let count = self.boxed_expr(alloc)?;
         self.pass_hz();
-        Ok(Body::Frequency(Some(Box::new(alloc, count)?)))
+        Ok(Body::Frequency(Some(count)))
     }
 
     // A statement that drives the test access port, behind its first word.

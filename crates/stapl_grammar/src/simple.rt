@@ -17,25 +17,25 @@ impl<'a> Cursor<'a> {
 
     // Behind a name, its bracket and an expression: ".." expr "]" "=" array | "]" "=" expr
     #[tactic(auto, unfolding(crate::specs::PartReading::part_at))]
-    fn range_or_element(&mut self, alloc: Global, v: Name, first: Expr) -> Result<Body, Refused>
-        ensures { Gives (λ b. (body_tree b, self.new)) result (mapped (range_or_element_of v (expr_tree first)) (part_at range_or_element_part self.old)) }
+    fn range_or_element(
+        &mut self,
+        alloc: Global,
+        v: Name,
+        first: Box<Expr>,
+    ) -> Result<Body, Refused>
+        ensures { Gives (λ b. (body_tree b, self.new)) result (mapped (range_or_element_of v (expr_tree (box_value first))) (part_at range_or_element_part self.old)) }
     {
         if self.take_mark(Mark::Dots) {
-            let low = self.expr(alloc)?;
+            let low = self.boxed_expr(alloc)?;
             self.expect_mark(Mark::RightSquare)?;
             self.expect_mark(Mark::Equals)?;
-            let array = self.array(alloc)?;
-            return Ok(Body::AssignRange(
-                Box::new(alloc, v)?,
-                Box::new(alloc, first)?,
-                Box::new(alloc, low)?,
-                Box::new(alloc, array)?,
-            ));
+            let array = self.boxed_array(alloc)?;
+            return Ok(Body::AssignRange(Box::new(alloc, v)?, first, low, array));
         }
         self.expect_mark(Mark::RightSquare)?;
         self.expect_mark(Mark::Equals)?;
-        let value = self.expr(alloc)?;
-        Ok(Body::AssignElement(v, Box::new(alloc, first)?, Box::new(alloc, value)?))
+        let value = self.boxed_expr(alloc)?;
+        Ok(Body::AssignElement(v, first, value))
     }
 
     // Behind a name and its bracket: "]" "=" array | expr ".." expr "]" "=" array | expr "]" "=" expr
@@ -45,10 +45,10 @@ impl<'a> Cursor<'a> {
     {
         if self.take_mark(Mark::RightSquare) {
             self.expect_mark(Mark::Equals)?;
-            let array = self.array(alloc)?;
-            return Ok(Body::AssignArray(v, Box::new(alloc, array)?));
+            let array = self.boxed_array(alloc)?;
+            return Ok(Body::AssignArray(v, array));
         }
-        let first = self.expr(alloc)?;
+        let first = self.boxed_expr(alloc)?;
         self.range_or_element(alloc, v, first)
     }
 
@@ -58,8 +58,8 @@ impl<'a> Cursor<'a> {
         ensures { Gives (λ b. (body_tree b, self.new)) result (mapped (assign_of v) (part_at assign_part self.old)) }
     {
         if self.take_mark(Mark::Equals) {
-            let value = self.expr(alloc)?;
-            return Ok(Body::Assign(v, Box::new(alloc, value)?));
+            let value = self.boxed_expr(alloc)?;
+            return Ok(Body::Assign(v, value));
         }
         self.expect_mark(Mark::LeftSquare)?;
         self.indexed(alloc, v)
@@ -73,8 +73,8 @@ impl<'a> Cursor<'a> {
         if !self.take_join(JoinWord::Step) {
             return Ok(None);
         }
-        let step = self.expr(alloc)?;
-        Ok(Some(Box::new(alloc, step)?))
+        let step = self.boxed_expr(alloc)?;
+        Ok(Some(step))
     }
 
     // FOR name "=" expr TO expr [STEP expr]
@@ -84,16 +84,11 @@ impl<'a> Cursor<'a> {
     {
         let name = self.name()?;
         self.expect_mark(Mark::Equals)?;
-        let from = self.expr(alloc)?;
+        let from = self.boxed_expr(alloc)?;
         self.expect_join(JoinWord::To)?;
-        let to = self.expr(alloc)?;
+        let to = self.boxed_expr(alloc)?;
         let step = self.step(alloc)?;
-        Ok(Body::For(
-            Box::new(alloc, name)?,
-            Box::new(alloc, from)?,
-            Box::new(alloc, to)?,
-            step,
-        ))
+        Ok(Body::For(Box::new(alloc, name)?, from, to, step))
     }
 
     // EXPORT string "," (expr | array)
@@ -160,8 +155,8 @@ impl<'a> Cursor<'a> {
     {
         let test = self.expr(alloc)?;
         self.expect_join(JoinWord::Then)?;
-        let then = self.simple(alloc)?;
-        Ok(Body::If(test, Box::new(alloc, then)?))
+        let then = self.boxed_simple(alloc)?;
+        Ok(Body::If(test, then))
     }
 
     // A statement behind its first sign.
@@ -189,5 +184,14 @@ impl<'a> Cursor<'a> {
             return Err(Refused::Syntax);
         };
         self.simple_behind(alloc, first)
+    }
+
+    // The same, behind a pointer.
+    #[cycle(statements)]
+    fn boxed_simple(&mut self, alloc: Global) -> Result<Box<Body>, Refused>
+        ensures { Gives (λ b. (body_tree (box_value b), self.new)) result (simple_at self.old) }
+    {
+        let statement = self.simple(alloc)?;
+        Ok(Box::new(alloc, statement)?)
     }
 }

@@ -82,9 +82,10 @@ impl<'a> Cursor<'a> {
     {
         match label {
             Some(name) => {
+                let name = Box::new(alloc, name)?;
                 let body = self.labelled(alloc)?;
                 Ok(Stmt {
-                    label: Some(Box::new(alloc, name)?),
+                    label: Some(name),
                     body,
                 })
             }
@@ -103,6 +104,8 @@ impl<'a> Cursor<'a> {
         let label = self.label();
         let statement = self.with_label(alloc, label)?;
         if self.begins_anything() {
+            // Dropped by a call, which is cheap to prove for an enum of many variants.
+            drop(statement);
             return Err(Refused::Syntax);
         }
         Ok(statement)

@@ -11,9 +11,10 @@ const LOOSEST: u32 = 10;
 
 impl<'a> Cursor<'a> {
     ghost use Rattle.std.specs.Prelude.{◌≡◌, ◌<◌, ◌≤◌, ◌∷◌, length, OnOk};
+    ghost use Rattle.std.specs.Box.{box_value};
     ghost use Rattle.stapl_syntax.specs.Trees.{expr_tree, array_tree};
     ghost use Rattle.stapl_grammar.specs.Given.{Gives};
-    ghost use Rattle.stapl_grammar.specs.Reading.{expr, unary_by, primary_from, brackets_from, function_from, array_by, array_from, bool_from, named_by, target_by};
+    ghost use Rattle.stapl_grammar.specs.Reading.{expr, unary_by, primary_from, brackets_from, bracketed_by, function_from, array_by, array_from, bool_from, named_by, target_by};
     ghost use Rattle.stapl_grammar.specs.PartReading.{array_at, cell_at, target_at};
 
     // An expression.
@@ -22,6 +23,15 @@ impl<'a> Cursor<'a> {
         ensures shorter { OnOk result (length self.new < length self.old) }
     {
         self.level_expr(alloc, LOOSEST)
+    }
+
+    // An expression, behind a pointer. What is dropped on the way out of a function is dear to prove for an enum, and
+    // cheap for a pointer.
+    pub(crate) fn boxed_expr(&mut self, alloc: Global) -> Result<Box<Expr>, Refused>
+        ensures read { Gives (λ e. (expr_tree (box_value e), self.new)) result (expr 10 self.old) }
+        ensures shorter { OnOk result (length self.new < length self.old) }
+    {
+        self.boxed_level(alloc, LOOSEST)
     }
 
     // A scalar, or an element of an array.
@@ -50,6 +60,14 @@ impl<'a> Cursor<'a> {
         self.array_term(alloc)
     }
 
+    // The same, behind a pointer.
+    #[tactic(auto, unfolding(crate::specs::PartReading::array_at))]
+    pub(crate) fn boxed_array(&mut self, alloc: Global) -> Result<Box<ArrayExpr>, Refused>
+        ensures read { Gives (λ a. (array_tree (box_value a), self.new)) result (array_at self.old) }
+    {
+        self.boxed_array_term(alloc)
+    }
+
     // An expression with operators of levels up to this one.
     #[cycle(terms)]
     #[tactic(auto, using(crate::proofs::Loop::starts, crate::proofs::Loop::starts_not, crate::proofs::Loop::goes_on, crate::proofs::Loop::goes_on_not, crate::proofs::Loop::is_done))]
@@ -59,10 +77,47 @@ impl<'a> Cursor<'a> {
     {
         let mut left = self.operand(alloc)?;
         while let Some(op) = self.take_operator(most) {
-            let right = self.level_expr(alloc, level(op) - 1)?;
-            left = Expr::Binary(op, Box::new(alloc, left)?, Box::new(alloc, right)?);
+            let left_box = Box::new(alloc, left)?;
+            let right = self.boxed_level(alloc, level(op) - 1)?;
+            left = Expr::Binary(op, left_box, right);
         }
         Ok(left)
+    }
+
+    // The same, behind a pointer.
+    #[cycle(terms)]
+    fn boxed_level(&mut self, alloc: Global, most: u32) -> Result<Box<Expr>, Refused>
+        ensures read { Gives (λ e. (expr_tree (box_value e), self.new)) result (expr most self.old) }
+        ensures shorter { OnOk result (length self.new < length self.old) }
+    {
+        let inner = self.level_expr(alloc, most)?;
+        Ok(Box::new(alloc, inner)?)
+    }
+
+    // An expression in brackets, behind a pointer.
+    #[cycle(terms)]
+    #[tactic(auto, unfolding(crate::specs::Reading::closed_by, crate::specs::Reading::bracketed_by))]
+    fn bracketed(&mut self, alloc: Global) -> Result<Box<Expr>, Refused>
+        ensures read { Gives (λ e. (expr_tree (box_value e), self.new)) result (bracketed_by (expr 10) self.old) }
+        ensures shorter { OnOk result (length self.new ≤ length self.old) }
+    {
+        self.expect_mark(Mark::LeftRound)?;
+        let inner = self.boxed_level(alloc, LOOSEST)?;
+        self.expect_mark(Mark::RightRound)?;
+        Ok(inner)
+    }
+
+    // An array in brackets, behind a pointer.
+    #[cycle(terms)]
+    #[tactic(auto, unfolding(crate::specs::Reading::closed_by, crate::specs::Reading::bracketed_by))]
+    fn bracketed_array(&mut self, alloc: Global) -> Result<Box<ArrayExpr>, Refused>
+        ensures read { Gives (λ a. (array_tree (box_value a), self.new)) result (bracketed_by (array_by (expr 10)) self.old) }
+        ensures shorter { OnOk result (length self.new ≤ length self.old) }
+    {
+        self.expect_mark(Mark::LeftRound)?;
+        let inner = self.boxed_array_term(alloc)?;
+        self.expect_mark(Mark::RightRound)?;
+        Ok(inner)
     }
 
     // An operand: a primary, or an operator and its one operand.
@@ -119,23 +174,19 @@ impl<'a> Cursor<'a> {
 
     // Behind a function that gives an integer: its argument in brackets.
     #[cycle(terms)]
-    #[tactic(auto, unfolding(crate::specs::Reading::function_from, crate::specs::Reading::closed_by, crate::specs::Reading::bracketed_by))]
+    #[tactic(auto, unfolding(crate::specs::Reading::function_from))]
     fn of_function(&mut self, alloc: Global, function: Function) -> Result<Expr, Refused>
         ensures read { Gives (λ e. (expr_tree e, self.new)) result (function_from (expr 10) function self.old) }
         ensures shorter { OnOk result (length self.new ≤ length self.old) }
     {
         match function {
             Function::Abs => {
-                self.expect_mark(Mark::LeftRound)?;
-                let inner = self.level_expr(alloc, LOOSEST)?;
-                self.expect_mark(Mark::RightRound)?;
-                Ok(Expr::Abs(Box::new(alloc, inner)?))
+                let inner = self.bracketed(alloc)?;
+                Ok(Expr::Abs(inner))
             }
             Function::Int => {
-                self.expect_mark(Mark::LeftRound)?;
-                let inner = self.array_term(alloc)?;
-                self.expect_mark(Mark::RightRound)?;
-                Ok(Expr::Int(Box::new(alloc, inner)?))
+                let inner = self.bracketed_array(alloc)?;
+                Ok(Expr::Int(inner))
             }
             _ => Err(Refused::Syntax),
         }
@@ -151,9 +202,9 @@ impl<'a> Cursor<'a> {
         if !self.take_mark(Mark::LeftSquare) {
             return Ok(Expr::Scalar(v));
         }
-        let index = self.level_expr(alloc, LOOSEST)?;
+        let index = self.boxed_level(alloc, LOOSEST)?;
         self.expect_mark(Mark::RightSquare)?;
-        Ok(Expr::Element(Box::new(alloc, v)?, Box::new(alloc, index)?))
+        Ok(Expr::Element(Box::new(alloc, v)?, index))
     }
 
     // An array.
@@ -173,6 +224,16 @@ impl<'a> Cursor<'a> {
         self.array_behind(alloc, first)
     }
 
+    // An array, behind a pointer.
+    #[cycle(terms)]
+    fn boxed_array_term(&mut self, alloc: Global) -> Result<Box<ArrayExpr>, Refused>
+        ensures read { Gives (λ a. (array_tree (box_value a), self.new)) result (array_by (expr 10) self.old) }
+        ensures shorter { OnOk result (length self.new < length self.old) }
+    {
+        let inner = self.array_term(alloc)?;
+        Ok(Box::new(alloc, inner)?)
+    }
+
     // An array that begins with this sign, and is no literal.
     #[cycle(terms)]
     #[tactic(auto, unfolding(crate::specs::Reading::array_from))]
@@ -189,17 +250,15 @@ impl<'a> Cursor<'a> {
 
     // Behind a function that gives an array: its argument in brackets.
     #[cycle(terms)]
-    #[tactic(auto, unfolding(crate::specs::Reading::bool_from, crate::specs::Reading::closed_by, crate::specs::Reading::bracketed_by))]
+    #[tactic(auto, unfolding(crate::specs::Reading::bool_from))]
     fn of_bool(&mut self, alloc: Global, function: Function) -> Result<ArrayExpr, Refused>
         ensures read { Gives (λ a. (array_tree a, self.new)) result (bool_from (expr 10) function self.old) }
         ensures shorter { OnOk result (length self.new ≤ length self.old) }
     {
         match function {
             Function::Bool => {
-                self.expect_mark(Mark::LeftRound)?;
-                let inner = self.level_expr(alloc, LOOSEST)?;
-                self.expect_mark(Mark::RightRound)?;
-                Ok(ArrayExpr::OfInt(Box::new(alloc, inner)?))
+                let inner = self.bracketed(alloc)?;
+                Ok(ArrayExpr::OfInt(inner))
             }
             _ => Err(Refused::Syntax),
         }
@@ -216,14 +275,10 @@ impl<'a> Cursor<'a> {
         if self.take_mark(Mark::RightSquare) {
             return Ok(ArrayExpr::Whole(v));
         }
-        let high = self.level_expr(alloc, LOOSEST)?;
+        let high = self.boxed_level(alloc, LOOSEST)?;
         self.expect_mark(Mark::Dots)?;
-        let low = self.level_expr(alloc, LOOSEST)?;
+        let low = self.boxed_level(alloc, LOOSEST)?;
         self.expect_mark(Mark::RightSquare)?;
-        Ok(ArrayExpr::Range(
-            Box::new(alloc, v)?,
-            Box::new(alloc, high)?,
-            Box::new(alloc, low)?,
-        ))
+        Ok(ArrayExpr::Range(Box::new(alloc, v)?, high, low))
     }
 }

@@ -45,7 +45,14 @@ pub fn collect(alloc: Global, pieces: &[u32], stmts: &[Stmt]) -> Result<Names, A
     for i in 0..stmts.len() {
         let number = pieces[i];
         let st = &stmts[i];
-        tables.put_statement(alloc, &inside, number, st)?;
+        match tables.put_statement(alloc, &inside, number, st) {
+            Ok(()) => {}
+            Err(error) => {
+                // Dropped by a call, which is cheap to prove for a struct of many tables.
+                drop(tables);
+                return Err(error);
+            }
+        }
         inside = inside_behind(&inside, &st.body);
     }
     Ok(Names { tables })

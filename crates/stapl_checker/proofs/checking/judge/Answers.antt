@@ -10,8 +10,8 @@ collect-requires-clause-few c =
     let same = ap length c.deref-3.ensures.value in
     omega (arith, fewer, few, short, same)
 
-pub judge_read-requires-clause-few : goal.judge_read-requires-clause-few
-judge_read-requires-clause-few c =
+pub judge_read-verdict-requires-clause-few : goal.judge_read-verdict-requires-clause-few
+judge_read-verdict-requires-clause-few c =
     let fewer = few_statements c.args.text.now c.in_ok-pieces.pieces.items c.in_ok-reading.reading (rw c.deref.ensures.value at c.in_ok-reading.ensures) in
     let few = c.in_ok-pieces.ensures.few in
     let short = c.requires in

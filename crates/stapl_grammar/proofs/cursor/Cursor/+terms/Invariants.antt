@@ -41,3 +41,15 @@ decreases-of_function l = 6 * length l.self.now + 3
 
 abbrev pub decreases-of_bool : goal.decreases-of_bool
 decreases-of_bool l = 6 * length l.self.now + 1
+
+abbrev pub decreases-boxed_level : goal.decreases-boxed_level
+decreases-boxed_level l = 6 * length l.self.now + 3
+
+abbrev pub decreases-bracketed : goal.decreases-bracketed
+decreases-bracketed l = 6 * length l.self.now
+
+abbrev pub decreases-bracketed_array : goal.decreases-bracketed_array
+decreases-bracketed_array l = 6 * length l.self.now
+
+abbrev pub decreases-boxed_array_term : goal.decreases-boxed_array_term
+decreases-boxed_array_term l = 6 * length l.self.now + 1
