@@ -10,4 +10,5 @@ pub mod BoardLemmas
 pub mod AnswerLemmas
 pub mod RequestLemmas
 pub mod OneAnswer
+pub mod AloneLemmas
 pub mod FaultLines

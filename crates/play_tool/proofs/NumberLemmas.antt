@@ -5,7 +5,7 @@ use Rattle.std.proofs.lemmas.Str.Parse.{IsNumeralModel, numerals_by_value, witho
 use Rattle.std.specs.Char.{is_ascii_digit}
 use Rattle.std.specs.List.{list_all}
 use Rattle.std.specs.Str.Parse.{digits_value, without_leading_plus, IsNumeral}
-use Rattle.play_tool.specs.Words.{is_decimal, SpellsTurns}
+use Rattle.play_tool.specs.Words.{is_decimal, SpellsNumber}
 
 own : IsNumeralModel (λ ds. list_all is_ascii_digit ds ≡ true) (digits_value 10)
 own = numerals_by_value _ (search rules)
@@ -25,10 +25,10 @@ no_plus : (spelling : List ℕ) → list_all is_ascii_digit spelling ≡ true �
 no_plus spelling digits some =
     without_leading_plus_none spelling (not_in_digits own spelling 43 digits (λ r. omega (arith, r.0, r.1)) 0 some)
 
--- what spells a number of turns is read as one
-pub turns_parsed : (spelling : List ℕ) (turns : ℕ) → SpellsTurns spelling turns →
+-- what spells a number below 2 ^ 32 is read as one
+pub number_parsed : (least most : ℕ) (spelling : List ℕ) (n : ℕ) → most < 2 ^ 32 → SpellsNumber least most spelling n →
     IsNumeral 10 (without_leading_plus spelling) × (digits_value 10 (without_leading_plus spelling) < 2 ^ 32)
-turns_parsed spelling turns s =
+number_parsed least most spelling n below s =
     let d = digits_of spelling s.spelled in
     let value = s.value in
     let few = s.few in

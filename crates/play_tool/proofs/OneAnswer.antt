@@ -1,5 +1,5 @@
 -- The words and the files have at most one answer.
-use Rattle.std.proofs.Common.{Bool, ◌≡◌, ℕ, pos, List, refl, sym, ap, ◌∙◌, subst, Option, Some, codes}
+use Rattle.std.proofs.Common.{Bool, true, false, ◌≡◌, ℕ, pos, List, refl, sym, ap, ◌∙◌, subst, Option, Some, codes}
 use Rattle.std.proofs.lemmas.Option.{same_Some}
 use Rattle.stapl_lexer.specs.declared.reason.Reason.{Reason}
 use Rattle.stapl_syntax.specs.Trees.{StmtTree}
@@ -8,7 +8,6 @@ use Rattle.stapl_meaning.specs.declared.events.Ending.{Ending}
 use Rattle.stapl_meaning.specs.Choices.{Choice}
 use Rattle.stapl_meaning.specs.Choices as choices
 use Rattle.stapl_meaning.specs.Plays.{Run, ending_of}
-use Rattle.stapl_meaning.specs.Texts.{text_of}
 use Rattle.dev_card.specs.declared.desc.Desc.{Desc}
 use Rattle.board_text.specs.declared.reason.BoardReason.{BoardReason}
 use Rattle.play_tool.specs.declared.checking.CheckWords.{CheckWords}
@@ -20,7 +19,8 @@ use Rattle.play_tool.specs.declared.status.Status.TheVariants.{Done, Refused, Bo
 use Rattle.play_tool.specs.Checks.{check_text, Checks, checked}
 use Rattle.play_tool.specs.Listings.{Lists, listed}
 use Rattle.play_tool.specs.Texts.{number_line, refusal_line, board_refusal_line}
-use Rattle.play_tool.specs.Answers.{done_with, Plays, no_action, bad_choice, played, PlaysAction, PlaysAsked, Work, TextAnswer, refused, accepted, FileAnswer, Contents, RequestAnswer, board_refused, board_read, WordsAnswer, Answer, usage, asked}
+use Rattle.play_tool.specs.CodePlays.{run_text}
+use Rattle.play_tool.specs.Answers.{done_with, Plays, no_action, bad_choice, bad_place, played, PlaysAction, PlaysAsked, Work, TextAnswer, refused, accepted, FileAnswer, Contents, RequestAnswer, board_refused, board_read, WordsAnswer, Answer, usage, asked}
 use Rattle.play_tool.proofs.BoardLemmas.{one_held, one_fault, board_or_fault}
 use Rattle.play_tool.proofs.RequestLemmas.{words_request}
 use Rattle.play_tool.proofs.CheckLemmas.{one_word}
@@ -35,11 +35,11 @@ abbrev said : List ℕ → Status → Said
 said text status = record { text = text; status = status }
 
 -- what a play says that ends so
-abbrev said_of : (List ℕ → Run) → Bool → List ℕ → Ending → Said
-said_of plays pins chosen ending = said (text_of pins (plays chosen).events ending) (done_with ending)
+abbrev said_of : (List ℕ → Run) → Request → List ℕ → Ending → Said
+said_of plays request chosen ending = said (run_text request (plays chosen) ending) (done_with ending)
 
-same_play : (plays : List ℕ → Run) (pins : Bool) (a b : List ℕ) (e f : Ending) → a ≡ b → e ≡ f → said_of plays pins a e ≡ said_of plays pins b f
-same_play plays pins a b e f p q = rw (p, q) refl
+same_play : (plays : List ℕ → Run) (request : Request) (a b : List ℕ) (e f : Ending) → a ≡ b → e ≡ f → said_of plays request a e ≡ said_of plays request b f
+same_play plays request a b e f p q = rw (p, q) refl
 
 one_ending : (plays : List ℕ → Run) (a b : List ℕ) (e f : Ending) → a ≡ b → ending_of (plays a).outcome ≡ Some e → ending_of (plays b).outcome ≡ Some f → e ≡ f
 one_ending plays a b e f p x y = same_Some e f (sym x ∙ ap (λ (z : List ℕ). ending_of (plays z).outcome) p ∙ y)
@@ -54,23 +54,33 @@ none_or_chosen e f = cc
 bad_or_chosen : {choice : Choice} {procedures : List ℕ} → choice ≡ choices.bad_choice → choice ≡ choices.chosen procedures → ⊥
 bad_or_chosen e f = cc
 
+has_or_lacks : {b : Bool} → b ≡ true → b ≡ false → ⊥
+has_or_lacks e f = cc
+
 one_choice : {choice : Choice} (a b : List ℕ) → choice ≡ choices.chosen a → choice ≡ choices.chosen b → a ≡ b
 one_choice a b e f = cc
 
 -- and so a play gives one answer
-one_play : {choice : Choice} {plays : List ℕ → Run} {pins : Bool} {xs ys : List ℕ} {s t : Status} → Plays choice plays pins xs s →
-    Plays choice plays pins ys t → said xs s ≡ said ys t
+one_play : {choice : Choice} {placed : Bool} {plays : List ℕ → Run} {request : Request} {xs ys : List ℕ} {s t : Status} → Plays choice placed plays request xs s →
+    Plays choice placed plays request ys t → said xs s ≡ said ys t
 one_play (no_action e) (no_action f) = refl
 one_play (no_action e) (bad_choice f) = absurd (none_or_bad e f)
-one_play (no_action e) (played chosen ending f g) = absurd (none_or_chosen e f)
+one_play (no_action e) (bad_place chosen f lacks) = absurd (none_or_chosen e f)
+one_play (no_action e) (played chosen ending f is g) = absurd (none_or_chosen e f)
 one_play (bad_choice e) (no_action f) = absurd (none_or_bad f e)
 one_play (bad_choice e) (bad_choice f) = refl
-one_play (bad_choice e) (played chosen ending f g) = absurd (bad_or_chosen e f)
-one_play (played chosen ending f g) (no_action e) = absurd (none_or_chosen e f)
-one_play (played chosen ending f g) (bad_choice e) = absurd (bad_or_chosen e f)
-one_play {plays = plays} {pins = pins} (played chosen a f g) (played other b h k) =
+one_play (bad_choice e) (bad_place chosen f lacks) = absurd (bad_or_chosen e f)
+one_play (bad_choice e) (played chosen ending f is g) = absurd (bad_or_chosen e f)
+one_play (bad_place chosen f lacks) (no_action e) = absurd (none_or_chosen e f)
+one_play (bad_place chosen f lacks) (bad_choice e) = absurd (bad_or_chosen e f)
+one_play (bad_place chosen f lacks) (bad_place other g also) = refl
+one_play (bad_place chosen f lacks) (played other ending g is h) = absurd (has_or_lacks is lacks)
+one_play (played chosen ending f is g) (no_action e) = absurd (none_or_chosen e f)
+one_play (played chosen ending f is g) (bad_choice e) = absurd (bad_or_chosen e f)
+one_play (played chosen ending f is g) (bad_place other h lacks) = absurd (has_or_lacks is lacks)
+one_play {plays = plays} {request = request} (played chosen a f is g) (played other b h also k) =
     let same = one_choice chosen other f h in
-    same_play plays pins chosen other a b same (one_ending plays chosen other a b same g k)
+    same_play plays request chosen other a b same (one_ending plays chosen other a b same g k)
 
 -- a request names one action at most
 one_asked : {program : List StmtTree} {request : Request} {devices : List Desc} {xs ys : List ℕ} {s t : Status} → PlaysAsked program request devices xs s →

@@ -6,9 +6,9 @@ use Rattle.std.specs.Option.{option_map}
 use Rattle.play_tool.specs.declared.mode.Mode.{Mode}
 use Rattle.play_tool.specs.declared.mode.Mode.TheVariants as modes
 use Rattle.play_tool.specs.declared.mode.WordKey.{WordKey}
-use Rattle.play_tool.specs.declared.mode.WordKey.TheVariants.{Board, Program, Action, Do, Skip, Turns, Pins}
+use Rattle.play_tool.specs.declared.mode.WordKey.TheVariants.{Board, Program, Action, Do, Skip, Place, Turns, Pins, Report}
 use Rattle.play_tool.specs.declared.words.Request.{Request}
-use Rattle.play_tool.specs.Words.{HasMode, needs, Part, BoardIn, ProgramIn, ActionNamed, NamesAsked, NamesSkipped, TurnsAtMost, PinsWritten, key_of, IsGiven, GiveOf, IsKeyGiven, AskNames, names_given, names_missing, AskTurns, turns_given, turns_usual, AskPins, pins_given, pins_usual, AreRead, IsRequest, Lack, lack_mode, lack_key, IsUsage, is_unread, is_missing}
+use Rattle.play_tool.specs.Words.{HasMode, needs, Part, BoardIn, ProgramIn, ActionNamed, NamesAsked, NamesSkipped, PlaceAsked, TurnsAtMost, PinsWritten, DevicesReported, key_of, IsGiven, GiveOf, IsKeyGiven, AskNames, names_given, names_missing, AskTurns, turns_given, turns_usual, AskAnswer, answer_given, answer_missing, AreRead, IsRequest, Lack, lack_mode, lack_key, IsUsage, is_unread, is_missing}
 use Rattle.play_tool.proofs.WordLemmas.{one_mode, one_given, not_needed}
 
 one_of : (words : List (List ℕ)) (key : WordKey) (a b : Option Part) → AreRead words → GiveOf words (length words) key a → GiveOf words (length words) key b → a ≡ b
@@ -36,6 +36,12 @@ same_action None (Some q) e = absurd cc
 same_action (Some p) None e = absurd cc
 same_action (Some p) (Some q) e = cc
 
+same_place : (a b : Option ℕ) → option_map PlaceAsked a ≡ option_map PlaceAsked b → a ≡ b
+same_place None None e = refl
+same_place None (Some q) e = absurd cc
+same_place (Some p) None e = absurd cc
+same_place (Some p) (Some q) e = cc
+
 one_count : (words : List (List ℕ)) (a b : ℕ) → AreRead words → IsGiven words (TurnsAtMost a) → IsGiven words (TurnsAtMost b) → a ≡ b
 one_count words a b read x y = let e = one_given words (length words) (TurnsAtMost a) (TurnsAtMost b) read refl x y in cc
 
@@ -45,14 +51,19 @@ one_number read (turns_given a x) (turns_usual none) = absurd (none a x)
 one_number read (turns_usual none) (turns_given b y) = absurd (none b y)
 one_number read (turns_usual none) (turns_usual other) = refl
 
-one_sign : (words : List (List ℕ)) (a b : Bool) → AreRead words → IsGiven words (PinsWritten a) → IsGiven words (PinsWritten b) → a ≡ b
-one_sign words a b read x y = let e = one_given words (length words) (PinsWritten a) (PinsWritten b) read refl x y in cc
+-- a part with an answer, in which an answer is known by its part
+one_answer : {words : List (List ℕ)} {part : Bool → Part} {a b : Bool} → ((x y : Bool) → part x ≡ part y → x ≡ y) →
+    ((x y : Bool) → key_of (part x) ≡ key_of (part y)) → AreRead words → AskAnswer words part a → AskAnswer words part b → a ≡ b
+one_answer {words = words} {part = part} same key read (answer_given a x) (answer_given b y) = same a b (one_given words (length words) (part a) (part b) read (key a b) x y)
+one_answer same key read (answer_given a x) (answer_missing none) = absurd (none a x)
+one_answer same key read (answer_missing none) (answer_given b y) = absurd (none b y)
+one_answer same key read (answer_missing none) (answer_missing other) = refl
 
-one_pins : {words : List (List ℕ)} {a b : Bool} → AreRead words → AskPins words a → AskPins words b → a ≡ b
-one_pins {words = words} read (pins_given a x) (pins_given b y) = one_sign words a b read x y
-one_pins read (pins_given a x) (pins_usual none) = absurd (none a x)
-one_pins read (pins_usual none) (pins_given b y) = absurd (none b y)
-one_pins read (pins_usual none) (pins_usual other) = refl
+same_pins : (x y : Bool) → PinsWritten x ≡ PinsWritten y → x ≡ y
+same_pins x y e = cc
+
+same_report : (x y : Bool) → DevicesReported x ≡ DevicesReported y → x ≡ y
+same_report x y e = cc
 
 -- a part with a list of names, in which a list is known by its part
 one_list : {words : List (List ℕ)} {part : List (List ℕ) → Part} {a b : List (List ℕ)} → ((x y : List (List ℕ)) → part x ≡ part y → x ≡ y) →
@@ -68,10 +79,10 @@ same_asked x y e = cc
 same_skipped : (x y : List (List ℕ)) → NamesSkipped x ≡ NamesSkipped y → x ≡ y
 same_skipped x y e = cc
 
-same_parts : {m k : Mode} {b c p q n o : Option (List ℕ)} {d e s r : List (List ℕ)} {t u : ℕ} {v w : Bool} → m ≡ k → b ≡ c → p ≡ q → n ≡ o → d ≡ e → s ≡ r → t ≡ u →
-    v ≡ w →
-    ◌≡◌ {A = Request} (record { mode = m; board = b; program = p; action = n; todo = d; skip = s; turns = t; pins = v }) (record { mode = k; board = c; program = q; action = o; todo = e; skip = r; turns = u; pins = w })
-same_parts e f g h i j k l = cc
+same_parts : {m k : Mode} {b c p q n o : Option (List ℕ)} {d e s r : List (List ℕ)} {l h : Option ℕ} {t u : ℕ} {v w f g : Bool} → m ≡ k → b ≡ c → p ≡ q → n ≡ o → d ≡ e → s ≡ r → l ≡ h → t ≡ u →
+    v ≡ w → f ≡ g →
+    ◌≡◌ {A = Request} (record { mode = m; board = b; program = p; action = n; todo = d; skip = s; place = l; turns = t; pins = v; report = f }) (record { mode = k; board = c; program = q; action = o; todo = e; skip = r; place = h; turns = u; pins = w; report = g })
+same_parts e f g h i j k l m n = cc
 
 pub one_request : {words : List (List ℕ)} {a b : Request} → IsRequest words a → IsRequest words b → a ≡ b
 one_request {words = words} {a = a} {b = b} x y =
@@ -81,8 +92,10 @@ one_request {words = words} {a = a} {b = b} x y =
     (same_action a.action b.action (one_of words Action _ _ x.read x.action_named y.action_named))
     (one_list same_asked (λ p q. refl) x.read x.todo_asked y.todo_asked)
     (one_list same_skipped (λ p q. refl) x.read x.skip_asked y.skip_asked)
+    (same_place a.place b.place (one_of words Place _ _ x.read x.place y.place))
     (one_number x.read x.turns_asked y.turns_asked)
-    (one_pins x.read x.pins_asked y.pins_asked)
+    (one_answer same_pins (λ p q. refl) x.read x.pins_asked y.pins_asked)
+    (one_answer same_report (λ p q. refl) x.read x.report_asked y.report_asked)
 
 pub one_usage : {words : List (List ℕ)} {n m : ℕ} → IsUsage words n → IsUsage words m → n ≡ m
 one_usage (is_unread i f) (is_unread j g) =
@@ -114,8 +127,10 @@ needed_given words request Program r e = key_given words Program (option_map Pro
 needed_given words request Action r e = key_given words Action (option_map ActionNamed request.action) r.action_named (some_mapped ActionNamed request.action (r.needed.has Action e))
 needed_given words request Do r e = let none = (not_needed request.mode).0 in absurd cc
 needed_given words request Skip r e = let none = (not_needed request.mode).1 in absurd cc
-needed_given words request Turns r e = let none = (not_needed request.mode).2 in absurd cc
-needed_given words request Pins r e = let none = (not_needed request.mode).3 in absurd cc
+needed_given words request Place r e = let none = (not_needed request.mode).2 in absurd cc
+needed_given words request Turns r e = let none = (not_needed request.mode).3 in absurd cc
+needed_given words request Pins r e = let none = (not_needed request.mode).4 in absurd cc
+needed_given words request Report r e = let none = (not_needed request.mode).5 in absurd cc
 
 no_lack : {words : List (List ℕ)} {request : Request} → IsRequest words request → Lack words → ⊥
 no_lack {request = request} r (lack_mode e) = let none = subst (λ (ws : List (List ℕ)). HasMode ws request.mode) e r.mode in no_word request.mode none

@@ -37,7 +37,7 @@ file_within request devices contents file e board = record {
   to = λ text status a. board_read devices text status board (subst (λ (f : Option (List ℕ)). FileAnswer request devices f text status) (sym e) a);
 }
 
-the_file : {request : Request} {contents : Contents} {xs : List ℕ} {s : Status} (devices : List Desc) → HasBoard request.board contents.board devices →
+pub the_file : {request : Request} {contents : Contents} {xs : List ℕ} {s : Status} (devices : List Desc) → HasBoard request.board contents.board devices →
     RequestAnswer request contents xs s → FileAnswer request devices contents.program xs s
 the_file {request = request} {contents = contents} devices board (board_refused line reason fault) =
     absurd (board_or_fault request.board contents.board devices line reason board fault)

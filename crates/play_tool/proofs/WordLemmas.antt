@@ -12,10 +12,10 @@ use Rattle.stapl_lexer.specs.ReservedWords.{is_free_name}
 use Rattle.play_tool.specs.declared.mode.Mode.{Mode}
 use Rattle.play_tool.specs.declared.mode.Mode.TheVariants as modes
 use Rattle.play_tool.specs.declared.mode.WordKey.{WordKey}
-use Rattle.play_tool.specs.declared.mode.WordKey.TheVariants.{Board, Program, Action, Do, Skip, Turns, Pins}
+use Rattle.play_tool.specs.declared.mode.WordKey.TheVariants.{Board, Program, Action, Do, Skip, Place, Turns, Pins, Report}
 use Rattle.play_tool.specs.declared.words.Request.{Request}
-use Rattle.play_tool.specs.Words.{mode_word, takes, needs, Part, BoardIn, ProgramIn, ActionNamed, NamesAsked, NamesSkipped, TurnsAtMost, PinsWritten, key_of, parts_between_commas, NamesBoard, NamesProgram, NamesAction, SpellsNames, AsksFor, LeavesOut, NamesTurns, NamesPins, GivesPart, word_at, HasMode, IsGivenBefore, GivesNew, IsRead, AreReadBefore, IsKeyGiven, GiveOf, AskNames, names_given, names_missing, AskTurns, turns_given, turns_usual, AskPins, pins_given, pins_usual, has_key, IsRequest, lack_mode, lack_key, IsFirstUnread, IsUsage, is_unread, is_missing}
-use Rattle.play_tool.specs.GivenParts.{name_spelled, names_in, Values, given_of, with_part, Adds, Refuses, not_taken, given_already, AddsWord, AddsNothing, one_if_some, count_of, AreReadUpTo, lacks, is_complete, names_or_none, turns_or_usual, pins_or_usual, HasValues}
+use Rattle.play_tool.specs.Words.{mode_word, takes, needs, Part, BoardIn, ProgramIn, ActionNamed, NamesAsked, NamesSkipped, PlaceAsked, TurnsAtMost, PinsWritten, DevicesReported, key_of, parts_between_commas, NamesBoard, NamesProgram, NamesAction, SpellsNames, AsksFor, LeavesOut, NamesNumber, NamesPlace, NamesTurns, most_place, most_turns, answer_word, SaysPins, SaysReport, GivesPart, word_at, HasMode, IsGivenBefore, GivesNew, IsRead, AreReadBefore, IsKeyGiven, GiveOf, AskNames, names_given, names_missing, AskTurns, turns_given, turns_usual, AskAnswer, answer_given, answer_missing, has_key, IsRequest, lack_mode, lack_key, IsFirstUnread, IsUsage, is_unread, is_missing}
+use Rattle.play_tool.specs.GivenParts.{name_spelled, names_in, Values, given_of, with_part, Adds, Refuses, not_taken, given_already, AddsWord, AddsNothing, one_if_some, count_of, AreReadUpTo, lacks, is_complete, names_or_none, turns_or_usual, answer_or_no, HasValues}
 
 -- A word gives at most one part.
 
@@ -45,9 +45,9 @@ one_name word a b x y =
     let same = same_rest (codes "action=") x.spelling y.spelling (sym x.key ∙ y.key) in
     (x.name).upper ∙ ap str_to_ascii_uppercase same ∙ sym (y.name).upper
 
-one_number : (word : List ℕ) (a b : ℕ) → NamesTurns word a → NamesTurns word b → a ≡ b
-one_number word a b x y =
-    let same = same_rest (codes "turns=") x.spelling y.spelling (sym x.key ∙ y.key) in
+one_number : (key : List ℕ) (least most : ℕ) (word : List ℕ) (a b : ℕ) → NamesNumber key least most word a → NamesNumber key least most word b → a ≡ b
+one_number key least most word a b x y =
+    let same = same_rest key x.spelling y.spelling (sym x.keyed ∙ y.keyed) in
     (x.number).value ∙ ap (λ (z : List ℕ). digits_value 10 z) same ∙ sym (y.number).value
 
 same_names : {a b : List ℕ} {xs ys : List (List ℕ)} → SpellsNames a xs → SpellsNames b ys → a ≡ b → xs ≡ ys
@@ -60,14 +60,15 @@ one_left_out : (word : List ℕ) (a b : List (List ℕ)) → LeavesOut word a �
 one_left_out word a b x y = same_names x.spells y.spells (same_rest (codes "skip=") x.spelling y.spelling (sym x.key ∙ y.key))
 
 -- yes is not no
-not_both : (word : List ℕ) → word ≡ codes "pins=yes" → word ≡ codes "pins=no" → ⊥
-not_both word x y = let e : ◌≡◌ {A = ℕ} 8 7 = ap (λ (w : List ℕ). length w) (sym x ∙ y) in omega arith
+same_answer : (a b : Bool) → answer_word a ≡ answer_word b → a ≡ b
+same_answer true true e = refl
+same_answer false false e = refl
+same_answer true false e = let f : ◌≡◌ {A = ℕ} 3 2 = ap (λ (w : List ℕ). length w) e in absurd (omega arith)
+same_answer false true e = let f : ◌≡◌ {A = ℕ} 2 3 = ap (λ (w : List ℕ). length w) e in absurd (omega arith)
 
-one_answer : (word : List ℕ) (a b : Bool) → NamesPins word a → NamesPins word b → a ≡ b
-one_answer word true true x y = refl
-one_answer word false false x y = refl
-one_answer word true false x y = absurd (not_both word x y)
-one_answer word false true x y = absurd (not_both word y x)
+-- a word has one answer after its key
+one_answer : (key word : List ℕ) (a b : Bool) → word ≡ key ++ answer_word a → word ≡ key ++ answer_word b → a ≡ b
+one_answer key word a b x y = same_answer a b (same_rest key (answer_word a) (answer_word b) (sym x ∙ y))
 
 -- the first two letters of a key tell it apart
 abbrev letters : WordKey → ℕ
@@ -76,8 +77,10 @@ letters Program = 28786
 letters Action = 24931
 letters Do = 25711
 letters Skip = 29547
+letters Place = 28780
 letters Turns = 29813
 letters Pins = 28777
+letters Report = 29285
 
 has_letters : (word : List ℕ) (part : Part) → GivesPart word part → first_two word ≡ letters (key_of part)
 unfolding first_two
@@ -86,9 +89,10 @@ has_letters word (ProgramIn path) x = ap first_two x.0
 has_letters word (ActionNamed name) x = ap first_two x.key
 has_letters word (NamesAsked names) x = ap first_two x.key
 has_letters word (NamesSkipped names) x = ap first_two x.key
-has_letters word (TurnsAtMost n) x = ap first_two x.key
-has_letters word (PinsWritten true) x = ap first_two x
-has_letters word (PinsWritten false) x = ap first_two x
+has_letters word (PlaceAsked n) x = ap first_two x.keyed
+has_letters word (TurnsAtMost n) x = ap first_two x.keyed
+has_letters word (PinsWritten written) x = ap first_two x
+has_letters word (DevicesReported reported) x = ap first_two x
 
 one_part : (word : List ℕ) (a b : Part) → GivesPart word a → GivesPart word b → a ≡ b
 one_part word (BoardIn p) (BoardIn q) x y = ap BoardIn (one_board word p q x y)
@@ -96,8 +100,10 @@ one_part word (ProgramIn p) (ProgramIn q) x y = ap ProgramIn (one_path word p q 
 one_part word (ActionNamed p) (ActionNamed q) x y = ap ActionNamed (one_name word p q x y)
 one_part word (NamesAsked p) (NamesAsked q) x y = ap NamesAsked (one_asked word p q x y)
 one_part word (NamesSkipped p) (NamesSkipped q) x y = ap NamesSkipped (one_left_out word p q x y)
-one_part word (TurnsAtMost p) (TurnsAtMost q) x y = ap TurnsAtMost (one_number word p q x y)
-one_part word (PinsWritten p) (PinsWritten q) x y = ap PinsWritten (one_answer word p q x y)
+one_part word (PlaceAsked p) (PlaceAsked q) x y = ap PlaceAsked (one_number (codes "place=") 1 most_place word p q x y)
+one_part word (TurnsAtMost p) (TurnsAtMost q) x y = ap TurnsAtMost (one_number (codes "turns=") 0 most_turns word p q x y)
+one_part word (PinsWritten p) (PinsWritten q) x y = ap PinsWritten (one_answer (codes "pins=") word p q x y)
+one_part word (DevicesReported p) (DevicesReported q) x y = ap DevicesReported (one_answer (codes "report=") word p q x y)
 one_part word a b x y = let e = has_letters word a x in let f = has_letters word b y in absurd (omega arith)
 
 -- Names that are spelled between commas are those that are read.
@@ -128,19 +134,21 @@ adds_refused {word = word} {values = values} part gives r =
 
 no_part : (word : List ℕ) (values : Values) → ((path : List ℕ) → NamesBoard word path → ⊥) → ((path : List ℕ) → NamesProgram word path → ⊥) → ((name : List ℕ) → NamesAction word name → ⊥) →
     ((names : List (List ℕ)) → AsksFor word names → ⊥) → ((names : List (List ℕ)) → LeavesOut word names → ⊥) →
-    ((n : ℕ) → NamesTurns word n → ⊥) → ((written : Bool) → NamesPins word written → ⊥) → (part : Part) → GivesPart word part → Refuses values part
-no_part word values b p a d s t w (BoardIn path) g = absurd (b path g)
-no_part word values b p a d s t w (ProgramIn path) g = absurd (p path g)
-no_part word values b p a d s t w (ActionNamed name) g = absurd (a name g)
-no_part word values b p a d s t w (NamesAsked names) g = absurd (d names g)
-no_part word values b p a d s t w (NamesSkipped names) g = absurd (s names g)
-no_part word values b p a d s t w (TurnsAtMost n) g = absurd (t n g)
-no_part word values b p a d s t w (PinsWritten written) g = absurd (w written g)
+    ((n : ℕ) → NamesPlace word n → ⊥) → ((n : ℕ) → NamesTurns word n → ⊥) → ((written : Bool) → SaysPins word written → ⊥) → ((reported : Bool) → SaysReport word reported → ⊥) → (part : Part) → GivesPart word part → Refuses values part
+no_part word values b p a d s l t w r (BoardIn path) g = absurd (b path g)
+no_part word values b p a d s l t w r (ProgramIn path) g = absurd (p path g)
+no_part word values b p a d s l t w r (ActionNamed name) g = absurd (a name g)
+no_part word values b p a d s l t w r (NamesAsked names) g = absurd (d names g)
+no_part word values b p a d s l t w r (NamesSkipped names) g = absurd (s names g)
+no_part word values b p a d s l t w r (PlaceAsked n) g = absurd (l n g)
+no_part word values b p a d s l t w r (TurnsAtMost n) g = absurd (t n g)
+no_part word values b p a d s l t w r (PinsWritten written) g = absurd (w written g)
+no_part word values b p a d s l t w r (DevicesReported reported) g = absurd (r reported g)
 
 pub adds_no_part : {word : List ℕ} {values : Values} → ((path : List ℕ) → NamesBoard word path → ⊥) → ((path : List ℕ) → NamesProgram word path → ⊥) → ((name : List ℕ) → NamesAction word name → ⊥) →
     ((names : List (List ℕ)) → AsksFor word names → ⊥) → ((names : List (List ℕ)) → LeavesOut word names → ⊥) →
-    ((n : ℕ) → NamesTurns word n → ⊥) → ((written : Bool) → NamesPins word written → ⊥) → AddsNothing values word
-adds_no_part {word = word} {values = values} b p a d s t w = record { refused = no_part word values b p a d s t w }
+    ((n : ℕ) → NamesPlace word n → ⊥) → ((n : ℕ) → NamesTurns word n → ⊥) → ((written : Bool) → SaysPins word written → ⊥) → ((reported : Bool) → SaysReport word reported → ⊥) → AddsNothing values word
+adds_no_part {word = word} {values = values} b p a d s l t w r = record { refused = no_part word values b p a d s l t w r }
 
 -- The first word is that of at most one mode.
 
@@ -190,8 +198,8 @@ one_given words n p q read same x y =
 -- One word more is read.
 
 pub nothing_read : (words : List (List ℕ)) (values : Values) → HasMode words values.mode → values.board ≡ None → values.program ≡ None → values.action ≡ None →
-    values.todo ≡ None → values.skip ≡ None → values.turns ≡ None → values.pins ≡ None → AreReadUpTo words 1 values
-nothing_read words values mode b p a d s t w = record {
+    values.todo ≡ None → values.skip ≡ None → values.place ≡ None → values.turns ≡ None → values.pins ≡ None → values.report ≡ None → AreReadUpTo words 1 values
+nothing_read words values mode b p a d s l t w r = record {
   mode = mode;
   read = first_is;
   give = none_given;
@@ -211,8 +219,10 @@ nothing_read words values mode b p a d s t w = record {
     none_given Action = rw a (λ part e g. not_given part g)
     none_given Do = rw d (λ part e g. not_given part g)
     none_given Skip = rw s (λ part e g. not_given part g)
+    none_given Place = rw l (λ part e g. not_given part g)
     none_given Turns = rw t (λ part e g. not_given part g)
     none_given Pins = rw w (λ part e g. not_given part g)
+    none_given Report = rw r (λ part e g. not_given part g)
 
 -- what is known of a key where another part is read
 keeps : (words : List (List ℕ)) (n : ℕ) (key : WordKey) (part : Part) (found : Option Part) → GivesPart (word_at words n) part → key_of part ≢ key →
@@ -237,8 +247,10 @@ gives_key words n values (ProgramIn path) here keep Program = (refl, here)
 gives_key words n values (ActionNamed name) here keep Action = (refl, here)
 gives_key words n values (NamesAsked names) here keep Do = (refl, here)
 gives_key words n values (NamesSkipped names) here keep Skip = (refl, here)
+gives_key words n values (PlaceAsked k) here keep Place = (refl, here)
 gives_key words n values (TurnsAtMost k) here keep Turns = (refl, here)
 gives_key words n values (PinsWritten written) here keep Pins = (refl, here)
+gives_key words n values (DevicesReported reported) here keep Report = (refl, here)
 gives_key words n values part here keep key = keep key (λ e. cc)
 
 none_back : {A B : Type 0} (f : A → B) (found : Option A) → option_map f found ≡ None → one_if_some found ≡ 0
@@ -251,8 +263,10 @@ counted values (ProgramIn path) e = let none = none_back ProgramIn values.progra
 counted values (ActionNamed name) e = let none = none_back ActionNamed values.action e in omega arith
 counted values (NamesAsked names) e = let none = none_back NamesAsked values.todo e in omega arith
 counted values (NamesSkipped names) e = let none = none_back NamesSkipped values.skip e in omega arith
+counted values (PlaceAsked n) e = let none = none_back PlaceAsked values.place e in omega arith
 counted values (TurnsAtMost n) e = let none = none_back TurnsAtMost values.turns e in omega arith
 counted values (PinsWritten written) e = let none = none_back PinsWritten values.pins e in omega arith
+counted values (DevicesReported reported) e = let none = none_back DevicesReported values.report e in omega arith
 
 read_new : (words : List (List ℕ)) (mode : Mode) (place : ℕ) → 0 < place → HasMode words mode → GivesNew mode words place → IsRead words place
 read_new words mode zero behind has new = absurd (omega arith)
@@ -277,8 +291,10 @@ same_mode values (ProgramIn path) = refl
 same_mode values (ActionNamed name) = refl
 same_mode values (NamesAsked names) = refl
 same_mode values (NamesSkipped names) = refl
+same_mode values (PlaceAsked n) = refl
 same_mode values (TurnsAtMost n) = refl
 same_mode values (PinsWritten written) = refl
+same_mode values (DevicesReported reported) = refl
 
 one_part_more : (words : List (List ℕ)) (n : ℕ) (part : Part) (old new : Values) → 0 < n → AreReadUpTo words n old → GivesPart (word_at words n) part → Adds old part new →
     AreReadUpTo words (n + 1) new
@@ -299,8 +315,8 @@ pub one_word_more : (words : List (List ℕ)) (n : ℕ) (old new : Values) → 0
     AreReadUpTo words (n + 1) new
 one_word_more words n old new behind r adds = one_part_more words n adds.part old new behind r adds.gives adds.adds
 
--- at most seven values are given
-pub few_read : {words : List (List ℕ)} {n : ℕ} {values : Values} → AreReadUpTo words n values → n ≤ 8
+-- at most nine values are given
+pub few_read : {words : List (List ℕ)} {n : ℕ} {values : Values} → AreReadUpTo words n values → n ≤ 10
 few_read {values = values} r =
     let f = r.few in
     let b = at_most_one values.board in
@@ -308,8 +324,10 @@ few_read {values = values} r =
     let a = at_most_one values.action in
     let d = at_most_one values.todo in
     let s = at_most_one values.skip in
+    let l = at_most_one values.place in
     let t = at_most_one values.turns in
     let w = at_most_one values.pins in
+    let o = at_most_one values.report in
     omega arith
   where
     at_most_one : {A : Type 0} (found : Option A) → one_if_some found ≤ 1
@@ -346,9 +364,10 @@ turns_read : (words : List (List ℕ)) (turns : Option ℕ) → GiveOf words (le
 turns_read words None none = turns_usual (λ n g. none (TurnsAtMost n) refl g)
 turns_read words (Some n) give = turns_given n give.1
 
-pins_read : (words : List (List ℕ)) (pins : Option Bool) → GiveOf words (length words) Pins (option_map PinsWritten pins) → AskPins words (pins_or_usual pins)
-pins_read words None none = pins_usual (λ written g. none (PinsWritten written) refl g)
-pins_read words (Some written) give = pins_given written give.1
+answer_read : (words : List (List ℕ)) (part : Bool → Part) (key : WordKey) (answer : Option Bool) → ((written : Bool) → key_of (part written) ≡ key) →
+    GiveOf words (length words) key (option_map part answer) → AskAnswer words part (answer_or_no answer)
+answer_read words part key None of_key none = answer_missing (λ written g. none (part written) (of_key written) g)
+answer_read words part key (Some written) of_key give = answer_given written give.1
 
 names_read : (words : List (List ℕ)) (part : List (List ℕ) → Part) (key : WordKey) (names : Option (List (List ℕ))) → ((list : List (List ℕ)) → key_of (part list) ≡ key) →
     GiveOf words (length words) key (option_map part names) → AskNames words part (names_or_none names)
@@ -369,10 +388,10 @@ not_lacking true false h e = absurd cc
 not_lacking false some h e = absurd cc
 
 -- no mode needs any of these keys
-pub not_needed : (mode : Mode) → (needs mode Do ≡ false) × (needs mode Skip ≡ false) × (needs mode Turns ≡ false) × (needs mode Pins ≡ false)
-not_needed modes.Play = (refl, refl, refl, refl)
-not_needed modes.Check = (refl, refl, refl, refl)
-not_needed modes.List = (refl, refl, refl, refl)
+pub not_needed : (mode : Mode) → (needs mode Do ≡ false) × (needs mode Skip ≡ false) × (needs mode Place ≡ false) × (needs mode Turns ≡ false) × (needs mode Pins ≡ false) × (needs mode Report ≡ false)
+not_needed modes.Play = (refl, refl, refl, refl, refl, refl)
+not_needed modes.Check = (refl, refl, refl, refl, refl, refl)
+not_needed modes.List = (refl, refl, refl, refl, refl, refl)
 
 -- if no needed key is missing, each needed key is given
 is_there : (values : Values) (key : WordKey) → is_complete values ≡ true → needs values.mode key ≡ true → is_some (given_of values key) ≡ true
@@ -381,8 +400,10 @@ is_there values Program h e = not_lacking _ _ (and_parts (not (lacks values Prog
 is_there values Action h e = not_lacking _ _ (and_parts (not (lacks values Program)) _ (and_parts (not (lacks values Board)) _ h).1).1 e
 is_there values Do h e = let none = (not_needed values.mode).0 in absurd cc
 is_there values Skip h e = let none = (not_needed values.mode).1 in absurd cc
-is_there values Turns h e = let none = (not_needed values.mode).2 in absurd cc
-is_there values Pins h e = let none = (not_needed values.mode).3 in absurd cc
+is_there values Place h e = let none = (not_needed values.mode).2 in absurd cc
+is_there values Turns h e = let none = (not_needed values.mode).3 in absurd cc
+is_there values Pins h e = let none = (not_needed values.mode).4 in absurd cc
+is_there values Report h e = let none = (not_needed values.mode).5 in absurd cc
 
 -- and so the request has it
 request_has : (values : Values) (request : Request) (key : WordKey) → HasValues values request → is_some (given_of values key) ≡ true → has_key request key ≡ true
@@ -391,8 +412,10 @@ request_has values request Program h e = ap (λ (p : Option (List ℕ)). is_some
 request_has values request Action h e = ap (λ (p : Option (List ℕ)). is_some p) h.action_named ∙ mapped_some ActionNamed values.action e
 request_has values request Do h e = refl
 request_has values request Skip h e = refl
+request_has values request Place h e = refl
 request_has values request Turns h e = refl
 request_has values request Pins h e = refl
+request_has values request Report h e = refl
 
 pub request_read : {words : List (List ℕ)} {request : Request} (values : Values) → AreReadUpTo words (length words) values → is_complete values ≡ true →
     HasValues values request → IsRequest words request
@@ -407,8 +430,10 @@ request_read {words = words} {request = request} values r complete h = record {
   action_named = subst (λ (p : Option (List ℕ)). GiveOf words (length words) Action (option_map ActionNamed p)) (sym h.action_named) (r.give Action);
   todo_asked = subst (AskNames words NamesAsked) (sym h.todo_are) (names_read words NamesAsked Do values.todo (λ list. refl) (r.give Do));
   skip_asked = subst (AskNames words NamesSkipped) (sym h.skip_are) (names_read words NamesSkipped Skip values.skip (λ list. refl) (r.give Skip));
+  place = subst (λ (p : Option ℕ). GiveOf words (length words) Place (option_map PlaceAsked p)) (sym h.place) (r.give Place);
   turns_asked = subst (AskTurns words) (sym h.turns_are) (turns_read words values.turns (r.give Turns));
-  pins_asked = subst (AskPins words) (sym h.pins_are) (pins_read words values.pins (r.give Pins));
+  pins_asked = subst (AskAnswer words PinsWritten) (sym h.pins_are) (answer_read words PinsWritten Pins values.pins (λ written. refl) (r.give Pins));
+  report_asked = subst (AskAnswer words DevicesReported) (sym h.report_is) (answer_read words DevicesReported Report values.report (λ written. refl) (r.give Report));
 }
 
 -- a needed key is missing

@@ -1,25 +1,27 @@
 -- What the tool answers: a text and a status, by the words and the files. It is defined where the files are held that
 -- are read before the answer is found: the board first, and the program after a board that is right.
-use Rattle.std.specs.Prelude.{◌≡◌, ℕ, pos, Bool, List, map, codes, Option, Some}
+use Rattle.std.specs.Prelude.{◌≡◌, ◌&&◌, ◌-◌, ℕ, pos, Bool, true, false, nat_le, List, length, take, drop, map, codes, Option, None, Some}
 use Rattle.stapl_lexer.specs.declared.reason.Reason.{Reason}
 use Rattle.stapl_syntax.specs.Trees.{StmtTree}
 use Rattle.stapl_syntax.specs.Programs.{IsProgram, FirstFault}
+use Rattle.stapl_meaning.specs.declared.events.Event.{Event}
 use Rattle.stapl_meaning.specs.declared.events.Ending.{Ending}
 use Rattle.stapl_meaning.specs.declared.events.Ending.TheVariants as endings
 use Rattle.stapl_meaning.specs.Choices.{Choice, choice_of}
 use Rattle.stapl_meaning.specs.Choices as choices
 use Rattle.stapl_meaning.specs.Scopes.{Played, as_played}
 use Rattle.stapl_meaning.specs.Plays.{Run, play, ending_of}
-use Rattle.stapl_meaning.specs.Texts.{text_of}
+use Rattle.stapl_meaning.specs.Texts.{asked_report, text_of}
 use Rattle.dev_card.specs.declared.desc.Desc.{Desc}
 use Rattle.dev_card.specs.Card.{fresh}
-use Rattle.dev_card.specs.FarEnds.{Told}
+use Rattle.dev_card.specs.FarEnds.{FarEnd, Told, Heard}
+use Rattle.dev_card.specs.Padding.{base_lengths}
 use Rattle.board_text.specs.declared.reason.BoardReason.{BoardReason}
 use Rattle.play_tool.specs.declared.mode.Mode.{Mode}
 use Rattle.play_tool.specs.declared.mode.Mode.TheVariants as modes
 use Rattle.play_tool.specs.declared.words.Request.{Request}
 use Rattle.play_tool.specs.declared.status.Status.{Status}
-use Rattle.play_tool.specs.declared.status.Status.TheVariants.{Done, Fault, Spent, Refused, BoardRefused, NoAction, BadChoice, Usage, ReadFault, WriteFault, Memory}
+use Rattle.play_tool.specs.declared.status.Status.TheVariants.{Done, Fault, Spent, Refused, BoardRefused, NoAction, BadChoice, BadPlace, Usage, ReadFault, WriteFault, Memory}
 use Rattle.play_tool.specs.Checks.{Checks}
 use Rattle.play_tool.specs.Listings.{Lists}
 use Rattle.play_tool.specs.Texts.{number_line, refusal_line, board_refusal_line}
@@ -32,24 +34,43 @@ done_with (endings.Exit code) = Done code
 done_with (endings.Fault k piece) = Fault k piece
 done_with endings.Spent = Spent
 
--- What is written of a play, and the status, by what a choice came to: the program has no such action, a name cannot be
--- chosen, or the chosen procedures are played, with the clocks in the text if they are asked for. A play that still goes
--- on after its turns is spent.
-pub data Plays (choice : Choice) (plays : List ℕ → Run) (pins : Bool) : List ℕ → Status → Type 0 where
-  no_action : choice ≡ choices.no_action → Plays choice plays pins (codes "R action\n") NoAction
-  bad_choice : choice ≡ choices.bad_choice → Plays choice plays pins (codes "R choice\n") BadChoice
-  played : (chosen : List ℕ) (ending : Ending) → choice ≡ choices.chosen chosen → ending_of (plays chosen).outcome ≡ Some ending →
-      Plays choice plays pins (text_of pins (plays chosen).events ending) (done_with ending)
+-- the board has the place, counted from 1, if one is named
+abbrev pub has_place : Option ℕ → List Desc → Bool
+has_place None devices = true
+has_place (Some place) devices = nat_le 1 place && nat_le place (length devices)
 
--- the play of chosen procedures for at most so many turns, on a board of these devices after power-up
-abbrev pub play_on : Played → ℕ → List Desc → List ℕ → Run
-play_on program turns devices chosen = play program chosen turns (Told (map fresh devices))
+-- what of a far end is reported: the device at the place if one is named, else all devices
+abbrev pub reported_far : Option ℕ → FarEnd → FarEnd
+reported_far None far = far
+reported_far (Some place) (Told cards) = Told (take 1 (drop (place - 1) cards))
+reported_far (Some place) (Heard answers) = Heard answers
+
+-- The text of a play as a request asks for it, by its events, what stands at the far end after them, and its ending: the
+-- clocks stand in it if they are asked for, and so does the report.
+abbrev pub asked_text : Request → List Event → FarEnd → Ending → List ℕ
+asked_text request events far ending = text_of request.pins events (asked_report request.report (reported_far request.place far)) ending
+
+-- What is written of a play, and the status, by what a choice came to: the program has no such action, a name cannot be
+-- chosen, the board lacks the place, or the chosen procedures are played. A play that still goes on after its turns is
+-- spent.
+pub data Plays (choice : Choice) (placed : Bool) (plays : List ℕ → Run) (request : Request) : List ℕ → Status → Type 0 where
+  no_action : choice ≡ choices.no_action → Plays choice placed plays request (codes "R action\n") NoAction
+  bad_choice : choice ≡ choices.bad_choice → Plays choice placed plays request (codes "R choice\n") BadChoice
+  bad_place : (chosen : List ℕ) → choice ≡ choices.chosen chosen → placed ≡ false → Plays choice placed plays request (codes "R place\n") BadPlace
+  played : (chosen : List ℕ) (ending : Ending) → choice ≡ choices.chosen chosen → placed ≡ true → ending_of (plays chosen).outcome ≡ Some ending →
+      Plays choice placed plays request (asked_text request (plays chosen).events (plays chosen).chain.far ending) (done_with ending)
+
+-- The play of chosen procedures that a request asks for, on a board of these devices after power-up: for at most its
+-- turns, and with base padding around the device at its place, if it names one.
+abbrev pub play_on : Played → Request → List Desc → List ℕ → Run
+play_on program request devices chosen = play program chosen request.turns (base_lengths devices request.place) (Told (map fresh devices))
 
 -- The play of the action of this name on a board of these devices, if the request asks for these names and leaves these
 -- out.
 abbrev pub PlaysAction : List StmtTree → List ℕ → Request → List Desc → (List ℕ → Status → Type 0)
 PlaysAction program action request devices =
-    Plays (choice_of (as_played program) action request.todo request.skip) (play_on (as_played program) request.turns devices) request.pins
+    Plays (choice_of (as_played program) action request.todo request.skip) (has_place request.place devices) (play_on (as_played program) request devices)
+    request
 
 -- the play of the action that a request names
 pub record PlaysAsked (program : List StmtTree) (request : Request) (devices : List Desc) (text : List ℕ) (status : Status) : Type 0 where
@@ -132,4 +153,5 @@ IsFault (Refused piece reason) = ⊥
 IsFault (BoardRefused line reason) = ⊥
 IsFault NoAction = ⊥
 IsFault BadChoice = ⊥
+IsFault BadPlace = ⊥
 IsFault (Usage n) = ⊥

@@ -6,10 +6,10 @@ use Rattle.std.specs.Str.{str_to_ascii_uppercase}
 use Rattle.stapl_lexer.specs.ReservedWords.{is_free_name}
 use Rattle.play_tool.specs.declared.mode.Mode.{Mode}
 use Rattle.play_tool.specs.declared.mode.WordKey.{WordKey}
-use Rattle.play_tool.specs.declared.mode.WordKey.TheVariants.{Board, Program, Action, Do, Skip, Turns, Pins}
+use Rattle.play_tool.specs.declared.mode.WordKey.TheVariants.{Board, Program, Action, Do, Skip, Place, Turns, Pins, Report}
 use Rattle.play_tool.specs.declared.words.Given.{Given}
 use Rattle.play_tool.specs.declared.words.Request.{Request}
-use Rattle.play_tool.specs.Words.{Part, BoardIn, ProgramIn, ActionNamed, NamesAsked, NamesSkipped, TurnsAtMost, PinsWritten, key_of, parts_between_commas, usual_turns, takes, needs, GivesPart, HasMode, GiveOf, AreReadBefore}
+use Rattle.play_tool.specs.Words.{Part, BoardIn, ProgramIn, ActionNamed, NamesAsked, NamesSkipped, PlaceAsked, TurnsAtMost, PinsWritten, DevicesReported, key_of, parts_between_commas, usual_turns, takes, needs, GivesPart, HasMode, GiveOf, AreReadBefore}
 
 -- the name that bytes spell, if they spell one that is not reserved
 abbrev pub name_spelled : List ℕ → Option (List ℕ)
@@ -27,8 +27,10 @@ pub record Values : Type 0 where
   pub action : Option (List ℕ)
   pub todo : Option (List (List ℕ))
   pub skip : Option (List (List ℕ))
+  pub place : Option ℕ
   pub turns : Option ℕ
   pub pins : Option Bool
+  pub report : Option Bool
 
 abbrev pub values_of : Given → Values
 values_of given = record {
@@ -38,8 +40,10 @@ values_of given = record {
   action = given.action;
   todo = option_map (λ spelling. names_in spelling.now) given.todo;
   skip = option_map (λ spelling. names_in spelling.now) given.skip;
+  place = given.place;
   turns = given.turns;
   pins = given.pins;
+  report = given.report;
 }
 
 -- the part that is given of a key
@@ -49,8 +53,10 @@ given_of values Program = option_map ProgramIn values.program
 given_of values Action = option_map ActionNamed values.action
 given_of values Do = option_map NamesAsked values.todo
 given_of values Skip = option_map NamesSkipped values.skip
+given_of values Place = option_map PlaceAsked values.place
 given_of values Turns = option_map TurnsAtMost values.turns
 given_of values Pins = option_map PinsWritten values.pins
+given_of values Report = option_map DevicesReported values.report
 
 -- the values with those of one part more
 abbrev pub with_part : Values → Part → Values
@@ -59,8 +65,10 @@ with_part values (ProgramIn path) = record values { program = Some path }
 with_part values (ActionNamed name) = record values { action = Some name }
 with_part values (NamesAsked names) = record values { todo = Some names }
 with_part values (NamesSkipped names) = record values { skip = Some names }
+with_part values (PlaceAsked n) = record values { place = Some n }
 with_part values (TurnsAtMost n) = record values { turns = Some n }
 with_part values (PinsWritten written) = record values { pins = Some written }
+with_part values (DevicesReported reported) = record values { report = Some reported }
 
 -- a part more, whose key the mode takes and which was free
 pub record Adds (old : Values) (part : Part) (new : Values) : Type 0 where
@@ -91,7 +99,7 @@ one_if_some (Some x) = 1
 abbrev pub count_of : Values → ℕ
 count_of values =
     one_if_some values.board + one_if_some values.program + one_if_some values.action + one_if_some values.todo
-    + one_if_some values.skip + one_if_some values.turns + one_if_some values.pins
+    + one_if_some values.skip + one_if_some values.place + one_if_some values.turns + one_if_some values.pins + one_if_some values.report
 
 -- The first n words are read, and they give these values.
 pub record AreReadUpTo (words : List (List ℕ)) (n : ℕ) (values : Values) : Type 0 where
@@ -113,10 +121,10 @@ abbrev pub turns_or_usual : Option ℕ → ℕ
 turns_or_usual None = usual_turns
 turns_or_usual (Some n) = n
 
--- whether the pins are to be written, and no where nothing is said
-abbrev pub pins_or_usual : Option Bool → Bool
-pins_or_usual None = false
-pins_or_usual (Some written) = written
+-- the answer that is given, and a no if none is
+abbrev pub answer_or_no : Option Bool → Bool
+answer_or_no None = false
+answer_or_no (Some answer) = answer
 
 -- the names that are given, or none
 abbrev pub names_or_none : Option (List (List ℕ)) → List (List ℕ)
@@ -131,5 +139,7 @@ pub record HasValues (values : Values) (request : Request) : Type 0 where
   pub action_named : request.action ≡ values.action
   pub todo_are : request.todo ≡ names_or_none values.todo
   pub skip_are : request.skip ≡ names_or_none values.skip
+  pub place : request.place ≡ values.place
   pub turns_are : request.turns ≡ turns_or_usual values.turns
-  pub pins_are : request.pins ≡ pins_or_usual values.pins
+  pub pins_are : request.pins ≡ answer_or_no values.pins
+  pub report_is : request.report ≡ answer_or_no values.report

@@ -3,9 +3,11 @@ pub mod Words
 pub mod GivenParts
 pub mod Texts
 pub mod Written
-pub mod CodePlays
 pub mod Checks
 pub mod Listings
 pub mod Boards
 pub mod Answers
+pub mod CodePlays
 pub mod Racks
+pub mod Finals
+pub mod Alone

@@ -1,6 +1,6 @@
 -- What the tool leaves of the rack. The rules are this tool's own.
 use Rattle.play_tool.specs.declared.status.Status.{Status}
-use Rattle.play_tool.specs.declared.status.Status.TheVariants.{Done, Fault, Spent, Refused, BoardRefused, NoAction, BadChoice, Usage, ReadFault, WriteFault, Memory}
+use Rattle.play_tool.specs.declared.status.Status.TheVariants.{Done, Fault, Spent, Refused, BoardRefused, NoAction, BadChoice, BadPlace, Usage, ReadFault, WriteFault, Memory}
 
 -- The status has a cause that comes before the board is fitted into the rack. Of want of memory and of a write fault the
 -- status does not say when it came.
@@ -10,6 +10,7 @@ ComesBeforeFitting (BoardRefused line reason) = Unit {0}
 ComesBeforeFitting (Refused piece reason) = Unit {0}
 ComesBeforeFitting NoAction = Unit {0}
 ComesBeforeFitting BadChoice = Unit {0}
+ComesBeforeFitting BadPlace = Unit {0}
 ComesBeforeFitting ReadFault = Unit {0}
 ComesBeforeFitting (Done code) = ⊥
 ComesBeforeFitting (Fault k piece) = ⊥

@@ -9,7 +9,7 @@ use Rattle.stapl_lexer.specs.ReservedWords.{is_free_name}
 use Rattle.play_tool.specs.declared.mode.Mode.{Mode}
 use Rattle.play_tool.specs.declared.mode.Mode.TheVariants as modes
 use Rattle.play_tool.specs.declared.mode.WordKey.{WordKey}
-use Rattle.play_tool.specs.declared.mode.WordKey.TheVariants.{Board, Program, Action, Do, Skip, Turns, Pins}
+use Rattle.play_tool.specs.declared.mode.WordKey.TheVariants.{Board, Program, Action, Do, Skip, Place, Turns, Pins, Report}
 use Rattle.play_tool.specs.declared.words.Request.{Request}
 use Rattle.play_tool.specs.declared.words.WordsRefused.{WordsRefused}
 use Rattle.play_tool.specs.declared.words.WordsRefused.TheVariants as refusals
@@ -22,7 +22,7 @@ mode_word modes.List = codes "list"
 
 -- the keys that a mode takes
 abbrev pub keys_taken : Mode → List WordKey
-keys_taken modes.Play = Board ∷ Program ∷ Action ∷ Do ∷ Skip ∷ Turns ∷ Pins ∷ []
+keys_taken modes.Play = Board ∷ Program ∷ Action ∷ Do ∷ Skip ∷ Place ∷ Turns ∷ Pins ∷ Report ∷ []
 keys_taken modes.Check = Program ∷ []
 keys_taken modes.List = Program ∷ []
 
@@ -38,8 +38,10 @@ is_same_key Program Program = true
 is_same_key Action Action = true
 is_same_key Do Do = true
 is_same_key Skip Skip = true
+is_same_key Place Place = true
 is_same_key Turns Turns = true
 is_same_key Pins Pins = true
+is_same_key Report Report = true
 is_same_key _ _ = false
 
 -- the mode takes this key
@@ -57,8 +59,10 @@ pub data Part : Type 0 where
   ActionNamed : (name : List ℕ) → Part
   NamesAsked : (names : List (List ℕ)) → Part
   NamesSkipped : (names : List (List ℕ)) → Part
+  PlaceAsked : (n : ℕ) → Part
   TurnsAtMost : (n : ℕ) → Part
   PinsWritten : (written : Bool) → Part
+  DevicesReported : (reported : Bool) → Part
 
 abbrev pub key_of : Part → WordKey
 key_of (BoardIn path) = Board
@@ -66,8 +70,14 @@ key_of (ProgramIn path) = Program
 key_of (ActionNamed name) = Action
 key_of (NamesAsked names) = Do
 key_of (NamesSkipped names) = Skip
+key_of (PlaceAsked n) = Place
 key_of (TurnsAtMost n) = Turns
 key_of (PinsWritten written) = Pins
+key_of (DevicesReported reported) = Report
+
+-- the highest place that words may name
+abbrev pub most_place : ℕ
+most_place = 999
 
 -- the most turns that words may ask for, and how many there are where they ask for none
 abbrev pub most_turns : ℕ
@@ -121,22 +131,39 @@ pub record LeavesOut (word : List ℕ) (names : List (List ℕ)) : Type 0 where
   pub key : word ≡ codes "skip=" ++ spelling
   pub spells : SpellsNames spelling names
 
--- the bytes spell this number of turns
-pub record SpellsTurns (spelling : List ℕ) (turns : ℕ) : Type 0 where
+-- the bytes spell this number, which lies between these two
+pub record SpellsNumber (least most : ℕ) (spelling : List ℕ) (n : ℕ) : Type 0 where
   pub spelled : is_decimal spelling ≡ true
-  pub value : turns ≡ digits_value 10 spelling
-  pub few : turns ≤ most_turns
+  pub value : n ≡ digits_value 10 spelling
+  pub enough : least ≤ n
+  pub few : n ≤ most
+
+-- the word names this number under this key
+pub record NamesNumber (key : List ℕ) (least most : ℕ) (word : List ℕ) (n : ℕ) : Type 0 where
+  pub spelling : List ℕ
+  pub keyed : word ≡ key ++ spelling
+  pub number : SpellsNumber least most spelling n
+
+-- the word names this place of the board, counted from 1
+abbrev pub NamesPlace : List ℕ → ℕ → Type 0
+NamesPlace = NamesNumber (codes "place=") 1 most_place
 
 -- the word names this number of turns
-pub record NamesTurns (word : List ℕ) (turns : ℕ) : Type 0 where
-  pub spelling : List ℕ
-  pub key : word ≡ codes "turns=" ++ spelling
-  pub number : SpellsTurns spelling turns
+abbrev pub NamesTurns : List ℕ → ℕ → Type 0
+NamesTurns = NamesNumber (codes "turns=") 0 most_turns
+
+-- the word of a yes and of a no
+abbrev pub answer_word : Bool → List ℕ
+answer_word true = codes "yes"
+answer_word false = codes "no"
 
 -- the word says whether the pins are to be written
-abbrev pub NamesPins : List ℕ → Bool → Type 0
-NamesPins word true = word ≡ codes "pins=yes"
-NamesPins word false = word ≡ codes "pins=no"
+abbrev pub SaysPins : List ℕ → Bool → Type 0
+SaysPins word written = word ≡ codes "pins=" ++ answer_word written
+
+-- the word says whether the devices are to be reported
+abbrev pub SaysReport : List ℕ → Bool → Type 0
+SaysReport word reported = word ≡ codes "report=" ++ answer_word reported
 
 -- the word gives this part
 abbrev pub GivesPart : List ℕ → Part → Type 0
@@ -145,8 +172,10 @@ GivesPart word (ProgramIn path) = NamesProgram word path
 GivesPart word (ActionNamed name) = NamesAction word name
 GivesPart word (NamesAsked names) = AsksFor word names
 GivesPart word (NamesSkipped names) = LeavesOut word names
+GivesPart word (PlaceAsked n) = NamesPlace word n
 GivesPart word (TurnsAtMost n) = NamesTurns word n
-GivesPart word (PinsWritten written) = NamesPins word written
+GivesPart word (PinsWritten written) = SaysPins word written
+GivesPart word (DevicesReported reported) = SaysReport word reported
 
 -- the word at a place, counted from 0
 abbrev pub word_at : List (List ℕ) → ℕ → List ℕ
@@ -203,26 +232,28 @@ pub data AskTurns (words : List (List ℕ)) : ℕ → Type 0 where
   turns_given : (n : ℕ) → IsGiven words (TurnsAtMost n) → AskTurns words n
   turns_usual : ((n : ℕ) → IsGiven words (TurnsAtMost n) → ⊥) → AskTurns words usual_turns
 
--- The words say whether the pins are to be written, or they do not say it, and the pins are not.
-pub data AskPins (words : List (List ℕ)) : Bool → Type 0 where
-  pins_given : (written : Bool) → IsGiven words (PinsWritten written) → AskPins words written
-  pins_usual : ((written : Bool) → IsGiven words (PinsWritten written) → ⊥) → AskPins words false
+-- The words give a yes or a no, as a part of this form, or they give none, and it is a no.
+pub data AskAnswer (words : List (List ℕ)) (part : Bool → Part) : Bool → Type 0 where
+  answer_given : (answer : Bool) → IsGiven words (part answer) → AskAnswer words part answer
+  answer_missing : ((answer : Bool) → IsGiven words (part answer) → ⊥) → AskAnswer words part false
 
 -- The words give these names, as a part of this form, or they give none.
 pub data AskNames (words : List (List ℕ)) (part : List (List ℕ) → Part) : List (List ℕ) → Type 0 where
   names_given : (names : List (List ℕ)) → IsGiven words (part names) → AskNames words part names
   names_missing : ((names : List (List ℕ)) → IsGiven words (part names) → ⊥) → AskNames words part []
 
--- what a request has of a key; it always has a number of turns, lists of names, which may be empty, and an answer on the
--- pins
+-- what a request has of a key that a mode may need; of no other key it lacks anything, since what is missing there has a
+-- meaning
 abbrev pub has_key : Request → WordKey → Bool
 has_key request Board = is_some request.board
 has_key request Program = is_some request.program
 has_key request Action = is_some request.action
 has_key request Do = true
 has_key request Skip = true
+has_key request Place = true
 has_key request Turns = true
 has_key request Pins = true
+has_key request Report = true
 
 -- The request has each key that its mode needs.
 pub record HasNeeded (request : Request) : Type 0 where
@@ -239,8 +270,10 @@ pub record IsRequest (words : List (List ℕ)) (request : Request) : Type 0 wher
   pub action_named : GiveOf words (length words) Action (option_map ActionNamed request.action)
   pub todo_asked : AskNames words NamesAsked request.todo
   pub skip_asked : AskNames words NamesSkipped request.skip
+  pub place : GiveOf words (length words) Place (option_map PlaceAsked request.place)
   pub turns_asked : AskTurns words request.turns
-  pub pins_asked : AskPins words request.pins
+  pub pins_asked : AskAnswer words PinsWritten request.pins
+  pub report_asked : AskAnswer words DevicesReported request.report
 
 -- The words lack the mode, or a key that it needs.
 pub data Lack (words : List (List ℕ)) : Type 0 where

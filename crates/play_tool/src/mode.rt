@@ -25,10 +25,14 @@ pub(crate) enum WordKey {
     Do,
     /// The names of RECOMMENDED procedures that are to be left out.
     Skip,
+    /// The place of the device that the program is for.
+    Place,
     /// The most turns of the play.
     Turns,
     /// Whether the pins are to be written.
     Pins,
+    /// Whether the devices are to be reported.
+    Report,
 }
 
 impl Mode {
@@ -51,7 +55,12 @@ impl Mode {
         match key {
             WordKey::Program => true,
             WordKey::Board | WordKey::Action => matches!(self, Mode::Play),
-            WordKey::Do | WordKey::Skip | WordKey::Turns | WordKey::Pins => false,
+            WordKey::Do
+            | WordKey::Skip
+            | WordKey::Place
+            | WordKey::Turns
+            | WordKey::Pins
+            | WordKey::Report => false,
         }
     }
 }

@@ -30,6 +30,8 @@ pub enum Status {
     /// A name of `do` is not that of an OPTIONAL procedure of the action, or a name of `skip` not that of a RECOMMENDED
     /// one.
     BadChoice,
+    /// The board has no device at the place that the words name.
+    BadPlace,
     /// The first word, counted from 1, that is not as stated, or the number of words plus 1 where words are missing.
     Usage(u32),
     /// A file that the words name could not be read. Nothing is written.
@@ -84,7 +86,7 @@ impl Status {
             Status::Spent => 3,
             Status::Refused(_, _) => 4,
             Status::BoardRefused(_, _) => 5,
-            Status::NoAction | Status::BadChoice => 6,
+            Status::NoAction | Status::BadChoice | Status::BadPlace => 6,
             Status::Usage(_) => 7,
             Status::ReadFault => 9,
             Status::WriteFault => 10,

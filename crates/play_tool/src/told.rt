@@ -1,22 +1,28 @@
 //! The play of a code over a cable that tells its board and never fails.
-ghost use Rattle.std.specs.Prelude.{◌≡◌, ◌≢◌, ◌<◌, [], length, IsSome, Some, OnOk, OnErr, IfOk, IsErrOf};
+ghost use Rattle.std.specs.Prelude.{◌≡◌, ◌≢◌, ◌<◌, [], true, length, map, Some, OnOk, OnErr, IfOk, IsErrOf};
 ghost use Rattle.tool_io.specs.Causes.{HasRisen};
 ghost use Rattle.tool_io.specs.Lines.{IsWhole, IsOverSame, SinkNeverFalls, sink_of, Puts, PutsFront};
 ghost use Rattle.scan_paths.specs.Cables.{whole, cable_faults, IsCableLast};
+ghost use Rattle.scan_paths.specs.Scans.{lengths_of};
+ghost use Rattle.dev_card.specs.Card.{fresh};
+ghost use Rattle.dev_card.specs.FarEnds.{far_end};
 ghost use Rattle.stapl_meaning.specs.Plays.{ending_of};
 ghost use Rattle.stapl_meaning.specs.Texts.{events_text};
 ghost use Rattle.stapl_code.specs.Safe.{AllBelow};
 ghost use Rattle.stapl_machine.specs.declared.turns.Trouble.TheVariants as troubles;
 ghost use Rattle.stapl_machine.specs.Machines.{IsPrepared};
-ghost use Rattle.play_tool.specs.CodePlays.{told_play, NeverRises, WasClocked};
+ghost use Rattle.play_tool.specs.Answers.{has_place};
+ghost use Rattle.play_tool.specs.Boards.{CanBeFitted};
+ghost use Rattle.play_tool.specs.CodePlays.{task_base, task_play, NeverRises, WasClocked};
 
+use crate::playing::Task;
 use crate::status::NoAnswer;
 use base::Steps;
-use scan_paths::Cable;
+use scan_paths::{BasePads, Cable};
 use stapl_code::Code;
 use stapl_machine::{Machine, Trouble};
 use stapl_meaning::Ending;
-use stapl_player::play;
+use stapl_player::{base_pads, play};
 use std::sync::ledger::{Blank, Ledger};
 use tool_io::{Lines, Sink};
 
@@ -34,16 +40,27 @@ fn no_answer(trouble: Trouble) -> NoAnswer
     }
 }
 
-/// Plays the chosen procedures of a code over a cable that tells its board and never fails, and puts the lines of the
-/// events. Its steps are counted in a ledger that nobody asks.
+// The base padding that a task asks for: around the device at its place, if it names one.
+fn base_of(task: &Task) -> BasePads
+    requires placed { has_place task.now.request.now.place task.now.devices.now ≡ true }
+    requires devices { CanBeFitted task.now.devices.now }
+    ensures { lengths_of result ≡ task_base task.now }
+{
+    match task.request.place {
+        Some(place) => base_pads(task.devices, place),
+        None => BasePads::none(),
+    }
+}
+
+/// Plays the chosen procedures of a code, as a task asks for it, over a cable that tells the fresh board of the task and
+/// never fails, and puts the lines of the events. Its steps are counted in a ledger that nobody asks.
 pub fn play_told<C: Cable, K: Sink, L: Ledger>(
     machine: &mut Machine,
     code: &Code,
     chosen: &[u32],
+    task: &Task,
     cable: &mut C,
     lines: &mut Lines<K>,
-    pins: bool,
-    turns: u32,
     blank: Blank,
 ) -> Result<Ending, NoAnswer>
     requires name { blank.name ≡ L.name }
@@ -51,27 +68,37 @@ pub fn play_told<C: Cable, K: Sink, L: Ledger>(
     requires some { 0 < L.parts }
     requires prepared { IsPrepared code.now machine.old }
     requires below { AllBelow (length code.now.procedures) chosen.now }
-    requires told { IsSome (C.board cable.old) }
+    requires placed { has_place task.now.request.now.place task.now.devices.now ≡ true }
+    requires devices { CanBeFitted task.now.devices.now }
+    requires told { C.board cable.old ≡ Some (map fresh task.now.devices.now) }
     requires whole_cable { C.breakage cable.old ≡ whole }
     requires sure { NeverRises (cable_faults C.line_faults C.pin_faults) (IsCableLast C.is_line_last C.is_pin_last) }
     requires whole { IsWhole lines.old }
     ensures same_sink { IsOverSame lines.old lines.new }
     ensures whole { OnOk result (IsWhole lines.new) }
     ensures ended { IfOk result (λ ending.
-        ending_of (told_play C.board code.now chosen.now turns cable.old).outcome ≡ Some ending) }
+        ending_of (task_play code.now chosen.now task.now).outcome ≡ Some ending) }
     ensures put { OnOk result (Puts K.written lines.old
-        (events_text pins [] (told_play C.board code.now chosen.now turns cable.old).events) lines.new) }
+        (events_text task.now.request.now.pins [] (task_play code.now chosen.now task.now).events)
+        lines.new) }
     ensures front { OnErr result (PutsFront K.written lines.old
-        (events_text pins [] (told_play C.board code.now chosen.now turns cable.old).events) lines.new) }
+        (events_text task.now.request.now.pins [] (task_play code.now chosen.now task.now).events)
+        lines.new) }
     ensures clocked { WasClocked C.made cable.old cable.new }
+    ensures far { OnOk result ((task_play code.now chosen.now task.now).chain.far
+        ≡ far_end (C.board cable.new) []) }
     ensures read { IsErrOf result NoAnswer.Read → ⊥ }
     ensures write { IsErrOf result NoAnswer.Write →
         HasRisen K.faults K.is_last (sink_of lines.old) (sink_of lines.new) }
     ensures memory { IsErrOf result NoAnswer.Memory → IsWhole lines.new }
     ensures kept { SinkNeverFalls K.faults K.is_last lines.old lines.new }
 {
+    let base = base_of(task);
+    let (pins, turns) = (task.request.pins, task.request.turns);
     let mut steps = Steps::<L>::none(blank);
-    match play(machine, code, chosen, cable, lines, pins, turns, &mut steps) {
+    match play(
+        machine, code, chosen, &base, cable, lines, pins, turns, &mut steps,
+    ) {
         Ok(ending) => Ok(ending),
         Err(trouble) => Err(no_answer(trouble)),
     }

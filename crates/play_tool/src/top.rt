@@ -11,7 +11,9 @@ ghost use Rattle.play_tool.specs.Words.{HasMode, HasNeeded, IsRequest};
 ghost use Rattle.play_tool.specs.Written.{Wrote, WroteFront, IsPrefixOf};
 ghost use Rattle.play_tool.specs.Boards.{CanBeFitted, HasReadCause};
 ghost use Rattle.play_tool.specs.Answers.{Work, TextAnswer, FileAnswer, SomeTextAnswer, contents_in, RequestAnswer, SomeRequestAnswer, Answer, SomeFilesAnswer, IsFault};
+ghost use Rattle.play_tool.specs.Alone.{IsQuietAlone, PlaysAlone};
 ghost use Rattle.play_tool.specs.Racks.{ComesBeforeFitting};
+ghost use Rattle.play_tool.specs.Finals.{IsPlayed, HoldsFinal, TextHoldsFinal, FileHoldsFinal, RequestHoldsFinal, WordsHoldFinal};
 
 use crate::boards::{BoardNotRead, board_asked};
 use crate::checking::check_program;
@@ -53,6 +55,8 @@ fn work<K: Sink>(
         task.now.request.now.mode) (K.written out.old) (K.written out.new) }
     ensures later { NeverFalls K.faults K.is_last out.old out.new }
     ensures before { IfOk result (λ status. ComesBeforeFitting status → rack.new.items ≡ rack.old.items) }
+    ensures leaves { task.now.request.now.mode ≡ Play → IfOk result (λ status. IsPlayed status →
+        HoldsFinal (trees_of program.now) task.now.request.now task.now.devices.now (map fitted rack.new.items)) }
     ensures kinds { map kind_of rack.new.items ≡ map kind_of rack.old.items }
     ensures other { task.now.request.now.mode ≢ Play → rack.new.items ≡ rack.old.items }
 {
@@ -93,6 +97,8 @@ fn answer_text<K: Sink>(
         (K.written out.old) (K.written out.new) }
     ensures later { NeverFalls K.faults K.is_last out.old out.new }
     ensures before { IfOk result (λ status. ComesBeforeFitting status → rack.new.items ≡ rack.old.items) }
+    ensures leaves { task.now.request.now.mode ≡ Play → IfOk result (λ status. IsPlayed status →
+        TextHoldsFinal bytes.now task.now.request.now task.now.devices.now (map fitted rack.new.items)) }
     ensures kinds { map kind_of rack.new.items ≡ map kind_of rack.old.items }
     ensures other { task.now.request.now.mode ≢ Play → rack.new.items ≡ rack.old.items }
 {
@@ -146,6 +152,9 @@ fn answer_file<S: Shelf, K: Sink>(
     ensures later { NoneFalls S.faults S.is_last shelf.old shelf.new }
     ensures out_later { NeverFalls K.faults K.is_last out.old out.new }
     ensures before { IfOk result (λ status. ComesBeforeFitting status → rack.new.items ≡ rack.old.items) }
+    ensures leaves { task.now.request.now.mode ≡ Play → IfOk result (λ status. IsPlayed status →
+        FileHoldsFinal (S.told shelf.old) path.now task.now.request.now task.now.devices.now
+        (map fitted rack.new.items)) }
     ensures kinds { map kind_of rack.new.items ≡ map kind_of rack.old.items }
     ensures unread { IsErrOf result NoAnswer.Read → rack.new.items ≡ rack.old.items }
     ensures other { task.now.request.now.mode ≢ Play → rack.new.items ≡ rack.old.items }
@@ -193,6 +202,8 @@ fn answer_request<S: Shelf, K: Sink>(
     ensures later { NoneFalls S.faults S.is_last shelf.old shelf.new }
     ensures out_later { NeverFalls K.faults K.is_last out.old out.new }
     ensures before { IfOk result (λ status. ComesBeforeFitting status → rack.new.items ≡ rack.old.items) }
+    ensures leaves { request.now.mode ≡ Play → IfOk result (λ status. IsPlayed status →
+        RequestHoldsFinal (S.told shelf.old) request.now (map fitted rack.new.items)) }
     ensures kinds { map kind_of rack.new.items ≡ map kind_of rack.old.items }
     ensures unread { IsErrOf result NoAnswer.Read → rack.new.items ≡ rack.old.items }
     ensures other { request.now.mode ≢ Play → rack.new.items ≡ rack.old.items }
@@ -246,6 +257,8 @@ fn run<S: Shelf, K: Sink>(
     ensures later { NoneFalls S.faults S.is_last shelf.old shelf.new }
     ensures out_later { NeverFalls K.faults K.is_last out.old out.new }
     ensures before { IfOk result (λ status. ComesBeforeFitting status → rack.new.items ≡ rack.old.items) }
+    ensures leaves { HasMode (map string_bytes words.now) Play → IfOk result (λ status. IsPlayed status →
+        WordsHoldFinal (map string_bytes words.now) (S.told shelf.old) (map fitted rack.new.items)) }
     ensures kinds { map kind_of rack.new.items ≡ map kind_of rack.old.items }
     ensures unread { IsErrOf result NoAnswer.Read → rack.new.items ≡ rack.old.items }
     ensures other { (HasMode (map string_bytes words.now) Play → ⊥) → rack.new.items ≡ rack.old.items }
@@ -264,7 +277,9 @@ fn run<S: Shelf, K: Sink>(
 /// the tool says goes to the sink.
 ///
 /// A play reads its board first, and then its program; `check` and `list` read a program alone. If both are right, the
-/// board is fitted into the rack, its devices in order, and then the chosen procedures are played.
+/// board is fitted into the rack, its devices in order, and then the chosen procedures are played. If the words name a
+/// place, each scan is padded for the other devices of the board. After the play the devices are as it leaves them, and
+/// a report tells what they hold, if the words ask for one; with a place, what the device there holds.
 pub fn run_tool<S: Shelf, K: Sink>(
     alloc: Global,
     words: &[String],
@@ -310,6 +325,17 @@ pub fn run_tool<S: Shelf, K: Sink>(
     ensures before { ComesBeforeFitting result → rack.new.items ≡ rack.old.items }
     ensures other { (HasMode (map string_bytes words.now) Play → ⊥) → rack.new.items ≡ rack.old.items }
     ensures kinds { map kind_of rack.new.items ≡ map kind_of rack.old.items }
+
+    // If a play was played, to its ending or for all its turns, the rack holds the board that it leaves: device i of the
+    // board, counted from 0, stands at the place of its kind among the three places from 3 * i on.
+    ensures leaves { HasMode (map string_bytes words.now) Play → IsPlayed result →
+        WordsHoldFinal (map string_bytes words.now) (S.told shelf.old) (map fitted rack.new.items) }
+
+    // A play for one device of a board is the play on that device alone, if this is quiet for all its turns and no
+    // clocks are asked for: the same text, which has the report of that device, and the same status.
+    ensures alone { (IsFault result → ⊥) → IfSome (S.told shelf.old) (λ files.
+        (q : IsQuietAlone (map string_bytes words.now) (contents_in files)) →
+        Wrote (PlaysAlone q) (K.written out.old) (K.written out.new) result) }
 {
     match run(alloc, words, shelf, rack, out) {
         Ok(status) => status,

@@ -1,10 +1,10 @@
 //! The words of a command.
-ghost use Rattle.std.specs.Prelude.{◌≡◌, ◌≤◌, ◌<◌, ◌+◌, ℕ, Bool, List, [], length, map, codes, string_bytes, is_some, None, IfSome, IfNone, IfOk, IfErr};
+ghost use Rattle.std.specs.Prelude.{◌≡◌, ◌≤◌, ◌<◌, ◌+◌, ℕ, Bool, List, [], length, map, codes, string_bytes, is_some, None, IfSome, IfNone, IfOk, IfErr, OnOk};
 ghost use Rattle.std.specs.Char.{is_ascii_digit};
 ghost use Rattle.std.specs.List.{list_all};
 ghost use Rattle.std.specs.Option.{option_map};
 ghost use Rattle.stapl_lexer.specs.ReservedWords.{is_free_name};
-ghost use Rattle.play_tool.specs.Words.{mode_word, BoardIn, ProgramIn, ActionNamed, NamesAsked, NamesSkipped, TurnsAtMost, PinsWritten, is_decimal, parts_between_commas, NamesBoard, NamesProgram, NamesAction, SpellsNames, AsksFor, LeavesOut, SpellsTurns, NamesTurns, NamesPins, HasMode, IsRequest, IsFirstUnread, IsWordsRefused};
+ghost use Rattle.play_tool.specs.Words.{mode_word, BoardIn, ProgramIn, ActionNamed, NamesAsked, NamesSkipped, PlaceAsked, TurnsAtMost, PinsWritten, DevicesReported, is_decimal, parts_between_commas, NamesBoard, NamesProgram, NamesAction, SpellsNames, AsksFor, LeavesOut, SpellsNumber, NamesPlace, NamesTurns, answer_word, SaysPins, SaysReport, HasMode, IsRequest, IsFirstUnread, IsWordsRefused};
 ghost use Rattle.play_tool.specs.GivenParts.{name_spelled, names_in, values_of, given_of, Adds, Refuses, AddsWord, AddsNothing, AreReadUpTo, lacks, is_complete, names_or_none, HasValues};
 ghost use Rattle.play_tool.specs.declared.mode.Mode.{Mode};
 
@@ -14,6 +14,9 @@ use base::ItemList;
 use stapl_lexer::Name;
 use std::alloc::{AllocError, Global};
 use thiserror::Error;
+
+/// The highest place that words may name.
+const MOST_PLACE: u32 = 999;
 
 /// The most turns that words may ask for.
 const MOST_TURNS: u32 = 1_000_000_000;
@@ -35,10 +38,15 @@ pub struct Request {
     pub todo: ItemList<Name>,
     /// The names of RECOMMENDED procedures of the action that are to be left out.
     pub skip: ItemList<Name>,
+    /// The place of the device that the program is for, counted from 1: the scans are padded for the other devices of
+    /// the board. Without one the program is for the whole board.
+    pub place: Option<u32>,
     /// The most turns that the play may take, or the usual number if the words say none.
     pub turns: u32,
     /// Whether the clocks are to be written, as the pins see them; no if the words do not say it.
     pub pins: bool,
+    /// Whether what the devices hold after the play is to be written; no if the words do not say it.
+    pub report: bool,
 }
 
 /// Why words are no request.
@@ -62,8 +70,10 @@ struct Given<'a> {
     action: Option<Name>,
     todo: Option<&'a str>,
     skip: Option<&'a str>,
+    place: Option<u32>,
     turns: Option<u32>,
     pins: Option<bool>,
+    report: Option<bool>,
 }
 
 impl<'a> Given<'a> {
@@ -74,8 +84,10 @@ impl<'a> Given<'a> {
         ensures action { result.action ≡ None }
         ensures todo { result.todo ≡ None }
         ensures skip { result.skip ≡ None }
+        ensures place { result.place ≡ None }
         ensures turns { result.turns ≡ None }
         ensures pins { result.pins ≡ None }
+        ensures report { result.report ≡ None }
     {
         Given {
             mode,
@@ -84,8 +96,10 @@ impl<'a> Given<'a> {
             action: None,
             todo: None,
             skip: None,
+            place: None,
             turns: None,
             pins: None,
+            report: None,
         }
     }
 
@@ -171,6 +185,22 @@ impl<'a> Given<'a> {
         }
     }
 
+    fn with_place(&self, place: u32) -> Option<Given<'a>>
+        ensures some { IfSome result (λ next. Adds (values_of self.now) (PlaceAsked place) (values_of next)) }
+        ensures none { IfNone result (Refuses (values_of self.now) (PlaceAsked place)) }
+    {
+        if !self.mode.takes(WordKey::Place) {
+            return None;
+        }
+        match self.place {
+            Some(_) => None,
+            None => Some(Given {
+                place: Some(place),
+                ..*self
+            }),
+        }
+    }
+
     fn with_turns(&self, turns: u32) -> Option<Given<'a>>
         ensures some { IfSome result (λ next. Adds (values_of self.now) (TurnsAtMost turns) (values_of next)) }
         ensures none { IfNone result (Refuses (values_of self.now) (TurnsAtMost turns)) }
@@ -203,6 +233,22 @@ impl<'a> Given<'a> {
         }
     }
 
+    fn with_report(&self, reported: bool) -> Option<Given<'a>>
+        ensures some { IfSome result (λ next. Adds (values_of self.now) (DevicesReported reported) (values_of next)) }
+        ensures none { IfNone result (Refuses (values_of self.now) (DevicesReported reported)) }
+    {
+        if !self.mode.takes(WordKey::Report) {
+            return None;
+        }
+        match self.report {
+            Some(_) => None,
+            None => Some(Given {
+                report: Some(reported),
+                ..*self
+            }),
+        }
+    }
+
     // What is given with one word more; `None` where it gives nothing that the mode takes, or its key has been given.
     #[tactic(auto, using(crate::proofs::WordLemmas::adds_part, crate::proofs::WordLemmas::adds_refused, crate::proofs::WordLemmas::adds_no_part))]
     fn with_word(&self, word: &'a str) -> Option<Given<'a>>
@@ -224,11 +270,17 @@ impl<'a> Given<'a> {
         if let Some(spelling) = names_skipped(word) {
             return self.with_skip(spelling);
         }
+        if let Some(place) = place_asked(word) {
+            return self.with_place(place);
+        }
         if let Some(turns) = turn_count(word) {
             return self.with_turns(turns);
         }
         if let Some(written) = pins_written(word) {
             return self.with_pins(written);
+        }
+        if let Some(reported) = devices_reported(word) {
+            return self.with_report(reported);
         }
         None
     }
@@ -242,8 +294,10 @@ impl<'a> Given<'a> {
             WordKey::Action => self.action.is_some(),
             WordKey::Do => self.todo.is_some(),
             WordKey::Skip => self.skip.is_some(),
+            WordKey::Place => self.place.is_some(),
             WordKey::Turns => self.turns.is_some(),
             WordKey::Pins => self.pins.is_some(),
+            WordKey::Report => self.report.is_some(),
         }
     }
 
@@ -275,8 +329,10 @@ impl<'a> Given<'a> {
             action: self.action,
             todo: names_given(alloc, self.todo)?,
             skip: names_given(alloc, self.skip)?,
+            place: self.place,
             turns: self.turns.unwrap_or(USUAL_TURNS),
             pins: self.pins.unwrap_or(false),
+            report: self.report.unwrap_or(false),
         })
     }
 }
@@ -400,21 +456,32 @@ fn is_decimal(spelling: &[u8]) -> bool
     !spelling.is_empty() && has_digits(spelling) && (spelling.len() == 1 || spelling[0] != b'0')
 }
 
-// The number of turns that a text spells.
-fn spelled_turns(spelling: &str) -> Option<u32>
-    ensures some { IfSome result (SpellsTurns spelling.now) }
-    ensures none { IfNone result ((turns : ℕ) → SpellsTurns spelling.now turns → ⊥) }
+// The number that a text spells, if it lies between these two.
+fn spelled_number(spelling: &str, least: u32, most: u32) -> Option<u32>
+    ensures some { IfSome result (SpellsNumber least most spelling.now) }
+    ensures none { IfNone result ((n : ℕ) → SpellsNumber least most spelling.now n → ⊥) }
 {
     if !is_decimal(spelling.as_bytes()) {
         return None;
     }
-    let Ok(turns) = spelling.parse::<u32>() else {
+    let Ok(number) = spelling.parse::<u32>() else {
         return None;
     };
-    if turns > MOST_TURNS {
+    if number < least || most < number {
         return None;
     }
-    Some(turns)
+    Some(number)
+}
+
+// The place that a word names.
+fn place_asked(word: &str) -> Option<u32>
+    ensures some { IfSome result (NamesPlace word.now) }
+    ensures none { IfNone result ((place : ℕ) → NamesPlace word.now place → ⊥) }
+{
+    match word.strip_prefix("place=") {
+        Some(spelling) => spelled_number(spelling, 1, MOST_PLACE),
+        None => None,
+    }
 }
 
 // The number that a word gives for the turns.
@@ -423,23 +490,43 @@ fn turn_count(word: &str) -> Option<u32>
     ensures none { IfNone result ((turns : ℕ) → NamesTurns word.now turns → ⊥) }
 {
     match word.strip_prefix("turns=") {
-        Some(spelling) => spelled_turns(spelling),
+        Some(spelling) => spelled_number(spelling, 0, MOST_TURNS),
         None => None,
+    }
+}
+
+// Whether a text is a yes or a no.
+fn answer_spelled(spelling: &str) -> Option<bool>
+    ensures some { IfSome result (λ answer. spelling.now ≡ answer_word answer) }
+    ensures none { IfNone result ((answer : Bool) → spelling.now ≡ answer_word answer → ⊥) }
+{
+    match spelling {
+        "yes" => Some(true),
+        "no" => Some(false),
+        _ => None,
     }
 }
 
 // What a word says of the pins.
 fn pins_written(word: &str) -> Option<bool>
-    ensures some { IfSome result (NamesPins word.now) }
-    ensures none { IfNone result ((written : Bool) → NamesPins word.now written → ⊥) }
+    ensures some { IfSome result (SaysPins word.now) }
+    ensures none { IfNone result ((written : Bool) → SaysPins word.now written → ⊥) }
 {
-    if word == "pins=yes" {
-        return Some(true);
+    match word.strip_prefix("pins=") {
+        Some(spelling) => answer_spelled(spelling),
+        None => None,
     }
-    if word == "pins=no" {
-        return Some(false);
+}
+
+// What a word says of the report.
+fn devices_reported(word: &str) -> Option<bool>
+    ensures some { IfSome result (SaysReport word.now) }
+    ensures none { IfNone result ((reported : Bool) → SaysReport word.now reported → ⊥) }
+{
+    match word.strip_prefix("report=") {
+        Some(spelling) => answer_spelled(spelling),
+        None => None,
     }
-    None
 }
 
 // The mode that a word names.
@@ -478,7 +565,8 @@ fn read_parts(mode: Mode, words: &[String]) -> Result<Given<'_>, usize>
     ensures read { IfOk result (λ given.
         AreReadUpTo (map string_bytes words.now) (length words.now) (values_of given)) }
     ensures unread { IfErr result (IsFirstUnread (map string_bytes words.now)) }
-    ensures few { IfErr result (λ place. place ≤ 8) }
+    ensures few { IfErr result (λ place. place ≤ 10) }
+    ensures few_words { OnOk result (length words.now ≤ 10) }
 {
     let mut given = Given::nothing(mode);
     for place in 1..words.len() {

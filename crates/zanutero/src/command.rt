@@ -7,7 +7,9 @@ ghost use Rattle.play_tool.specs.declared.words.Request.{Request};
 ghost use Rattle.play_tool.specs.Words.{HasMode, IsRequest};
 ghost use Rattle.play_tool.specs.Written.{Wrote, WroteFront, IsPrefixOf};
 ghost use Rattle.play_tool.specs.Boards.{HasReadCause};
-ghost use Rattle.play_tool.specs.Answers.{Answer, SomeFilesAnswer, IsFault};
+ghost use Rattle.play_tool.specs.Answers.{contents_in, Answer, SomeFilesAnswer, IsFault};
+ghost use Rattle.play_tool.specs.Alone.{IsQuietAlone, PlaysAlone};
+ghost use Rattle.play_tool.specs.Finals.{IsPlayed, WordsHoldFinal};
 ghost use Rattle.play_tool.specs.Racks.{ComesBeforeFitting};
 ghost use Rattle.zanutero.specs.Commands.{CommandAnswer};
 
@@ -69,6 +71,16 @@ pub fn run_command<S: Shelf, K: Sink>(
     ensures before { ComesBeforeFitting result → rack.new.items ≡ rack.old.items }
     ensures other { (HasMode (map string_bytes words.now) Play → ⊥) → rack.new.items ≡ rack.old.items }
     ensures kinds { map kind_of rack.new.items ≡ map kind_of rack.old.items }
+
+    // If a play was played, to its ending or for all its turns, the rack holds the board that it leaves.
+    ensures leaves { HasMode (map string_bytes words.now) Play → IsPlayed result →
+        WordsHoldFinal (map string_bytes words.now) (S.told shelf.old) (map fitted rack.new.items) }
+
+    // A play for one device of a board is the play on that device alone, if this is quiet for all its turns and no
+    // clocks are asked for: the same text and the same status.
+    ensures alone { (IsFault result → ⊥) → IfSome (S.told shelf.old) (λ files.
+        (q : IsQuietAlone (map string_bytes words.now) (contents_in files)) →
+        Wrote (PlaysAlone q) (K.written out.old) (K.written out.new) result) }
 {
     match text_asked(words) {
         Some(text) => match write_text(out, text) {

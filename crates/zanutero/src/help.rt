@@ -11,16 +11,20 @@ const HELP: &[u8] = b"zanutero: checks, lists and plays STAPL programs (JEDEC JE
   zanutero list program=PATH
       lists the notes of the program, and its actions with their procedures
   zanutero play board=PATH program=PATH action=NAME [do=NAME,..] [skip=NAME,..]
-      [turns=N] [pins=yes|no]
+      [place=N] [turns=N] [pins=yes|no] [report=yes|no]
       plays the action NAME of the program on the board in the file board=PATH,
       and writes what it prints and how it ends
       board=PATH    the devices of the chain, a line for each, as plain U1 4;
                     the first is nearest TDO
       do=NAME,..    runs these OPTIONAL procedures, too
       skip=NAME,..  leaves out these RECOMMENDED procedures
+      place=N       plays the program for device N of the board, from 1: pads
+                    each scan for the other devices
       turns=N       the most turns of the play, 0 to 1000000000, or 100000000 if
                     it is missing; each statement that is played takes one
       pins=yes      writes the clocks of the chain, too
+      report=yes    writes what the devices hold after the play, too; with a
+                    place, what that device holds
   zanutero --help
   zanutero --version
 
@@ -36,7 +40,8 @@ Exit codes:
   4  the program is refused: the line R program PIECE line LINE REASON
   5  the board is refused: the line R board LINE REASON
   6  the program has no such action: the line R action; or a name of do or skip
-     is not that of such a procedure of the action: the line R choice
+     is not that of such a procedure of the action: the line R choice; or the
+     board has no device at the place: the line R place
   7  the words are refused: the line R usage WORD
   9  the board or the program could not be read
   10 the output could not be written

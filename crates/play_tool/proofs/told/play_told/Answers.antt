@@ -1,13 +1,12 @@
-use Rattle.std.proofs.Common.{[], ◌++◌, ap, subst, ◌∙◌}
+use Rattle.std.proofs.Common.{[], ◌++◌, sym, ap, subst, ◌∙◌}
 use Rattle.dev_card.specs.Board.{tdos}
 use Rattle.stapl_meaning.specs.Plays.{ending_of}
 use Rattle.stapl_meaning.specs.Texts.{events_text}
 use Rattle.stapl_machine.specs.Papers.{Puts, PutsFront, shown_of}
 use Rattle.stapl_machine.specs.PaperLaws.{puts_back, puts_front_back}
-use Rattle.stapl_player.specs.Plays.{whole_play}
 use Rattle.play_tool.specs.declared.status.NoAnswer.TheVariants.{Write, Memory}
-use Rattle.play_tool.specs.CodePlays.{told_play}
-use Rattle.play_tool.proofs.PlayLemmas.{same_error, told_far, no_cable_fault, write_cause, memory_first}
+use Rattle.play_tool.specs.CodePlays.{far_play, task_play}
+use Rattle.play_tool.proofs.PlayLemmas.{same_error, on_board, no_cable_fault, write_cause, memory_first}
 use Rattle.play_tool.proofs.told.play_told.Goals as goal
 
 pub no_answer-requires : goal.no_answer-requires
@@ -15,28 +14,33 @@ no_answer-requires g c = no_cable_fault _ _ c.in-Err.trouble (c.requires.sure c.
 
 pub returns-in-Ok-clause-ended : goal.returns-in-Ok-clause-ended
 returns-in-Ok-clause-ended g c =
-    let p = c.in-Ok.ensures.played in
-    ap (λ far. ending_of (whole_play c.args.code.now c.args.chosen.now c.args.turns far).outcome) (told_far (g.C.Cable.board c.args.cable.now) [] (tdos p.clocks ++ []) c.requires.told) ∙ p.ended []
+    let p = rw c.base_of-base.ensures at c.in-Ok.ensures.played in
+    ap (λ far. ending_of (far_play c.args.code.now c.args.chosen.now c.args.task.now far).outcome) (sym (on_board c.requires.told (tdos p.clocks ++ []))) ∙ p.ended []
 
 pub returns-in-Ok-clause-put : goal.returns-in-Ok-clause-put
 returns-in-Ok-clause-put g c =
-    let p = c.in-Ok.ensures.played in let w = g.K.Sink.written in
-    puts_back w c.args.lines.now c.play.new.out (events_text c.args.pins [] (told_play g.C.Cable.board c.args.code.now c.args.chosen.now c.args.turns c.args.cable.now).events)
-    (subst (λ far. Puts (shown_of w) c.args.lines.now (events_text c.args.pins [] (whole_play c.args.code.now c.args.chosen.now c.args.turns far).events) c.play.new.out)
-    (told_far (g.C.Cable.board c.args.cable.now) (tdos p.clocks ++ []) [] c.requires.told) (p.put []))
+    let p = rw c.base_of-base.ensures at c.in-Ok.ensures.played in let w = g.K.Sink.written in
+    puts_back w c.args.lines.now c.play.new.out (events_text c.args.task.now.request.now.pins [] (task_play c.args.code.now c.args.chosen.now c.args.task.now).events)
+    (subst (λ far. Puts (shown_of w) c.args.lines.now (events_text c.args.task.now.request.now.pins [] (far_play c.args.code.now c.args.chosen.now c.args.task.now far).events) c.play.new.out)
+    (on_board c.requires.told (tdos p.clocks ++ [])) (p.put []))
+
+pub returns-in-Ok-clause-far : goal.returns-in-Ok-clause-far
+returns-in-Ok-clause-far g c =
+    let p = rw c.base_of-base.ensures at c.in-Ok.ensures.played in
+    ap (λ far. (far_play c.args.code.now c.args.chosen.now c.args.task.now far).chain.far) (sym (on_board c.requires.told (tdos p.clocks ++ []))) ∙ p.far []
 
 pub returns-in-Ok-clause-clocked : goal.returns-in-Ok-clause-clocked
-returns-in-Ok-clause-clocked g c = let p = c.in-Ok.ensures.played in record { clocks = p.clocks; made = p.made }
+returns-in-Ok-clause-clocked g c = let p = rw c.base_of-base.ensures at c.in-Ok.ensures.played in record { clocks = p.clocks; made = p.made }
 
 pub returns-clause-front : goal.returns-clause-front
 returns-clause-front g c =
-    let p = c.in-Err.ensures.front in let w = g.K.Sink.written in
-    puts_front_back w c.args.lines.now c.play.new.out (events_text c.args.pins [] (told_play g.C.Cable.board c.args.code.now c.args.chosen.now c.args.turns c.args.cable.now).events)
-    (subst (λ far. PutsFront (shown_of w) c.args.lines.now (events_text c.args.pins [] (whole_play c.args.code.now c.args.chosen.now c.args.turns far).events) c.play.new.out)
-    (told_far (g.C.Cable.board c.args.cable.now) (tdos p.clocks ++ []) [] c.requires.told) (p.front []))
+    let p = rw c.base_of-base.ensures at c.in-Err.ensures.front in let w = g.K.Sink.written in
+    puts_front_back w c.args.lines.now c.play.new.out (events_text c.args.task.now.request.now.pins [] (task_play c.args.code.now c.args.chosen.now c.args.task.now).events)
+    (subst (λ far. PutsFront (shown_of w) c.args.lines.now (events_text c.args.task.now.request.now.pins [] (far_play c.args.code.now c.args.chosen.now c.args.task.now far).events) c.play.new.out)
+    (on_board c.requires.told (tdos p.clocks ++ [])) (p.front []))
 
 pub returns-clause-clocked : goal.returns-clause-clocked
-returns-clause-clocked g c = let p = c.in-Err.ensures.front in record { clocks = p.clocks; made = p.made }
+returns-clause-clocked g c = let p = rw c.base_of-base.ensures at c.in-Err.ensures.front in record { clocks = p.clocks; made = p.made }
 
 pub returns-clause-write : goal.returns-clause-write
 returns-clause-write g c = λ e. write_cause _ _ c.in-Err.trouble (c.no_answer.ensures.write (same_error c.no_answer.result Write e)) c.in-Err.ensures.fault

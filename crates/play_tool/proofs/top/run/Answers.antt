@@ -1,4 +1,7 @@
+use Rattle.std.proofs.Common.{map, string_bytes, Global}
+use Rattle.play_tool.specs.declared.mode.Mode.TheVariants.{Play}
 use Rattle.play_tool.specs.Answers.{contents_in}
+use Rattle.play_tool.proofs.WordLemmas.{one_mode}
 use Rattle.play_tool.proofs.AnswerLemmas.{on_ok, on_some}
 use Rattle.play_tool.proofs.RequestLemmas.{request_words, words_request, some_request}
 use Rattle.play_tool.proofs.WrittenLemmas.{wrote_within, front_within, prefix_within}
@@ -30,3 +33,10 @@ pub returns-in-Ok-clause-memory : goal.returns-in-Ok-clause-memory
 returns-in-Ok-clause-memory g c = λ e.
     on_some (g.S.Shelf.told c.args.shelf.now) (λ files. prefix_within (words_request {contents_of = contents_in files} c.in-Ok.ensures.request))
     (c.answer_request.ensures.memory e)
+
+pub returns-in-Ok-clause-leaves : goal.returns-in-Ok-clause-leaves
+returns-in-Ok-clause-leaves g c = λ has.
+    let words = map (string_bytes {Z = Global}) c.args.words.now in
+    on_ok c.answer_request.result
+    (λ status holds played. record { request = c.in-Ok.request; asked = c.in-Ok.ensures.request; final = holds played })
+    (c.answer_request.ensures.leaves (one_mode words c.in-Ok.request.mode Play c.in-Ok.ensures.request.mode has))

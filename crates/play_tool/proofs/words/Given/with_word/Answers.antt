@@ -1,5 +1,5 @@
 use Rattle.std.proofs.Common.{Option, None, Some, IfNone}
-use Rattle.play_tool.specs.Words.{BoardIn, ProgramIn, ActionNamed, NamesAsked, NamesSkipped, TurnsAtMost, PinsWritten}
+use Rattle.play_tool.specs.Words.{BoardIn, ProgramIn, ActionNamed, NamesAsked, NamesSkipped, PlaceAsked, TurnsAtMost, PinsWritten, DevicesReported}
 use Rattle.play_tool.specs.GivenParts.{names_in}
 use Rattle.play_tool.proofs.WordLemmas.{adds_refused}
 use Rattle.play_tool.proofs.words.Given.with_word.Goals as goal
@@ -28,6 +28,10 @@ pub returns-in-Some-names_skipped-clause-none : goal.returns-in-Some-names_skipp
 returns-in-Some-names_skipped-clause-none c =
     on_none c.with_skip.result (adds_refused (NamesSkipped (names_in c.in-Some-names_skipped.spelling.now)) c.in-Some-names_skipped.ensures.some) c.with_skip.ensures.none
 
+pub returns-in-Some-place_asked-clause-none : goal.returns-in-Some-place_asked-clause-none
+returns-in-Some-place_asked-clause-none c =
+    on_none c.with_place.result (adds_refused (PlaceAsked c.in-Some-place_asked.place) c.in-Some-place_asked.ensures.some) c.with_place.ensures.none
+
 pub returns-in-Some-turn_count-clause-none : goal.returns-in-Some-turn_count-clause-none
 returns-in-Some-turn_count-clause-none c =
     on_none c.with_turns.result (adds_refused (TurnsAtMost c.in-Some-turn_count.turns) c.in-Some-turn_count.ensures.some) c.with_turns.ensures.none
@@ -35,3 +39,7 @@ returns-in-Some-turn_count-clause-none c =
 pub returns-in-Some-pins_written-clause-none : goal.returns-in-Some-pins_written-clause-none
 returns-in-Some-pins_written-clause-none c =
     on_none c.with_pins.result (adds_refused (PinsWritten c.in-Some-pins_written.written) c.in-Some-pins_written.ensures.some) c.with_pins.ensures.none
+
+pub returns-in-Some-devices_reported-clause-none : goal.returns-in-Some-devices_reported-clause-none
+returns-in-Some-devices_reported-clause-none c =
+    on_none c.with_report.result (adds_refused (DevicesReported c.in-Some-devices_reported.reported) c.in-Some-devices_reported.ensures.some) c.with_report.ensures.none

@@ -1,0 +1,147 @@
+-- A play for one device of a chain has the answer of the play on that device alone, if this is quiet.
+use Rattle.std.proofs.Common.{◌≡◌, ◌≤◌, ◌-◌, ℕ, true, false, Bool, List, [], ◌∷◌, length, map, zero, suc, take, drop, ◌++◌, ◌&&◌, All, Option, None, Some, slice_get, nat_le, refl, sym, ap, ◌∙◌, subst, arith}
+use Rattle.std.proofs.lemmas.Bool.{and_parts}
+use Rattle.std.proofs.lemmas.Bool.Decides.{nat_tests}
+use Rattle.std.proofs.lemmas.Option.{same_Some}
+use Rattle.std.proofs.lemmas.List.{take_all}
+use Rattle.std.specs.Str.Lines.{lines}
+use Rattle.stapl_syntax.specs.Trees.{StmtTree}
+use Rattle.stapl_meaning.specs.declared.events.Ending.{Ending}
+use Rattle.stapl_meaning.specs.Choices.{Choice, chosen, choice_of}
+use Rattle.stapl_meaning.specs.Choices as choices
+use Rattle.stapl_meaning.specs.Scopes.{Played, as_played}
+use Rattle.stapl_meaning.specs.Plays.{Run, play}
+use Rattle.stapl_meaning.specs.Texts.{events_text, ending_line, far_report, asked_report, text_of}
+use Rattle.dev_card.specs.declared.desc.Desc.{Desc}
+use Rattle.dev_card.specs.Card.{fresh}
+use Rattle.dev_card.specs.Padding.{base_lengths}
+use Rattle.dev_card.specs.Descriptions.{IsGood}
+use Rattle.dev_card.specs.FarEnds.{FarEnd, Told, Heard}
+use Rattle.dev_card.specs.Reports.{report_of}
+use Rattle.board_text.specs.Boards.{IsBoard, devices_of}
+use Rattle.board_text.proofs.LineSteps.{all_begun}
+use Rattle.board_text.proofs.Faultless.{AreBegun}
+use Rattle.board_text.proofs.BoardLemmas.{good_at_end}
+use Rattle.padded_plays.specs.QuietPlays.{IsQuietPlay}
+use Rattle.padded_plays.specs.SamePlays.{cards_from, IsSameText}
+use Rattle.padded_plays.proofs.SameTexts.{text_of_place}
+use Rattle.play_tool.specs.declared.mode.Mode.{Mode}
+use Rattle.play_tool.specs.declared.mode.Mode.TheVariants.{Play}
+use Rattle.play_tool.specs.declared.status.Status.{Status}
+use Rattle.play_tool.specs.declared.words.Request.{Request}
+use Rattle.play_tool.specs.Answers.{done_with, has_place, reported_far, asked_text, Plays, no_action, bad_choice, bad_place, played, play_on, PlaysAction, PlaysAsked, Work, TextAnswer, FileAnswer, Contents, WordsAnswer}
+use Rattle.play_tool.specs.Boards.{HasBoard}
+use Rattle.play_tool.specs.Alone.{alone_request, IsQuietAlone, PlaysAlone}
+use Rattle.play_tool.proofs.AnswerLemmas.{answers_work, asked_plays}
+use Rattle.play_tool.proofs.RequestLemmas.{words_request, the_file}
+use Rattle.play_tool.proofs.WrittenLemmas.{IsWithin}
+
+-- the devices of a board are good
+board_good : (text : List ℕ) (devices : List Desc) → IsBoard text devices → All IsGood devices
+board_good text devices b =
+    let all = lines text in
+    let begun : AreBegun (devices_of (take (length all) all)) = all_begun all (length all) (omega arith) b.faultless in
+    good_at_end devices (subst AreBegun (ap devices_of (take_all (length all) all (omega arith)) ∙ sym b.described) begun) b.finished
+
+has_good : (named held : Option (List ℕ)) (devices : List Desc) → HasBoard named held devices → All IsGood devices
+has_good None held devices none = subst (λ (ds : List Desc). All IsGood ds) (sym none) (λ k d h. absurd (omega (arith, h)))
+has_good (Some path) None devices h = absurd h
+has_good (Some path) (Some bytes) devices b = board_good bytes devices b
+
+-- the report at a place
+place_report : (place : ℕ) (far : FarEnd) → far_report (reported_far (Some place) far) ≡ report_of (cards_from (place - 1) 1 far)
+place_report place (Told cards) = refl
+place_report place (Heard answers) = none_left (place - 1)
+  where
+    none_left : (i : ℕ) → [] ≡ report_of (take 1 (drop i []))
+    none_left zero = refl
+    none_left (suc i) = refl
+
+same_asked : (asked : Bool) (a b : FarEnd) → far_report a ≡ far_report b → asked_report asked a ≡ asked_report asked b
+same_asked false a b e = refl
+same_asked true a b e = e
+
+-- the texts of both plays
+module _ (request : Request) (place : ℕ) (padded alone : Run) (same : IsSameText (place - 1) 1 padded alone) where
+  same_reports : far_report (reported_far (Some place) padded.chain.far) ≡ far_report alone.chain.far
+  same_reports = place_report place padded.chain.far ∙ same.same_report
+
+  same_texts : (ending : Ending) → text_of false padded.events (asked_report request.report (reported_far (Some place) padded.chain.far)) ending
+      ≡ text_of false alone.events (asked_report request.report alone.chain.far) ending
+  same_texts ending =
+      ap (λ (front : List ℕ). front ++ asked_report request.report (reported_far (Some place) padded.chain.far) ++ ending_line ending) same.same_text
+      ∙ ap (λ (report : List ℕ). events_text false [] alone.events ++ report ++ ending_line ending) (same_asked request.report _ _ same_reports)
+
+one_choice : {choice : Choice} {a b : List ℕ} → choice ≡ chosen a → choice ≡ chosen b → a ≡ b
+one_choice e f = cc
+
+no_action_chosen : {choice : Choice} {procedures : List ℕ} → choice ≡ choices.no_action → choice ≡ chosen procedures → ⊥
+no_action_chosen e f = cc
+
+bad_choice_chosen : {choice : Choice} {procedures : List ℕ} → choice ≡ choices.bad_choice → choice ≡ chosen procedures → ⊥
+bad_choice_chosen e f = cc
+
+true_and_false : {b : Bool} → b ≡ true → b ≡ false → ⊥
+true_and_false e f = cc
+
+is_counted : (place n : ℕ) → (nat_le 1 place && nat_le place n) ≡ true → 1 ≤ place
+is_counted place n h = let least = (and_parts (nat_le 1 place) (nat_le place n) h).0 in grind (arith, nat_tests, least)
+
+-- the play of the action for one device is that on the device alone
+module _ (request : Request) (place : ℕ) (devices : List Desc) (device : Desc) (program : Played) (choice : Choice) (procedures : List ℕ) (no_pins : request.pins ≡ false)
+    (for_one : request.place ≡ Some place) (placed : has_place (Some place) devices ≡ true) (good : All IsGood devices) (at_place : slice_get devices (place - 1) ≡ Some device)
+    (is_chosen : choice ≡ chosen procedures) (quiet : IsQuietPlay program procedures request.turns (device ∷ [])) where
+  abbrev PlaysPadded : List ℕ → Status → Type 0
+  PlaysPadded = Plays choice (has_place request.place devices) (play_on program request devices) request
+
+  abbrev PlaysOne : List ℕ → Status → Type 0
+  PlaysOne = Plays choice true (play_on program (alone_request request) (device ∷ [])) (alone_request request)
+
+  same_run : (chosen_now : List ℕ) → chosen_now ≡ procedures →
+      IsSameText (place - 1) 1 (play_on program request devices chosen_now) (play_on program (alone_request request) (device ∷ []) chosen_now)
+  same_run chosen_now e =
+      subst (λ (p : Option ℕ). IsSameText (place - 1) 1 (play program chosen_now request.turns (base_lengths devices p) (Told (map fresh devices))) (play_on program (alone_request request) (device ∷ []) chosen_now)) (sym for_one)
+      (text_of_place program chosen_now devices place device request.turns request.turns good (is_counted place (length devices) placed) at_place
+      (subst (λ (ps : List ℕ). IsQuietPlay program ps request.turns (device ∷ [])) (sym e) quiet) (omega arith))
+
+  text_alone : (padded alone : Run) (ending : Ending) → IsSameText (place - 1) 1 padded alone →
+      asked_text request padded.events padded.chain.far ending ≡ asked_text (alone_request request) alone.events alone.chain.far ending
+  text_alone padded alone ending same =
+      ap (λ (pins : Bool). text_of pins padded.events (asked_report request.report (reported_far request.place padded.chain.far)) ending) no_pins
+      ∙ ap (λ (p : Option ℕ). text_of false padded.events (asked_report request.report (reported_far p padded.chain.far)) ending) for_one
+      ∙ same_texts request place padded alone same ending
+      ∙ sym (ap (λ (pins : Bool). text_of pins alone.events (asked_report request.report alone.chain.far) ending) no_pins)
+
+  alone_plays : (text : List ℕ) (status : Status) → PlaysPadded text status → PlaysOne text status
+  alone_plays text status (no_action e) = absurd (no_action_chosen e is_chosen)
+  alone_plays text status (bad_choice e) = absurd (bad_choice_chosen e is_chosen)
+  alone_plays text status (bad_place other e lacks) = absurd (true_and_false (ap (λ (p : Option ℕ). has_place p devices) for_one ∙ placed) lacks)
+  alone_plays text status (played other ending e has ended) =
+      let same = same_run other (one_choice e is_chosen) in
+      subst (λ (bytes : List ℕ). PlaysOne bytes (done_with ending)) (sym (text_alone _ _ ending same))
+      (played other ending e refl (sym same.same_ending ∙ ended))
+
+file_text : {request : Request} {devices : List Desc} {file : Option (List ℕ)} {bytes text : List ℕ} {status : Status} → file ≡ Some bytes →
+    FileAnswer request devices file text status → TextAnswer request devices bytes text status
+file_text {request = request} {devices = devices} {text = text} {status = status} e a =
+    subst (λ (z : List ℕ). TextAnswer request devices z text status) (same_Some a.bytes _ (sym a.held ∙ e)) a.answer
+
+mode_work : {request : Request} {devices : List Desc} (bytes : List ℕ) {program : List StmtTree} {text : List ℕ} {status : Status} → request.mode ≡ Play →
+    Work request devices bytes program request.mode text status → PlaysAsked program request devices text status
+mode_work {request = request} {devices = devices} bytes {program = program} {text = text} {status = status} e w =
+    subst (λ (m : Mode). Work request devices bytes program m text status) e w
+
+action_alone : {words : List (List ℕ)} {contents_of : Request → Contents} (q : IsQuietAlone words contents_of) (text : List ℕ) (status : Status) →
+    PlaysAction q.program q.action q.request q.devices text status → PlaysAlone q text status
+action_alone {contents_of = contents_of} q text status a =
+    alone_plays q.request q.place q.devices q.device (as_played q.program) (choice_of (as_played q.program) q.action q.request.todo q.request.skip) q.procedures q.no_pins q.for_one q.placed
+    (has_good q.request.board (contents_of q.request).board q.devices q.board) q.at_place q.choice q.quiet text status a
+
+-- each answer is that of the play alone
+pub answers_alone : {words : List (List ℕ)} {contents_of : Request → Contents} (q : IsQuietAlone words contents_of) → IsWithin (WordsAnswer words contents_of) (PlaysAlone q)
+answers_alone {contents_of = contents_of} q = record {
+  to = λ text status a.
+      let file = the_file {contents = contents_of q.request} q.devices q.board ((words_request {contents_of = contents_of} q.asked).to text status a) in
+      let work = (answers_work q.request q.devices q.bytes q.bytes q.program refl q.is).to text status (file_text q.held file) in
+      action_alone q text status ((asked_plays q.request q.devices q.program q.named).to text status (mode_work q.bytes q.plays work));
+}
