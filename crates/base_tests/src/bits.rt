@@ -150,35 +150,50 @@ fn hex(alloc: Global, text: &str) -> Result<Bits, BitsRefused> {
     Bits::from_hex(alloc, digits)
 }
 
-#[test]
-fn reads_digits(rt: HostRuntime) -> Result<(), Fail> {
-    for (digits, bits) in HEX {
-        assert!(rt;
-            is_written(&hex(rt.alloc(), digits)?, bits),
-            "hexadecimal {digits}"
-        );
+/// Whether the hexadecimal digits give the list that is written as this text, the lowest index on the left.
+fn hex_gives(alloc: Global, digits: &str, text: &str) -> bool {
+    match hex(alloc, digits) {
+        Ok(bits) => is_written(&bits, text),
+        Err(_) => false,
     }
-    for (digits, bits) in BINARY {
-        assert!(rt;
-            is_written(&binary(rt.alloc(), digits)?, bits),
-            "binary {digits}"
-        );
+}
+
+/// The same of binary digits.
+fn binary_gives(alloc: Global, digits: &str, text: &str) -> bool {
+    match binary(alloc, digits) {
+        Ok(bits) => is_written(&bits, text),
+        Err(_) => false,
+    }
+}
+
+/// The place of the byte for which a text is refused, if it is.
+fn refused_at(read: Result<Bits, BitsRefused>) -> Option<u32> {
+    match read {
+        Err(BitsRefused::BadDigit(place)) => Some(place),
+        _ => None,
+    }
+}
+
+#[test]
+fn reads_hexadecimal_digits(rt: HostRuntime) {
+    for (digits, bits) in HEX {
+        assert!(rt; hex_gives(rt.alloc(), digits, bits), "at {digits:?}");
     }
     for (digits, place) in NO_HEX {
-        assert_eq!(rt;
-            hex(rt.alloc(), digits),
-            Err(BitsRefused::BadDigit(place)),
-            "hexadecimal {digits}"
-        );
+        let refused = refused_at(hex(rt.alloc(), digits));
+        assert!(rt; refused == Some(place), "at {digits:?}");
+    }
+}
+
+#[test]
+fn reads_binary_digits(rt: HostRuntime) {
+    for (digits, bits) in BINARY {
+        assert!(rt; binary_gives(rt.alloc(), digits, bits), "at {digits:?}");
     }
     for (digits, place) in NO_BINARY {
-        assert_eq!(rt;
-            binary(rt.alloc(), digits),
-            Err(BitsRefused::BadDigit(place)),
-            "binary {digits}"
-        );
+        let refused = refused_at(binary(rt.alloc(), digits));
+        assert!(rt; refused == Some(place), "at {digits:?}");
     }
-    Ok(())
 }
 
 #[test]
@@ -194,33 +209,63 @@ fn changes_bits(rt: HostRuntime) -> Result<(), Fail> {
     Ok(())
 }
 
+/// Whether the list has these binary digits.
+fn is_binary(alloc: Global, bits: &Bits, digits: &str) -> Result<bool, BitsRefused> {
+    let wanted = binary(alloc, digits)?;
+    Ok(*bits == wanted)
+}
+
+/// The target after the copy of a range, if both ranges lie in their lists.
+fn copied(
+    alloc: Global,
+    target: &str,
+    at: u32,
+    source: &str,
+    low: u32,
+    n: u32,
+) -> Result<Bits, BitsRefused> {
+    let mut bits = binary(alloc, target)?;
+    let from = binary(alloc, source)?;
+    if at <= bits.len() && n <= bits.len() - at && low <= from.len() && n <= from.len() - low {
+        bits.copy_range(at, &from, low, n);
+    }
+    Ok(bits)
+}
+
 #[test]
 fn copies_ranges(rt: HostRuntime) -> Result<(), Fail> {
     for (target, at, source, low, n, wanted) in COPIES {
-        let mut bits = binary(rt.alloc(), target)?;
-        let from = binary(rt.alloc(), source)?;
-        assert!(rt; at <= bits.len() && n <= bits.len() - at);
-        assert!(rt; low <= from.len() && n <= from.len() - low);
-        bits.copy_range(at, &from, low, n);
-        assert_eq!(rt;
-            bits,
-            binary(rt.alloc(), wanted)?,
-            "{n} bits of {source} into {target}"
-        );
+        let bits = copied(rt.alloc(), target, at, source, low, n)?;
+        let is_as_wanted = is_binary(rt.alloc(), &bits, wanted)?;
+        assert!(rt; is_as_wanted, "{n} bits of {source} into {target}");
     }
     Ok(())
+}
+
+/// Whether the lowest bits of two lists agree under a mask, if the lists have so many.
+fn agree(
+    alloc: Global,
+    left: &str,
+    right: &str,
+    mask: &str,
+    n: u32,
+) -> Result<Option<bool>, BitsRefused> {
+    let a = binary(alloc, left)?;
+    let b = binary(alloc, right)?;
+    let under = binary(alloc, mask)?;
+    if n <= a.len() && n <= b.len() && n <= under.len() {
+        Ok(Some(a.masked_equal(&b, &under, n)))
+    } else {
+        Ok(None)
+    }
 }
 
 #[test]
 fn compares_under_a_mask(rt: HostRuntime) -> Result<(), Fail> {
     for (left, right, mask, n, wanted) in COMPARISONS {
-        let a = binary(rt.alloc(), left)?;
-        let b = binary(rt.alloc(), right)?;
-        let under = binary(rt.alloc(), mask)?;
-        assert!(rt; n <= a.len() && n <= b.len() && n <= under.len());
-        assert_eq!(rt;
-            a.masked_equal(&b, &under, n),
-            wanted,
+        let found = agree(rt.alloc(), left, right, mask, n)?;
+        assert!(rt;
+            found == Some(wanted),
             "{n} bits of {left} and {right} under {mask}"
         );
     }
@@ -228,22 +273,41 @@ fn compares_under_a_mask(rt: HostRuntime) -> Result<(), Fail> {
 }
 
 #[test]
-fn converts_integers(rt: HostRuntime) -> Result<(), Fail> {
+fn reads_integers(rt: HostRuntime) -> Result<(), Fail> {
     let bits = hex(rt.alloc(), "96C3A5F0E1")?;
     assert!(rt; bits.len() == 40);
     for n in 0..33 {
-        assert_eq!(rt; bits.to_int(5, n), INTEGERS[n as usize], "{n} bits");
+        assert!(rt; bits.to_int(5, n) == INTEGERS[n as usize], "{n} bits");
     }
+    Ok(())
+}
+
+/// Whether an integer has these hexadecimal digits, and the integer that is read of its bits.
+fn written(alloc: Global, value: i32, digits: &str) -> Result<(bool, i32), BitsRefused> {
+    let Ok(mut bits) = Bits::zeros(alloc, 32) else {
+        return Err(BitsRefused::Memory);
+    };
+    bits.set_int(value);
+    let wanted = hex(alloc, digits)?;
+    Ok((bits == wanted, bits.to_int(0, 32)))
+}
+
+#[test]
+fn writes_integers(rt: HostRuntime) -> Result<(), Fail> {
     for (value, digits) in INTEGER_BITS {
-        let mut written = Bits::zeros(rt.alloc(), 32)?;
-        written.set_int(value);
-        assert_eq!(rt; written, hex(rt.alloc(), digits)?, "the bits of {value}");
-        assert_eq!(rt; written.to_int(0, 32), value, "{value} and back");
+        let found = written(rt.alloc(), value, digits)?;
+        assert!(rt; found == (true, value), "the bits of {value}");
     }
+    Ok(())
+}
+
+#[test]
+fn writes_the_lowest_bits(rt: HostRuntime) -> Result<(), Fail> {
     let mut longer = hex(rt.alloc(), "800000000")?;
     assert!(rt; longer.len() == 36);
     longer.set_int(-1);
-    assert_eq!(rt; longer, hex(rt.alloc(), "8FFFFFFFF")?);
-    assert_eq!(rt; longer.to_int(4, 32), -1_879_048_193);
+    assert!(rt; longer.to_int(4, 32) == -1_879_048_193);
+    let wanted = hex(rt.alloc(), "8FFFFFFFF")?;
+    assert!(rt; longer == wanted);
     Ok(())
 }

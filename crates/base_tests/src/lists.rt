@@ -5,11 +5,11 @@ use std::test::Fail;
 #[test]
 fn gives_its_items_back(rt: HostRuntime) -> Result<(), Fail> {
     let list = ItemList::of(vec![in rt.alloc(); 3u32, 1, 2]?);
-    assert_eq!(rt; list.as_slice(), [3, 1, 2].as_slice());
-    assert_eq!(rt; list.len(), 3);
+    assert!(rt; list.as_slice() == [3, 1, 2].as_slice());
+    assert!(rt; list.len() == 3);
     assert!(rt; !list.is_empty());
     let items = list.into_items();
-    assert_eq!(rt; items.as_slice(), [3, 1, 2].as_slice());
+    assert!(rt; items.as_slice() == [3, 1, 2].as_slice());
     Ok(())
 }
 
@@ -18,10 +18,9 @@ fn takes_the_newest_item_first(rt: HostRuntime) -> Result<(), Fail> {
     let mut stack = Stack::new(rt.alloc());
     stack.push(1u32)?;
     stack.push(2)?;
-    assert_eq!(rt; stack.len(), 2);
-    assert_eq!(rt; stack.pop(), Some(2));
+    assert!(rt; stack.len() == 2 && stack.pop() == Some(2));
     stack.push(3)?;
     stack.clear();
-    assert_eq!(rt; stack.pop(), None);
+    assert!(rt; stack.pop().is_none());
     Ok(())
 }

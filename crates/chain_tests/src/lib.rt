@@ -6,4 +6,6 @@ mod cable;
 #[cfg(test)]
 mod chain;
 #[cfg(test)]
+mod report;
+#[cfg(test)]
 mod scan;

@@ -7,7 +7,7 @@ use crate::chain::{board, devices};
 use bit_list::{Bits, BitsRefused, MOST_DIGITS};
 use chain_sim::{Chain, fit_board, is_rack};
 use dev_card::{Desc, Device};
-use scan_paths::{Pads, ScanPlan, scan};
+use scan_paths::{BasePads, Pads, ScanPlan, scan};
 use stapl_lexer::Name;
 use std::alloc::Global;
 use std::test::Fail;
@@ -19,13 +19,27 @@ use tap_states::Tap;
 struct Case {
     identities: &'static [u32],
     ir: bool,
-    base_pre: u32,
+    base: BasePads,
     pre: &'static str,
     bits: &'static str,
     post: &'static str,
-    base_post: u32,
     captured: &'static str,
 }
+
+// No base padding, and that for the second of three devices with instructions of 4 bits.
+const NONE: BasePads = BasePads {
+    pre_ir: 0,
+    post_ir: 0,
+    pre_dr: 0,
+    post_dr: 0,
+};
+
+const AROUND_THE_SECOND: BasePads = BasePads {
+    pre_ir: 4,
+    post_ir: 4,
+    pre_dr: 1,
+    post_dr: 1,
+};
 
 /// By IEEE 1149.1 a device without identity has BYPASS selected in reset, which captures 0; one with identity shifts
 /// that. An instruction register, here of 4 bits, captures 01 in its lowest bits, here with zeros above.
@@ -34,44 +48,40 @@ const CASES: [Case; 4] = [
     Case {
         identities: &[0, 0, 0],
         ir: false,
-        base_pre: 1,
+        base: AROUND_THE_SECOND,
         pre: "",
         bits: "1011",
         post: "",
-        base_post: 1,
         captured: "1100",
     },
     // The program skips the first device by a padding of its own.
     Case {
         identities: &[0, 0x8000_0003],
         ir: false,
-        base_pre: 0,
+        base: NONE,
         pre: "1",
         bits: "11111111111111111111111111111111",
         post: "",
-        base_post: 0,
         captured: "10000000000000000000000000000011",
     },
     // The instruction register of the second device alone.
     Case {
         identities: &[0, 0, 0],
         ir: true,
-        base_pre: 4,
+        base: AROUND_THE_SECOND,
         pre: "",
         bits: "0010",
         post: "",
-        base_post: 4,
         captured: "0001",
     },
     // The lowest bit of the padding comes out first, after the four bits that were captured.
     Case {
         identities: &[0],
         ir: true,
-        base_pre: 0,
+        base: NONE,
         pre: "01",
         bits: "0110",
         post: "1",
-        base_post: 0,
         captured: "0100",
     },
 ];
@@ -107,17 +117,16 @@ fn fits_and_scans(
         ir: case.ir,
         len: bits.len(),
         stop: Tap::Idle,
+        base: case.base,
     };
     if plan.len == 0 {
         return Ok(false);
     }
     let pads = Pads {
-        base_pre: case.base_pre,
         pre: pre.len(),
         pre_bits: pre,
         post: post.len(),
         post_bits: post,
-        base_post: case.base_post,
     };
     let mut captured = Bits::zeros(alloc, plan.len)?;
     let mut chain = Chain::over(rack, &places);

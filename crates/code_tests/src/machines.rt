@@ -7,6 +7,7 @@ use crate::codes::{
 };
 use crate::wire::Wire;
 use base::Steps;
+use scan_paths::BasePads;
 use stapl_code::{Code, Dest, ExportPart, RawCode, Source, validate};
 use stapl_lexer::Register;
 use stapl_machine::{Machine, Trouble};
@@ -61,6 +62,7 @@ fn run<L: Ledger>(
     let ending = machine.run(
         code,
         &[1, 0],
+        &BasePads::none(),
         &mut wire,
         &mut lines,
         pins,

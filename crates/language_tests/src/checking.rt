@@ -8,7 +8,11 @@ use std::test::Fail;
 // How many statements the program has that a text is, or why it is refused.
 fn outcome(alloc: Global, text: &[u8]) -> (usize, Option<CheckRefused>) {
     match check(alloc, text) {
-        Ok(program) => (program.statements().len(), None),
+        Ok(program) => {
+            let count = program.statements().len();
+            drop(program);
+            (count, None)
+        }
         Err(refused) => (0, Some(refused)),
     }
 }

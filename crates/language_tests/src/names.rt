@@ -6,8 +6,8 @@ use stapl_syntax::{Found, Stmt, VarKind};
 use std::alloc::Global;
 use std::test::Fail;
 
-fn name(spelling: &str) -> Result<Name, Fail> {
-    Ok(Name::read(spelling.as_bytes()).ok_or("no name")?)
+fn name(spelling: &str) -> Option<Name> {
+    Name::read(spelling.as_bytes())
 }
 
 // The names of a program of a few pieces.
@@ -22,38 +22,78 @@ fn names_of(alloc: Global, statements: &[Stmt]) -> Result<Names, Fail> {
     Ok(collect(alloc, &numbers, statements)?)
 }
 
-// The variable K stands in a block that the procedure uses, and H in one that it does not.
-#[test]
-fn finds_the_names_of_a_program(rt: HostRuntime) -> Result<(), Fail> {
-    let text =
-        "ACTION A=P;DATA D;INTEGER K[3];ENDDATA;DATA E;INTEGER H;ENDDATA;PROCEDURE P USES D;BOOLEAN B;L: B=0;ENDPROC;";
-    let Ok(program) = check(rt.alloc(), text.as_bytes()) else {
+// The names of a text.
+fn names_in(alloc: Global, text: &str) -> Result<Names, Fail> {
+    let Ok(program) = check(alloc, text.as_bytes()) else {
         return Err("no program".into());
     };
-    let names = names_of(rt.alloc(), program.statements())?;
-    assert_eq!(rt; (names.blocks(), names.variables()), (3, 3));
-    assert_eq!(rt; names.action(&name("A")?), Some(1));
-    assert_eq!(rt; names.block(&name("X")?), None);
-    let block = names.block(&name("P")?).ok_or("no block")?;
-    assert_eq!(rt;
-        (
-            block,
-            names.block_at(block).piece,
-            names.block_at(block).is_data
-        ),
-        (2, 8, false)
-    );
-    assert_eq!(rt; names.label(block, &name("L")?), Some(10));
-    assert_eq!(rt; names.variable_of(block, &name("K")?), None);
-    assert_eq!(rt; names.look_up(block, &name("K")?), Found::Variable(0));
-    assert_eq!(rt; names.look_up(block, &name("H")?), Found::Hidden);
-    assert_eq!(rt; names.look_up(block, &name("X")?), Found::Absent);
-    assert_eq!(rt; names.look_up_outside(&name("K")?), Found::Hidden);
-    let number = names.variable_of(block, &name("B")?).ok_or("no variable")?;
+    let names = names_of(alloc, program.statements());
+    drop(program);
+    names
+}
+
+// The number, the piece and the sort of the block of a name.
+fn block_in(names: &Names, spelling: &str) -> Option<(u32, u32, bool)> {
+    let number = names.block(&name(spelling)?)?;
+    let block = names.block_at(number);
+    Some((number, block.piece, block.is_data))
+}
+
+// What a name of a variable stands for in the block of a name.
+fn found_in(names: &Names, block: &str, spelling: &str) -> Option<Found> {
+    let number = names.block(&name(block)?)?;
+    Some(names.look_up(number, &name(spelling)?))
+}
+
+// What a name of a variable stands for outside all blocks.
+fn found_outside(names: &Names, spelling: &str) -> Option<Found> {
+    Some(names.look_up_outside(&name(spelling)?))
+}
+
+// The piece of an action.
+fn action_in(names: &Names, spelling: &str) -> Option<u32> {
+    names.action(&name(spelling)?)
+}
+
+// The piece of a label in the block of a name.
+fn label_in(names: &Names, block: &str, spelling: &str) -> Option<u32> {
+    let number = names.block(&name(block)?)?;
+    names.label(number, &name(spelling)?)
+}
+
+// The number, the piece, the kind and the size of a variable of the block of a name.
+fn variable_in(names: &Names, block: &str, spelling: &str) -> Option<(u32, u32, VarKind, i32)> {
+    let block = names.block(&name(block)?)?;
+    let number = names.variable_of(block, &name(spelling)?)?;
     let variable = names.variable(number);
-    assert_eq!(rt;
-        (number, variable.piece, variable.kind, variable.size),
-        (2, 9, VarKind::Boolean, 1)
-    );
+    Some((number, variable.piece, variable.kind, variable.size))
+}
+
+// The variable K stands in a block that the procedure uses, and H in one that it does not.
+const TEXT: &str =
+    "ACTION A=P;DATA D;INTEGER K[3];ENDDATA;DATA E;INTEGER H;ENDDATA;PROCEDURE P USES D;BOOLEAN B;L: B=0;ENDPROC;";
+
+#[test]
+fn finds_blocks_and_labels(rt: HostRuntime) -> Result<(), Fail> {
+    let names = names_in(rt.alloc(), TEXT)?;
+    assert!(rt; names.blocks() == 3 && names.variables() == 3);
+    assert!(rt; block_in(&names, "P") == Some((2, 8, false)));
+    assert!(rt; block_in(&names, "X").is_none());
+    assert!(rt; label_in(&names, "P", "L") == Some(10));
+    assert!(rt; action_in(&names, "A") == Some(1));
+    drop(names);
+    Ok(())
+}
+
+#[test]
+fn finds_variables(rt: HostRuntime) -> Result<(), Fail> {
+    let names = names_in(rt.alloc(), TEXT)?;
+    assert!(rt; variable_in(&names, "P", "K").is_none());
+    assert!(rt; variable_in(&names, "P", "B") == Some((2, 9, VarKind::Boolean, 1)));
+    assert!(rt; found_in(&names, "P", "K") == Some(Found::Variable(0)));
+    assert!(rt; found_in(&names, "P", "H") == Some(Found::Hidden));
+    assert!(rt; found_in(&names, "P", "X") == Some(Found::Absent));
+    assert!(rt; found_outside(&names, "K") == Some(Found::Hidden));
+    drop(names);
     Ok(())
 }
