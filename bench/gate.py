@@ -4,10 +4,11 @@
     python3 bench/gate.py             the whole gate
     python3 bench/gate.py NAME..      these crates and those that they stand on
 
-It runs `rt ci --anew` over a copy of the repository, which proves all from nothing, and reads the processor time of
-each process that proves, five times a second. Then it checks the tests once more, one crate after the other, for the
-time of each by name. It prints two tables in Markdown: one row a crate, in minutes, and the ten dearest edits and
-tests, in seconds. The status is that of the gate.
+It runs `rt ci` over a copy of these crates, which proves all from nothing, and reads the processor time of each process
+that proves, five times a second. Then it checks the tests once more, one crate after the other, for the time of each by
+name. It prints two tables in Markdown: one row a crate, in minutes, and the ten dearest edits and tests, in seconds. A
+crate's edits are tried one after another over what those before them proved, so the first of them proves the crate,
+too: it has a star. The status is that of the gate.
 """
 import glob
 import os
@@ -34,23 +35,57 @@ def read(path):
         return ""
 
 
-def copy_repository(to):
-    """Copies what the gate reads. The copy is the top of a repository."""
+def crates_below(names):
+    """The line of crates.txt for each crate of those named, or of all, and for each that they stand on."""
+    lines = [line for line in read(f"{TOP}/crates.txt").splitlines() if re.match(r"\w+.*:", line)]
+    line_of = {re.match(r"\w+", line)[0]: line for line in lines}
+    unknown = [it for it in names if it not in line_of]
+    if unknown:
+        sys.exit(f"crates.txt names no crate {unknown[0]}")
+    wanted, found = list(names or line_of), {}
+    while wanted:
+        name = wanted.pop()
+        if name in line_of and name not in found:
+            found[name] = line_of[name]
+            wanted += line_of[name].partition(":")[2].split()
+    return found
+
+
+def copy_repository(to, lines):
+    """Copies what the gate reads of some crates. The copy is the top of a repository."""
     os.makedirs(f"{to}/.git")
-    shutil.copytree(f"{TOP}/crates", f"{to}/crates", ignore=shutil.ignore_patterns("out"))
-    for name in ("crates.txt", "HANDLES"):
-        shutil.copy(f"{TOP}/{name}", to)
+    for name in lines:
+        shutil.copytree(f"{TOP}/crates/{name}", f"{to}/crates/{name}", ignore=shutil.ignore_patterns("out"))
+    with open(f"{to}/crates.txt", "w", encoding="utf-8") as file:
+        file.writelines(f"{line}\n" for line in lines.values())
+    shutil.copy(f"{TOP}/HANDLES", to)
 
 
 def edits_of(crate):
-    return sorted(os.path.basename(it)[: -len(".edit")] for it in glob.glob(f"{TOP}/crates/{crate}/must-fail/*.edit"))
+    """The edits of a crate in the order in which the gate tries them: each by its name, with the file and the pairs."""
+    found = {}
+    for path in sorted(glob.glob(f"{TOP}/crates/{crate}/must-fail/*.edit")):
+        lines = [line.partition(": ") for line in read(path).splitlines()]
+        texts = {kind: [text for it, _, text in lines if it == kind] for kind in ("file", "old", "new")}
+        found[os.path.basename(path)[: -len(".edit")]] = texts["file"][0], list(zip(texts["old"], texts["new"]))
+    return found
+
+
+def edit_in(room, crate):
+    """The name of the edit that a copy of a crate has, or nothing for the crate as it is."""
+    for name, (file, pairs) in edits_of(crate).items():
+        text = read(f"{TOP}/crates/{crate}/{file}")
+        for old, new in pairs:
+            text = text.replace(old, new)
+        if text == read(f"{room}/{file}"):
+            return name
+    return None
 
 
 def crates_with_tests(names):
-    """The crates that have tests, of those named, or of all."""
-    files = [it for it in glob.glob(f"{TOP}/crates/*/src/*.rt") if "#[test]" in read(it)]
-    found = sorted({it.split("/")[-3] for it in files})
-    return [it for it in found if not names or it in names]
+    """Those of some crates that have tests."""
+    has_test = lambda name: any("#[test]" in read(it) for it in glob.glob(f"{TOP}/crates/{name}/src/*.rt"))
+    return sorted(filter(has_test, names))
 
 
 def work_of(pid):
@@ -60,14 +95,12 @@ def work_of(pid):
         return None
     crate = words[words.index("--crate-name") + 1]
     try:
-        where = os.path.basename(os.readlink(f"/proc/{pid}/cwd"))
+        room = os.readlink(f"/proc/{pid}/cwd")
     except OSError:
-        where = ""
-    if not where.startswith("rt-edit-"):
+        room = ""
+    if not os.path.basename(room).startswith("rt-edit-"):
         return crate, "tests" if "--test" in words else "proof", None
-    over = words[words.index("--incremental") + 1] if "--incremental" in words else ""
-    number, names = os.path.basename(over), edits_of(crate)
-    return crate, "edits", names[int(number)] if number.isdigit() and int(number) < len(names) else None
+    return crate, "edits", edit_in(room, crate)
 
 
 class Watch:
@@ -115,14 +148,20 @@ def watched(words, folder, each_line):
     return status, watch
 
 
-def run_gate(folder, names):
+def gate_words():
+    """The command that proves all from nothing. A kit that keeps proofs for all checkouts has a word for that."""
+    usage = subprocess.run(["rt", "help"], stdout=subprocess.PIPE, stderr=subprocess.STDOUT, errors="replace")
+    return ["rt", "ci", "--anew"] if "--anew" in usage.stdout else ["rt", "ci"]
+
+
+def run_gate(folder):
     """Runs the gate, and shows on standard error what it says of failures."""
 
     def each_line(line, _):
         if re.match(r"rt: .*(NOT |FAILED|BAD)|\d+ passed", line):
             print(line, end="", file=sys.stderr, flush=True)
 
-    return watched(["rt", "ci", "--anew", *names], folder, each_line)
+    return watched(gate_words(), folder, each_line)
 
 
 def time_tests(folder, crate):
@@ -168,15 +207,18 @@ def print_dearest(edits, tests):
 
 
 def main(*names):
+    lines = crates_below(names)
     with tempfile.TemporaryDirectory(prefix="gate-") as folder:
-        copy_repository(folder)
+        copy_repository(folder, lines)
         begun, before = time.monotonic(), resource.getrusage(resource.RUSAGE_CHILDREN)
-        status, watch = run_gate(folder, names)
+        status, watch = run_gate(folder)
         took, after = time.monotonic() - begun, resource.getrusage(resource.RUSAGE_CHILDREN)
         total = after.ru_utime + after.ru_stime - before.ru_utime - before.ru_stime
-        tests = {name: it for crate in crates_with_tests(names) for name, it in time_tests(folder, crate).items()}
+        tests = {name: it for crate in crates_with_tests(lines) for name, it in time_tests(folder, crate).items()}
     named = {(crate, name) for crate, _, name in watch.work.values() if name}
-    edits = {f"{crate}/{name}": watch.total(lambda it, _, edit: (it, edit) == (crate, name)) for crate, name in named}
+    seconds = {(crate, name): watch.total(lambda it, _, edit: (it, edit) == (crate, name)) for crate, name in named}
+    star = lambda crate, name: "*" * (name == next(iter(edits_of(crate))))
+    edits = {f"{crate}/{name}{star(crate, name)}": it for (crate, name), it in seconds.items()}
     print(f"{len(os.sched_getaffinity(0))} processors: {took / 60:.0f} minutes, {total / 60:.0f} of processor time.\n")
     print_crates(watch, total)
     print_dearest(edits, tests)
