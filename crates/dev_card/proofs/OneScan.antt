@@ -18,7 +18,7 @@ use Rattle.dev_card.proofs.Soundness.{sound_board_after}
 use Rattle.dev_card.proofs.Reaching.{steps_in, walk_in, entry_leads, line_length, bypass_line}
 use Rattle.dev_card.proofs.PaddedLines.{padded_scan_is_same}
 
-abbrev is_shift : Tap → Bool
+abbrev pub is_shift : Tap → Bool
 is_shift DrShift = true
 is_shift IrShift = true
 is_shift _ = false
@@ -32,22 +32,22 @@ no_tdi DrCapture x y c e = refl
 no_tdi Idle x y c e = refl
 no_tdi _ x y c e = refl
 
-same_board : (s : Tap) (m : Bool) (cs : List Card) (x y : Bool) → AllIn s cs → is_shift s ≡ false → board_step cs m x ≡ board_step cs m y
+pub same_board : (s : Tap) (m : Bool) (cs : List Card) (x y : Bool) → AllIn s cs → is_shift s ≡ false → board_step cs m x ≡ board_step cs m y
 same_board s m [] x y h w = refl
 same_board s m (c ∷ cs) x y h w =
     let one : step c m (board_tdo cs x) ≡ step c m (board_tdo cs y) = ap (entered (next_of c.tap m)) (no_tdi c.tap (board_tdo cs x) (board_tdo cs y) c (ap is_shift h.0 ∙ w)) in
     ap (λ k. k ∷ board_step cs m x) one ∙ ap (λ ks. step c m (board_tdo cs y) ∷ ks) (same_board s m cs x y h.1 w)
 
-tdo_of_both : (xs ys : List Card) (b : Bool) → board_tdo (xs ++ ys) b ≡ board_tdo xs (board_tdo ys b)
+pub tdo_of_both : (xs ys : List Card) (b : Bool) → board_tdo (xs ++ ys) b ≡ board_tdo xs (board_tdo ys b)
 tdo_of_both [] ys b = refl
 tdo_of_both (x ∷ xs) ys b = refl
 
-step_of_both : (xs ys : List Card) (m b : Bool) → board_step (xs ++ ys) m b ≡ board_step xs m (board_tdo ys b) ++ board_step ys m b
+pub step_of_both : (xs ys : List Card) (m b : Bool) → board_step (xs ++ ys) m b ≡ board_step xs m (board_tdo ys b) ++ board_step ys m b
 step_of_both [] ys m b = refl
 step_of_both (x ∷ xs) ys m b = ap (λ t. step x m t ∷ board_step (xs ++ ys) m b) (tdo_of_both xs ys b) ∙ ap (λ t. step x m (board_tdo xs (board_tdo ys b)) ∷ t) (step_of_both xs ys m b)
 
--- three parts of a board, one clock on
-parts : (s : Tap) (m : Bool) (front alone back : List Card) (x y : Bool) → AllIn s alone → is_shift s ≡ false
+-- three parts of a board, one clock on, whatever comes in at the end of each
+pub parts : (s : Tap) (m : Bool) (front alone back : List Card) (x y : Bool) → AllIn s alone → is_shift s ≡ false
     → board_step (front ++ (alone ++ back)) m x ≡ board_step front m (board_tdo (alone ++ back) x) ++ (board_step alone m y ++ board_step back m x)
 parts s m front alone back x y h w =
     step_of_both front (alone ++ back) m x
@@ -68,7 +68,7 @@ desc_of_entered DrUpdate c = refl
 desc_of_entered Reset c = refl
 desc_of_entered _ c = refl
 
-descriptions_of_step : (cs : List Card) (m b : Bool) → descriptions_of (board_step cs m b) ≡ descriptions_of cs
+pub descriptions_of_step : (cs : List Card) (m b : Bool) → descriptions_of (board_step cs m b) ≡ descriptions_of cs
 descriptions_of_step [] m b = refl
 descriptions_of_step (c ∷ cs) m b =
     let d : (step c m (board_tdo cs b)).desc ≡ c.desc = desc_of_entered (next_of c.tap m) (during c.tap (board_tdo cs b) c) ∙ desc_of_during c.tap (board_tdo cs b) c in
@@ -116,28 +116,28 @@ entry_no_shift IrPause true e = (refl, (refl, (refl, (refl, (refl, (refl, tt))))
 entry_no_shift _ ir e = absurd (false≢true e)
 
 module _ (P : Card → Type 0) where
-  each_left : (xs ys : List Card) → EachCard P (xs ++ ys) → EachCard P xs
+  pub each_left : (xs ys : List Card) → EachCard P (xs ++ ys) → EachCard P xs
   each_left [] ys h = tt
   each_left (x ∷ xs) ys h = (h.0, each_left xs ys h.1)
 
-  each_right : (xs ys : List Card) → EachCard P (xs ++ ys) → EachCard P ys
+  pub each_right : (xs ys : List Card) → EachCard P (xs ++ ys) → EachCard P ys
   each_right [] ys h = h
   each_right (x ∷ xs) ys h = each_right xs ys h.1
 
 -- the bits of base padding for so many devices
-abbrev pad_of : Bool → List Desc → ℕ
+abbrev pub pad_of : Bool → List Desc → ℕ
 pad_of true ds = instruction_lengths ds
 pad_of false ds = length ds
 
-pre_is_pad : (ir : Bool) (before after : List Desc) → base_pre_of ir (base_around before after) ≡ pad_of ir before
+pub pre_is_pad : (ir : Bool) (before after : List Desc) → base_pre_of ir (base_around before after) ≡ pad_of ir before
 pre_is_pad true before after = refl
 pre_is_pad false before after = refl
 
-post_is_pad : (ir : Bool) (before after : List Desc) → base_post_of ir (base_around before after) ≡ pad_of ir after
+pub post_is_pad : (ir : Bool) (before after : List Desc) → base_post_of ir (base_around before after) ≡ pad_of ir after
 post_is_pad true before after = refl
 post_is_pad false before after = refl
 
-instruction_width : (cs : List Card) → register_lengths true cs ≡ instruction_lengths (descriptions_of cs)
+pub instruction_width : (cs : List Card) → register_lengths true cs ≡ instruction_lengths (descriptions_of cs)
 instruction_width [] = refl
 instruction_width (c ∷ cs) =
     ap (λ n. c.desc.ir_len + n) (instruction_width cs) ∙ sym (sum_by-cons (λ x. x) c.desc.ir_len (map (λ (d : Desc). d.ir_len) (descriptions_of cs)))

@@ -1,7 +1,6 @@
 -- A quiet scan keeps a padded run, and captures what it captures of the run alone.
 use Rattle.std.proofs.Common.{◌≡◌, ◌<◌, ◌+◌, ◌-◌, ◌^◌, ◌||◌, ℕ, suc, zero, Bool, true, false, List, [], ◌∷◌, ◌++◌, length, take, drop, map, replicate, refl, sym, ap, subst, ◌∙◌, arith}
 use Rattle.std.proofs.lemmas.List.{append-nil, map-append, length-append, length-map}
-use Rattle.std.proofs.lemmas.List.Sums.{sum_by-cons}
 use Rattle.std.proofs.lemmas.Bool.{false≢true}
 use Rattle.tap_states.specs.declared.Tap.{Tap}
 use Rattle.tap_states.specs.declared.Tap.TheVariants.{Reset, Idle, DrCapture, DrShift, DrPause, IrSelect, IrCapture, IrPause}
@@ -12,11 +11,11 @@ use Rattle.dev_card.specs.declared.desc.Desc.{Desc}
 use Rattle.dev_card.specs.Card.{Card, step, during, entered, selected_by, in_state}
 use Rattle.dev_card.specs.Board.{board_tdo, board_step, board_after, EachCard, AllIn}
 use Rattle.dev_card.specs.Line.{list_of, with_list, shift_state, exit_state, pause_state, line_of, cut_back, shifted_out, left_in, AllShift}
-use Rattle.dev_card.specs.Padding.{Paddings, instruction_lengths, base_around, base_pre_of, base_post_of, program_bits, padded, at_data}
+use Rattle.dev_card.specs.Padding.{Paddings, base_around, base_pre_of, base_post_of, program_bits, padded, at_data}
 use Rattle.dev_card.specs.Clocks.{with_zero, entry_tms, pause_inputs, at_shift, at_pause, board_shifted, board_scanned, shift_inputs, ShiftsAsLine, ScansAsLine}
 use Rattle.dev_card.specs.PaddedScan.{descriptions_of, without_base, IsSameScan}
 use Rattle.dev_card.specs.Scans.{BoardScan, inputs_of_scan, captured_from, scan_alone}
-use Rattle.dev_card.specs.Sound.{IsSound, AllSound, AllBypass, register_lengths}
+use Rattle.dev_card.specs.Sound.{IsSound, AllSound, AllBypass}
 use Rattle.dev_card.proofs.Unnamed.{all_ones_selects_bypass}
 use Rattle.dev_card.proofs.Soundness.{sound_board_step, sound_board_after}
 use Rattle.dev_card.proofs.Reaching.{steps_in, walk_in, entry_leads, shift_reached, line_length, bypass_line}
@@ -24,9 +23,10 @@ use Rattle.dev_card.proofs.LastClock.{shifts_as_line}
 use Rattle.dev_card.proofs.ScanLines.{after-append, scans_as_line}
 use Rattle.dev_card.proofs.PaddedLines.{suc_plus, padded_scan_is_same}
 use Rattle.dev_card.proofs.Scanning.{captured_is_seen}
+use Rattle.dev_card.proofs.OneScan.{is_shift, parts, descriptions_of_step, each_left, each_right, pad_of, pre_is_pad, post_is_pad, instruction_width}
 use Rattle.padded_boards.specs.QuietClocks.{IsQuietWalk, loaded_after, IsQuietScan, loaded_by_scan}
 use Rattle.padded_boards.specs.PaddedRuns.{is_between_scans, IsPassing, IsPaddedRun, IsPaddedFor, KeepsPaddedRun}
-use Rattle.padded_boards.proofs.KeptWalks.{is_shift, parts, descriptions_of_step, walk_keeps, move_keeps}
+use Rattle.padded_boards.proofs.KeptWalks.{walk_keeps, move_keeps}
 
 -- ---- the way of a scan to its shift
 
@@ -157,38 +157,12 @@ module _ (before run after : List Desc) where
 
 -- ---- the lines of the devices outside the run are as long as the base padding
 
-module _ (P : Card → Type 0) where
-  each_left : (xs ys : List Card) → EachCard P (xs ++ ys) → EachCard P xs
-  each_left [] ys h = tt
-  each_left (x ∷ xs) ys h = (h.0, each_left xs ys h.1)
-
-  each_right : (xs ys : List Card) → EachCard P (xs ++ ys) → EachCard P ys
-  each_right [] ys h = h
-  each_right (x ∷ xs) ys h = each_right xs ys h.1
-
 ones_are_bypass : (cs : List Card) → AllSound cs → EachCard HasOnes cs → AllBypass cs
 ones_are_bypass [] s h = tt
 ones_are_bypass (c ∷ cs) s h = (ap (selected_by c.desc) h.0 ∙ all_ones_selects_bypass c.desc s.0.good, ones_are_bypass cs s.1 h.1)
 
-abbrev padding_of : Bool → List Desc → ℕ
-padding_of true ds = instruction_lengths ds
-padding_of false ds = length ds
-
-pre_is_padding : (ir : Bool) (before after : List Desc) → base_pre_of ir (base_around before after) ≡ padding_of ir before
-pre_is_padding true before after = refl
-pre_is_padding false before after = refl
-
-post_is_padding : (ir : Bool) (before after : List Desc) → base_post_of ir (base_around before after) ≡ padding_of ir after
-post_is_padding true before after = refl
-post_is_padding false before after = refl
-
-instruction_width : (cs : List Card) → register_lengths true cs ≡ instruction_lengths (descriptions_of cs)
-instruction_width [] = refl
-instruction_width (c ∷ cs) =
-    ap (λ n. c.desc.ir_len + n) (instruction_width cs) ∙ sym (sum_by-cons (λ x. x) c.desc.ir_len (map (λ (d : Desc). d.ir_len) (descriptions_of cs)))
-
 line_is_padding : (ir : Bool) (cs : List Card) → AllIn (shift_state ir) cs → AllSound cs → (ir ≡ false → EachCard HasOnes cs)
-    → length (line_of ir cs) ≡ padding_of ir (descriptions_of cs)
+    → length (line_of ir cs) ≡ pad_of ir (descriptions_of cs)
 line_is_padding true cs a s h = line_length true cs a s ∙ instruction_width cs
 line_is_padding false cs a s h = bypass_line cs a s (ones_are_bypass cs s (h refl)) ∙ sym (length-map cs (λ (c : Card). c.desc))
 
@@ -304,9 +278,9 @@ module _ (before run after : List Desc) (ir : Bool) (p : Paddings) (bits : List 
       let front_sound : AllSound F = each_left IsSound F (alone ++ B) both in
       let back_sound : AllSound B = each_right IsSound alone B (each_right IsSound F (alone ++ B) both) in
       let pre_line : p.base_pre ≡ length (line_of ir F) =
-      pre ∙ pre_is_padding ir before after ∙ ap (padding_of ir) (sym c.front_is) ∙ sym (line_is_padding ir F c.front_states front_sound c.front_ones) in
+      pre ∙ pre_is_pad ir before after ∙ ap (pad_of ir) (sym c.front_is) ∙ sym (line_is_padding ir F c.front_states front_sound c.front_ones) in
       let post_line : p.base_post ≡ length (line_of ir B) =
-      post ∙ post_is_padding ir before after ∙ ap (padding_of ir) (sym c.back_is) ∙ sym (line_is_padding ir B c.back_states back_sound c.back_ones) in
+      post ∙ post_is_pad ir before after ∙ ap (pad_of ir) (sym c.back_is) ∙ sym (line_is_padding ir B c.back_states back_sound c.back_ones) in
       let law : IsSameScan ir F alone B p bits = padded_scan_is_same ir F alone B p bits pre_line post_line in
       let ex : Card → Card = in_state (exit_state ir) in
       let F1 : List Card = map (with_ones ir) F in

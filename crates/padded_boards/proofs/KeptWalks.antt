@@ -11,12 +11,11 @@ use Rattle.tap_states.specs.PathTable.{path_of}
 use Rattle.tap_states.proofs.Shortest.{is_path, path_leads}
 use Rattle.dev_card.specs.declared.desc.Desc.{Desc}
 use Rattle.dev_card.specs.Card.{Card, step, during, entered}
-use Rattle.dev_card.specs.Board.{board_tdo, board_step, board_after, EachCard, AllIn}
+use Rattle.dev_card.specs.Board.{board_tdo, board_step, board_after, EachCard}
 use Rattle.dev_card.specs.Clocks.{with_zero, rest_tms, move_inputs, stay_inputs}
-use Rattle.dev_card.specs.PaddedScan.{descriptions_of}
 use Rattle.dev_card.proofs.Reaching.{steps_in}
 use Rattle.dev_card.proofs.Soundness.{sound_board_step}
-use Rattle.dev_card.proofs.OneScan.{descriptions_after}
+use Rattle.dev_card.proofs.OneScan.{is_shift, parts, descriptions_of_step}
 use Rattle.padded_boards.specs.QuietClocks.{is_scan_state, IsQuietWalk, loaded_at, loaded_after}
 use Rattle.padded_boards.specs.PaddedRuns.{is_between_scans, IsPassing, IsPaddedRun}
 
@@ -82,44 +81,6 @@ pass_steps : (loaded : Bool) (s : Tap) (m b : Bool) (cs : List Card) → is_betw
     → EachCard (IsPassing loaded s) cs → EachCard (IsPassing (loaded_at (next_of s m) loaded) (next_of s m)) (board_step cs m b)
 pass_steps loaded s m b [] w q h = tt
 pass_steps loaded s m b (c ∷ cs) w q h = (passes_step loaded s m (board_tdo cs b) c w q h.0, pass_steps loaded s m b cs w q h.1)
-
--- outside the shift states TDI doesn't matter
-abbrev pub is_shift : Tap → Bool
-is_shift DrShift = true
-is_shift IrShift = true
-is_shift _ = false
-
-no_tdi : (s : Tap) (x y : Bool) (c : Card) → is_shift s ≡ false → during s x c ≡ during s y c
-no_tdi DrShift x y c e = absurd (false≢true (sym e))
-no_tdi IrShift x y c e = absurd (false≢true (sym e))
-no_tdi IrCapture x y c e = refl
-no_tdi DrCapture x y c e = refl
-no_tdi Idle x y c e = refl
-no_tdi _ x y c e = refl
-
-same_board : (s : Tap) (m : Bool) (cs : List Card) (x y : Bool) → AllIn s cs → is_shift s ≡ false → board_step cs m x ≡ board_step cs m y
-same_board s m [] x y h w = refl
-same_board s m (c ∷ cs) x y h w =
-    let one : step c m (board_tdo cs x) ≡ step c m (board_tdo cs y) = ap (entered (next_of c.tap m)) (no_tdi c.tap (board_tdo cs x) (board_tdo cs y) c (ap is_shift h.0 ∙ w)) in
-    ap (λ k. k ∷ board_step cs m x) one ∙ ap (λ ks. step c m (board_tdo cs y) ∷ ks) (same_board s m cs x y h.1 w)
-
-tdo_of_both : (xs ys : List Card) (b : Bool) → board_tdo (xs ++ ys) b ≡ board_tdo xs (board_tdo ys b)
-tdo_of_both [] ys b = refl
-tdo_of_both (x ∷ xs) ys b = refl
-
-step_of_both : (xs ys : List Card) (m b : Bool) → board_step (xs ++ ys) m b ≡ board_step xs m (board_tdo ys b) ++ board_step ys m b
-step_of_both [] ys m b = refl
-step_of_both (x ∷ xs) ys m b = ap (λ t. step x m t ∷ board_step (xs ++ ys) m b) (tdo_of_both xs ys b) ∙ ap (λ t. step x m (board_tdo xs (board_tdo ys b)) ∷ t) (step_of_both xs ys m b)
-
--- three parts of a board, one clock on, whatever comes in at the end of each
-pub parts : (s : Tap) (m : Bool) (front alone back : List Card) (x y : Bool) → AllIn s alone → is_shift s ≡ false
-    → board_step (front ++ (alone ++ back)) m x ≡ board_step front m (board_tdo (alone ++ back) x) ++ (board_step alone m y ++ board_step back m x)
-parts s m front alone back x y h w =
-    step_of_both front (alone ++ back) m x
-    ∙ ap (λ t. board_step front m (board_tdo (alone ++ back) x) ++ t) (step_of_both alone back m x ∙ ap (λ t. t ++ board_step back m x) (same_board s m alone (board_tdo back x) y h w))
-
-pub descriptions_of_step : (cs : List Card) (m b : Bool) → descriptions_of (board_step cs m b) ≡ descriptions_of cs
-descriptions_of_step cs m b = descriptions_after (record { tms = m; tdi = b } ∷ []) cs
 
 between_is_no_shift : (s : Tap) → is_between_scans s ≡ true → is_shift s ≡ false
 between_is_no_shift DrShift e = absurd (false≢true e)
