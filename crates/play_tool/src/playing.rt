@@ -96,6 +96,7 @@ fn play_chosen<C: Cable, K: Sink>(
     ensures read { IsErrOf result NoAnswer.Read → ⊥ }
     ensures write { IsErrOf result NoAnswer.Write →
         HasRisen K.faults K.is_last (sink_of lines.old) (sink_of lines.new) }
+    ensures memory { IsErrOf result NoAnswer.Memory → IsWhole lines.new }
     ensures kept { SinkNeverFalls K.faults K.is_last lines.old lines.new }
 {
     let mut machine = Machine::prepare(alloc, code)?;
@@ -133,6 +134,7 @@ fn play_over_chain<K: Sink>(
     ensures read { IsErrOf result NoAnswer.Read → ⊥ }
     ensures write { IsErrOf result NoAnswer.Write →
         HasRisen K.faults K.is_last (sink_of lines.old) (sink_of lines.new) }
+    ensures memory { IsErrOf result NoAnswer.Memory → IsWhole lines.new }
     ensures kept { SinkNeverFalls K.faults K.is_last lines.old lines.new }
 {
     play_chosen(alloc, task, code, chosen, chain, lines)
@@ -167,6 +169,7 @@ fn play_on_chain<K: Sink>(
     ensures read { IsErrOf result NoAnswer.Read → ⊥ }
     ensures write { IsErrOf result NoAnswer.Write →
         HasRisen K.faults K.is_last (sink_of lines.old) (sink_of lines.new) }
+    ensures memory { IsErrOf result NoAnswer.Memory → IsWhole lines.new }
     ensures kept { SinkNeverFalls K.faults K.is_last lines.old lines.new }
     ensures kinds { map kind_of rack.new.items ≡ map kind_of rack.old.items }
 {
@@ -259,6 +262,7 @@ fn put_play<K: Sink>(
     ensures read { IsErrOf result NoAnswer.Read → ⊥ }
     ensures write { IsErrOf result NoAnswer.Write →
         HasRisen K.faults K.is_last (sink_of lines.old) (sink_of lines.new) }
+    ensures memory { IsErrOf result NoAnswer.Memory → IsWhole lines.new }
     ensures kept { SinkNeverFalls K.faults K.is_last lines.old lines.new }
     ensures kinds { map kind_of rack.new.items ≡ map kind_of rack.old.items }
 {

@@ -52,8 +52,8 @@ fn base_of(task: &Task) -> BasePads
     }
 }
 
-/// Plays the chosen procedures of a code, as a task asks for it, over a cable that tells the fresh board of the task and
-/// never fails, and puts the lines of the events. Its steps are counted in a ledger that nobody asks.
+/// Plays the chosen procedures of a code, as a task asks for it, over a cable that tells the fresh board of the task
+/// and never fails, and puts the lines of the events. Its steps are counted in a ledger that nobody asks.
 pub fn play_told<C: Cable, K: Sink, L: Ledger>(
     machine: &mut Machine,
     code: &Code,

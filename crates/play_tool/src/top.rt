@@ -326,8 +326,8 @@ pub fn run_tool<S: Shelf, K: Sink>(
     ensures other { (HasMode (map string_bytes words.now) Play → ⊥) → rack.new.items ≡ rack.old.items }
     ensures kinds { map kind_of rack.new.items ≡ map kind_of rack.old.items }
 
-    // If a play was played, to its ending or for all its turns, the rack holds the board that it leaves: device i of the
-    // board, counted from 0, stands at the place of its kind among the three places from 3 * i on.
+    // If a play was played, to its ending or for all its turns, the rack holds the board that it leaves: device i of
+    // the board, counted from 0, stands at the place of its kind among the three places from 3 * i on.
     ensures leaves { HasMode (map string_bytes words.now) Play → IsPlayed result →
         WordsHoldFinal (map string_bytes words.now) (S.told shelf.old) (map fitted rack.new.items) }
 
