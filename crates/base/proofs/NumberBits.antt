@@ -1,6 +1,6 @@
 -- Laws of numbers and their lists of bits.
-use Rattle.std.proofs.Common.{◌≡◌, ◌<◌, ℕ, zero, suc, ◌+◌, ◌*◌, ◌/◌, ◌%◌, ◌^◌, nat_eq, Bool, true, false, List, [], ◌∷◌, length, refl, ap, arith}
-use Rattle.std.proofs.Math.Nat.{pow-suc}
+use Rattle.std.proofs.Common.{◌≡◌, ◌<◌, ℕ, zero, suc, ◌+◌, ◌*◌, ◌/◌, ◌%◌, ◌^◌, nat_eq, Bool, true, false, List, [], ◌∷◌, length, drop, refl, sym, ap, ◌∙◌, arith}
+use Rattle.std.proofs.Math.Nat.{pow-suc, div-div-eq-div-mul}
 use Rattle.std.proofs.Math.Arith.{mod-mul}
 use Rattle.std.proofs.lemmas.Nat.{pow_pos}
 use Rattle.base.specs.Bits.{low_bits, bit_value, number_of}
@@ -8,6 +8,15 @@ use Rattle.base.specs.Bits.{low_bits, bit_value, number_of}
 pub length-low_bits : (n x : ℕ) → length (low_bits n x) ≡ n
 length-low_bits zero x = refl
 length-low_bits (suc n) x = ap suc (length-low_bits n (x / 2))
+
+-- the bits of a number from bit j on
+pub drop-low_bits : (j m x : ℕ) → drop j (low_bits (j + m) x) ≡ low_bits m (x / 2 ^ j)
+drop-low_bits zero m x =
+    let e : 0 + m ≡ m = omega arith in let one : x / 1 ≡ x = omega arith in
+    ap (λ (k : ℕ). low_bits k x) e ∙ ap (low_bits m) (sym one)
+drop-low_bits (suc j) m x =
+    let e : suc j + m ≡ suc (j + m) = omega arith in let power : 2 * 2 ^ j ≡ 2 ^ suc j = omega (arith, pow-suc 2 j) in
+    ap (λ (k : ℕ). drop (suc j) (low_bits k x)) e ∙ drop-low_bits j m (x / 2) ∙ ap (low_bits m) (div-div-eq-div-mul x 2 (2 ^ j) ∙ ap (λ (d : ℕ). x / d) power)
 
 -- the lowest bit of a number is its remainder by 2
 pub bit_value-odd : (r : ℕ) → r < 2 → bit_value (nat_eq r 1) ≡ r

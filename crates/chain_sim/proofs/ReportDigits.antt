@@ -2,9 +2,9 @@
 use Rattle.std.proofs.Common.{◌≡◌, ◌<◌, ℕ, zero, suc, ◌+◌, ◌-◌, ◌*◌, ◌/◌, ◌%◌, ◌^◌, Bool, false, List, [], ◌∷◌, ◌++◌, get_or, take, drop, refl, sym, ap, ◌∙◌, arith}
 use Rattle.std.proofs.lemmas.List.{get_or-drop}
 use Rattle.std.proofs.lemmas.Nat.{pow_pos, pow-add}
-use Rattle.std.proofs.Math.Nat.{pow-suc, div-div-eq-div-mul, div-lt_iff_lt-mul}
+use Rattle.std.proofs.Math.Nat.{div-lt_iff_lt-mul}
 use Rattle.base.specs.Bits.{bit_value, low_bits, number_of}
-use Rattle.base.proofs.NumberBits.{length-low_bits, number_of-low_bits}
+use Rattle.base.proofs.NumberBits.{length-low_bits, drop-low_bits, number_of-low_bits}
 use Rattle.bit_list.specs.Ranges.{taken}
 use Rattle.dev_card.specs.Hexadecimal.{hex_digit, digits_needed, hex_digits, all_hex_digits}
 
@@ -32,15 +32,6 @@ four_bits bits low first second third fourth e f g h =
     ∙ ap (λ x. bit_value (get_or bits low false) + 2 * bit_value (get_or bits (low + 1) false) + 4 * bit_value (get_or bits (low + 2) false) + 8 * x)
     (ap bit_value (get_or-drop low bits 3 false))))
 
--- the bits of a number from one on
-low_from : (j m x : ℕ) → drop j (low_bits (j + m) x) ≡ low_bits m (x / 2 ^ j)
-low_from zero m x =
-    let e : 0 + m ≡ m = omega arith in let one : x / 1 ≡ x = omega arith in
-    ap (λ (k : ℕ). low_bits k x) e ∙ ap (low_bits m) (sym one)
-low_from (suc j) m x =
-    let e : suc j + m ≡ suc (j + m) = omega arith in let power : 2 * 2 ^ j ≡ 2 ^ suc j = omega (arith, pow-suc 2 j) in
-    ap (λ (k : ℕ). drop (suc j) (low_bits k x)) e ∙ low_from j m (x / 2) ∙ ap (low_bits m) (div-div-eq-div-mul x 2 (2 ^ j) ∙ ap (λ (d : ℕ). x / d) power)
-
 -- the lowest four bits of a number that has no more than its bits say
 lowest_four : (m y : ℕ) → y < 2 ^ m → number_of (take 4 (low_bits m y)) ≡ y % 16
 lowest_four zero y h = omega (arith, h)
@@ -55,7 +46,7 @@ digit_of_number j len x inside fits =
     let power : 2 ^ len ≡ 2 ^ (len - j) * 2 ^ j = ap (λ (n : ℕ). 2 ^ n) (omega (arith, inside)) ∙ pow-add 2 (len - j) j in
     let below : x / 2 ^ j < 2 ^ (len - j) = (div-lt_iff_lt-mul (pow_pos j)).1 (omega (arith, fits, power)) in
     ap (λ (n : ℕ). number_of (take 4 (drop j (low_bits n x)))) all
-    ∙ ap (λ (l : List Bool). number_of (take 4 l)) (low_from j (len - j) x)
+    ∙ ap (λ (l : List Bool). number_of (take 4 l)) (drop-low_bits j (len - j) x)
     ∙ lowest_four (len - j) (x / 2 ^ j) below
 
 -- one digit more of the lowest digits of bits

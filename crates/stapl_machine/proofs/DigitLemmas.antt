@@ -5,9 +5,9 @@ use Rattle.std.specs.Int.{w32, cast_unsigned}
 use Rattle.std.proofs.lemmas.Int.{of_z-to_z}
 use Rattle.std.proofs.lemmas.List.{drop-take, drop-drop, length-take-le, length-drop, append-nil}
 use Rattle.std.proofs.lemmas.Nat.{pow_pos}
-use Rattle.std.proofs.Math.Nat.{pow-suc, div-div-eq-div-mul}
+use Rattle.std.proofs.Math.Nat.{pow-suc}
 use Rattle.base.specs.Bits.{low_bits, number_of}
-use Rattle.base.proofs.NumberBits.{number_of-low_bits}
+use Rattle.base.proofs.NumberBits.{drop-low_bits, number_of-low_bits}
 use Rattle.bit_list.specs.Integers.{int_of}
 use Rattle.bit_list.specs.Ranges.{taken}
 use Rattle.bit_list.proofs.Padding.{lowest_bits, first_of_first}
@@ -39,20 +39,11 @@ below_16 bits = below_power 4 bits
 pub number_is : (bits : List Bool) → cast_unsigned w32 (int_of (take 4 bits)) ≡ number_of (take 4 bits)
 number_is bits = let h = below_16 bits in of_z-to_z w32 (number_of (take 4 bits)) (omega (arith, h))
 
--- the bits of a number from one on
-low_from : (j m x : ℕ) → drop j (low_bits (j + m) x) ≡ low_bits m (x / 2 ^ j)
-low_from zero m x =
-    let e : 0 + m ≡ m = omega arith in let one : x / 1 ≡ x = omega arith in
-    ap (λ (k : ℕ). low_bits k x) e ∙ ap (low_bits m) (sym one)
-low_from (suc j) m x =
-    let e : suc j + m ≡ suc (j + m) = omega arith in let power : 2 * 2 ^ j ≡ 2 ^ suc j = omega (arith, pow-suc 2 j) in
-    ap (λ (k : ℕ). drop (suc j) (low_bits k x)) e ∙ low_from j m (x / 2) ∙ ap (low_bits m) (div-div-eq-div-mul x 2 (2 ^ j) ∙ ap (λ (d : ℕ). x / d) power)
-
 pub low_digit : (k x : ℕ) → k < 8 → number_of (taken (4 * k) 4 (low_bits 32 x)) ≡ x / 2 ^ (4 * k) % 16
 low_digit k x h =
     let all : 32 ≡ 4 * k + (32 - 4 * k) = omega (arith, h) in
     ap (λ (n : ℕ). number_of (take 4 (drop (4 * k) (low_bits n x)))) all
-    ∙ ap (λ (l : List Bool). number_of (take 4 l)) (low_from (4 * k) (32 - 4 * k) x)
+    ∙ ap (λ (l : List Bool). number_of (take 4 l)) (drop-low_bits (4 * k) (32 - 4 * k) x)
     ∙ ap number_of (lowest_bits 4 (32 - 4 * k) (x / 2 ^ (4 * k)) (omega (arith, h)))
     ∙ number_of-low_bits 4 (x / 2 ^ (4 * k))
 
