@@ -1,5 +1,6 @@
-/* A yardstick for bench/scans.py: a chain of devices in BYPASS, each with a controller and two registers. As the devices
- * of the program, each stands in a place of its own on the heap, and is called through the functions of its kind.
+/* A yardstick for bench/scans.py: a chain of devices in BYPASS, each with a controller and two registers. As the
+ * devices of the program, each stands in a place of its own on the heap, and is called through the functions of its
+ * kind.
  *
  *     chain DEVICES BITS
  *

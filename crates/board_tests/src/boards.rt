@@ -3,7 +3,8 @@ use board_text::{BoardReason, BoardTextRefused, read_board};
 use dev_card::{Desc, FlashDesc, IdCode, Kind, RegDesc};
 use std::test::Fail;
 
-// Whether a device is a Plain with this name, this length of its instruction register, and this identity with its opcode.
+// Whether a device is a Plain with this name, this length of its instruction register, and this identity with its
+// opcode.
 fn is_plain(device: &Desc, name: &str, ir_len: u32, id: Option<(u32, u64)>) -> bool {
     let id = id.map(|(value, op)| IdCode { value, op });
     let is_named = device.name.bytes() == name.as_bytes();

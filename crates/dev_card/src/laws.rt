@@ -155,8 +155,8 @@ pub fn clocks_keep_the_descriptions()
     ensures { (cs : List Card) (inputs : List Input) → descriptions_of (board_after cs inputs) ≡ descriptions_of cs }
 {}
 
-/// The report of a device of each kind, written out: the Regs has a register with a constant that holds another value, and the Flash words of
-/// ones behind those that were programmed.
+/// The report of a device of each kind, written out: the Regs has a register with a constant that holds another value,
+/// and the Flash words of ones after those that were programmed.
 pub fn a_report_of_three_devices()
     ensures { report_of (example_plain ∷ example_registers ∷ example_flash ∷ []) ≡ example_report }
 {}

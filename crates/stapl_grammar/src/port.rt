@@ -73,7 +73,14 @@ impl<'a> Cursor<'a> {
         &mut self,
         alloc: Global,
     ) -> Result<(Option<Box<ArrayExpr>>, Option<Box<Compare>>), Refused>
-        ensures { Gives (λ x. ((option_map (λ a. array_tree (box_value a)) x.0, option_map (λ c. compare_tree (box_value c)) x.1), self.new)) result (part_at (both capture_part compare_part) self.old) }
+        ensures { Gives (λ x. (
+          (
+            option_map (λ a. array_tree (box_value a)) x.0,
+            option_map (λ c. compare_tree (box_value c)) x.1,
+          ),
+          self.new,
+        )) result
+            (part_at (both capture_part compare_part) self.old) }
     {
         let target = self.capture(alloc)?;
         let compare = self.compare(alloc)?;

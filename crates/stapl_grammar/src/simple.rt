@@ -23,7 +23,8 @@ impl<'a> Cursor<'a> {
         v: Name,
         first: Box<Expr>,
     ) -> Result<Body, Refused>
-        ensures { Gives (λ b. (body_tree b, self.new)) result (mapped (range_or_element_of v (expr_tree (box_value first))) (part_at range_or_element_part self.old)) }
+        ensures { Gives (λ b. (body_tree b, self.new)) result
+            (mapped (range_or_element_of v (expr_tree (box_value first))) (part_at range_or_element_part self.old)) }
     {
         if self.take_mark(Mark::Dots) {
             let low = self.boxed_expr(alloc)?;

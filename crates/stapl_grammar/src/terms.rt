@@ -111,7 +111,8 @@ impl<'a> Cursor<'a> {
     #[cycle(terms)]
     #[tactic(auto, unfolding(crate::specs::Reading::closed_by, crate::specs::Reading::bracketed_by))]
     fn bracketed_array(&mut self, alloc: Global) -> Result<Box<ArrayExpr>, Refused>
-        ensures read { Gives (λ a. (array_tree (box_value a), self.new)) result (bracketed_by (array_by (expr 10)) self.old) }
+        ensures read { Gives (λ a. (array_tree (box_value a), self.new)) result
+            (bracketed_by (array_by (expr 10)) self.old) }
         ensures shorter { OnOk result (length self.new ≤ length self.old) }
     {
         self.expect_mark(Mark::LeftRound)?;
