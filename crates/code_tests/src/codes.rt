@@ -143,7 +143,7 @@ pub const VARIABLES: [(u8, u32); 4] = [(0, 1), (1, 1), (2, 4), (3, 4)];
 // What `validate` answers to a code in range: the most operands that it holds at once, or the first instruction that breaks a rule.
 fn answer(rt: &HostRuntime, entries: &[u32], ops: &[Op]) -> Result<Result<u32, usize>, Fail> {
     let code = lists(rt.alloc(), &VARIABLES, entries, ops)?;
-    if !code.is_in_range() {
+    if !code.is_in_range() || !code.is_short() {
         return Err("not in range".into());
     }
     match validate(rt.alloc(), RawCode::of(code)) {

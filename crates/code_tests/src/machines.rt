@@ -21,7 +21,7 @@ use tool_io::{Lines, MemSink};
 // The code of these instructions, with procedures at these two entries.
 fn code(rt: &HostRuntime, entries: &[u32; 2], ops: &[Op]) -> Result<Code, Fail> {
     let lists = lists(rt.alloc(), &VARIABLES, entries, ops)?;
-    if !lists.is_in_range() {
+    if !lists.is_in_range() || !lists.is_short() {
         return Err("not in range".into());
     }
     let Ok(code) = validate(rt.alloc(), RawCode::of(lists)) else {

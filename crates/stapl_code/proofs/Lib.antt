@@ -13,3 +13,4 @@ pub mod ScanKinds
 pub mod DepthSteps
 pub mod BreakSteps
 pub mod Preceded
+pub mod SizeLemmas

@@ -2,6 +2,10 @@ pub mod Operators
 pub mod Machine
 pub mod Ticks
 pub mod Ranges
+pub mod Fields
+pub mod Instrs
+pub mod Files
+pub mod Sizes
 pub mod Kinds
 pub mod Valid
 pub mod Safe

@@ -10,9 +10,11 @@ mod parts;
 mod ranges;
 mod raw;
 mod scan_kinds;
+mod sizes;
 mod valid;
 
 pub use instr::{Cell, Compare, Dest, ExportPart, Instr, PrintPart, Scan, Source};
 pub use operators::{Operator, operator_of, unary_kind};
 pub use raw::{ActionDef, CodeLists, ItemDef, ProcDef, RawCode, VarDef};
+pub use sizes::FILE_LIMIT;
 pub use valid::{Code, ValidateRefused, validate};

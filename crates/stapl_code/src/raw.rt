@@ -1,6 +1,7 @@
 //! Codes as a file gives them.
 ghost use Rattle.std.specs.Prelude.{◌≡◌};
 ghost use Rattle.stapl_code.specs.Ranges.{IsInRange};
+ghost use Rattle.stapl_code.specs.Files.{IsShort};
 
 use crate::instr::Instr;
 use base::ItemList;
@@ -53,7 +54,7 @@ pub struct CodeLists {
     pub instrs: ItemList<Instr>,
 }
 
-/// A code whose fields are in their ranges. Contracts see it as its lists.
+/// A code whose fields are in their ranges, and whose file is not too long. Contracts see it as its lists.
 #[derive(Drop)]
 pub struct RawCode {
     lists: CodeLists,
@@ -65,16 +66,18 @@ impl Model for RawCode {
     ghost Value = { CodeLists };
 
     ghost use Rattle.stapl_code.specs.Ranges.{IsInRange};
+    ghost use Rattle.stapl_code.specs.Files.{IsShort};
 
     ghost view = { λ raw. raw.lists };
 
-    ghost invariant = { λ raw. IsInRange raw.lists };
+    ghost invariant = { λ raw. IsInRange raw.lists × IsShort raw.lists };
 }
 
 impl RawCode {
     /// The code of these lists. It takes no memory.
     pub fn of(lists: CodeLists) -> RawCode
         requires in_range { IsInRange lists }
+        requires short { IsShort lists }
         ensures lists { result ≡ lists }
     {
         RawCode { lists }
@@ -84,6 +87,7 @@ impl RawCode {
     pub fn lists(&self) -> &CodeLists
         ensures lists { result.now ≡ self.now }
         ensures in_range { IsInRange self.now }
+        ensures short { IsShort self.now }
     {
         &self.lists
     }

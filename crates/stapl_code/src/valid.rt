@@ -4,6 +4,7 @@ ghost use Rattle.std.specs.List.{list_all};
 ghost use Rattle.stapl_code.specs.Depth.{depth_of};
 ghost use Rattle.stapl_code.specs.Kinds.{kinds_behind};
 ghost use Rattle.stapl_code.specs.Ranges.{IsInRange};
+ghost use Rattle.stapl_code.specs.Files.{IsShort};
 ghost use Rattle.stapl_code.specs.Valid.{is_turn, is_end, sets_up, departs, kinds_kept, is_target, leads_well, ends_stable, rests_well, stands_well, prologue_break, procedure_break, next_entry, procedures_break, entry_break, first_break, IsValid, NamesFirst};
 
 use crate::depth::depth_of;
@@ -292,6 +293,7 @@ impl Code {
         ensures raw { result.now ≡ self.now }
         ensures valid { IsValid self.now }
         ensures in_range { IsInRange self.now }
+        ensures short { IsShort self.now }
     {
         let _lists = self.raw.lists();
         &self.raw

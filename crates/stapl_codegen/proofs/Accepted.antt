@@ -172,7 +172,7 @@ some_size (wait_usec state x end) = omega arith
 some_size (frequency hertz) = omega arith
 some_size _ = omega arith
 
-pieces_size : (now : Option (List ℕ)) (rest : List StmtTree) → statements_size (pieces_from now rest) ≤ statements_size rest
+pub pieces_size : (now : Option (List ℕ)) (rest : List StmtTree) → statements_size (pieces_from now rest) ≤ statements_size rest
 pieces_size now [] = omega arith
 pieces_size now (st ∷ rest) =
     let more = pieces_size (data_behind now st.body) rest in
@@ -192,7 +192,7 @@ pieces_size now (st ∷ rest) =
 abbrev presets_size : List Preset → ℕ
 presets_size presets = sum_by (λ (preset : Preset). body_size preset.body) presets
 
-preset_size : (now : Option (List ℕ)) (rest : List StmtTree) → presets_size (presets_from now rest) ≤ statements_size rest
+pub preset_size : (now : Option (List ℕ)) (rest : List StmtTree) → presets_size (presets_from now rest) ≤ statements_size rest
 preset_size now [] = omega arith
 preset_size now (st ∷ rest) = by (preset_of now st.body) refl (preset_size (data_behind now st.body) rest)
   where

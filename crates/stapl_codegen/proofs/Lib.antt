@@ -35,3 +35,5 @@ pub mod Generated
 pub mod Unstuck
 pub mod Emits
 pub mod ScanEmits
+pub mod CodeBytes
+pub mod FileSizes

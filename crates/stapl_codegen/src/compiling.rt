@@ -1,10 +1,11 @@
 //! The code of a program.
-ghost use Rattle.std.specs.Prelude.{◌≡◌, ◌<◌, ◌≤◌, ◌^◌, length, IfOk};
+ghost use Rattle.std.specs.Prelude.{◌≡◌, ◌+◌, ◌*◌, ◌<◌, ◌≤◌, ◌^◌, length, IfOk};
 ghost use Rattle.std.specs.List.{range_with_len};
 ghost use Rattle.stapl_syntax.specs.Trees.{trees};
 ghost use Rattle.stapl_syntax.specs.ProgramValues.{trees_of};
 ghost use Rattle.stapl_syntax.specs.Programs.{piece_limit, IsProgram};
 ghost use Rattle.stapl_meaning.specs.Scopes.{program_names, as_played};
+ghost use Rattle.stapl_code.specs.Files.{file};
 ghost use Rattle.stapl_code.specs.Ranges.{IsInRange};
 ghost use Rattle.stapl_code.specs.Valid.{IsValid};
 ghost use Rattle.stapl_codegen.specs.Accepted.{IsAccepted};
@@ -12,7 +13,7 @@ ghost use Rattle.stapl_codegen.specs.Generated.{lists_of, IsCodeOf};
 
 use crate::definitions::{Numbers, actions, procedure_numbers, procedures, variables};
 use crate::draft::write_program;
-use crate::laws::{accepted_code_is_valid, programs_are_accepted};
+use crate::laws::{accepted_code_is_valid, files_are_short, programs_are_accepted};
 use base::ItemList;
 use stapl_code::{Code, CodeLists, RawCode, ValidateRefused, validate};
 use stapl_names::{Names, collect};
@@ -79,14 +80,16 @@ fn valid_lists(alloc: Global, program: &[Stmt]) -> Result<CodeLists, AllocError>
     Ok(lists)
 }
 
-/// The code of a program, which stands for it.
+/// The code of a program, which stands for it. Its file has at most 64 bytes for each byte of the text, and 64 more.
 ///
 /// `AllocError` comes only for want of memory.
 pub fn generate(alloc: Global, program: &Program) -> Result<Code, AllocError>
     requires { IsProgram program.now.text (trees_of program.now) }
-    ensures { IfOk result (IsCodeOf (as_played (trees_of program.now))) }
+    ensures code { IfOk result (IsCodeOf (as_played (trees_of program.now))) }
+    ensures short { IfOk result (λ code. length (file code) ≤ 64 * length program.now.text + 64) }
 {
     programs_are_accepted();
+    files_are_short();
     let lists = valid_lists(alloc, program.statements())?;
     match validate(alloc, RawCode::of(lists)) {
         Ok(code) => Ok(code),

@@ -1,0 +1,2 @@
+pub mod SymbolBytes
+pub mod TextLemmas
