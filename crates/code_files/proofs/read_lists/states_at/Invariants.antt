@@ -1,0 +1,7 @@
+use Rattle.std.proofs.Common.{◌≡◌, ◌-◌, []}
+use Rattle.code_files.specs.Reading.{items_at}
+use Rattle.code_files.specs.ReadInstrs.{state_at}
+use Rattle.code_files.proofs.read_lists.states_at.Given as goal
+
+abbrev pub invariant-loop : goal.invariant-loop
+invariant-loop l = items_at (λ _. state_at) l.items.items (l.count - l.counter) l.rest ≡ items_at (λ _. state_at) [] l.count l.bytes

@@ -1,0 +1,5 @@
+pub mod Reading
+pub mod ReadInstrs
+pub mod ReadFiles
+pub mod CodeFaults
+pub mod Reasons
