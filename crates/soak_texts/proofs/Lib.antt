@@ -1,0 +1,4 @@
+pub mod BoardLemmas
+pub mod DrawLemmas
+pub mod ListLemmas
+pub mod StepLemmas
