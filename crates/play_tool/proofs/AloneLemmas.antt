@@ -29,11 +29,12 @@ use Rattle.play_tool.specs.declared.mode.Mode.{Mode}
 use Rattle.play_tool.specs.declared.mode.Mode.TheVariants.{Play}
 use Rattle.play_tool.specs.declared.status.Status.{Status}
 use Rattle.play_tool.specs.declared.words.Request.{Request}
+use Rattle.play_tool.specs.Words.{reads_text, soaks}
 use Rattle.play_tool.specs.Answers.{done_with, has_place, reported_far, asked_text, Plays, no_action, bad_choice, bad_place, played, play_on, PlaysAction, PlaysAsked, Work, TextAnswer, FileAnswer, Contents, WordsAnswer}
 use Rattle.play_tool.specs.Boards.{HasBoard}
 use Rattle.play_tool.specs.Alone.{alone_request, IsQuietAlone, PlaysAlone}
-use Rattle.play_tool.proofs.AnswerLemmas.{answers_work, asked_plays}
-use Rattle.play_tool.proofs.RequestLemmas.{words_request, the_file}
+use Rattle.play_tool.proofs.AnswerLemmas.{answers_work, asked_plays, source_to_text}
+use Rattle.play_tool.proofs.RequestLemmas.{words_request, mode_of_request, the_file}
 use Rattle.play_tool.proofs.WrittenLemmas.{IsWithin}
 
 -- the devices of a board are good
@@ -121,10 +122,11 @@ module _ (request : Request) (place : ℕ) (devices : List Desc) (device : Desc)
       subst (λ (bytes : List ℕ). PlaysOne bytes (done_with ending)) (sym (text_alone _ _ ending same))
       (played other ending e refl (sym same.same_ending ∙ ended))
 
-file_text : {request : Request} {devices : List Desc} {file : Option (List ℕ)} {bytes text : List ℕ} {status : Status} → file ≡ Some bytes →
+file_text : {request : Request} {devices : List Desc} {file : Option (List ℕ)} {bytes text : List ℕ} {status : Status} → request.mode ≡ Play → file ≡ Some bytes →
     FileAnswer request devices file text status → TextAnswer request devices bytes text status
-file_text {request = request} {devices = devices} {text = text} {status = status} e a =
-    subst (λ (z : List ℕ). TextAnswer request devices z text status) (same_Some a.bytes _ (sym a.held ∙ e)) a.answer
+file_text {request = request} {devices = devices} {text = text} {status = status} mode e a =
+    subst (λ (z : List ℕ). TextAnswer request devices z text status) (same_Some a.bytes _ (sym a.held ∙ e))
+    ((source_to_text request devices a.bytes (reads_text request.mode) (ap reads_text mode)).to text status a.answer)
 
 mode_work : {request : Request} {devices : List Desc} (bytes : List ℕ) {program : List StmtTree} {text : List ℕ} {status : Status} → request.mode ≡ Play →
     Work request devices bytes program request.mode text status → PlaysAsked program request devices text status
@@ -141,7 +143,9 @@ action_alone {contents_of = contents_of} q text status a =
 pub answers_alone : {words : List (List ℕ)} {contents_of : Request → Contents} (q : IsQuietAlone words contents_of) → IsWithin (WordsAnswer words contents_of) (PlaysAlone q)
 answers_alone {contents_of = contents_of} q = record {
   to = λ text status a.
-      let file = the_file {contents = contents_of q.request} q.devices q.board ((words_request {contents_of = contents_of} q.asked).to text status a) in
-      let work = (answers_work q.request q.devices q.bytes q.bytes q.program refl q.is).to text status (file_text q.held file) in
+      let answer = (words_request {contents_of = contents_of} q.asked).to text status a in
+      let request = (mode_of_request q.request (contents_of q.request) (soaks q.request.mode) (ap soaks q.plays)).to text status answer in
+      let file = the_file {contents = contents_of q.request} q.devices q.board request in
+      let work = (answers_work q.request q.devices q.bytes q.bytes q.program refl q.is).to text status (file_text q.plays q.held file) in
       action_alone q text status ((asked_plays q.request q.devices q.program q.named).to text status (mode_work q.bytes q.plays work));
 }

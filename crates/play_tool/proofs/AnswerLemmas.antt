@@ -1,5 +1,5 @@
 -- On answers: which relation holds the answers of which.
-use Rattle.std.proofs.Common.{◌≡◌, ◌<◌, ℕ, pos, List, length, codes, Option, None, Some, Result, Ok, Err, IfOk, IfSome, IsSomeAnd, refl, sym, ap, ◌∙◌, subst, true, false}
+use Rattle.std.proofs.Common.{◌≡◌, ◌<◌, ℕ, pos, List, length, codes, Option, None, Some, Result, Ok, Err, IfOk, IfSome, IsSomeAnd, refl, sym, ap, ◌∙◌, subst, true, false, Bool}
 use Rattle.std.proofs.lemmas.Option.{same_Some}
 use Rattle.std.specs.Prelude.{is_some, IsSome}
 use Rattle.tool_io.specs.Bytes.{then_bytes, MovesFront}
@@ -17,10 +17,14 @@ use Rattle.play_tool.specs.declared.status.Status.{Status}
 use Rattle.play_tool.specs.declared.status.Status.TheVariants.{Refused, Usage}
 use Rattle.play_tool.specs.Texts.{number_line, refusal_line}
 use Rattle.play_tool.specs.declared.mode.WordKey.{WordKey}
-use Rattle.play_tool.specs.declared.mode.WordKey.TheVariants.{Board, Program, Action}
-use Rattle.play_tool.specs.Words.{needs, has_key, HasNeeded, IsUsage}
+use Rattle.play_tool.specs.declared.mode.WordKey.TheVariants.{Board, Program, Code, Action, Seed}
+use Rattle.play_tool.specs.Words.{reads_text, soaks, plays, source_in, source_of, needs, has_key, HasNeeded, IsUsage}
 use Rattle.play_tool.specs.Written.{Wrote, WroteFront}
-use Rattle.play_tool.specs.Answers.{PlaysAction, PlaysAsked, Work, TextAnswer, refused, accepted, FileAnswer, Contents, WordsAnswer, usage, SomeTextAnswer, SomeFilesAnswer}
+use Rattle.play_tool.specs.Answers.{PlaysAction, PlaysAsked, Work, TextAnswer, refused, accepted, CodeAnswer, code_refused, SourceAnswer, FileAnswer, Contents, WordsAnswer, usage, SomeSourceAnswer, SomeFilesAnswer}
+use Rattle.stapl_code.specs.Files.{most_bytes}
+use Rattle.code_files.specs.declared.fault.CodeReason.TheVariants as code_reasons
+use Rattle.code_files.specs.CodeFaults.{too_long}
+use Rattle.play_tool.specs.Sources.{most_of_source, long_line, long_status}
 use Rattle.play_tool.proofs.BoardLemmas.{long_text}
 use Rattle.play_tool.proofs.WrittenLemmas.{IsWithin, wrote_text, wrote_front}
 
@@ -37,23 +41,64 @@ on_some (Some x) f p = f x p
 has_needed : (request : Request) (mode : Mode) → HasNeeded request → request.mode ≡ mode → (key : WordKey) → needs mode key ≡ true → has_key request key ≡ true
 has_needed request mode has e key needed = has.has key (ap (λ (m : Mode). needs m key) e ∙ needed)
 
-pub has_action : (request : Request) → HasNeeded request → request.mode ≡ modes.Play → request.action ≡ None → ⊥
-has_action request has e none =
-    let some : is_some request.action ≡ true = has_needed request modes.Play has e Action refl in
-    let same : is_some request.action ≡ false = ap (λ (a : Option (List ℕ)). is_some a) none in cc
+none_there : {A : Type 0} (found : Option A) → is_some found ≡ true → found ≡ None → ⊥
+none_there {A = A} found some none = let same : is_some found ≡ false = ap (λ (a : Option A). is_some a) none in cc
 
-pub has_board : (request : Request) → HasNeeded request → request.mode ≡ modes.Play → IsSome request.board
-has_board request has e = has_needed request modes.Play has e Board refl
+pub has_action : (request : Request) (mode : Mode) → HasNeeded request → request.mode ≡ mode → needs mode Action ≡ true → request.action ≡ None → ⊥
+has_action request mode has e needed none = none_there request.action (has_needed request mode has e Action needed) none
 
-program_needed : (mode : Mode) → needs mode Program ≡ true
-program_needed modes.Play = refl
-program_needed modes.Check = refl
-program_needed modes.List = refl
+pub has_board : (request : Request) (mode : Mode) → HasNeeded request → request.mode ≡ mode → needs mode Board ≡ true → IsSome request.board
+has_board request mode has e needed = has_needed request mode has e Board needed
 
-pub has_program : (request : Request) → HasNeeded request → request.program ≡ None → ⊥
-has_program request has none =
-    let some : is_some request.program ≡ true = has_needed request request.mode has refl Program (program_needed request.mode) in
-    let same : is_some request.program ≡ false = ap (λ (a : Option (List ℕ)). is_some a) none in cc
+pub has_seed : (request : Request) → HasNeeded request → request.mode ≡ modes.Soak → request.seed ≡ None → ⊥
+has_seed request has e none = none_there request.seed (has_needed request modes.Soak has e Seed refl) none
+
+source_some : (request : Request) (mode : Mode) → request.mode ≡ mode → HasNeeded request → soaks mode ≡ false → is_some (source_in (reads_text mode) request) ≡ true
+source_some request modes.Play e has other = has_needed request modes.Play has e Program refl
+source_some request modes.Check e has other = has_needed request modes.Check has e Program refl
+source_some request modes.List e has other = has_needed request modes.List has e Program refl
+source_some request modes.Compile e has other = has_needed request modes.Compile has e Program refl
+source_some request modes.Run e has other = has_needed request modes.Run has e Code refl
+source_some request modes.Soak e has other = absurd cc
+
+pub has_source : (request : Request) → HasNeeded request → soaks request.mode ≡ false → source_of request ≡ None → ⊥
+has_source request has other none = none_there (source_of request) (source_some request request.mode refl has other) none
+
+-- The modes, by what is known of them.
+
+pub run_mode : (mode : Mode) → reads_text mode ≡ false → soaks mode ≡ false → mode ≡ modes.Run
+run_mode modes.Run a b = refl
+run_mode modes.Play a b = absurd cc
+run_mode modes.Check a b = absurd cc
+run_mode modes.List a b = absurd cc
+run_mode modes.Compile a b = absurd cc
+run_mode modes.Soak a b = absurd cc
+
+pub text_mode : (mode : Mode) → mode ≡ modes.Run → reads_text mode ≡ true → ⊥
+text_mode mode e f = let g = ap reads_text e in cc
+
+pub no_soak_mode : (mode : Mode) → mode ≡ modes.Soak → reads_text mode ≡ true → ⊥
+no_soak_mode mode e f = let g = ap reads_text e in cc
+
+pub source_plays : (mode : Mode) → reads_text mode ≡ false → plays mode ≡ false → ⊥
+source_plays modes.Play a b = cc
+source_plays modes.Check a b = cc
+source_plays modes.List a b = cc
+source_plays modes.Compile a b = cc
+source_plays modes.Run a b = cc
+source_plays modes.Soak a b = cc
+
+pub not_playing : (playing : Bool) → (playing ≡ true → ⊥) → playing ≡ false
+not_playing false never = refl
+not_playing true never = absurd (never refl)
+
+pub soak_mode : (mode : Mode) → soaks mode ≡ true → mode ≡ modes.Soak
+soak_mode modes.Soak a = refl
+soak_mode modes.Play a = absurd cc
+soak_mode modes.Check a = absurd cc
+soak_mode modes.List a = absurd cc
+soak_mode modes.Compile a = absurd cc
+soak_mode modes.Run a = absurd cc
 
 -- The play that a request asks for is that of the action that it names.
 
@@ -106,13 +151,43 @@ long_answer : {request : Request} {devices : List Desc} {bytes : List ℕ} → t
     TextAnswer request devices bytes (refusal_line 0 0 reasons.TooLong) (Refused 0 reasons.TooLong)
 long_answer long = refused 0 0 reasons.TooLong (is_too_long long)
 
-pub long_file : (request : Request) (devices : List Desc) (file : Option (List ℕ)) → IsSomeAnd file (λ bytes. text_limit < length bytes) →
-    FileAnswer request devices file (refusal_line 0 0 reasons.TooLong) (Refused 0 reasons.TooLong)
-long_file request devices None long = absurd long
-long_file request devices (Some bytes) long = record { bytes = bytes; held = refl; answer = long_answer long }
+long_source : (request : Request) (devices : List Desc) (bytes : List ℕ) (text : Bool) → most_of_source text < length bytes →
+    SourceAnswer text request devices bytes (long_line text) (long_status text)
+long_source request devices bytes true long = long_answer long
+long_source request devices bytes false long = code_refused most_bytes code_reasons.TooLong (too_long long)
 
-pub some_long_answer : (request : Request) (devices : List Desc) → SomeTextAnswer request devices (refusal_line 0 0 reasons.TooLong) (Refused 0 reasons.TooLong)
-some_long_answer request devices = let t = long_text text_limit in record { bytes = t.0; answer = long_answer t.1 }
+pub long_file : (request : Request) (devices : List Desc) (file : Option (List ℕ)) → IsSomeAnd file (λ bytes. most_of_source (reads_text request.mode) < length bytes) →
+    FileAnswer request devices file (long_line (reads_text request.mode)) (long_status (reads_text request.mode))
+long_file request devices None long = absurd long
+long_file request devices (Some bytes) long = record {
+  bytes = bytes;
+  held = refl;
+  answer = long_source request devices bytes (reads_text request.mode) long;
+}
+
+pub some_long_answer : (request : Request) (devices : List Desc) →
+    SomeSourceAnswer request devices (long_line (reads_text request.mode)) (long_status (reads_text request.mode))
+some_long_answer request devices =
+    let t = long_text (most_of_source (reads_text request.mode)) in
+    record { bytes = t.0; answer = long_source request devices t.0 (reads_text request.mode) t.1 }
+
+-- The answer for what a mode reads is that for a text or for a code.
+
+pub text_to_source : (request : Request) (devices : List Desc) (bytes : List ℕ) (text : Bool) → text ≡ true →
+    IsWithin (TextAnswer request devices bytes) (SourceAnswer text request devices bytes)
+text_to_source request devices bytes text e = record { to = λ xs s a. rw e a }
+
+pub source_to_text : (request : Request) (devices : List Desc) (bytes : List ℕ) (text : Bool) → text ≡ true →
+    IsWithin (SourceAnswer text request devices bytes) (TextAnswer request devices bytes)
+source_to_text request devices bytes text e = record { to = λ xs s a. rw e at a }
+
+pub code_to_source : (request : Request) (devices : List Desc) (bytes : List ℕ) (text : Bool) → text ≡ false →
+    IsWithin (CodeAnswer request devices bytes) (SourceAnswer text request devices bytes)
+code_to_source request devices bytes text e = record { to = λ xs s a. rw e a }
+
+pub source_to_code : (request : Request) (devices : List Desc) (bytes : List ℕ) (text : Bool) → text ≡ false →
+    IsWithin (SourceAnswer text request devices bytes) (CodeAnswer request devices bytes)
+source_to_code request devices bytes text e = record { to = λ xs s a. rw e at a }
 
 -- Words are refused.
 
@@ -125,7 +200,7 @@ pub usage_front : {words : List (List ℕ)} {contents_of : Request → Contents}
 usage_front n u m = wrote_front (number_line (codes "R usage ") (pos n)) (Usage n) (usage n u) m
 
 some_usage : {words : List (List ℕ)} (n : ℕ) → IsUsage words n → SomeFilesAnswer words (number_line (codes "R usage ") (pos n)) (Usage n)
-some_usage n u = record { contents = record { board = None; program = None }; answer = usage n u }
+some_usage n u = record { contents = record { board = None; source = None }; answer = usage n u }
 
 pub some_usage_wrote : {words : List (List ℕ)} {before after : Option (List ℕ)} (n : ℕ) → IsUsage words n →
     after ≡ then_bytes before (number_line (codes "R usage ") (pos n)) → Wrote (SomeFilesAnswer words) before after (Usage n)

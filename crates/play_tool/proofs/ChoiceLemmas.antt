@@ -9,7 +9,7 @@ use Rattle.std.proofs.lemmas.Slice.Eq.{bytes_eq-Decides}
 use Rattle.stapl_syntax.specs.declared.statement.ItemChoice.{ItemChoice}
 use Rattle.stapl_syntax.specs.declared.statement.ItemChoice.TheVariants.{Optional, Recommended}
 use Rattle.stapl_syntax.specs.Trees.{ItemTree, BodyTree, action, procedure, StmtTree}
-use Rattle.stapl_meaning.specs.Choices.{is_one_of, runs_by, item_runs, item_procedure, procedures_run, is_choice, are_choices, Choice, bad_choice, chosen, items_before, items_from, choice_among, choice_of}
+use Rattle.stapl_meaning.specs.Choices.{is_one_of, runs_by, item_runs, item_procedure, procedures_run, is_choice, are_choices, bad_choice, chosen, items_before, items_from, choice_among, choice_of}
 use Rattle.stapl_meaning.specs.Scopes.{Played, procedures_in, procedure_before, procedure_number}
 use Rattle.stapl_meaning.specs.Typed.{NamesProcedure, NamesProcedures, IsTyped}
 use Rattle.stapl_code.specs.declared.raw.ProcDef.{ProcDef}
@@ -163,12 +163,3 @@ pub same_choice : {program : Played} {code : CodeLists} (name : List ℕ) (asked
     code_choice code name asked skipped ≡ choice_of program name asked skipped
 same_choice {program = program} name asked skipped typed is =
     ap (λ (lists : CodeLists). code_choice lists name asked skipped) is.lists ∙ actions_same program asked skipped name program.pieces typed.items
-
--- What a choice in the code comes to, that in the program comes to.
-pub comes_to : {program : Played} {code : CodeLists} {a b : List (List ℕ)} (choice : Choice) (name : List ℕ) (asked skipped : List (List ℕ)) → IsTyped program → IsCodeOf program code →
-    a ≡ asked → b ≡ skipped → code_choice code name a b ≡ choice → choice_of program name asked skipped ≡ choice
-comes_to {code = code} {a = a} choice name asked skipped typed is p q e =
-    sym (same_choice name asked skipped typed is)
-    ∙ ap (λ (z : List (List ℕ)). code_choice code name z skipped) (sym p)
-    ∙ ap (λ (z : List (List ℕ)). code_choice code name a z) (sym q)
-    ∙ e

@@ -4,6 +4,8 @@ pub mod OneRequest
 pub mod WrittenLemmas
 pub mod ChoiceLemmas
 pub mod PlayLemmas
+pub mod CodeLemmas
+pub mod ProgramLemmas
 pub mod CheckLemmas
 pub mod ListLemmas
 pub mod BoardLemmas
@@ -11,4 +13,7 @@ pub mod AnswerLemmas
 pub mod RequestLemmas
 pub mod OneAnswer
 pub mod AloneLemmas
+pub mod SoakLemmas
+pub mod AnsweredLemmas
+pub mod CompiledLemmas
 pub mod FaultLines

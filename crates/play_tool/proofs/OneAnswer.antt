@@ -1,5 +1,5 @@
 -- The words and the files have at most one answer.
-use Rattle.std.proofs.Common.{Bool, true, false, ◌≡◌, ℕ, pos, List, refl, sym, ap, ◌∙◌, subst, Option, Some, codes}
+use Rattle.std.proofs.Common.{Bool, true, false, ◌≡◌, ◌++◌, ℕ, pos, List, refl, sym, ap, ◌∙◌, subst, Option, Some, codes}
 use Rattle.std.proofs.lemmas.Option.{same_Some}
 use Rattle.stapl_lexer.specs.declared.reason.Reason.{Reason}
 use Rattle.stapl_syntax.specs.Trees.{StmtTree}
@@ -15,15 +15,22 @@ use Rattle.play_tool.specs.declared.mode.Mode.{Mode}
 use Rattle.play_tool.specs.declared.mode.Mode.TheVariants as modes
 use Rattle.play_tool.specs.declared.words.Request.{Request}
 use Rattle.play_tool.specs.declared.status.Status.{Status}
-use Rattle.play_tool.specs.declared.status.Status.TheVariants.{Done, Refused, BoardRefused, Usage}
+use Rattle.play_tool.specs.declared.status.Status.TheVariants.{Done, Refused, BoardRefused, CodeRefused, Usage}
 use Rattle.play_tool.specs.Checks.{check_text, Checks, checked}
 use Rattle.play_tool.specs.Listings.{Lists, listed}
-use Rattle.play_tool.specs.Texts.{number_line, refusal_line, board_refusal_line}
+use Rattle.play_tool.specs.Texts.{number_line, refusal_line, board_refusal_line, code_refusal_line}
+use Rattle.stapl_code.specs.declared.raw.CodeLists.{CodeLists}
+use Rattle.stapl_code.specs.Files.{file}
+use Rattle.code_files.specs.declared.fault.CodeReason.{CodeReason}
+use Rattle.code_files.proofs.FileFaults.{one_alone}
+use Rattle.code_files.proofs.FileFaults as code_faults
+use Rattle.play_tool.specs.Words.{reads_text, soaks}
 use Rattle.play_tool.specs.CodePlays.{run_text}
-use Rattle.play_tool.specs.Answers.{done_with, Plays, no_action, bad_choice, bad_place, played, PlaysAction, PlaysAsked, Work, TextAnswer, refused, accepted, FileAnswer, Contents, RequestAnswer, board_refused, board_read, WordsAnswer, Answer, usage, asked}
+use Rattle.play_tool.specs.Answers.{done_with, Plays, no_action, bad_choice, bad_place, played, PlaysAction, PlaysAsked, Compiles, Work, TextAnswer, refused, accepted, PlaysCodeAction, PlaysCodeAsked, CodeAnswer, code_refused, code_accepted, SourceAnswer, FileAnswer, Contents, RequestAnswer, board_refused, board_read, soak_request, soak_contents, soak_head, SoakAnswer, ModeAnswer, WordsAnswer, Answer, usage, asked}
 use Rattle.play_tool.proofs.BoardLemmas.{one_held, one_fault, board_or_fault}
 use Rattle.play_tool.proofs.RequestLemmas.{words_request}
 use Rattle.play_tool.proofs.CheckLemmas.{one_word}
+use Rattle.play_tool.proofs.CodeLemmas.{same_code}
 use Rattle.play_tool.proofs.OneRequest.{one_usage, no_usage}
 
 -- a text and a status
@@ -97,12 +104,21 @@ one_check {program = program} (checked a x) (checked b y) = same_check program a
 one_list : {program : List StmtTree} {xs ys : List ℕ} {s t : Status} → Lists program xs s → Lists program ys t → said xs s ≡ said ys t
 one_list listed listed = refl
 
+same_file : (xs ys : List ℕ) (s t : Status) → xs ≡ ys → s ≡ Done (pos 0) → t ≡ Done (pos 0) → said xs s ≡ said ys t
+same_file xs ys s t e f g = rw (e, f, g) refl
+
+one_compiled : {program : List StmtTree} {xs ys : List ℕ} {s t : Status} → Compiles program xs s → Compiles program ys t → said xs s ≡ said ys t
+one_compiled a b = same_file _ _ _ _ (a.file.file ∙ ap file (a.of_program.lists ∙ sym b.of_program.lists) ∙ sym b.file.file) a.done b.done
+
 -- each mode says one thing of a program
 one_work : (request : Request) (devices : List Desc) (bytes : List ℕ) (program : List StmtTree) (xs ys : List ℕ) (s t : Status) (mode : Mode) → Work request devices bytes program mode xs s →
     Work request devices bytes program mode ys t → said xs s ≡ said ys t
 one_work request devices bytes program xs ys s t modes.Play a b = one_asked a b
 one_work request devices bytes program xs ys s t modes.Check a b = one_check a b
 one_work request devices bytes program xs ys s t modes.List a b = one_list a b
+one_work request devices bytes program xs ys s t modes.Compile a b = one_compiled a b
+one_work request devices bytes program xs ys s t modes.Run a b = absurd a
+one_work request devices bytes program xs ys s t modes.Soak a b = absurd a
 
 same_refusal : (p l q m : ℕ) (r s : Reason) → p ≡ q → l ≡ m → r ≡ s → said (refusal_line p l r) (Refused p r) ≡ said (refusal_line q m s) (Refused q s)
 same_refusal p l q m r s a b c = rw (a, b, c) refl
@@ -120,10 +136,34 @@ one_text {request = request} {devices = devices} {bytes = bytes} (accepted progr
 same_line : (n m : ℕ) → n ≡ m → said (number_line (codes "R usage ") (pos n)) (Usage n) ≡ said (number_line (codes "R usage ") (pos m)) (Usage m)
 same_line n m e = rw e refl
 
+same_code_line : (n m : ℕ) (r s : CodeReason) → n ≡ m → r ≡ s → said (code_refusal_line n r) (CodeRefused n r) ≡ said (code_refusal_line m s) (CodeRefused m s)
+same_code_line n m r s e f = rw (e, f) refl
+
+-- a code plays one way
+one_code_play : {code : CodeLists} {request : Request} {devices : List Desc} {xs ys : List ℕ} {s t : Status} → PlaysCodeAsked code request devices xs s →
+    PlaysCodeAsked code request devices ys t → said xs s ≡ said ys t
+one_code_play {code = code} {request = request} {devices = devices} {ys = ys} {t = t} a b =
+    one_play a.plays (subst (λ (z : List ℕ). PlaysCodeAction code z request devices ys t) (same_Some b.action a.action (sym b.asked ∙ a.asked)) b.plays)
+
+-- the bytes of a code give one answer
+one_code_answer : {request : Request} {devices : List Desc} {bytes xs ys : List ℕ} {s t : Status} → CodeAnswer request devices bytes xs s → CodeAnswer request devices bytes ys t →
+    said xs s ≡ said ys t
+one_code_answer {bytes = bytes} (code_refused n r f) (code_refused m q g) = let e = one_alone bytes n m r q f g in same_code_line n m r q e.0 e.1
+one_code_answer {bytes = bytes} (code_refused n r f) (code_accepted code text status is p) = absurd (code_faults.no_fault bytes code n r is f)
+one_code_answer {bytes = bytes} (code_accepted code text status is p) (code_refused n r f) = absurd (code_faults.no_fault bytes code n r is f)
+one_code_answer {request = request} {devices = devices} {bytes = bytes} (code_accepted code text status is p) (code_accepted other text2 status2 is2 p2) =
+    one_code_play p (subst (λ (z : CodeLists). PlaysCodeAsked z request devices text2 status2) (same_code bytes other code is2 is) p2)
+
+one_source : {xs ys : List ℕ} {s t : Status} (request : Request) (devices : List Desc) (bytes : List ℕ) (text : Bool) → SourceAnswer text request devices bytes xs s →
+    SourceAnswer text request devices bytes ys t → said xs s ≡ said ys t
+one_source request devices bytes true a b = one_text a b
+one_source request devices bytes false a b = one_code_answer a b
+
 one_file : {request : Request} {devices : List Desc} {file : Option (List ℕ)} {xs ys : List ℕ} {s t : Status} → FileAnswer request devices file xs s →
     FileAnswer request devices file ys t → said xs s ≡ said ys t
 one_file {request = request} {devices = devices} {ys = ys} {t = t} a b =
-    one_text a.answer (subst (λ (z : List ℕ). TextAnswer request devices z ys t) (same_Some b.bytes a.bytes (sym b.held ∙ a.held)) b.answer)
+    one_source request devices a.bytes (reads_text request.mode) a.answer
+    (subst (λ (z : List ℕ). SourceAnswer (reads_text request.mode) request devices z ys t) (same_Some b.bytes a.bytes (sym b.held ∙ a.held)) b.answer)
 
 same_board_line : (n m : ℕ) (r s : BoardReason) → n ≡ m → r ≡ s → said (board_refusal_line n r) (BoardRefused n r) ≡ said (board_refusal_line m s) (BoardRefused m s)
 same_board_line n m r s e f = rw (e, f) refl
@@ -139,7 +179,26 @@ one_request_answer {request = request} {contents = contents} (board_read devices
     absurd (board_or_fault request.board contents.board devices n r board f)
 one_request_answer {request = request} {contents = contents} (board_read devices text status board a) (board_read others text2 status2 other b) =
     let same = one_held request.board contents.board others devices other board in
-    one_file a (subst (λ (ds : List Desc). FileAnswer request ds contents.program text2 status2) same b)
+    one_file a (subst (λ (ds : List Desc). FileAnswer request ds contents.source text2 status2) same b)
+
+same_text : (head a b : List ℕ) (s t : Status) → said a s ≡ said b t → said (head ++ a) s ≡ said (head ++ b) t
+same_text head a b s t e = ap (λ (z : Said). said (head ++ z.text) z.status) e
+
+same_said : (x y : List ℕ) (a b : List ℕ) (s t : Status) → x ≡ a → y ≡ b → said a s ≡ said b t → said x s ≡ said y t
+same_said x y a b s t e f g = rw (e, f) g
+
+one_soak : {request : Request} {xs ys : List ℕ} {s t : Status} → SoakAnswer request xs s → SoakAnswer request ys t → said xs s ≡ said ys t
+one_soak {xs = xs} {ys = ys} {s = s} {t = t} a b =
+    let same : b.seed ≡ a.seed = same_Some b.seed a.seed (sym b.given ∙ a.given) in
+    let other : RequestAnswer (soak_request a.seed) (soak_contents a.seed) b.rest t =
+    subst (λ (n : ℕ). RequestAnswer (soak_request n) (soak_contents n) b.rest t) same b.play in
+    same_said xs ys (soak_head a.seed ++ a.rest) (soak_head a.seed ++ b.rest) s t a.text_is (b.text_is ∙ ap (λ (n : ℕ). soak_head n ++ b.rest) same)
+    (same_text (soak_head a.seed) a.rest b.rest s t (one_request_answer a.play other))
+
+one_mode_answer : {xs ys : List ℕ} {s t : Status} (request : Request) (contents : Contents) (soak : Bool) → ModeAnswer soak request contents xs s →
+    ModeAnswer soak request contents ys t → said xs s ≡ said ys t
+one_mode_answer request contents true a b = one_soak a b
+one_mode_answer request contents false a b = one_request_answer a b
 
 -- there is one answer
 one_said : {words : List (List ℕ)} {contents_of : Request → Contents} {xs ys : List ℕ} {s t : Status} → WordsAnswer words contents_of xs s →
@@ -148,7 +207,7 @@ one_said (usage n u) (usage m v) = same_line n m (one_usage u v)
 one_said (usage n u) (asked request text status asks a) = absurd (no_usage asks u)
 one_said (asked request text status asks a) (usage n u) = absurd (no_usage asks u)
 one_said {contents_of = contents_of} (asked request text status asks a) (asked other text2 status2 others b) =
-    one_request_answer a ((words_request {contents_of = contents_of} asks).to text2 status2 (asked other text2 status2 others b))
+    one_mode_answer request (contents_of request) (soaks request.mode) a ((words_request {contents_of = contents_of} asks).to text2 status2 (asked other text2 status2 others b))
 
 pub one_answer_lem : (words : List (List ℕ)) (files : List (List ℕ × List ℕ)) (xs ys : List ℕ) (s t : Status) → Answer words files xs s → Answer words files ys t → (xs ≡ ys) × (s ≡ t)
 one_answer_lem words files xs ys s t a b = let e = one_said a b in (ap (λ (z : Said). z.text) e, ap (λ (z : Said). z.status) e)

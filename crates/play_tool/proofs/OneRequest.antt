@@ -6,9 +6,9 @@ use Rattle.std.specs.Option.{option_map}
 use Rattle.play_tool.specs.declared.mode.Mode.{Mode}
 use Rattle.play_tool.specs.declared.mode.Mode.TheVariants as modes
 use Rattle.play_tool.specs.declared.mode.WordKey.{WordKey}
-use Rattle.play_tool.specs.declared.mode.WordKey.TheVariants.{Board, Program, Action, Do, Skip, Place, Turns, Pins, Report}
+use Rattle.play_tool.specs.declared.mode.WordKey.TheVariants.{Board, Program, Code, Action, Do, Skip, Place, Turns, Pins, Report, Seed}
 use Rattle.play_tool.specs.declared.words.Request.{Request}
-use Rattle.play_tool.specs.Words.{HasMode, needs, Part, BoardIn, ProgramIn, ActionNamed, NamesAsked, NamesSkipped, PlaceAsked, TurnsAtMost, PinsWritten, DevicesReported, key_of, IsGiven, GiveOf, IsKeyGiven, AskNames, names_given, names_missing, AskTurns, turns_given, turns_usual, AskAnswer, answer_given, answer_missing, AreRead, IsRequest, Lack, lack_mode, lack_key, IsUsage, is_unread, is_missing}
+use Rattle.play_tool.specs.Words.{HasMode, needs, Part, BoardIn, ProgramIn, CodeIn, ActionNamed, NamesAsked, NamesSkipped, PlaceAsked, TurnsAtMost, PinsWritten, DevicesReported, SeedGiven, key_of, IsGiven, GiveOf, IsKeyGiven, AskNames, names_given, names_missing, AskTurns, turns_given, turns_usual, AskAnswer, answer_given, answer_missing, AreRead, IsRequest, Lack, lack_mode, lack_key, IsUsage, is_unread, is_missing}
 use Rattle.play_tool.proofs.WordLemmas.{one_mode, one_given, not_needed}
 
 one_of : (words : List (List ℕ)) (key : WordKey) (a b : Option Part) → AreRead words → GiveOf words (length words) key a → GiveOf words (length words) key b → a ≡ b
@@ -29,6 +29,18 @@ same_program None None e = refl
 same_program None (Some q) e = absurd cc
 same_program (Some p) None e = absurd cc
 same_program (Some p) (Some q) e = cc
+
+same_code : (a b : Option (List ℕ)) → option_map CodeIn a ≡ option_map CodeIn b → a ≡ b
+same_code None None e = refl
+same_code None (Some q) e = absurd cc
+same_code (Some p) None e = absurd cc
+same_code (Some p) (Some q) e = cc
+
+same_seed : (a b : Option ℕ) → option_map SeedGiven a ≡ option_map SeedGiven b → a ≡ b
+same_seed None None e = refl
+same_seed None (Some q) e = absurd cc
+same_seed (Some p) None e = absurd cc
+same_seed (Some p) (Some q) e = cc
 
 same_action : (a b : Option (List ℕ)) → option_map ActionNamed a ≡ option_map ActionNamed b → a ≡ b
 same_action None None e = refl
@@ -79,16 +91,19 @@ same_asked x y e = cc
 same_skipped : (x y : List (List ℕ)) → NamesSkipped x ≡ NamesSkipped y → x ≡ y
 same_skipped x y e = cc
 
-same_parts : {m k : Mode} {b c p q n o : Option (List ℕ)} {d e s r : List (List ℕ)} {l h : Option ℕ} {t u : ℕ} {v w f g : Bool} → m ≡ k → b ≡ c → p ≡ q → n ≡ o → d ≡ e → s ≡ r → l ≡ h → t ≡ u →
-    v ≡ w → f ≡ g →
-    ◌≡◌ {A = Request} (record { mode = m; board = b; program = p; action = n; todo = d; skip = s; place = l; turns = t; pins = v; report = f }) (record { mode = k; board = c; program = q; action = o; todo = e; skip = r; place = h; turns = u; pins = w; report = g })
-same_parts e f g h i j k l m n = cc
+same_parts : {m k : Mode} {b c p q x y n o : Option (List ℕ)} {d e s r : List (List ℕ)} {l h : Option ℕ} {t u : ℕ} {v w f g : Bool} {i j : Option ℕ} → m ≡ k → b ≡ c → p ≡ q → x ≡ y →
+    n ≡ o → d ≡ e → s ≡ r → l ≡ h → t ≡ u → v ≡ w → f ≡ g → i ≡ j →
+    ◌≡◌ {A = Request}
+    (record { mode = m; board = b; program = p; code = x; action = n; todo = d; skip = s; place = l; turns = t; pins = v; report = f; seed = i })
+    (record { mode = k; board = c; program = q; code = y; action = o; todo = e; skip = r; place = h; turns = u; pins = w; report = g; seed = j })
+same_parts e f g h i j k l m n o p = cc
 
 pub one_request : {words : List (List ℕ)} {a b : Request} → IsRequest words a → IsRequest words b → a ≡ b
 one_request {words = words} {a = a} {b = b} x y =
     same_parts (one_mode words a.mode b.mode x.mode y.mode)
     (same_board a.board b.board (one_of words Board _ _ x.read x.board y.board))
     (same_program a.program b.program (one_of words Program _ _ x.read x.program y.program))
+    (same_code a.code b.code (one_of words Code _ _ x.read x.code y.code))
     (same_action a.action b.action (one_of words Action _ _ x.read x.action_named y.action_named))
     (one_list same_asked (λ p q. refl) x.read x.todo_asked y.todo_asked)
     (one_list same_skipped (λ p q. refl) x.read x.skip_asked y.skip_asked)
@@ -96,6 +111,7 @@ one_request {words = words} {a = a} {b = b} x y =
     (one_number x.read x.turns_asked y.turns_asked)
     (one_answer same_pins (λ p q. refl) x.read x.pins_asked y.pins_asked)
     (one_answer same_report (λ p q. refl) x.read x.report_asked y.report_asked)
+    (same_seed a.seed b.seed (one_of words Seed _ _ x.read x.seed y.seed))
 
 pub one_usage : {words : List (List ℕ)} {n m : ℕ} → IsUsage words n → IsUsage words m → n ≡ m
 one_usage (is_unread i f) (is_unread j g) =
@@ -111,6 +127,9 @@ no_word : (mode : Mode) → HasMode [] mode → ⊥
 no_word modes.Play e = cc
 no_word modes.Check e = cc
 no_word modes.List e = cc
+no_word modes.Compile e = cc
+no_word modes.Run e = cc
+no_word modes.Soak e = cc
 
 -- a request that has a key of its words was given it
 key_given : (words : List (List ℕ)) (key : WordKey) (found : Option Part) → GiveOf words (length words) key found → is_some found ≡ true → IsKeyGiven words key
@@ -125,6 +144,8 @@ needed_given : (words : List (List ℕ)) (request : Request) (key : WordKey) →
 needed_given words request Board r e = key_given words Board (option_map BoardIn request.board) r.board (some_mapped BoardIn request.board (r.needed.has Board e))
 needed_given words request Program r e = key_given words Program (option_map ProgramIn request.program) r.program (some_mapped ProgramIn request.program (r.needed.has Program e))
 needed_given words request Action r e = key_given words Action (option_map ActionNamed request.action) r.action_named (some_mapped ActionNamed request.action (r.needed.has Action e))
+needed_given words request Code r e = key_given words Code (option_map CodeIn request.code) r.code (some_mapped CodeIn request.code (r.needed.has Code e))
+needed_given words request Seed r e = key_given words Seed (option_map SeedGiven request.seed) r.seed (some_mapped SeedGiven request.seed (r.needed.has Seed e))
 needed_given words request Do r e = let none = (not_needed request.mode).0 in absurd cc
 needed_given words request Skip r e = let none = (not_needed request.mode).1 in absurd cc
 needed_given words request Place r e = let none = (not_needed request.mode).2 in absurd cc

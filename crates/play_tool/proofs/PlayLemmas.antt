@@ -14,7 +14,6 @@ use Rattle.stapl_syntax.specs.declared.names.VarKind.{VarKind}
 use Rattle.stapl_syntax.specs.declared.names.VarKind.TheVariants as variables
 use Rattle.stapl_meaning.specs.declared.events.Event.{Event}
 use Rattle.stapl_meaning.specs.declared.events.Ending.{Ending}
-use Rattle.stapl_syntax.specs.Trees.{StmtTree}
 use Rattle.stapl_meaning.specs.Choices.{Choice, chosen, choice_of}
 use Rattle.stapl_meaning.specs.Choices as choices
 use Rattle.stapl_meaning.specs.Scopes.{Played, zeros_of, as_played}
@@ -23,15 +22,14 @@ use Rattle.stapl_meaning.specs.Plays.{Outcome, Ended, Going, Stopped, Run, proce
 use Rattle.stapl_meaning.specs.declared.events.Ending.TheVariants.{Spent}
 use Rattle.stapl_meaning.specs.Texts.{ending_line, events_text, far_report, asked_report}
 use Rattle.stapl_code.specs.declared.raw.CodeLists.{CodeLists}
-use Rattle.stapl_code.specs.Safe.{AllFit}
 use Rattle.stapl_codegen.specs.Emit.{start_of}
 use Rattle.stapl_codegen.specs.Correct.{placed_outcome, placed_run}
 use Rattle.stapl_codegen.specs.Generated.{kind_number, variable_def, IsCodeOf}
-use Rattle.stapl_codegen.proofs.Unstuck.{variables_fit}
 use Rattle.stapl_machine.specs.Zeros.{zero_of, zeros_of_code}
 use Rattle.stapl_machine.specs.Machines.{play_of}
 use Rattle.dev_card.specs.declared.desc.Desc.{Desc}
 use Rattle.dev_card.specs.declared.desc.Kind.{Kind}
+use Rattle.dev_card.specs.Padding.{base_lengths}
 use Rattle.dev_card.specs.Card.{Card, fresh}
 use Rattle.dev_card.specs.Board.{Clock, board_after}
 use Rattle.dev_card.specs.FarEnds.{FarEnd, Told, far_end}
@@ -41,7 +39,6 @@ use Rattle.dev_card.proofs.OneScan.{descriptions_after}
 use Rattle.scan_paths.specs.Cables.{input_of, cable_faults, IsCableLast}
 use Rattle.chain_sim.specs.Places.{card_at, joined, cards_at}
 use Rattle.chain_sim.specs.Reports.{report_in}
-use Rattle.chain_sim.specs.Rack.{places_of}
 use Rattle.chain_sim.specs.Runs.{HasRun}
 use Rattle.chain_sim.proofs.Fitting.{fresh_described}
 use Rattle.stapl_machine.specs.declared.turns.Trouble.{Trouble}
@@ -51,10 +48,9 @@ use Rattle.play_tool.specs.declared.status.Status.{Status}
 use Rattle.play_tool.specs.declared.status.Status.TheVariants.{NoAction, BadChoice, BadPlace}
 use Rattle.play_tool.specs.Written.{Wrote, WroteFront, IsPrefixOf}
 use Rattle.play_tool.specs.declared.words.Request.{Request}
-use Rattle.play_tool.specs.declared.playing.Task.{Task}
-use Rattle.play_tool.specs.Answers.{done_with, has_place, reported_far, asked_text, Plays, no_action, bad_choice, bad_place, played, play_on}
-use Rattle.play_tool.specs.CodePlays.{task_base, task_play, NeverRises, HasEnding, run_text, RunWritten, RunFront, PutsRunFront, IsPlayOf}
-use Rattle.play_tool.specs.Finals.{far_at, AreLeft, HoldsFinal}
+use Rattle.play_tool.specs.Answers.{done_with, reported_far, asked_text, Plays, no_action, bad_choice, bad_place, played, play_on, code_play_on}
+use Rattle.play_tool.specs.CodePlays.{NeverRises, HasEnding, run_text, RunWritten, RunFront, PutsRunFront, IsPlayOf}
+use Rattle.play_tool.specs.Finals.{far_at, AreLeft}
 
 -- The variables of the code of a program begin as the program's do.
 
@@ -74,12 +70,6 @@ zeros_are (v ∷ vs) = λ j. zero_same v j ∷ zeros_are vs j
 pub same_zeros : (program : Played) (code : CodeLists) → IsCodeOf program code → zeros_of_code code ≡ zeros_of program
 same_zeros program code is = ap zeros_of_code is.lists ∙ zeros_are program.names.variables
 
-pub zeros_fit : (program : Played) (code : CodeLists) → IsCodeOf program code → AllFit code.variables (zeros_of_code code)
-zeros_fit program code is =
-    let vs : List (Key × Variable) = program.names.variables in
-    subst (λ (lists : CodeLists). AllFit lists.variables (zeros_of_code lists)) (sym is.lists)
-    (subst (AllFit (map variable_def vs)) (sym (zeros_are vs)) (variables_fit vs))
-
 -- The code's play of the chosen procedures is the program's.
 
 ending_placed : (place : ℕ → ℕ) (o : Outcome) → ending_of (placed_outcome place o) ≡ ending_of o
@@ -87,17 +77,16 @@ ending_placed place (Ended ending) = refl
 ending_placed place (Going i) = refl
 ending_placed place Stopped = refl
 
-pub play_of_chosen : {program : Played} {choice : Choice} (task : Task) (code : CodeLists) (procedures : List ℕ) → IsCodeOf program code → choice ≡ chosen procedures →
-    has_place task.request.now.place task.devices.now ≡ true →
-    IsPlayOf choice (has_place task.request.now.place task.devices.now) (play_on program task.request.now task.devices.now) (task_play code procedures task)
-play_of_chosen {program = program} task code procedures is e placed =
-    let devices = task.devices.now in let turns = task.request.now.turns in
-    let k = chain_reset (task_base task) (Told (map fresh devices)) in let source = procedures_run program procedures turns k in
+pub code_run : {program : Played} {choice : Choice} (request : Request) (devices : List Desc) (code : CodeLists) (procedures : List ℕ) → IsCodeOf program code → choice ≡ chosen procedures →
+    IsPlayOf choice true (play_on program request devices) (code_play_on code request devices procedures)
+code_run {program = program} request devices code procedures is e =
+    let base = base_lengths devices request.place in let turns = request.turns in
+    let k = chain_reset base (Told (map fresh devices)) in let source = procedures_run program procedures turns k in
     let same : play_of code procedures turns k ≡ placed_run (start_of program) source = rw (same_zeros program code is) (is.stands procedures turns k) in
     record {
       procedures = procedures;
       are_chosen = e;
-      is_placed = placed;
+      is_placed = refl;
       same_events = ap (λ (r : Run). reset_events (Told (map fresh devices)) ++ r.events) same;
       same_far = ap (λ (r : Run). r.chain.far) same;
       same_ending = ap (λ (r : Run). ending_of r.outcome) same ∙ ending_placed (start_of program) source.outcome;
@@ -344,18 +333,6 @@ cards_count rack (p ∷ ps) cards e = by (λ cs b. cards_count rack ps cs b) (ca
 
 pub left_count : {rack : List (Option SoundCard)} {places : List ℕ} {devices : List Desc} {far : FarEnd} → AreLeft rack places devices far → length places ≡ length devices
 left_count {rack = rack} {places = places} l = cards_count rack places l.cards l.there ∙ sym (described_count l.cards) ∙ ap length l.described
-
--- the run that left them is that of the chosen procedures
-pub left_final : {program : List StmtTree} {request : Request} {devices : List Desc} {rack : List (Option SoundCard)} {run : Run} {action : List ℕ} → request.action ≡ Some action →
-    IsPlayOf (choice_of (as_played program) action request.todo request.skip) (has_place request.place devices) (play_on (as_played program) request devices) run →
-    AreLeft rack (places_of devices) devices run.chain.far → HoldsFinal program request devices rack
-left_final {devices = devices} {rack = rack} {action = action} asked p l = record {
-  action = action;
-  asked = asked;
-  procedures = p.procedures;
-  choice = p.are_chosen;
-  left = subst (AreLeft rack (places_of devices) devices) p.same_far l;
-}
 
 -- A cable that tells its board, and never fails.
 

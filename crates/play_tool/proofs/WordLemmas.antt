@@ -12,16 +12,12 @@ use Rattle.stapl_lexer.specs.ReservedWords.{is_free_name}
 use Rattle.play_tool.specs.declared.mode.Mode.{Mode}
 use Rattle.play_tool.specs.declared.mode.Mode.TheVariants as modes
 use Rattle.play_tool.specs.declared.mode.WordKey.{WordKey}
-use Rattle.play_tool.specs.declared.mode.WordKey.TheVariants.{Board, Program, Action, Do, Skip, Place, Turns, Pins, Report}
+use Rattle.play_tool.specs.declared.mode.WordKey.TheVariants.{Board, Program, Code, Action, Do, Skip, Place, Turns, Pins, Report, Seed}
 use Rattle.play_tool.specs.declared.words.Request.{Request}
-use Rattle.play_tool.specs.Words.{mode_word, takes, needs, Part, BoardIn, ProgramIn, ActionNamed, NamesAsked, NamesSkipped, PlaceAsked, TurnsAtMost, PinsWritten, DevicesReported, key_of, parts_between_commas, NamesBoard, NamesProgram, NamesAction, SpellsNames, AsksFor, LeavesOut, NamesNumber, NamesPlace, NamesTurns, most_place, most_turns, answer_word, SaysPins, SaysReport, GivesPart, word_at, HasMode, IsGivenBefore, GivesNew, IsRead, AreReadBefore, IsKeyGiven, GiveOf, AskNames, names_given, names_missing, AskTurns, turns_given, turns_usual, AskAnswer, answer_given, answer_missing, has_key, IsRequest, lack_mode, lack_key, IsFirstUnread, IsUsage, is_unread, is_missing}
+use Rattle.play_tool.specs.Words.{mode_word, takes, needs, Part, BoardIn, ProgramIn, CodeIn, ActionNamed, NamesAsked, NamesSkipped, PlaceAsked, TurnsAtMost, PinsWritten, DevicesReported, SeedGiven, key_of, parts_between_commas, NamesBoard, NamesProgram, NamesCode, NamesAction, SpellsNames, AsksFor, LeavesOut, NamesNumber, NamesPlace, NamesTurns, NamesSeed, most_place, most_turns, most_seed, answer_word, SaysPins, SaysReport, GivesPart, word_at, HasMode, IsGivenBefore, GivesNew, IsRead, AreReadBefore, IsKeyGiven, GiveOf, AskNames, names_given, names_missing, AskTurns, turns_given, turns_usual, AskAnswer, answer_given, answer_missing, has_key, IsRequest, lack_mode, lack_key, IsFirstUnread, IsUsage, is_unread, is_missing}
 use Rattle.play_tool.specs.GivenParts.{name_spelled, names_in, Values, given_of, with_part, Adds, Refuses, not_taken, given_already, AddsWord, AddsNothing, one_if_some, count_of, AreReadUpTo, lacks, is_complete, names_or_none, turns_or_usual, answer_or_no, HasValues}
 
 -- A word gives at most one part.
-
-first_byte : List ℕ → ℕ
-first_byte [] = 0
-first_byte (b ∷ bytes) = b
 
 -- the first two bytes as one number
 first_two : List ℕ → ℕ
@@ -36,6 +32,9 @@ same_rest (k ∷ ks) a b e = same_rest ks a b cc
 
 one_path : (word a b : List ℕ) → NamesProgram word a → NamesProgram word b → a ≡ b
 one_path word a b x y = same_rest (codes "program=") a b (sym x.0 ∙ y.0)
+
+one_code : (word a b : List ℕ) → NamesCode word a → NamesCode word b → a ≡ b
+one_code word a b x y = same_rest (codes "code=") a b (sym x.0 ∙ y.0)
 
 one_board : (word a b : List ℕ) → NamesBoard word a → NamesBoard word b → a ≡ b
 one_board word a b x y = same_rest (codes "board=") a b (sym x.0 ∙ y.0)
@@ -81,6 +80,8 @@ letters Place = 28780
 letters Turns = 29813
 letters Pins = 28777
 letters Report = 29285
+letters Code = 25455
+letters Seed = 29541
 
 has_letters : (word : List ℕ) (part : Part) → GivesPart word part → first_two word ≡ letters (key_of part)
 unfolding first_two
@@ -91,6 +92,8 @@ has_letters word (NamesAsked names) x = ap first_two x.key
 has_letters word (NamesSkipped names) x = ap first_two x.key
 has_letters word (PlaceAsked n) x = ap first_two x.keyed
 has_letters word (TurnsAtMost n) x = ap first_two x.keyed
+has_letters word (CodeIn path) x = ap first_two x.0
+has_letters word (SeedGiven n) x = ap first_two x.keyed
 has_letters word (PinsWritten written) x = ap first_two x
 has_letters word (DevicesReported reported) x = ap first_two x
 
@@ -104,6 +107,8 @@ one_part word (PlaceAsked p) (PlaceAsked q) x y = ap PlaceAsked (one_number (cod
 one_part word (TurnsAtMost p) (TurnsAtMost q) x y = ap TurnsAtMost (one_number (codes "turns=") 0 most_turns word p q x y)
 one_part word (PinsWritten p) (PinsWritten q) x y = ap PinsWritten (one_answer (codes "pins=") word p q x y)
 one_part word (DevicesReported p) (DevicesReported q) x y = ap DevicesReported (one_answer (codes "report=") word p q x y)
+one_part word (CodeIn p) (CodeIn q) x y = ap CodeIn (one_code word p q x y)
+one_part word (SeedGiven p) (SeedGiven q) x y = ap SeedGiven (one_number (codes "seed=") 0 most_seed word p q x y)
 one_part word a b x y = let e = has_letters word a x in let f = has_letters word b y in absurd (omega arith)
 
 -- Names that are spelled between commas are those that are read.
@@ -132,37 +137,49 @@ pub adds_refused : {word : List ℕ} {values : Values} (part : Part) → GivesPa
 adds_refused {word = word} {values = values} part gives r =
     record { refused = λ other given. subst (Refuses values) (one_part word part other gives given) r }
 
-no_part : (word : List ℕ) (values : Values) → ((path : List ℕ) → NamesBoard word path → ⊥) → ((path : List ℕ) → NamesProgram word path → ⊥) → ((name : List ℕ) → NamesAction word name → ⊥) →
+no_part : (word : List ℕ) (values : Values) → ((path : List ℕ) → NamesBoard word path → ⊥) → ((path : List ℕ) → NamesProgram word path → ⊥) → ((path : List ℕ) → NamesCode word path → ⊥) → ((name : List ℕ) → NamesAction word name → ⊥) →
     ((names : List (List ℕ)) → AsksFor word names → ⊥) → ((names : List (List ℕ)) → LeavesOut word names → ⊥) →
-    ((n : ℕ) → NamesPlace word n → ⊥) → ((n : ℕ) → NamesTurns word n → ⊥) → ((written : Bool) → SaysPins word written → ⊥) → ((reported : Bool) → SaysReport word reported → ⊥) → (part : Part) → GivesPart word part → Refuses values part
-no_part word values b p a d s l t w r (BoardIn path) g = absurd (b path g)
-no_part word values b p a d s l t w r (ProgramIn path) g = absurd (p path g)
-no_part word values b p a d s l t w r (ActionNamed name) g = absurd (a name g)
-no_part word values b p a d s l t w r (NamesAsked names) g = absurd (d names g)
-no_part word values b p a d s l t w r (NamesSkipped names) g = absurd (s names g)
-no_part word values b p a d s l t w r (PlaceAsked n) g = absurd (l n g)
-no_part word values b p a d s l t w r (TurnsAtMost n) g = absurd (t n g)
-no_part word values b p a d s l t w r (PinsWritten written) g = absurd (w written g)
-no_part word values b p a d s l t w r (DevicesReported reported) g = absurd (r reported g)
+    ((n : ℕ) → NamesPlace word n → ⊥) → ((n : ℕ) → NamesTurns word n → ⊥) → ((written : Bool) → SaysPins word written → ⊥) → ((reported : Bool) → SaysReport word reported → ⊥) →
+    ((seed : ℕ) → NamesSeed word seed → ⊥) → (part : Part) → GivesPart word part → Refuses values part
+no_part word values b p k a d s l t w r e (BoardIn path) g = absurd (b path g)
+no_part word values b p k a d s l t w r e (ProgramIn path) g = absurd (p path g)
+no_part word values b p k a d s l t w r e (CodeIn path) g = absurd (k path g)
+no_part word values b p k a d s l t w r e (SeedGiven n) g = absurd (e n g)
+no_part word values b p k a d s l t w r e (ActionNamed name) g = absurd (a name g)
+no_part word values b p k a d s l t w r e (NamesAsked names) g = absurd (d names g)
+no_part word values b p k a d s l t w r e (NamesSkipped names) g = absurd (s names g)
+no_part word values b p k a d s l t w r e (PlaceAsked n) g = absurd (l n g)
+no_part word values b p k a d s l t w r e (TurnsAtMost n) g = absurd (t n g)
+no_part word values b p k a d s l t w r e (PinsWritten written) g = absurd (w written g)
+no_part word values b p k a d s l t w r e (DevicesReported reported) g = absurd (r reported g)
 
-pub adds_no_part : {word : List ℕ} {values : Values} → ((path : List ℕ) → NamesBoard word path → ⊥) → ((path : List ℕ) → NamesProgram word path → ⊥) → ((name : List ℕ) → NamesAction word name → ⊥) →
+pub adds_no_part : {word : List ℕ} {values : Values} → ((path : List ℕ) → NamesBoard word path → ⊥) → ((path : List ℕ) → NamesProgram word path → ⊥) → ((path : List ℕ) → NamesCode word path → ⊥) → ((name : List ℕ) → NamesAction word name → ⊥) →
     ((names : List (List ℕ)) → AsksFor word names → ⊥) → ((names : List (List ℕ)) → LeavesOut word names → ⊥) →
-    ((n : ℕ) → NamesPlace word n → ⊥) → ((n : ℕ) → NamesTurns word n → ⊥) → ((written : Bool) → SaysPins word written → ⊥) → ((reported : Bool) → SaysReport word reported → ⊥) → AddsNothing values word
-adds_no_part {word = word} {values = values} b p a d s l t w r = record { refused = no_part word values b p a d s l t w r }
+    ((n : ℕ) → NamesPlace word n → ⊥) → ((n : ℕ) → NamesTurns word n → ⊥) → ((written : Bool) → SaysPins word written → ⊥) → ((reported : Bool) → SaysReport word reported → ⊥) →
+    ((seed : ℕ) → NamesSeed word seed → ⊥) → AddsNothing values word
+adds_no_part {word = word} {values = values} b p k a d s l t w r e = record { refused = no_part word values b p k a d s l t w r e }
 
 -- The first word is that of at most one mode.
 
 same_word : (a b : Mode) → mode_word a ≡ mode_word b → a ≡ b
-unfolding first_byte
+unfolding first_two
 same_word modes.Play modes.Play e = refl
-same_word modes.Play modes.Check e = let f : ◌≡◌ {A = ℕ} 112 99 = ap first_byte e in absurd (omega arith)
-same_word modes.Play modes.List e = let f : ◌≡◌ {A = ℕ} 112 108 = ap first_byte e in absurd (omega arith)
-same_word modes.Check modes.Play e = let f : ◌≡◌ {A = ℕ} 99 112 = ap first_byte e in absurd (omega arith)
 same_word modes.Check modes.Check e = refl
-same_word modes.Check modes.List e = let f : ◌≡◌ {A = ℕ} 99 108 = ap first_byte e in absurd (omega arith)
-same_word modes.List modes.Play e = let f : ◌≡◌ {A = ℕ} 108 112 = ap first_byte e in absurd (omega arith)
-same_word modes.List modes.Check e = let f : ◌≡◌ {A = ℕ} 108 99 = ap first_byte e in absurd (omega arith)
 same_word modes.List modes.List e = refl
+same_word modes.Compile modes.Compile e = refl
+same_word modes.Run modes.Run e = refl
+same_word modes.Soak modes.Soak e = refl
+same_word a b e = let f : ◌≡◌ {A = ℕ} (first_two (mode_word a)) (first_two (mode_word b)) = ap first_two e in absurd (omega arith)
+
+-- a word is that of no mode
+pub no_mode_word : {word : List ℕ} → word ≢ codes "play" → word ≢ codes "check" → word ≢ codes "list" → word ≢ codes "compile" → word ≢ codes "run" → word ≢ codes "soak" →
+    (mode : Mode) → word ≡ mode_word mode → ⊥
+no_mode_word p k l c r s modes.Play e = p e
+no_mode_word p k l c r s modes.Check e = k e
+no_mode_word p k l c r s modes.List e = l e
+no_mode_word p k l c r s modes.Compile e = c e
+no_mode_word p k l c r s modes.Run e = r e
+no_mode_word p k l c r s modes.Soak e = s e
 
 pub one_mode : (words : List (List ℕ)) (a b : Mode) → HasMode words a → HasMode words b → a ≡ b
 one_mode words a b x y = same_word a b (sym x ∙ y)
@@ -197,9 +214,9 @@ one_given words n p q read same x y =
 
 -- One word more is read.
 
-pub nothing_read : (words : List (List ℕ)) (values : Values) → HasMode words values.mode → values.board ≡ None → values.program ≡ None → values.action ≡ None →
-    values.todo ≡ None → values.skip ≡ None → values.place ≡ None → values.turns ≡ None → values.pins ≡ None → values.report ≡ None → AreReadUpTo words 1 values
-nothing_read words values mode b p a d s l t w r = record {
+pub nothing_read : (words : List (List ℕ)) (values : Values) → HasMode words values.mode → values.board ≡ None → values.program ≡ None → values.code ≡ None → values.action ≡ None →
+    values.todo ≡ None → values.skip ≡ None → values.place ≡ None → values.turns ≡ None → values.pins ≡ None → values.report ≡ None → values.seed ≡ None → AreReadUpTo words 1 values
+nothing_read words values mode b p k a d s l t w r e = record {
   mode = mode;
   read = first_is;
   give = none_given;
@@ -223,6 +240,8 @@ nothing_read words values mode b p a d s l t w r = record {
     none_given Turns = rw t (λ part e g. not_given part g)
     none_given Pins = rw w (λ part e g. not_given part g)
     none_given Report = rw r (λ part e g. not_given part g)
+    none_given Code = rw k (λ part e g. not_given part g)
+    none_given Seed = rw e (λ part e g. not_given part g)
 
 -- what is known of a key where another part is read
 keeps : (words : List (List ℕ)) (n : ℕ) (key : WordKey) (part : Part) (found : Option Part) → GivesPart (word_at words n) part → key_of part ≢ key →
@@ -251,6 +270,8 @@ gives_key words n values (PlaceAsked k) here keep Place = (refl, here)
 gives_key words n values (TurnsAtMost k) here keep Turns = (refl, here)
 gives_key words n values (PinsWritten written) here keep Pins = (refl, here)
 gives_key words n values (DevicesReported reported) here keep Report = (refl, here)
+gives_key words n values (CodeIn path) here keep Code = (refl, here)
+gives_key words n values (SeedGiven k) here keep Seed = (refl, here)
 gives_key words n values part here keep key = keep key (λ e. cc)
 
 none_back : {A B : Type 0} (f : A → B) (found : Option A) → option_map f found ≡ None → one_if_some found ≡ 0
@@ -260,6 +281,8 @@ none_back f (Some x) e = absurd cc
 counted : (values : Values) (part : Part) → given_of values (key_of part) ≡ None → count_of (with_part values part) ≡ count_of values + 1
 counted values (BoardIn path) e = let none = none_back BoardIn values.board e in omega arith
 counted values (ProgramIn path) e = let none = none_back ProgramIn values.program e in omega arith
+counted values (CodeIn path) e = let none = none_back CodeIn values.code e in omega arith
+counted values (SeedGiven n) e = let none = none_back SeedGiven values.seed e in omega arith
 counted values (ActionNamed name) e = let none = none_back ActionNamed values.action e in omega arith
 counted values (NamesAsked names) e = let none = none_back NamesAsked values.todo e in omega arith
 counted values (NamesSkipped names) e = let none = none_back NamesSkipped values.skip e in omega arith
@@ -289,6 +312,8 @@ same_mode : (values : Values) (part : Part) → (with_part values part).mode ≡
 same_mode values (BoardIn path) = refl
 same_mode values (ProgramIn path) = refl
 same_mode values (ActionNamed name) = refl
+same_mode values (CodeIn path) = refl
+same_mode values (SeedGiven n) = refl
 same_mode values (NamesAsked names) = refl
 same_mode values (NamesSkipped names) = refl
 same_mode values (PlaceAsked n) = refl
@@ -315,8 +340,8 @@ pub one_word_more : (words : List (List ℕ)) (n : ℕ) (old new : Values) → 0
     AreReadUpTo words (n + 1) new
 one_word_more words n old new behind r adds = one_part_more words n adds.part old new behind r adds.gives adds.adds
 
--- at most nine values are given
-pub few_read : {words : List (List ℕ)} {n : ℕ} {values : Values} → AreReadUpTo words n values → n ≤ 10
+-- at most eleven values are given
+pub few_read : {words : List (List ℕ)} {n : ℕ} {values : Values} → AreReadUpTo words n values → n ≤ 12
 few_read {values = values} r =
     let f = r.few in
     let b = at_most_one values.board in
@@ -328,6 +353,8 @@ few_read {values = values} r =
     let t = at_most_one values.turns in
     let w = at_most_one values.pins in
     let o = at_most_one values.report in
+    let k = at_most_one values.code in
+    let e = at_most_one values.seed in
     omega arith
   where
     at_most_one : {A : Type 0} (found : Option A) → one_if_some found ≤ 1
@@ -392,12 +419,22 @@ pub not_needed : (mode : Mode) → (needs mode Do ≡ false) × (needs mode Skip
 not_needed modes.Play = (refl, refl, refl, refl, refl, refl)
 not_needed modes.Check = (refl, refl, refl, refl, refl, refl)
 not_needed modes.List = (refl, refl, refl, refl, refl, refl)
+not_needed modes.Compile = (refl, refl, refl, refl, refl, refl)
+not_needed modes.Run = (refl, refl, refl, refl, refl, refl)
+not_needed modes.Soak = (refl, refl, refl, refl, refl, refl)
+
+last_two : (values : Values) → is_complete values ≡ true → (not (lacks values Action) && not (lacks values Seed)) ≡ true
+last_two values h =
+    (and_parts (not (lacks values Code)) _ (and_parts (not (lacks values Program)) _ (and_parts (not (lacks values Board)) _ h).1).1).1
 
 -- if no needed key is missing, each needed key is given
 is_there : (values : Values) (key : WordKey) → is_complete values ≡ true → needs values.mode key ≡ true → is_some (given_of values key) ≡ true
 is_there values Board h e = not_lacking _ _ (and_parts (not (lacks values Board)) _ h).0 e
 is_there values Program h e = not_lacking _ _ (and_parts (not (lacks values Program)) _ (and_parts (not (lacks values Board)) _ h).1).0 e
-is_there values Action h e = not_lacking _ _ (and_parts (not (lacks values Program)) _ (and_parts (not (lacks values Board)) _ h).1).1 e
+is_there values Code h e =
+    not_lacking _ _ (and_parts (not (lacks values Code)) _ (and_parts (not (lacks values Program)) _ (and_parts (not (lacks values Board)) _ h).1).1).0 e
+is_there values Action h e = not_lacking _ _ (and_parts (not (lacks values Action)) _ (last_two values h)).0 e
+is_there values Seed h e = not_lacking _ _ (and_parts (not (lacks values Action)) _ (last_two values h)).1 e
 is_there values Do h e = let none = (not_needed values.mode).0 in absurd cc
 is_there values Skip h e = let none = (not_needed values.mode).1 in absurd cc
 is_there values Place h e = let none = (not_needed values.mode).2 in absurd cc
@@ -410,6 +447,8 @@ request_has : (values : Values) (request : Request) (key : WordKey) → HasValue
 request_has values request Board h e = ap (λ (p : Option (List ℕ)). is_some p) h.board ∙ mapped_some BoardIn values.board e
 request_has values request Program h e = ap (λ (p : Option (List ℕ)). is_some p) h.program ∙ mapped_some ProgramIn values.program e
 request_has values request Action h e = ap (λ (p : Option (List ℕ)). is_some p) h.action_named ∙ mapped_some ActionNamed values.action e
+request_has values request Code h e = ap (λ (p : Option (List ℕ)). is_some p) h.code ∙ mapped_some CodeIn values.code e
+request_has values request Seed h e = ap (λ (p : Option ℕ). is_some p) h.seed ∙ mapped_some SeedGiven values.seed e
 request_has values request Do h e = refl
 request_has values request Skip h e = refl
 request_has values request Place h e = refl
@@ -427,6 +466,7 @@ request_read {words = words} {request = request} values r complete h = record {
   };
   board = subst (λ (p : Option (List ℕ)). GiveOf words (length words) Board (option_map BoardIn p)) (sym h.board) (r.give Board);
   program = subst (λ (p : Option (List ℕ)). GiveOf words (length words) Program (option_map ProgramIn p)) (sym h.program) (r.give Program);
+  code = subst (λ (p : Option (List ℕ)). GiveOf words (length words) Code (option_map CodeIn p)) (sym h.code) (r.give Code);
   action_named = subst (λ (p : Option (List ℕ)). GiveOf words (length words) Action (option_map ActionNamed p)) (sym h.action_named) (r.give Action);
   todo_asked = subst (AskNames words NamesAsked) (sym h.todo_are) (names_read words NamesAsked Do values.todo (λ list. refl) (r.give Do));
   skip_asked = subst (AskNames words NamesSkipped) (sym h.skip_are) (names_read words NamesSkipped Skip values.skip (λ list. refl) (r.give Skip));
@@ -434,6 +474,7 @@ request_read {words = words} {request = request} values r complete h = record {
   turns_asked = subst (AskTurns words) (sym h.turns_are) (turns_read words values.turns (r.give Turns));
   pins_asked = subst (AskAnswer words PinsWritten) (sym h.pins_are) (answer_read words PinsWritten Pins values.pins (λ written. refl) (r.give Pins));
   report_asked = subst (AskAnswer words DevicesReported) (sym h.report_is) (answer_read words DevicesReported Report values.report (λ written. refl) (r.give Report));
+  seed = subst (λ (p : Option ℕ). GiveOf words (length words) Seed (option_map SeedGiven p)) (sym h.seed) (r.give Seed);
 }
 
 -- a needed key is missing
@@ -452,16 +493,18 @@ lack_of values key h =
     let l = is_lacking (needs values.mode key) (is_some (given_of values key)) h in
     record { key = key; needed = l.0; absent = l.1 }
 
-one_lacks : (values : Values) (a b c : Bool) → lacks values Board ≡ a → lacks values Program ≡ b → lacks values Action ≡ c →
-    (not a && (not b && not c)) ≡ false → LackKey values
-one_lacks values true b c p q r h = lack_of values Board p
-one_lacks values false true c p q r h = lack_of values Program q
-one_lacks values false false true p q r h = lack_of values Action r
-one_lacks values false false false p q r h = absurd cc
+one_lacks : (values : Values) (a b c d e : Bool) → lacks values Board ≡ a → lacks values Program ≡ b → lacks values Code ≡ c → lacks values Action ≡ d →
+    lacks values Seed ≡ e → (not a && (not b && (not c && (not d && not e)))) ≡ false → LackKey values
+one_lacks values true b c d e p q r s t h = lack_of values Board p
+one_lacks values false true c d e p q r s t h = lack_of values Program q
+one_lacks values false false true d e p q r s t h = lack_of values Code r
+one_lacks values false false false true e p q r s t h = lack_of values Action s
+one_lacks values false false false false true p q r s t h = lack_of values Seed t
+one_lacks values false false false false false p q r s t h = absurd cc
 
 pub key_lacks : {words : List (List ℕ)} (values : Values) → AreReadUpTo words (length words) values → is_complete values ≡ false → IsUsage words (length words + 1)
 key_lacks {words = words} values r h =
-    let l = one_lacks values (lacks values Board) (lacks values Program) (lacks values Action) refl refl refl h in
+    let l = one_lacks values (lacks values Board) (lacks values Program) (lacks values Code) (lacks values Action) (lacks values Seed) refl refl refl refl refl h in
     is_missing r.read (lack_key values.mode l.key r.mode l.needed (key_missing words l.key (given_of values l.key) (r.give l.key) l.absent))
 
 -- Words that do not begin with a mode.

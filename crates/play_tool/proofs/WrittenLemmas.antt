@@ -1,5 +1,5 @@
 -- On what was written of an answer.
-use Rattle.std.proofs.Common.{◌≡◌, ℕ, List, Option}
+use Rattle.std.proofs.Common.{◌≡◌, ℕ, List, Option, sym, subst}
 use Rattle.tool_io.specs.Bytes.{then_bytes, MovesFront}
 use Rattle.tool_io.proofs.BytesLemmas.{moves_front_nothing}
 use Rattle.play_tool.specs.declared.status.Status.{Status}
@@ -23,6 +23,11 @@ prefix_within w p = record { prefix = λ text status b. p.prefix text status (w.
 pub wrote_text : {A : List ℕ → Status → Type 0} {before after : Option (List ℕ)} {status : Status} (text : List ℕ) → A text status →
     after ≡ then_bytes before text → Wrote A before after status
 wrote_text text a e = record { text = text; answer = a; written = e }
+
+-- the same, of a status that is known
+pub wrote_as : {A : List ℕ → Status → Type 0} {before after : Option (List ℕ)} (text : List ℕ) (known status : Status) → A text known → status ≡ known →
+    after ≡ then_bytes before text → Wrote A before after status
+wrote_as {A = A} text known status a e w = record { text = text; answer = subst (A text) (sym e) a; written = w }
 
 pub wrote_front : {A : List ℕ → Status → Type 0} {before after : Option (List ℕ)} (text : List ℕ) (status : Status) → A text status →
     MovesFront before text after → WroteFront A before after

@@ -32,7 +32,7 @@ pub record IsQuietAlone (words : List (List ℕ)) (contents_of : Request → Con
   pub device : Desc
   pub at_place : slice_get devices (place - 1) ≡ Some device
   pub bytes : List ℕ
-  pub held : (contents_of request).program ≡ Some bytes
+  pub held : (contents_of request).source ≡ Some bytes
   pub program : List StmtTree
   pub is : IsProgram bytes program
   pub action : List ℕ

@@ -8,6 +8,7 @@ use Rattle.dev_card.specs.Descriptions.{IsGood}
 use Rattle.board_text.specs.declared.reason.BoardReason.{BoardReason}
 use Rattle.board_text.specs.Boards.{IsBoard, IsFirstFault}
 use Rattle.play_tool.specs.declared.words.Request.{Request}
+use Rattle.play_tool.specs.Words.{source_of}
 
 -- the bytes of the file that is named, where it is held; none where none is named
 abbrev pub file_named : List (List ℕ × List ℕ) → Option (List ℕ) → Option (List ℕ)
@@ -51,11 +52,11 @@ pub record HoldsBoard (request : Request) (files : List (List ℕ × List ℕ)) 
   pub devices : List Desc
   pub board : HasBoard request.board (file_named files request.board) devices
 
--- Why a file of a request could not be read: the count of its board rose; or that of its program did, and if the store
--- tells its files, the board is held there and is a board.
+-- Why a file of a request could not be read: the count of its board rose; or that of its program or of its code
+-- did, and if the store tells its files, the board is held there and is a board.
 pub data HasReadCause {S : Type 0} (faults : S → List ℕ → ℕ) (is_last : S → List ℕ → Type 0) (told : Option (List (List ℕ × List ℕ)))
     (request : Request) (before after : S) : Type 0 where
   board_failed : (path : List ℕ) → request.board ≡ Some path → HasRisenAt faults is_last path before after →
       HasReadCause faults is_last told request before after
-  program_failed : (path : List ℕ) → request.program ≡ Some path → HasRisenAt faults is_last path before after → IfSome told (HoldsBoard request) →
+  source_failed : (path : List ℕ) → source_of request ≡ Some path → HasRisenAt faults is_last path before after → IfSome told (HoldsBoard request) →
       HasReadCause faults is_last told request before after

@@ -6,10 +6,10 @@ use Rattle.std.specs.Str.{str_to_ascii_uppercase}
 use Rattle.stapl_lexer.specs.ReservedWords.{is_free_name}
 use Rattle.play_tool.specs.declared.mode.Mode.{Mode}
 use Rattle.play_tool.specs.declared.mode.WordKey.{WordKey}
-use Rattle.play_tool.specs.declared.mode.WordKey.TheVariants.{Board, Program, Action, Do, Skip, Place, Turns, Pins, Report}
+use Rattle.play_tool.specs.declared.mode.WordKey.TheVariants.{Board, Program, Code, Action, Do, Skip, Place, Turns, Pins, Report, Seed}
 use Rattle.play_tool.specs.declared.words.Given.{Given}
 use Rattle.play_tool.specs.declared.words.Request.{Request}
-use Rattle.play_tool.specs.Words.{Part, BoardIn, ProgramIn, ActionNamed, NamesAsked, NamesSkipped, PlaceAsked, TurnsAtMost, PinsWritten, DevicesReported, key_of, parts_between_commas, usual_turns, takes, needs, GivesPart, HasMode, GiveOf, AreReadBefore}
+use Rattle.play_tool.specs.Words.{Part, BoardIn, ProgramIn, CodeIn, ActionNamed, NamesAsked, NamesSkipped, PlaceAsked, TurnsAtMost, PinsWritten, DevicesReported, SeedGiven, key_of, parts_between_commas, usual_turns, takes, needs, GivesPart, HasMode, GiveOf, AreReadBefore}
 
 -- the name that bytes spell, if they spell one that is not reserved
 abbrev pub name_spelled : List ℕ → Option (List ℕ)
@@ -24,6 +24,7 @@ pub record Values : Type 0 where
   pub mode : Mode
   pub board : Option (List ℕ)
   pub program : Option (List ℕ)
+  pub code : Option (List ℕ)
   pub action : Option (List ℕ)
   pub todo : Option (List (List ℕ))
   pub skip : Option (List (List ℕ))
@@ -31,12 +32,14 @@ pub record Values : Type 0 where
   pub turns : Option ℕ
   pub pins : Option Bool
   pub report : Option Bool
+  pub seed : Option ℕ
 
 abbrev pub values_of : Given → Values
 values_of given = record {
   mode = given.mode;
   board = option_map (λ path. path.now) given.board;
   program = option_map (λ path. path.now) given.program;
+  code = option_map (λ path. path.now) given.code;
   action = given.action;
   todo = option_map (λ spelling. names_in spelling.now) given.todo;
   skip = option_map (λ spelling. names_in spelling.now) given.skip;
@@ -44,12 +47,14 @@ values_of given = record {
   turns = given.turns;
   pins = given.pins;
   report = given.report;
+  seed = given.seed;
 }
 
 -- the part that is given of a key
 abbrev pub given_of : Values → WordKey → Option Part
 given_of values Board = option_map BoardIn values.board
 given_of values Program = option_map ProgramIn values.program
+given_of values Code = option_map CodeIn values.code
 given_of values Action = option_map ActionNamed values.action
 given_of values Do = option_map NamesAsked values.todo
 given_of values Skip = option_map NamesSkipped values.skip
@@ -57,11 +62,13 @@ given_of values Place = option_map PlaceAsked values.place
 given_of values Turns = option_map TurnsAtMost values.turns
 given_of values Pins = option_map PinsWritten values.pins
 given_of values Report = option_map DevicesReported values.report
+given_of values Seed = option_map SeedGiven values.seed
 
 -- the values with those of one part more
 abbrev pub with_part : Values → Part → Values
 with_part values (BoardIn path) = record values { board = Some path }
 with_part values (ProgramIn path) = record values { program = Some path }
+with_part values (CodeIn path) = record values { code = Some path }
 with_part values (ActionNamed name) = record values { action = Some name }
 with_part values (NamesAsked names) = record values { todo = Some names }
 with_part values (NamesSkipped names) = record values { skip = Some names }
@@ -69,6 +76,7 @@ with_part values (PlaceAsked n) = record values { place = Some n }
 with_part values (TurnsAtMost n) = record values { turns = Some n }
 with_part values (PinsWritten written) = record values { pins = Some written }
 with_part values (DevicesReported reported) = record values { report = Some reported }
+with_part values (SeedGiven n) = record values { seed = Some n }
 
 -- a part more, whose key the mode takes and which was free
 pub record Adds (old : Values) (part : Part) (new : Values) : Type 0 where
@@ -98,8 +106,9 @@ one_if_some (Some x) = 1
 
 abbrev pub count_of : Values → ℕ
 count_of values =
-    one_if_some values.board + one_if_some values.program + one_if_some values.action + one_if_some values.todo
+    one_if_some values.board + one_if_some values.program + one_if_some values.code + one_if_some values.action + one_if_some values.todo
     + one_if_some values.skip + one_if_some values.place + one_if_some values.turns + one_if_some values.pins + one_if_some values.report
+    + one_if_some values.seed
 
 -- The first n words are read, and they give these values.
 pub record AreReadUpTo (words : List (List ℕ)) (n : ℕ) (values : Values) : Type 0 where
@@ -114,7 +123,8 @@ lacks values key = needs values.mode key && not (is_some (given_of values key))
 
 -- each key is given that the mode needs; no mode needs any but these
 abbrev pub is_complete : Values → Bool
-is_complete values = not (lacks values Board) && (not (lacks values Program) && not (lacks values Action))
+is_complete values =
+    not (lacks values Board) && (not (lacks values Program) && (not (lacks values Code) && (not (lacks values Action) && not (lacks values Seed))))
 
 -- the number of turns that is given, or the usual one
 abbrev pub turns_or_usual : Option ℕ → ℕ
@@ -136,6 +146,7 @@ pub record HasValues (values : Values) (request : Request) : Type 0 where
   pub mode : request.mode ≡ values.mode
   pub board : request.board ≡ values.board
   pub program : request.program ≡ values.program
+  pub code : request.code ≡ values.code
   pub action_named : request.action ≡ values.action
   pub todo_are : request.todo ≡ names_or_none values.todo
   pub skip_are : request.skip ≡ names_or_none values.skip
@@ -143,3 +154,4 @@ pub record HasValues (values : Values) (request : Request) : Type 0 where
   pub turns_are : request.turns ≡ turns_or_usual values.turns
   pub pins_are : request.pins ≡ answer_or_no values.pins
   pub report_is : request.report ≡ answer_or_no values.report
+  pub seed : request.seed ≡ values.seed

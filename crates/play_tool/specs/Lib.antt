@@ -2,12 +2,15 @@ pub mod Codes
 pub mod Words
 pub mod GivenParts
 pub mod Texts
+pub mod Summaries
 pub mod Written
 pub mod Checks
 pub mod Listings
 pub mod Boards
+pub mod Sources
 pub mod Answers
 pub mod CodePlays
 pub mod Racks
 pub mod Finals
 pub mod Alone
+pub mod Compiled

@@ -5,6 +5,8 @@ use Rattle.stapl_lexer.specs.declared.reason.Reason.{Reason}
 use Rattle.stapl_lexer.specs.Reasons.{reason_name}
 use Rattle.board_text.specs.declared.reason.BoardReason.{BoardReason}
 use Rattle.board_text.specs.Reasons as boards
+use Rattle.code_files.specs.declared.fault.CodeReason.{CodeReason}
+use Rattle.code_files.specs.Reasons as code_files
 
 -- a label and a number
 abbrev pub labelled : List ℕ → ℤ → List ℕ
@@ -29,3 +31,14 @@ refusal_line piece line reason = place_text piece line ++ codes " " ++ word_line
 -- the line of a refused board: its line, and the reason
 abbrev pub board_refusal_line : ℕ → BoardReason → List ℕ
 board_refusal_line line reason = labelled (codes "R board ") (pos line) ++ codes " " ++ word_line (boards.reason_name reason)
+
+-- the line of a refused code: the offset of the fault, and the reason
+abbrev pub code_refusal_line : ℕ → CodeReason → List ℕ
+code_refusal_line offset reason = labelled (codes "R code ") (pos offset) ++ codes " " ++ word_line (code_files.reason_name reason)
+
+-- the first line of a soak: the number that it is made from, how many devices its board has, the place of the device that
+-- its program is for, and how many pieces the program has
+abbrev pub soak_line : ℕ → ℕ → ℕ → ℕ → List ℕ
+soak_line seed devices place pieces =
+    labelled (codes "soak ") (pos seed) ++ labelled (codes " devices ") (pos devices) ++ labelled (codes " place ") (pos place)
+    ++ number_line (codes " pieces ") (pos pieces)

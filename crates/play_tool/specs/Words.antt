@@ -9,7 +9,7 @@ use Rattle.stapl_lexer.specs.ReservedWords.{is_free_name}
 use Rattle.play_tool.specs.declared.mode.Mode.{Mode}
 use Rattle.play_tool.specs.declared.mode.Mode.TheVariants as modes
 use Rattle.play_tool.specs.declared.mode.WordKey.{WordKey}
-use Rattle.play_tool.specs.declared.mode.WordKey.TheVariants.{Board, Program, Action, Do, Skip, Place, Turns, Pins, Report}
+use Rattle.play_tool.specs.declared.mode.WordKey.TheVariants.{Board, Program, Code, Action, Do, Skip, Place, Turns, Pins, Report, Seed}
 use Rattle.play_tool.specs.declared.words.Request.{Request}
 use Rattle.play_tool.specs.declared.words.WordsRefused.{WordsRefused}
 use Rattle.play_tool.specs.declared.words.WordsRefused.TheVariants as refusals
@@ -19,22 +19,53 @@ abbrev pub mode_word : Mode → List ℕ
 mode_word modes.Play = codes "play"
 mode_word modes.Check = codes "check"
 mode_word modes.List = codes "list"
+mode_word modes.Compile = codes "compile"
+mode_word modes.Run = codes "run"
+mode_word modes.Soak = codes "soak"
+
+-- the file behind the board is the text of a program
+abbrev pub reads_text : Mode → Bool
+reads_text modes.Play = true
+reads_text modes.Check = true
+reads_text modes.List = true
+reads_text modes.Compile = true
+reads_text modes.Run = false
+reads_text modes.Soak = false
+
+-- the board and the program are made from a number
+abbrev pub soaks : Mode → Bool
+soaks modes.Soak = true
+soaks _ = false
+
+-- the mode plays on a board
+abbrev pub plays : Mode → Bool
+plays modes.Play = true
+plays modes.Run = true
+plays modes.Soak = true
+plays _ = false
 
 -- the keys that a mode takes
 abbrev pub keys_taken : Mode → List WordKey
 keys_taken modes.Play = Board ∷ Program ∷ Action ∷ Do ∷ Skip ∷ Place ∷ Turns ∷ Pins ∷ Report ∷ []
 keys_taken modes.Check = Program ∷ []
 keys_taken modes.List = Program ∷ []
+keys_taken modes.Compile = Program ∷ []
+keys_taken modes.Run = Board ∷ Code ∷ Action ∷ Do ∷ Skip ∷ Place ∷ Turns ∷ Pins ∷ Report ∷ []
+keys_taken modes.Soak = Seed ∷ []
 
 -- the keys that a mode cannot do without
 abbrev pub keys_needed : Mode → List WordKey
 keys_needed modes.Play = Board ∷ Program ∷ Action ∷ []
 keys_needed modes.Check = Program ∷ []
 keys_needed modes.List = Program ∷ []
+keys_needed modes.Compile = Program ∷ []
+keys_needed modes.Run = Board ∷ Code ∷ Action ∷ []
+keys_needed modes.Soak = Seed ∷ []
 
 abbrev pub is_same_key : WordKey → WordKey → Bool
 is_same_key Board Board = true
 is_same_key Program Program = true
+is_same_key Code Code = true
 is_same_key Action Action = true
 is_same_key Do Do = true
 is_same_key Skip Skip = true
@@ -42,6 +73,7 @@ is_same_key Place Place = true
 is_same_key Turns Turns = true
 is_same_key Pins Pins = true
 is_same_key Report Report = true
+is_same_key Seed Seed = true
 is_same_key _ _ = false
 
 -- the mode takes this key
@@ -56,6 +88,7 @@ needs mode key = list_any (is_same_key key) (keys_needed mode)
 pub data Part : Type 0 where
   BoardIn : (path : List ℕ) → Part
   ProgramIn : (path : List ℕ) → Part
+  CodeIn : (path : List ℕ) → Part
   ActionNamed : (name : List ℕ) → Part
   NamesAsked : (names : List (List ℕ)) → Part
   NamesSkipped : (names : List (List ℕ)) → Part
@@ -63,10 +96,12 @@ pub data Part : Type 0 where
   TurnsAtMost : (n : ℕ) → Part
   PinsWritten : (written : Bool) → Part
   DevicesReported : (reported : Bool) → Part
+  SeedGiven : (n : ℕ) → Part
 
 abbrev pub key_of : Part → WordKey
 key_of (BoardIn path) = Board
 key_of (ProgramIn path) = Program
+key_of (CodeIn path) = Code
 key_of (ActionNamed name) = Action
 key_of (NamesAsked names) = Do
 key_of (NamesSkipped names) = Skip
@@ -74,6 +109,7 @@ key_of (PlaceAsked n) = Place
 key_of (TurnsAtMost n) = Turns
 key_of (PinsWritten written) = Pins
 key_of (DevicesReported reported) = Report
+key_of (SeedGiven n) = Seed
 
 -- the highest place that words may name
 abbrev pub most_place : ℕ
@@ -85,6 +121,10 @@ most_turns = 1000000000
 
 abbrev pub usual_turns : ℕ
 usual_turns = 100000000
+
+-- the greatest number that a soak is made from
+abbrev pub most_seed : ℕ
+most_seed = 4294967295
 
 -- decimal digits without a leading zero; a lone 0 is written so too
 abbrev pub is_decimal : List ℕ → Bool
@@ -99,6 +139,10 @@ NamesBoard word path = (word ≡ codes "board=" ++ path) × (path ≢ [])
 abbrev pub NamesProgram : List ℕ → List ℕ → Type 0
 NamesProgram word path = (word ≡ codes "program=" ++ path) × (path ≢ [])
 
+-- the word names this file as the code
+abbrev pub NamesCode : List ℕ → List ℕ → Type 0
+NamesCode word path = (word ≡ codes "code=" ++ path) × (path ≢ [])
+
 -- the bytes spell this name, in either case of its letters, and it is not reserved
 pub record SpellsFreeName (spelling name : List ℕ) : Type 0 where
   pub spelled : is_free_name spelling ≡ true
@@ -109,6 +153,14 @@ pub record NamesAction (word action : List ℕ) : Type 0 where
   pub spelling : List ℕ
   pub key : word ≡ codes "action=" ++ spelling
   pub name : SpellsFreeName spelling action
+
+-- the file that is read after the board, by whether it is the text of a program: the program or the code
+abbrev pub source_in : Bool → Request → Option (List ℕ)
+source_in true request = request.program
+source_in false request = request.code
+
+abbrev pub source_of : Request → Option (List ℕ)
+source_of request = source_in (reads_text request.mode) request
 
 -- the parts of a list of names, which a comma (44) separates
 abbrev pub parts_between_commas : List ℕ → List (List ℕ)
@@ -152,6 +204,10 @@ NamesPlace = NamesNumber (codes "place=") 1 most_place
 abbrev pub NamesTurns : List ℕ → ℕ → Type 0
 NamesTurns = NamesNumber (codes "turns=") 0 most_turns
 
+-- the word gives this number for a soak
+abbrev pub NamesSeed : List ℕ → ℕ → Type 0
+NamesSeed = NamesNumber (codes "seed=") 0 most_seed
+
 -- the word of a yes and of a no
 abbrev pub answer_word : Bool → List ℕ
 answer_word true = codes "yes"
@@ -169,6 +225,7 @@ SaysReport word reported = word ≡ codes "report=" ++ answer_word reported
 abbrev pub GivesPart : List ℕ → Part → Type 0
 GivesPart word (BoardIn path) = NamesBoard word path
 GivesPart word (ProgramIn path) = NamesProgram word path
+GivesPart word (CodeIn path) = NamesCode word path
 GivesPart word (ActionNamed name) = NamesAction word name
 GivesPart word (NamesAsked names) = AsksFor word names
 GivesPart word (NamesSkipped names) = LeavesOut word names
@@ -176,6 +233,7 @@ GivesPart word (PlaceAsked n) = NamesPlace word n
 GivesPart word (TurnsAtMost n) = NamesTurns word n
 GivesPart word (PinsWritten written) = SaysPins word written
 GivesPart word (DevicesReported reported) = SaysReport word reported
+GivesPart word (SeedGiven n) = NamesSeed word n
 
 -- the word at a place, counted from 0
 abbrev pub word_at : List (List ℕ) → ℕ → List ℕ
@@ -247,6 +305,7 @@ pub data AskNames (words : List (List ℕ)) (part : List (List ℕ) → Part) : 
 abbrev pub has_key : Request → WordKey → Bool
 has_key request Board = is_some request.board
 has_key request Program = is_some request.program
+has_key request Code = is_some request.code
 has_key request Action = is_some request.action
 has_key request Do = true
 has_key request Skip = true
@@ -254,6 +313,7 @@ has_key request Place = true
 has_key request Turns = true
 has_key request Pins = true
 has_key request Report = true
+has_key request Seed = is_some request.seed
 
 -- The request has each key that its mode needs.
 pub record HasNeeded (request : Request) : Type 0 where
@@ -267,6 +327,7 @@ pub record IsRequest (words : List (List ℕ)) (request : Request) : Type 0 wher
   pub needed : HasNeeded request
   pub board : GiveOf words (length words) Board (option_map BoardIn request.board)
   pub program : GiveOf words (length words) Program (option_map ProgramIn request.program)
+  pub code : GiveOf words (length words) Code (option_map CodeIn request.code)
   pub action_named : GiveOf words (length words) Action (option_map ActionNamed request.action)
   pub todo_asked : AskNames words NamesAsked request.todo
   pub skip_asked : AskNames words NamesSkipped request.skip
@@ -274,6 +335,7 @@ pub record IsRequest (words : List (List ℕ)) (request : Request) : Type 0 wher
   pub turns_asked : AskTurns words request.turns
   pub pins_asked : AskAnswer words PinsWritten request.pins
   pub report_asked : AskAnswer words DevicesReported request.report
+  pub seed : GiveOf words (length words) Seed (option_map SeedGiven request.seed)
 
 -- The words lack the mode, or a key that it needs.
 pub data Lack (words : List (List ℕ)) : Type 0 where

@@ -31,8 +31,8 @@ pub enum BoardNotRead {
     Memory,
 }
 
-// The devices of a board with these bytes.
-fn board_of(alloc: Global, bytes: &[u8]) -> Result<Vec<Desc>, BoardNotRead>
+/// The devices of a board with these bytes.
+pub fn board_of(alloc: Global, bytes: &[u8]) -> Result<Vec<Desc>, BoardNotRead>
     ensures board { IfOk result (λ devices. IsBoard bytes.now devices.items) }
     ensures fitting { IfOk result (λ devices. CanBeFitted devices.items) }
     ensures fault { (line : ℕ) (reason : BoardReason) → result ≡ Err (refusals.At line reason) →

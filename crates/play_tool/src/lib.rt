@@ -8,6 +8,8 @@ pub mod laws;
 mod listing;
 mod mode;
 mod playing;
+mod programs;
+mod soaking;
 mod status;
 mod told;
 mod top;

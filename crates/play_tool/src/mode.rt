@@ -1,6 +1,9 @@
 //! The modes of the tool, and the keys of their words.
 ghost use Rattle.std.specs.Prelude.{◌≡◌};
 
+use stapl_code::FILE_LIMIT;
+use stapl_lexer::TEXT_LIMIT;
+
 /// What the tool is asked to do. The first word of a command names it.
 #[derive(Clone, Copy, Debug, PartialEq, Eq)]
 pub enum Mode {
@@ -10,6 +13,12 @@ pub enum Mode {
     Check,
     /// To list what a program offers.
     List,
+    /// To write a program as the file of a code.
+    Compile,
+    /// To play an action of a code that a file holds.
+    Run,
+    /// To play a program that is made from a number, on a board that is made from it.
+    Soak,
 }
 
 /// The keys of the words behind the mode.
@@ -19,6 +28,8 @@ pub(crate) enum WordKey {
     Board,
     /// The file of the program.
     Program,
+    /// The file of the code.
+    Code,
     /// The name of the action.
     Action,
     /// The names of OPTIONAL procedures that are to run.
@@ -33,18 +44,41 @@ pub(crate) enum WordKey {
     Pins,
     /// Whether the devices are to be reported.
     Report,
+    /// The number that a soak is made from.
+    Seed,
 }
 
 impl Mode {
-    ghost use Rattle.play_tool.specs.Words.{takes, needs};
+    ghost use Rattle.play_tool.specs.Words.{takes, needs, reads_text};
+    ghost use Rattle.play_tool.specs.Sources.{most_of_source};
+
+    /// Whether the file behind the board is the text of a program.
+    pub(crate) fn reads_text(self) -> bool
+        ensures { result ≡ reads_text self }
+    {
+        !matches!(self, Mode::Run | Mode::Soak)
+    }
+
+    /// The most bytes of that file.
+    pub(crate) fn source_limit(self) -> u32
+        ensures { result ≡ most_of_source (reads_text self) }
+    {
+        if self.reads_text() {
+            TEXT_LIMIT as u32
+        } else {
+            FILE_LIMIT as u32
+        }
+    }
 
     /// Whether words with this key may stand behind the mode.
     pub(crate) fn takes(self, key: WordKey) -> bool
         ensures { result ≡ takes self key }
     {
         match self {
-            Mode::Play => true,
-            Mode::Check | Mode::List => matches!(key, WordKey::Program),
+            Mode::Play => !matches!(key, WordKey::Code | WordKey::Seed),
+            Mode::Check | Mode::List | Mode::Compile => matches!(key, WordKey::Program),
+            Mode::Run => !matches!(key, WordKey::Program | WordKey::Seed),
+            Mode::Soak => matches!(key, WordKey::Seed),
         }
     }
 
@@ -53,8 +87,10 @@ impl Mode {
         ensures { result ≡ needs self key }
     {
         match key {
-            WordKey::Program => true,
-            WordKey::Board | WordKey::Action => matches!(self, Mode::Play),
+            WordKey::Program => self.reads_text(),
+            WordKey::Code => matches!(self, Mode::Run),
+            WordKey::Seed => matches!(self, Mode::Soak),
+            WordKey::Board | WordKey::Action => matches!(self, Mode::Play | Mode::Run),
             WordKey::Do
             | WordKey::Skip
             | WordKey::Place

@@ -1,17 +1,12 @@
-//! The play of a program, through its code.
+//! The play of a code.
 ghost use Rattle.std.specs.Prelude.{◌≡◌, [], true, length, map, Some, IsSomeAnd, IsTrue, OnOk, OnErr, IfOk, IsErrOf};
 ghost use Rattle.tool_io.specs.Causes.{HasRisen, NeverFalls};
 ghost use Rattle.tool_io.specs.Lines.{IsWhole, IsOverSame, SinkNeverFalls, HasSinkCause, sink_of, Puts, PutsFront};
-ghost use Rattle.stapl_syntax.specs.Programs.{IsProgram};
-ghost use Rattle.stapl_syntax.specs.ProgramValues.{trees_of};
-ghost use Rattle.stapl_meaning.specs.Choices.{no_action, bad_choice, chosen, choice_of};
+ghost use Rattle.stapl_meaning.specs.Choices.{no_action, bad_choice, chosen};
 ghost use Rattle.stapl_meaning.specs.Plays.{ending_of};
-ghost use Rattle.stapl_meaning.specs.Scopes.{as_played};
 ghost use Rattle.stapl_meaning.specs.Texts.{events_text, far_report, asked_report};
-ghost use Rattle.stapl_meaning.specs.Typed.{IsTyped};
-ghost use Rattle.stapl_code.specs.Safe.{AllBelow, AllFit};
-ghost use Rattle.stapl_codegen.specs.Generated.{IsCodeOf};
-ghost use Rattle.stapl_machine.specs.Zeros.{zeros_of_code};
+ghost use Rattle.stapl_code.specs.Safe.{AllBelow};
+ghost use Rattle.stapl_player.specs.Choices.{code_choice};
 ghost use Rattle.dev_card.specs.Card.{fresh};
 ghost use Rattle.dev_card.specs.FarEnds.{far_end};
 ghost use Rattle.dev_card.specs.PaddedScan.{descriptions_of};
@@ -21,11 +16,11 @@ ghost use Rattle.chain_sim.specs.Chains.{IsOverSame as IsSameRack};
 ghost use Rattle.chain_sim.specs.Places.{cards_at, is_chain};
 ghost use Rattle.chain_sim.specs.Rack.{IsRack, places_of};
 ghost use Rattle.play_tool.specs.Written.{Wrote, WroteFront, IsPrefixOf};
-ghost use Rattle.play_tool.specs.Answers.{done_with, IsFault, has_place, reported_far, PlaysAction};
+ghost use Rattle.play_tool.specs.Answers.{done_with, IsFault, has_place, reported_far, PlaysCodeAction};
 ghost use Rattle.play_tool.specs.Boards.{CanBeFitted};
 ghost use Rattle.play_tool.specs.Racks.{ComesBeforeFitting};
 ghost use Rattle.play_tool.specs.CodePlays.{task_play, NeverRises, WasClocked, HasEnding, run_text, RunWritten, RunFront, PutsRunFront};
-ghost use Rattle.play_tool.specs.Finals.{IsPlayed, far_at, AreLeft, HoldsFinal};
+ghost use Rattle.play_tool.specs.Finals.{IsPlayed, far_at, AreLeft, CodeHoldsFinal};
 
 use crate::status::NoAnswer;
 use crate::told::play_told;
@@ -36,13 +31,10 @@ use dev_card::{Desc, Device};
 use scan_paths::Cable;
 use stapl_code::Code;
 use stapl_code::laws::never_stuck;
-use stapl_codegen::generate;
 use stapl_lexer::Name;
 use stapl_machine::Machine;
 use stapl_meaning::Ending;
-use stapl_meaning::laws::programs_are_typed;
 use stapl_player::{ChoiceRefused, choose};
-use stapl_syntax::Program;
 use std::alloc::Global;
 use std::marker::Brand;
 use std::sync::ledger::Blank;
@@ -57,8 +49,7 @@ pub struct Task<'a> {
 
 // Tells the proofs that a play of a code comes to an ending.
 fn check_ending(code: &Code, chosen: &[u32], task: &Task)
-    requires below { AllBelow (length code.now.procedures) chosen.now }
-    requires fit { AllFit code.now.variables (zeros_of_code code.now) }
+    requires { AllBelow (length code.now.procedures) chosen.now }
     ensures { HasEnding (task_play code.now chosen.now task.now) }
 {
     let _raw = code.raw();
@@ -333,25 +324,21 @@ fn play_on_board<K: Sink>(
     write_play(alloc, task, code, chosen, rack, &places, out)
 }
 
-// The procedures of an action of a program that run, by the choices of a request, which its code tells.
+// The procedures of an action of a code that run, by the choices of a request.
 fn choose_asked(
     alloc: Global,
-    program: &Program,
     code: &Code,
     action: &Name,
     request: &Request,
 ) -> Result<Vec<u32>, ChoiceRefused>
-    requires typed { IsTyped (as_played (trees_of program.now)) }
-    requires code { IsCodeOf (as_played (trees_of program.now)) code.now }
-    ensures ok { IfOk result (λ procedures. choice_of (as_played (trees_of program.now)) action.now request.now.todo
-        request.now.skip ≡ chosen procedures.items) }
+    ensures ok { IfOk result (λ procedures. code_choice code.now action.now request.now.todo request.now.skip
+        ≡ chosen procedures.items) }
     ensures below { IfOk result (λ procedures. AllBelow (length code.now.procedures) procedures.items) }
     ensures action { IsErrOf result ChoiceRefused.NoAction →
-        choice_of (as_played (trees_of program.now)) action.now request.now.todo request.now.skip ≡ no_action }
+        code_choice code.now action.now request.now.todo request.now.skip ≡ no_action }
     ensures choice { IsErrOf result ChoiceRefused.BadChoice →
-        choice_of (as_played (trees_of program.now)) action.now request.now.todo request.now.skip ≡ bad_choice }
+        code_choice code.now action.now request.now.todo request.now.skip ≡ bad_choice }
 {
-    let _program = program;
     let asked = request.todo.as_slice();
     let skipped = request.skip.as_slice();
     choose(alloc, code, action, asked, skipped)
@@ -378,48 +365,45 @@ fn has_place(task: &Task) -> bool
     }
 }
 
-/// Plays an action of a program, as a task asks for it: on its board, which is fitted into the rack, the procedures
-/// that run by the choices of the request, for at most so many turns.
+/// Plays an action of a code, as a task asks for it: on its board, which is fitted into the rack, the procedures that
+/// run by the choices of the request, for at most so many turns.
 ///
-/// If the program has no such action, or a name cannot be chosen in it, or the board lacks the place, the rack stays as
-/// it was. If it is played, the devices of the board are as the play leaves them.
-pub fn play_program<K: Sink>(
+/// If the code has no such action, or a name cannot be chosen in it, or the board lacks the place, the rack stays as it
+/// was. If it is played, the devices of the board are as the play leaves them.
+pub fn play_code<K: Sink>(
     alloc: Global,
-    program: &Program,
+    code: &Code,
     action: &Name,
     task: &Task,
     rack: &mut Vec<Box<dyn Device>>,
     out: &mut K,
 ) -> Result<Status, NoAnswer>
-    requires program { IsProgram program.now.text (trees_of program.now) }
     requires asked { task.now.request.now.action ≡ Some action.now }
     requires rack { IsRack (map kind_of rack.old.items) }
     requires devices { CanBeFitted task.now.devices.now }
     ensures answered { IfOk result (λ status. IsFault status → ⊥) }
     ensures ok { IfOk result (Wrote
-        (PlaysAction (trees_of program.now) action.now task.now.request.now task.now.devices.now)
+        (PlaysCodeAction code.now action.now task.now.request.now task.now.devices.now)
         (K.written out.old) (K.written out.new)) }
     ensures read { IsErrOf result NoAnswer.Read → ⊥ }
     ensures write { IsErrOf result NoAnswer.Write → HasRisen K.faults K.is_last out.old out.new }
     ensures front { IsErrOf result NoAnswer.Write →
-        WroteFront (PlaysAction (trees_of program.now) action.now task.now.request.now task.now.devices.now)
+        WroteFront (PlaysCodeAction code.now action.now task.now.request.now task.now.devices.now)
         (K.written out.old) (K.written out.new) }
     ensures memory { IsErrOf result NoAnswer.Memory →
-        IsPrefixOf (PlaysAction (trees_of program.now) action.now task.now.request.now task.now.devices.now)
+        IsPrefixOf (PlaysCodeAction code.now action.now task.now.request.now task.now.devices.now)
         (K.written out.old) (K.written out.new) }
     ensures later { NeverFalls K.faults K.is_last out.old out.new }
     ensures before { IfOk result (λ status. ComesBeforeFitting status → rack.new.items ≡ rack.old.items) }
-    ensures leaves { IfOk result (λ status. IsPlayed status → HoldsFinal (trees_of program.now) task.now.request.now
+    ensures leaves { IfOk result (λ status. IsPlayed status → CodeHoldsFinal code.now task.now.request.now
         task.now.devices.now (map fitted rack.new.items)) }
     ensures kinds { map kind_of rack.new.items ≡ map kind_of rack.old.items }
 {
-    programs_are_typed();
-    let code = generate(alloc, program)?;
-    match choose_asked(alloc, program, &code, action, task.request) {
+    match choose_asked(alloc, code, action, task.request) {
         Ok(chosen) if has_place(task) => {
             let procedures: &[u32] = &chosen;
-            check_ending(&code, procedures, task);
-            let ending = play_on_board(alloc, task, &code, procedures, rack, out)?;
+            check_ending(code, procedures, task);
+            let ending = play_on_board(alloc, task, code, procedures, rack, out)?;
             Ok(status_of(ending))
         }
         Ok(_) => {

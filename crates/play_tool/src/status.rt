@@ -4,6 +4,7 @@ ghost use Rattle.play_tool.specs.Codes.{exit_code_of};
 ghost use Rattle.play_tool.specs.declared.status.NoAnswer.TheVariants.{Write, Memory};
 
 use board_text::BoardReason;
+use code_files::CodeReason;
 use stapl_lexer::Reason;
 use stapl_meaning::RunFault;
 use std::alloc::AllocError;
@@ -25,6 +26,8 @@ pub enum Status {
     /// The board is refused: the first faulty line, counted from 1, or 0 where the text is too long, and the reason.
     /// The end of a board without a device is the line behind the last.
     BoardRefused(u32, BoardReason),
+    /// The code is refused: the offset of the first fault of its file, and the reason.
+    CodeRefused(u32, CodeReason),
     /// The program has no action of the name that the words give.
     NoAction,
     /// A name of `do` is not that of an OPTIONAL procedure of the action, or a name of `skip` not that of a RECOMMENDED
@@ -88,6 +91,7 @@ impl Status {
             Status::BoardRefused(_, _) => 5,
             Status::NoAction | Status::BadChoice | Status::BadPlace => 6,
             Status::Usage(_) => 7,
+            Status::CodeRefused(_, _) => 8,
             Status::ReadFault => 9,
             Status::WriteFault => 10,
             Status::Memory => 11,

@@ -1,10 +1,10 @@
 //! The words of a command.
-ghost use Rattle.std.specs.Prelude.{◌≡◌, ◌≤◌, ◌<◌, ◌+◌, ℕ, Bool, List, [], length, map, codes, string_bytes, is_some, None, IfSome, IfNone, IfOk, IfErr, OnOk};
+ghost use Rattle.std.specs.Prelude.{◌≡◌, ◌≢◌, ◌≤◌, ◌<◌, ◌+◌, ℕ, Bool, List, [], length, map, codes, string_bytes, is_some, None, IfSome, IfNone, IfOk, IfErr, OnOk};
 ghost use Rattle.std.specs.Char.{is_ascii_digit};
 ghost use Rattle.std.specs.List.{list_all};
 ghost use Rattle.std.specs.Option.{option_map};
 ghost use Rattle.stapl_lexer.specs.ReservedWords.{is_free_name};
-ghost use Rattle.play_tool.specs.Words.{mode_word, BoardIn, ProgramIn, ActionNamed, NamesAsked, NamesSkipped, PlaceAsked, TurnsAtMost, PinsWritten, DevicesReported, is_decimal, parts_between_commas, NamesBoard, NamesProgram, NamesAction, SpellsNames, AsksFor, LeavesOut, SpellsNumber, NamesPlace, NamesTurns, answer_word, SaysPins, SaysReport, HasMode, IsRequest, IsFirstUnread, IsWordsRefused};
+ghost use Rattle.play_tool.specs.Words.{mode_word, BoardIn, ProgramIn, CodeIn, ActionNamed, NamesAsked, NamesSkipped, PlaceAsked, TurnsAtMost, PinsWritten, DevicesReported, SeedGiven, is_decimal, parts_between_commas, NamesBoard, NamesProgram, NamesCode, NamesAction, SpellsNames, AsksFor, LeavesOut, SpellsNumber, NamesPlace, NamesTurns, NamesSeed, answer_word, SaysPins, SaysReport, HasMode, IsRequest, IsFirstUnread, IsWordsRefused};
 ghost use Rattle.play_tool.specs.GivenParts.{name_spelled, names_in, values_of, given_of, Adds, Refuses, AddsWord, AddsNothing, AreReadUpTo, lacks, is_complete, names_or_none, HasValues};
 ghost use Rattle.play_tool.specs.declared.mode.Mode.{Mode};
 
@@ -22,7 +22,7 @@ const MOST_PLACE: u32 = 999;
 const MOST_TURNS: u32 = 1_000_000_000;
 
 /// How many turns there are where words ask for none.
-const USUAL_TURNS: u32 = 100_000_000;
+pub(crate) const USUAL_TURNS: u32 = 100_000_000;
 
 /// What the words ask for.
 #[derive(Drop)]
@@ -32,6 +32,8 @@ pub struct Request {
     pub board: Option<FileName>,
     /// The file of the program, whose name is not empty.
     pub program: Option<FileName>,
+    /// The file of the code, whose name is not empty.
+    pub code: Option<FileName>,
     /// The name of the action.
     pub action: Option<Name>,
     /// The names of OPTIONAL procedures of the action that are to run.
@@ -47,6 +49,8 @@ pub struct Request {
     pub pins: bool,
     /// Whether what the devices hold after the play is to be written; no if the words do not say it.
     pub report: bool,
+    /// The number that a soak is made from.
+    pub seed: Option<u32>,
 }
 
 /// Why words are no request.
@@ -67,6 +71,7 @@ struct Given<'a> {
     mode: Mode,
     board: Option<&'a str>,
     program: Option<&'a str>,
+    code: Option<&'a str>,
     action: Option<Name>,
     todo: Option<&'a str>,
     skip: Option<&'a str>,
@@ -74,6 +79,7 @@ struct Given<'a> {
     turns: Option<u32>,
     pins: Option<bool>,
     report: Option<bool>,
+    seed: Option<u32>,
 }
 
 impl<'a> Given<'a> {
@@ -81,6 +87,7 @@ impl<'a> Given<'a> {
         ensures mode { result.mode ≡ mode }
         ensures board { result.board ≡ None }
         ensures program { result.program ≡ None }
+        ensures code { result.code ≡ None }
         ensures action { result.action ≡ None }
         ensures todo { result.todo ≡ None }
         ensures skip { result.skip ≡ None }
@@ -88,11 +95,13 @@ impl<'a> Given<'a> {
         ensures turns { result.turns ≡ None }
         ensures pins { result.pins ≡ None }
         ensures report { result.report ≡ None }
+        ensures seed { result.seed ≡ None }
     {
         Given {
             mode,
             board: None,
             program: None,
+            code: None,
             action: None,
             todo: None,
             skip: None,
@@ -100,6 +109,7 @@ impl<'a> Given<'a> {
             turns: None,
             pins: None,
             report: None,
+            seed: None,
         }
     }
 
@@ -130,6 +140,22 @@ impl<'a> Given<'a> {
             Some(_) => None,
             None => Some(Given {
                 program: Some(path),
+                ..*self
+            }),
+        }
+    }
+
+    fn with_code(&self, path: &'a str) -> Option<Given<'a>>
+        ensures some { IfSome result (λ next. Adds (values_of self.now) (CodeIn path.now) (values_of next)) }
+        ensures none { IfNone result (Refuses (values_of self.now) (CodeIn path.now)) }
+    {
+        if !self.mode.takes(WordKey::Code) {
+            return None;
+        }
+        match self.code {
+            Some(_) => None,
+            None => Some(Given {
+                code: Some(path),
                 ..*self
             }),
         }
@@ -249,6 +275,22 @@ impl<'a> Given<'a> {
         }
     }
 
+    fn with_seed(&self, seed: u32) -> Option<Given<'a>>
+        ensures some { IfSome result (λ next. Adds (values_of self.now) (SeedGiven seed) (values_of next)) }
+        ensures none { IfNone result (Refuses (values_of self.now) (SeedGiven seed)) }
+    {
+        if !self.mode.takes(WordKey::Seed) {
+            return None;
+        }
+        match self.seed {
+            Some(_) => None,
+            None => Some(Given {
+                seed: Some(seed),
+                ..*self
+            }),
+        }
+    }
+
     // What is given with one word more; `None` where it gives nothing that the mode takes, or its key has been given.
     #[tactic(auto, using(crate::proofs::WordLemmas::adds_part, crate::proofs::WordLemmas::adds_refused, crate::proofs::WordLemmas::adds_no_part))]
     fn with_word(&self, word: &'a str) -> Option<Given<'a>>
@@ -260,6 +302,9 @@ impl<'a> Given<'a> {
         }
         if let Some(path) = program_path(word) {
             return self.with_program(path);
+        }
+        if let Some(path) = code_path(word) {
+            return self.with_code(path);
         }
         if let Some(name) = action_name(word) {
             return self.with_action(name);
@@ -282,6 +327,9 @@ impl<'a> Given<'a> {
         if let Some(reported) = devices_reported(word) {
             return self.with_report(reported);
         }
+        if let Some(seed) = seed_given(word) {
+            return self.with_seed(seed);
+        }
         None
     }
 
@@ -291,6 +339,7 @@ impl<'a> Given<'a> {
         match key {
             WordKey::Board => self.board.is_some(),
             WordKey::Program => self.program.is_some(),
+            WordKey::Code => self.code.is_some(),
             WordKey::Action => self.action.is_some(),
             WordKey::Do => self.todo.is_some(),
             WordKey::Skip => self.skip.is_some(),
@@ -298,6 +347,7 @@ impl<'a> Given<'a> {
             WordKey::Turns => self.turns.is_some(),
             WordKey::Pins => self.pins.is_some(),
             WordKey::Report => self.report.is_some(),
+            WordKey::Seed => self.seed.is_some(),
         }
     }
 
@@ -313,7 +363,9 @@ impl<'a> Given<'a> {
         ensures { result ≡ is_complete (values_of self.now) }
     {
         !self.lacks(WordKey::Board)
-            && (!self.lacks(WordKey::Program) && !self.lacks(WordKey::Action))
+            && (!self.lacks(WordKey::Program)
+                && (!self.lacks(WordKey::Code)
+                    && (!self.lacks(WordKey::Action) && !self.lacks(WordKey::Seed))))
     }
 
     // The request with the values.
@@ -322,10 +374,12 @@ impl<'a> Given<'a> {
     {
         let board = file_named(alloc, self.board)?;
         let program = file_named(alloc, self.program)?;
+        let code = file_named(alloc, self.code)?;
         Ok(Request {
             mode: self.mode,
             board,
             program,
+            code,
             action: self.action,
             todo: names_given(alloc, self.todo)?,
             skip: names_given(alloc, self.skip)?,
@@ -333,6 +387,7 @@ impl<'a> Given<'a> {
             turns: self.turns.unwrap_or(USUAL_TURNS),
             pins: self.pins.unwrap_or(false),
             report: self.report.unwrap_or(false),
+            seed: self.seed,
         })
     }
 }
@@ -364,6 +419,17 @@ fn program_path(word: &str) -> Option<&str>
     ensures none { IfNone result ((path : List ℕ) → NamesProgram word.now path → ⊥) }
 {
     match word.strip_prefix("program=") {
+        Some(path) if !path.is_empty() => Some(path),
+        _ => None,
+    }
+}
+
+// The path that a word gives for the code.
+fn code_path(word: &str) -> Option<&str>
+    ensures some { IfSome result (λ path. NamesCode word.now path.now) }
+    ensures none { IfNone result ((path : List ℕ) → NamesCode word.now path → ⊥) }
+{
+    match word.strip_prefix("code=") {
         Some(path) if !path.is_empty() => Some(path),
         _ => None,
     }
@@ -495,6 +561,17 @@ fn turn_count(word: &str) -> Option<u32>
     }
 }
 
+// The number that a word gives for a soak.
+fn seed_given(word: &str) -> Option<u32>
+    ensures some { IfSome result (NamesSeed word.now) }
+    ensures none { IfNone result ((seed : ℕ) → NamesSeed word.now seed → ⊥) }
+{
+    match word.strip_prefix("seed=") {
+        Some(spelling) => spelled_number(spelling, 0, u32::MAX),
+        None => None,
+    }
+}
+
 // Whether a text is a yes or a no.
 fn answer_spelled(spelling: &str) -> Option<bool>
     ensures some { IfSome result (λ answer. spelling.now ≡ answer_word answer) }
@@ -529,7 +606,27 @@ fn devices_reported(word: &str) -> Option<bool>
     }
 }
 
+// The mode that a word names, if it is one of codes or of soaks.
+fn mode_of_codes(word: &str) -> Option<Mode>
+    ensures some { IfSome result (λ mode. word.now ≡ mode_word mode) }
+    ensures compile { IfNone result (word.now ≢ codes "compile") }
+    ensures run { IfNone result (word.now ≢ codes "run") }
+    ensures soak { IfNone result (word.now ≢ codes "soak") }
+{
+    if word == "compile" {
+        return Some(Mode::Compile);
+    }
+    if word == "run" {
+        return Some(Mode::Run);
+    }
+    if word == "soak" {
+        return Some(Mode::Soak);
+    }
+    None
+}
+
 // The mode that a word names.
+#[tactic(auto, using(crate::proofs::WordLemmas::no_mode_word))]
 fn mode_named(word: &str) -> Option<Mode>
     ensures some { IfSome result (λ mode. word.now ≡ mode_word mode) }
     ensures none { IfNone result ((mode : Mode) → word.now ≡ mode_word mode → ⊥) }
@@ -543,7 +640,7 @@ fn mode_named(word: &str) -> Option<Mode>
     if word == "list" {
         return Some(Mode::List);
     }
-    None
+    mode_of_codes(word)
 }
 
 // The mode that the first word names.
@@ -565,8 +662,8 @@ fn read_parts(mode: Mode, words: &[String]) -> Result<Given<'_>, usize>
     ensures read { IfOk result (λ given.
         AreReadUpTo (map string_bytes words.now) (length words.now) (values_of given)) }
     ensures unread { IfErr result (IsFirstUnread (map string_bytes words.now)) }
-    ensures few { IfErr result (λ place. place ≤ 10) }
-    ensures few_words { OnOk result (length words.now ≤ 10) }
+    ensures few { IfErr result (λ place. place ≤ 12) }
+    ensures few_words { OnOk result (length words.now ≤ 12) }
 {
     let mut given = Given::nothing(mode);
     for place in 1..words.len() {

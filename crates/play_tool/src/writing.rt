@@ -1,5 +1,5 @@
 //! What is written.
-ghost use Rattle.std.specs.Prelude.{◌≡◌, codes, pos, OnOk, OnErr};
+ghost use Rattle.std.specs.Prelude.{◌≡◌, ◌++◌, ◌<◌, ◌^◌, codes, pos, OnOk, OnErr};
 ghost use Rattle.tool_io.specs.Causes.{HasCause};
 ghost use Rattle.tool_io.specs.Bytes.{then_bytes, MovesFront};
 ghost use Rattle.tool_io.specs.Lines.{IsWhole, IsOverSame, HasSinkCause, Puts, PutsFront};
@@ -7,9 +7,11 @@ ghost use Rattle.stapl_lexer.specs.Reasons.{reason_name};
 ghost use Rattle.board_text.specs.Reasons as boards;
 ghost use Rattle.stapl_meaning.specs.Texts.{ending_line};
 ghost use Rattle.stapl_meaning.specs.declared.events.Ending.TheVariants.{Exit, Fault};
-ghost use Rattle.play_tool.specs.Texts.{labelled, word_line, number_line, place_text, refusal_line, board_refusal_line};
+ghost use Rattle.play_tool.specs.Texts.{labelled, word_line, number_line, place_text, refusal_line, board_refusal_line, code_refusal_line};
+ghost use Rattle.play_tool.specs.Summaries.{summary_line};
 
 use board_text::BoardReason;
+use code_files::CodeReason;
 use stapl_lexer::Reason;
 use stapl_meaning::{Ending, RunFault};
 use tool_io::{Failed, Lines, Sink};
@@ -128,6 +130,84 @@ fn put_board_refusal<K: Sink>(
     Ok(())
 }
 
+// Puts the line of a refused code.
+#[tactic(auto, using(tool_io::proofs::PutLemmas::put_then, tool_io::proofs::PutLemmas::put_then_front, tool_io::proofs::PutLemmas::front_with))]
+fn put_code_refusal<K: Sink>(
+    lines: &mut Lines<K>,
+    offset: u32,
+    reason: CodeReason,
+) -> Result<(), Failed>
+    requires { IsWhole lines.old }
+    ensures same_sink { IsOverSame lines.old lines.new }
+    ensures whole { OnOk result (IsWhole lines.new) }
+    ensures ok { OnOk result (Puts K.written lines.old (code_refusal_line offset reason) lines.new) }
+    ensures front { OnErr result (PutsFront K.written lines.old (code_refusal_line offset reason) lines.new) }
+    ensures cause { HasSinkCause K.faults K.is_last lines.old lines.new result }
+{
+    put_count(lines, b"R code ", offset)?;
+    lines.put(b" ")?;
+    put_word_line(lines, reason.name())?;
+    Ok(())
+}
+
+// Puts the first part of the first line of a soak: the number that it is made from, and the devices of its board.
+#[tactic(auto, using(tool_io::proofs::PutLemmas::put_then, tool_io::proofs::PutLemmas::put_then_front, tool_io::proofs::PutLemmas::front_with))]
+fn put_soak_board<K: Sink>(lines: &mut Lines<K>, seed: u32, devices: u32) -> Result<(), Failed>
+    requires { IsWhole lines.old }
+    ensures same_sink { IsOverSame lines.old lines.new }
+    ensures whole { OnOk result (IsWhole lines.new) }
+    ensures ok { OnOk result (Puts K.written lines.old
+        (labelled (codes "soak ") (pos seed) ++ labelled (codes " devices ") (pos devices)) lines.new) }
+    ensures front { OnErr result (PutsFront K.written lines.old
+        (labelled (codes "soak ") (pos seed) ++ labelled (codes " devices ") (pos devices)) lines.new) }
+    ensures cause { HasSinkCause K.faults K.is_last lines.old lines.new result }
+{
+    put_count(lines, b"soak ", seed)?;
+    put_count(lines, b" devices ", devices)?;
+    Ok(())
+}
+
+// Puts the last part of a line with a count.
+fn put_last_count<K: Sink>(lines: &mut Lines<K>, label: &[u8], n: usize) -> Result<(), Failed>
+    requires whole { IsWhole lines.old }
+    requires small { n < 2 ^ 63 }
+    ensures same_sink { IsOverSame lines.old lines.new }
+    ensures whole { OnOk result (IsWhole lines.new) }
+    ensures ok { OnOk result (Puts K.written lines.old (number_line label.now (pos n)) lines.new) }
+    ensures front { OnErr result (PutsFront K.written lines.old (number_line label.now (pos n)) lines.new) }
+    ensures cause { HasSinkCause K.faults K.is_last lines.old lines.new result }
+{
+    put_number_line(lines, label, n as i64)?;
+    Ok(())
+}
+
+/// What the first line of a soak tells: the number that it is made from, how many devices its board has, the place of
+/// the device that its program is for, counted from 1, and how many pieces the program has.
+#[derive(Clone, Copy)]
+pub struct SoakSummary {
+    pub seed: u32,
+    pub devices: u32,
+    pub place: u32,
+    pub pieces: usize,
+}
+
+// Puts the first line of a soak.
+#[tactic(auto, using(tool_io::proofs::PutLemmas::put_then, tool_io::proofs::PutLemmas::put_then_front, tool_io::proofs::PutLemmas::front_with))]
+fn put_soak<K: Sink>(lines: &mut Lines<K>, soak: SoakSummary) -> Result<(), Failed>
+    requires whole { IsWhole lines.old }
+    requires small { soak.pieces < 2 ^ 63 }
+    ensures same_sink { IsOverSame lines.old lines.new }
+    ensures whole { OnOk result (IsWhole lines.new) }
+    ensures ok { OnOk result (Puts K.written lines.old (summary_line soak) lines.new) }
+    ensures front { OnErr result (PutsFront K.written lines.old (summary_line soak) lines.new) }
+    ensures cause { HasSinkCause K.faults K.is_last lines.old lines.new result }
+{
+    put_soak_board(lines, soak.seed, soak.devices)?;
+    put_count(lines, b" place ", soak.place)?;
+    put_last_count(lines, b" pieces ", soak.pieces)?;
+    Ok(())
+}
+
 // Puts the line of an exit.
 fn put_exit<K: Sink>(lines: &mut Lines<K>, code: i32) -> Result<(), Failed>
     requires { IsWhole lines.old }
@@ -217,6 +297,37 @@ pub fn write_board_refusal<K: Sink>(
 {
     let mut lines = Lines::new(out);
     put_board_refusal(&mut lines, line, reason)?;
+    lines.finish()?;
+    Ok(())
+}
+
+/// Writes the line of a refused code and nothing else.
+#[tactic(auto, using(tool_io::proofs::PutLemmas::front_written, tool_io::proofs::PutLemmas::finish_front))]
+pub fn write_code_refusal<K: Sink>(
+    out: &mut K,
+    offset: u32,
+    reason: CodeReason,
+) -> Result<(), Failed>
+    ensures ok { OnOk result (K.written out.new ≡ then_bytes (K.written out.old) (code_refusal_line offset reason)) }
+    ensures front { OnErr result (MovesFront (K.written out.old) (code_refusal_line offset reason) (K.written out.new)) }
+    ensures cause { HasCause K.faults K.is_last out.old out.new result }
+{
+    let mut lines = Lines::new(out);
+    put_code_refusal(&mut lines, offset, reason)?;
+    lines.finish()?;
+    Ok(())
+}
+
+/// Writes the first line of a soak and nothing else.
+#[tactic(auto, using(tool_io::proofs::PutLemmas::front_written, tool_io::proofs::PutLemmas::finish_front))]
+pub fn write_soak<K: Sink>(out: &mut K, soak: SoakSummary) -> Result<(), Failed>
+    requires { soak.pieces < 2 ^ 63 }
+    ensures ok { OnOk result (K.written out.new ≡ then_bytes (K.written out.old) (summary_line soak)) }
+    ensures front { OnErr result (MovesFront (K.written out.old) (summary_line soak) (K.written out.new)) }
+    ensures cause { HasCause K.faults K.is_last out.old out.new result }
+{
+    let mut lines = Lines::new(out);
+    put_soak(&mut lines, soak)?;
     lines.finish()?;
     Ok(())
 }

@@ -1,22 +1,19 @@
 use Rattle.stapl_meaning.specs.Choices.{no_action, bad_choice, chosen}
 use Rattle.play_tool.proofs.AnswerLemmas.{on_ok}
-use Rattle.play_tool.proofs.ChoiceLemmas.{comes_to}
+use Rattle.play_tool.proofs.CodeLemmas.{code_comes_to}
 use Rattle.play_tool.proofs.playing.choose_asked.Goals as goal
 
 pub returns-clause-ok : goal.returns-clause-ok
 returns-clause-ok c =
     on_ok c.choose.result
     (λ procedures e.
-    comes_to (chosen procedures.items) c.args.action.now c.args.request.now.todo c.args.request.now.skip c.requires.typed c.requires.code
-    c.as_slice-asked.ensures c.as_slice-skipped.ensures e)
+    code_comes_to c.args.code.now (chosen procedures.items) c.args.action.now c.args.request.now.todo c.args.request.now.skip c.as_slice-asked.ensures c.as_slice-skipped.ensures e)
     c.choose.ensures.ok
 
 pub returns-clause-action : goal.returns-clause-action
 returns-clause-action c = λ is.
-    comes_to no_action c.args.action.now c.args.request.now.todo c.args.request.now.skip c.requires.typed c.requires.code
-    c.as_slice-asked.ensures c.as_slice-skipped.ensures (c.choose.ensures.action is)
+    code_comes_to c.args.code.now no_action c.args.action.now c.args.request.now.todo c.args.request.now.skip c.as_slice-asked.ensures c.as_slice-skipped.ensures (c.choose.ensures.action is)
 
 pub returns-clause-choice : goal.returns-clause-choice
 returns-clause-choice c = λ is.
-    comes_to bad_choice c.args.action.now c.args.request.now.todo c.args.request.now.skip c.requires.typed c.requires.code
-    c.as_slice-asked.ensures c.as_slice-skipped.ensures (c.choose.ensures.choice is)
+    code_comes_to c.args.code.now bad_choice c.args.action.now c.args.request.now.todo c.args.request.now.skip c.as_slice-asked.ensures c.as_slice-skipped.ensures (c.choose.ensures.choice is)

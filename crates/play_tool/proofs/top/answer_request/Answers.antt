@@ -1,28 +1,30 @@
-use Rattle.std.proofs.Common.{◌∙◌, sym, ap, Some, Err}
+use Rattle.std.proofs.Common.{sym, ap, Err}
+use Rattle.play_tool.specs.Words.{source_of}
 use Rattle.play_tool.specs.Boards.{board_failed}
-use Rattle.play_tool.proofs.AnswerLemmas.{has_program, on_ok}
+use Rattle.play_tool.proofs.AnswerLemmas.{has_source, on_ok}
 use Rattle.play_tool.proofs.BoardLemmas.{fault_is}
-use Rattle.play_tool.proofs.RequestLemmas.{file_wrote, file_front, file_prefix, some_file, program_cause, refused_wrote_in, refused_front_in, some_refused_wrote, some_refused_front}
+use Rattle.play_tool.proofs.RequestLemmas.{named_path, no_path, file_wrote, file_front, file_prefix, some_file, source_cause, refused_wrote_in, refused_front_in, some_refused_wrote, some_refused_front}
 use Rattle.play_tool.proofs.WrittenLemmas.{wrote_within, front_within}
 use Rattle.play_tool.proofs.top.answer_request.Goals as goal
 
 pub unreachable-requires : goal.unreachable-requires
-unreachable-requires g c = has_program c.args.request.now c.requires.needed c.in_default.is
+unreachable-requires g c =
+    has_source c.args.request.now c.requires.needed c.requires.no_soak (no_path (λ path. path.now) c.source_path.result (source_of c.args.request.now) c.source_path.ensures c.in_default.is)
 
 pub returns-in-Ok-clause-ok : goal.returns-in-Ok-clause-ok
 returns-in-Ok-clause-ok g c =
     on_ok c.answer_file.result
-    (λ status. file_wrote _ _ status c.args.request.now c.in-Ok.devices.items _ (g.S.Shelf.told c.args.shelf.now) (c.in-Some.is ∙ ap Some (sym c.as_str.ensures)) c.in-Ok.ensures.board)
+    (λ status. file_wrote _ _ status c.args.request.now c.in-Ok.devices.items _ (g.S.Shelf.told c.args.shelf.now) (named_path (λ path. path.now) c.source_path.result c.in-Some.path (source_of c.args.request.now) c.as_str.result.now c.source_path.ensures c.in-Some.is c.as_str.ensures) c.in-Ok.ensures.board)
     (rw (c.deref.ensures.value, c.in-Ok.ensures.keeps) at c.answer_file.ensures.ok)
 
 pub returns-in-Ok-clause-read : goal.returns-in-Ok-clause-read
 returns-in-Ok-clause-read g c = λ e.
-    program_cause _ _ _ c.args.request.now c.in-Ok.devices.items _ (g.S.Shelf.told c.args.shelf.now) (c.in-Some.is ∙ ap Some (sym c.as_str.ensures))
+    source_cause _ _ _ c.args.request.now c.in-Ok.devices.items _ (g.S.Shelf.told c.args.shelf.now) (named_path (λ path. path.now) c.source_path.result c.in-Some.path (source_of c.args.request.now) c.as_str.result.now c.source_path.ensures c.in-Some.is c.as_str.ensures)
     c.in-Ok.ensures.board c.in-Ok.ensures.later (c.answer_file.ensures.read e)
 
 pub returns-in-Ok-clause-front : goal.returns-in-Ok-clause-front
 returns-in-Ok-clause-front g c = λ e.
-    file_front _ _ c.args.request.now c.in-Ok.devices.items _ (g.S.Shelf.told c.args.shelf.now) (c.in-Some.is ∙ ap Some (sym c.as_str.ensures)) c.in-Ok.ensures.board
+    file_front _ _ c.args.request.now c.in-Ok.devices.items _ (g.S.Shelf.told c.args.shelf.now) (named_path (λ path. path.now) c.source_path.result c.in-Some.path (source_of c.args.request.now) c.as_str.result.now c.source_path.ensures c.in-Some.is c.as_str.ensures) c.in-Ok.ensures.board
     (rw (c.deref.ensures.value, c.in-Ok.ensures.keeps) at c.answer_file.ensures.front e)
 
 pub returns-in-Ok-clause-some_text : goal.returns-in-Ok-clause-some_text
@@ -35,7 +37,7 @@ returns-in-Ok-clause-some_text_front g c = λ e.
 
 pub returns-in-Ok-clause-memory : goal.returns-in-Ok-clause-memory
 returns-in-Ok-clause-memory g c = λ e.
-    file_prefix _ _ c.args.request.now c.in-Ok.devices.items _ (g.S.Shelf.told c.args.shelf.now) (c.in-Some.is ∙ ap Some (sym c.as_str.ensures)) c.in-Ok.ensures.board
+    file_prefix _ _ c.args.request.now c.in-Ok.devices.items _ (g.S.Shelf.told c.args.shelf.now) (named_path (λ path. path.now) c.source_path.result c.in-Some.path (source_of c.args.request.now) c.as_str.result.now c.source_path.ensures c.in-Some.is c.as_str.ensures) c.in-Ok.ensures.board
     (rw (c.deref.ensures.value, c.in-Ok.ensures.keeps) at c.answer_file.ensures.memory e)
 
 pub returns-in_err-write_board_refusal-in-Err-At-clause-front : goal.returns-in_err-write_board_refusal-in-Err-At-clause-front

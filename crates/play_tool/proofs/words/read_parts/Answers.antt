@@ -7,9 +7,9 @@ use Rattle.play_tool.proofs.WordLemmas.{nothing_read, one_word_more, few_read, a
 use Rattle.play_tool.proofs.words.read_parts.Goals as goal
 
 pub loop-place-init : goal.loop-place-init
-loop-place-init c = nothing_read (map (string_bytes {Z = Global}) c.args.words.now) _ (subst (HasMode (map (string_bytes {Z = Global}) c.args.words.now)) (sym c.nothing-given.ensures.mode) c.requires.mode) (ap (option_map (λ path. path.now)) c.nothing-given.ensures.board) (ap (option_map (λ path. path.now)) c.nothing-given.ensures.program) c.nothing-given.ensures.action
+loop-place-init c = nothing_read (map (string_bytes {Z = Global}) c.args.words.now) _ (subst (HasMode (map (string_bytes {Z = Global}) c.args.words.now)) (sym c.nothing-given.ensures.mode) c.requires.mode) (ap (option_map (λ path. path.now)) c.nothing-given.ensures.board) (ap (option_map (λ path. path.now)) c.nothing-given.ensures.program) (ap (option_map (λ path. path.now)) c.nothing-given.ensures.code) c.nothing-given.ensures.action
     (ap (option_map (λ spelling. names_in spelling.now)) c.nothing-given.ensures.todo) (ap (option_map (λ spelling. names_in spelling.now)) c.nothing-given.ensures.skip)
-    c.nothing-given.ensures.place c.nothing-given.ensures.turns c.nothing-given.ensures.pins c.nothing-given.ensures.report
+    c.nothing-given.ensures.place c.nothing-given.ensures.turns c.nothing-given.ensures.pins c.nothing-given.ensures.report c.nothing-given.ensures.seed
 
 pub loop-place-preserved : goal.loop-place-preserved
 loop-place-preserved c =
@@ -17,7 +17,7 @@ loop-place-preserved c =
     let place = c.loop-place.place in
     let word : c.as_str.result.now ≡ get_or ws place [] =
     c.as_str.ensures.value ∙ word_is (string_bytes {Z = Global}) c.args.words.now place c.index-words-place.result c.loop-place-test.true c.index-words-place.is in
-    one_word_more ws place (record { mode = c.loop-place.given.0; board = option_map (λ path. path.now) c.loop-place.given.1.0; program = option_map (λ path. path.now) c.loop-place.given.1.1.0; action = c.loop-place.given.1.1.1.0; todo = option_map (λ spelling. names_in spelling.now) c.loop-place.given.1.1.1.1.0; skip = option_map (λ spelling. names_in spelling.now) c.loop-place.given.1.1.1.1.1.0; place = c.loop-place.given.1.1.1.1.1.1.0; turns = c.loop-place.given.1.1.1.1.1.1.1.0; pins = c.loop-place.given.1.1.1.1.1.1.1.1.0; report = c.loop-place.given.1.1.1.1.1.1.1.1.1.0 })
+    one_word_more ws place (record { mode = c.loop-place.given.0; board = option_map (λ path. path.now) c.loop-place.given.1.0; program = option_map (λ path. path.now) c.loop-place.given.1.1.0; code = option_map (λ path. path.now) c.loop-place.given.1.1.1.0; action = c.loop-place.given.1.1.1.1.0; todo = option_map (λ spelling. names_in spelling.now) c.loop-place.given.1.1.1.1.1.0; skip = option_map (λ spelling. names_in spelling.now) c.loop-place.given.1.1.1.1.1.1.0; place = c.loop-place.given.1.1.1.1.1.1.1.0; turns = c.loop-place.given.1.1.1.1.1.1.1.1.0; pins = c.loop-place.given.1.1.1.1.1.1.1.1.1.0; report = c.loop-place.given.1.1.1.1.1.1.1.1.1.1.0; seed = c.loop-place.given.1.1.1.1.1.1.1.1.1.1.1.0 })
     (values_of c.in-Some.next) (omega arith) c.loop-place.invariant (rw word at c.in-Some.ensures.some)
 
 pub returns-in_default-clause-unread : goal.returns-in_default-clause-unread
@@ -33,7 +33,7 @@ returns-in_default-clause-few c = few_read c.loop-place.invariant
 
 pub returns-clause-read : goal.returns-clause-read
 returns-clause-read c =
-    let values : Values = record { mode = c.loop-place.given.0; board = option_map (λ path. path.now) c.loop-place.given.1.0; program = option_map (λ path. path.now) c.loop-place.given.1.1.0; action = c.loop-place.given.1.1.1.0; todo = option_map (λ spelling. names_in spelling.now) c.loop-place.given.1.1.1.1.0; skip = option_map (λ spelling. names_in spelling.now) c.loop-place.given.1.1.1.1.1.0; place = c.loop-place.given.1.1.1.1.1.1.0; turns = c.loop-place.given.1.1.1.1.1.1.1.0; pins = c.loop-place.given.1.1.1.1.1.1.1.1.0; report = c.loop-place.given.1.1.1.1.1.1.1.1.1.0 } in
+    let values : Values = record { mode = c.loop-place.given.0; board = option_map (λ path. path.now) c.loop-place.given.1.0; program = option_map (λ path. path.now) c.loop-place.given.1.1.0; code = option_map (λ path. path.now) c.loop-place.given.1.1.1.0; action = c.loop-place.given.1.1.1.1.0; todo = option_map (λ spelling. names_in spelling.now) c.loop-place.given.1.1.1.1.1.0; skip = option_map (λ spelling. names_in spelling.now) c.loop-place.given.1.1.1.1.1.1.0; place = c.loop-place.given.1.1.1.1.1.1.1.0; turns = c.loop-place.given.1.1.1.1.1.1.1.1.0; pins = c.loop-place.given.1.1.1.1.1.1.1.1.1.0; report = c.loop-place.given.1.1.1.1.1.1.1.1.1.1.0; seed = c.loop-place.given.1.1.1.1.1.1.1.1.1.1.1.0 } in
     let some = c.requires.some in
     let at : c.loop-place.place ≡ length c.args.words.now = omega arith in
     subst (λ (n : ℕ). AreReadUpTo (map (string_bytes {Z = Global}) c.args.words.now) n values) at c.loop-place.invariant

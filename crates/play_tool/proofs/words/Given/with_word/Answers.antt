@@ -1,5 +1,5 @@
 use Rattle.std.proofs.Common.{Option, None, Some, IfNone}
-use Rattle.play_tool.specs.Words.{BoardIn, ProgramIn, ActionNamed, NamesAsked, NamesSkipped, PlaceAsked, TurnsAtMost, PinsWritten, DevicesReported}
+use Rattle.play_tool.specs.Words.{BoardIn, ProgramIn, CodeIn, ActionNamed, NamesAsked, NamesSkipped, PlaceAsked, TurnsAtMost, PinsWritten, DevicesReported, SeedGiven}
 use Rattle.play_tool.specs.GivenParts.{names_in}
 use Rattle.play_tool.proofs.WordLemmas.{adds_refused}
 use Rattle.play_tool.proofs.words.Given.with_word.Goals as goal
@@ -15,6 +15,10 @@ returns-in-Some-clause-none c =
 pub returns-in-Some-program_path-clause-none : goal.returns-in-Some-program_path-clause-none
 returns-in-Some-program_path-clause-none c =
     on_none c.with_program.result (adds_refused (ProgramIn c.in-Some-program_path.path.now) c.in-Some-program_path.ensures.some) c.with_program.ensures.none
+
+pub returns-in-Some-code_path-clause-none : goal.returns-in-Some-code_path-clause-none
+returns-in-Some-code_path-clause-none c =
+    on_none c.with_code.result (adds_refused (CodeIn c.in-Some-code_path.path.now) c.in-Some-code_path.ensures.some) c.with_code.ensures.none
 
 pub returns-in-Some-action_name-clause-none : goal.returns-in-Some-action_name-clause-none
 returns-in-Some-action_name-clause-none c =
@@ -43,3 +47,7 @@ returns-in-Some-pins_written-clause-none c =
 pub returns-in-Some-devices_reported-clause-none : goal.returns-in-Some-devices_reported-clause-none
 returns-in-Some-devices_reported-clause-none c =
     on_none c.with_report.result (adds_refused (DevicesReported c.in-Some-devices_reported.reported) c.in-Some-devices_reported.ensures.some) c.with_report.ensures.none
+
+pub returns-in-Some-seed_given-clause-none : goal.returns-in-Some-seed_given-clause-none
+returns-in-Some-seed_given-clause-none c =
+    on_none c.with_seed.result (adds_refused (SeedGiven c.in-Some-seed_given.seed) c.in-Some-seed_given.ensures.some) c.with_seed.ensures.none

@@ -1,0 +1,102 @@
+-- A program plays as its code does.
+use Rattle.std.proofs.Common.{◌≡◌, ◌∙◌, ℕ, pos, Bool, true, List, [], Option, refl, sym, ap, subst}
+use Rattle.stapl_syntax.specs.Trees.{StmtTree}
+use Rattle.stapl_meaning.specs.declared.events.Ending.{Ending}
+use Rattle.stapl_meaning.specs.Choices.{Choice, chosen, choice_of}
+use Rattle.stapl_meaning.specs.Scopes.{as_played}
+use Rattle.stapl_meaning.specs.Typed.{IsTyped}
+use Rattle.stapl_meaning.specs.Plays.{Run, ending_of}
+use Rattle.stapl_code.specs.declared.raw.CodeLists.{CodeLists}
+use Rattle.stapl_codegen.specs.Generated.{IsCodeOf}
+use Rattle.code_files.specs.CodeFaults.{IsFileOf}
+use Rattle.stapl_player.specs.Choices.{code_choice}
+use Rattle.dev_card.specs.declared.desc.Desc.{Desc}
+use Rattle.dev_card.specs.Sound.{SoundCard}
+use Rattle.chain_sim.specs.Rack.{places_of}
+use Rattle.play_tool.specs.declared.status.Status.{Status}
+use Rattle.play_tool.specs.declared.status.Status.TheVariants.{Done}
+use Rattle.play_tool.specs.declared.words.Request.{Request}
+use Rattle.play_tool.specs.Answers.{done_with, has_place, asked_text, Plays, no_action, bad_choice, bad_place, played, play_on, PlaysAction, code_play_on, PlaysCodeAction, Compiles}
+use Rattle.play_tool.specs.CodePlays.{IsPlayOf}
+use Rattle.play_tool.specs.Finals.{AreLeft, HoldsFinal, CodeHoldsFinal}
+use Rattle.play_tool.proofs.ChoiceLemmas.{same_choice}
+use Rattle.play_tool.proofs.PlayLemmas.{code_run}
+use Rattle.play_tool.proofs.WrittenLemmas.{IsWithin}
+
+-- Plays of the same choices whose runs say the same.
+pub record SaySame (one other : List ℕ → Run) : Type 0 where
+  pub events : (procedures : List ℕ) → (one procedures).events ≡ (other procedures).events
+  pub far : (procedures : List ℕ) → (one procedures).chain.far ≡ (other procedures).chain.far
+  pub endings : (procedures : List ℕ) → ending_of (one procedures).outcome ≡ ending_of (other procedures).outcome
+
+said_so : {choice : Choice} {placed : Bool} {one other : List ℕ → Run} (request : Request) (procedures : List ℕ) (ending : Ending) → SaySame one other →
+    Plays choice placed other request (asked_text request (other procedures).events (other procedures).chain.far ending) (done_with ending) →
+    Plays choice placed other request (asked_text request (one procedures).events (one procedures).chain.far ending) (done_with ending)
+said_so {choice = choice} {placed = placed} {one = one} {other = other} request procedures ending same p =
+    rw (same.events procedures, same.far procedures) p
+
+same_plays : {choice : Choice} {placed : Bool} {one other : List ℕ → Run} {request : Request} {text : List ℕ} {status : Status} → SaySame one other →
+    Plays choice placed one request text status → Plays choice placed other request text status
+same_plays same (no_action e) = no_action e
+same_plays same (bad_choice e) = bad_choice e
+same_plays same (bad_place procedures e lacks) = bad_place procedures e lacks
+same_plays {request = request} same (played procedures ending e placed ended) =
+    said_so request procedures ending same (played procedures ending e placed (sym (same.endings procedures) ∙ ended))
+
+turned : {one other : List ℕ → Run} → SaySame one other → SaySame other one
+turned same = record {
+  events = λ procedures. sym (same.events procedures);
+  far = λ procedures. sym (same.far procedures);
+  endings = λ procedures. sym (same.endings procedures);
+}
+
+abbrev procedures_in : Choice → List ℕ
+procedures_in (chosen procedures) = procedures
+procedures_in _ = []
+
+-- a program and its code, for a request and the devices of its board
+module _ (program : List StmtTree) (code : CodeLists) (action : List ℕ) (request : Request) (devices : List Desc) (typed : IsTyped (as_played program)) (is : IsCodeOf (as_played program) code) where
+  same_run : (procedures : List ℕ) → IsPlayOf (chosen procedures) true (play_on (as_played program) request devices) (code_play_on code request devices procedures)
+  same_run procedures = code_run request devices code procedures is refl
+
+  listed : (procedures : List ℕ) → (same_run procedures).procedures ≡ procedures
+  listed procedures = sym (ap (λ (c : Choice). procedures_in c) (same_run procedures).are_chosen)
+
+  say_same : SaySame (code_play_on code request devices) (play_on (as_played program) request devices)
+  say_same = record {
+    events = λ procedures. (same_run procedures).same_events ∙ ap (λ (ps : List ℕ). (play_on (as_played program) request devices ps).events) (listed procedures);
+    far = λ procedures. (same_run procedures).same_far ∙ ap (λ (ps : List ℕ). (play_on (as_played program) request devices ps).chain.far) (listed procedures);
+    endings = λ procedures. (same_run procedures).same_ending ∙ ap (λ (ps : List ℕ). ending_of (play_on (as_played program) request devices ps).outcome) (listed procedures);
+  }
+
+  choices_same : code_choice code action request.todo request.skip ≡ choice_of (as_played program) action request.todo request.skip
+  choices_same = same_choice action request.todo request.skip typed is
+
+  to_program : (text : List ℕ) (status : Status) → PlaysCodeAction code action request devices text status → PlaysAction program action request devices text status
+  to_program text status p =
+      subst (λ (c : Choice). Plays c (has_place request.place devices) (play_on (as_played program) request devices) request text status) choices_same (same_plays say_same p)
+
+  to_code : (text : List ℕ) (status : Status) → PlaysAction program action request devices text status → PlaysCodeAction code action request devices text status
+  to_code text status p =
+      subst (λ (c : Choice). Plays c (has_place request.place devices) (code_play_on code request devices) request text status) (sym choices_same) (same_plays (turned say_same) p)
+
+  pub code_to_program : IsWithin (PlaysCodeAction code action request devices) (PlaysAction program action request devices)
+  code_to_program = record { to = to_program }
+
+  pub program_to_code : IsWithin (PlaysAction program action request devices) (PlaysCodeAction code action request devices)
+  program_to_code = record { to = to_code }
+
+-- and so the devices are left
+pub program_final : {program : List StmtTree} {code : CodeLists} {request : Request} {devices : List Desc} {rack : List (Option SoundCard)} → IsTyped (as_played program) → IsCodeOf (as_played program) code →
+    CodeHoldsFinal code request devices rack → HoldsFinal program request devices rack
+program_final {program = program} {code = code} {request = request} {devices = devices} {rack = rack} typed is final = record {
+  action = final.action;
+  asked = final.asked;
+  procedures = final.procedures;
+  choice = sym (choices_same program code final.action request devices typed is) ∙ final.choice;
+  left = subst (AreLeft rack (places_of devices) devices) ((say_same program code final.action request devices typed is).far final.procedures) final.left;
+}
+
+-- what is written if a program is compiled
+pub compiled_file : {program : List StmtTree} {code : CodeLists} {file : List ℕ} → IsCodeOf (as_played program) code → IsFileOf file code → Compiles program file (Done (pos 0))
+compiled_file {code = code} is file = record { code = code; of_program = is; file = file; done = refl }
