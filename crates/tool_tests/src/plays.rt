@@ -1,6 +1,7 @@
 //! What the tool answers to its words, over a store and a sink in memory.
 use board_text::BoardReason;
 use chain_sim::is_rack;
+use code_files::CodeReason;
 use dev_card::{Device, MOST_DEVICES};
 use dev_kinds::{Flash, Plain, Regs};
 use play_tool::{Mode, Status, read_words, run_tool};
@@ -136,7 +137,7 @@ fn reads_words(rt: HostRuntime) -> Result<(), Fail> {
 // The exit code of each status.
 #[test]
 fn gives_exit_codes(rt: HostRuntime) -> Result<(), Fail> {
-    let table: [(Status, u8); 13] = [
+    let table: [(Status, u8); 14] = [
         (Status::Done(0), 0),
         (Status::Done(-1), 1),
         (Status::Done(256), 1),
@@ -147,6 +148,7 @@ fn gives_exit_codes(rt: HostRuntime) -> Result<(), Fail> {
         (Status::NoAction, 6),
         (Status::BadChoice, 6),
         (Status::Usage(1), 7),
+        (Status::CodeRefused(0, CodeReason::Cut), 8),
         (Status::ReadFault, 9),
         (Status::WriteFault, 10),
         (Status::Memory, 11),

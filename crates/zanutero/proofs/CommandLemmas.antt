@@ -1,9 +1,10 @@
 -- On answers to the words of a command.
-use Rattle.std.proofs.Common.{◌≡◌, ℕ, List, [], ◌∷◌, Option, None, Some, IfSome, sym, ap, ◌∙◌}
+use Rattle.std.proofs.Common.{◌≡◌, ℕ, List, [], ◌∷◌, Option, None, Some, IfSome, refl, sym, ap, ◌∙◌}
 use Rattle.std.proofs.lemmas.Option.{none-some}
 use Rattle.play_tool.specs.declared.status.Status.{Status}
-use Rattle.play_tool.specs.declared.mode.Mode.TheVariants.{Play}
-use Rattle.play_tool.specs.Words.{HasMode}
+use Rattle.play_tool.specs.declared.mode.Mode.{Mode}
+use Rattle.play_tool.specs.declared.mode.Mode.TheVariants as modes
+use Rattle.play_tool.specs.Words.{mode_word, HasMode}
 use Rattle.play_tool.proofs.WrittenLemmas.{IsWithin}
 use Rattle.zanutero.specs.Commands.{text_of_word, text_asked, CommandAnswer, shown, done}
 
@@ -24,8 +25,17 @@ the_tools none (done text status e a) = a
 pub answers_tool : (A : List ℕ → Status → Type 0) (words : List (List ℕ)) → text_asked words ≡ None → IsWithin (CommandAnswer A words) A
 answers_tool A words none = record { to = λ text status a. the_tools none a }
 
--- words that ask for a text ask for no play
-pub no_play : (words : List (List ℕ)) (text : List ℕ) → text_asked words ≡ Some text → HasMode words Play → ⊥
-no_play [] text e has = none-some text e
-no_play (word ∷ []) text e has = none-some text (sym (ap text_of_word has) ∙ e)
-no_play (word ∷ other ∷ words) text e has = none-some text e
+-- the word of a mode asks for no text
+no_text : (mode : Mode) → text_of_word (mode_word mode) ≡ None
+no_text modes.Play = refl
+no_text modes.Check = refl
+no_text modes.List = refl
+no_text modes.Compile = refl
+no_text modes.Run = refl
+no_text modes.Soak = refl
+
+-- words that ask for a text have no mode
+pub has_no_mode : (words : List (List ℕ)) (text : List ℕ) (mode : Mode) → text_asked words ≡ Some text → HasMode words mode → ⊥
+has_no_mode [] text mode e has = none-some text e
+has_no_mode (word ∷ []) text mode e has = none-some text (sym (no_text mode) ∙ sym (ap text_of_word has) ∙ e)
+has_no_mode (word ∷ other ∷ words) text mode e has = none-some text e

@@ -1,14 +1,15 @@
 //! What a command does with its words, over any store and any sink.
-ghost use Rattle.std.specs.Prelude.{◌≡◌, map, string_bytes, IfSome};
+ghost use Rattle.std.specs.Prelude.{◌≡◌, true, map, string_bytes, IfSome};
 ghost use Rattle.tool_io.specs.Causes.{HasRisen, NeverFalls, NoneFalls};
 ghost use Rattle.chain_sim.specs.Rack.{IsRack};
-ghost use Rattle.play_tool.specs.declared.mode.Mode.TheVariants.{Play};
+ghost use Rattle.play_tool.specs.declared.mode.Mode.{Mode};
 ghost use Rattle.play_tool.specs.declared.words.Request.{Request};
-ghost use Rattle.play_tool.specs.Words.{HasMode, IsRequest};
+ghost use Rattle.play_tool.specs.Words.{plays, HasMode, IsRequest};
 ghost use Rattle.play_tool.specs.Written.{Wrote, WroteFront, IsPrefixOf};
 ghost use Rattle.play_tool.specs.Boards.{HasReadCause};
 ghost use Rattle.play_tool.specs.Answers.{contents_in, Answer, SomeFilesAnswer, IsFault};
 ghost use Rattle.play_tool.specs.Alone.{IsQuietAlone, PlaysAlone};
+ghost use Rattle.play_tool.specs.Compiled.{RunsCompiled, PlaysSource};
 ghost use Rattle.play_tool.specs.Finals.{IsPlayed, WordsHoldFinal};
 ghost use Rattle.play_tool.specs.Racks.{ComesBeforeFitting};
 ghost use Rattle.zanutero.specs.Commands.{CommandAnswer};
@@ -69,11 +70,12 @@ pub fn run_command<S: Shelf, K: Sink>(
     // The rack stays as it was, if the cause of the status comes before the board is fitted, and if no play is asked
     // for. In any case each of its devices keeps its kind.
     ensures before { ComesBeforeFitting result → rack.new.items ≡ rack.old.items }
-    ensures other { (HasMode (map string_bytes words.now) Play → ⊥) → rack.new.items ≡ rack.old.items }
+    ensures other { ((mode : Mode) → HasMode (map string_bytes words.now) mode → plays mode ≡ true → ⊥) →
+        rack.new.items ≡ rack.old.items }
     ensures kinds { map kind_of rack.new.items ≡ map kind_of rack.old.items }
 
     // If a play was played, to its ending or for all its turns, the rack holds the board that it leaves.
-    ensures leaves { HasMode (map string_bytes words.now) Play → IsPlayed result →
+    ensures leaves { (mode : Mode) → HasMode (map string_bytes words.now) mode → plays mode ≡ true → IsPlayed result →
         WordsHoldFinal (map string_bytes words.now) (S.told shelf.old) (map fitted rack.new.items) }
 
     // A play for one device of a board is the play on that device alone, if this is quiet for all its turns and no
@@ -81,6 +83,11 @@ pub fn run_command<S: Shelf, K: Sink>(
     ensures alone { (IsFault result → ⊥) → IfSome (S.told shelf.old) (λ files.
         (q : IsQuietAlone (map string_bytes words.now) (contents_in files)) →
         Wrote (PlaysAlone q) (K.written out.old) (K.written out.new) result) }
+
+    // A play of a code that a program was compiled to is the play of that program.
+    ensures compiled { (IsFault result → ⊥) → IfSome (S.told shelf.old) (λ files.
+        (q : RunsCompiled (map string_bytes words.now) (contents_in files)) →
+        Wrote (PlaysSource q) (K.written out.old) (K.written out.new) result) }
 {
     match text_asked(words) {
         Some(text) => match write_text(out, text) {

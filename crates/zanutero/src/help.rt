@@ -3,7 +3,7 @@ ghost use Rattle.std.specs.Prelude.{◌≡◌, map, string_bytes};
 ghost use Rattle.std.specs.Option.{option_map};
 ghost use Rattle.zanutero.specs.Commands.{text_of_word, text_asked};
 
-const HELP: &[u8] = b"zanutero: checks, lists and plays STAPL programs (JEDEC JESD71)
+const HELP: &[u8] = b"zanutero: checks, lists, compiles and plays STAPL programs (JEDEC JESD71)
 
   zanutero check program=PATH
       checks the program in the file PATH: counts its statements, or names its
@@ -25,6 +25,13 @@ const HELP: &[u8] = b"zanutero: checks, lists and plays STAPL programs (JEDEC JE
       pins=yes      writes the clocks of the chain, too
       report=yes    writes what the devices hold after the play, too; with a
                     place, what that device holds
+  zanutero compile program=PATH
+      writes the program as the file of its code
+  zanutero run board=PATH code=PATH action=NAME [do=NAME,..] [skip=NAME,..]
+      [place=N] [turns=N] [pins=yes|no] [report=yes|no]
+      plays the action NAME of the code in the file code=PATH, as play does
+  zanutero soak seed=N
+      makes a large board and program from N, 0 to 4294967295, and plays them
   zanutero --help
   zanutero --version
 
@@ -33,7 +40,7 @@ The keys stand in any order. For example:
   zanutero play board=examples/one.board program=examples/hello.stp action=A
 
 Exit codes:
-  0  the program is checked or listed, or the play ended with code 0
+  0  the program is checked, listed or compiled, or the play ended with code 0
   1  the play ended with another code
   2  a fault ended the play
   3  the play still went on after its turns
@@ -43,7 +50,8 @@ Exit codes:
      is not that of such a procedure of the action: the line R choice; or the
      board has no device at the place: the line R place
   7  the words are refused: the line R usage WORD
-  9  the board or the program could not be read
+  8  the code is refused: the line R code OFFSET REASON
+  9  the board, the program or the code could not be read
   10 the output could not be written
   11 there was no memory, or a word is not UTF-8
 ";

@@ -1,12 +1,10 @@
-use Rattle.std.proofs.Common.{◌≡◌, ◌∙◌, sym, ap, subst, map, string_bytes, Global, List, ℕ, None}
+use Rattle.std.proofs.Common.{◌≡◌, ◌∙◌, sym, ap, map, string_bytes, Global, List, ℕ, None}
 use Rattle.std.specs.Option.{option_map}
-use Rattle.play_tool.specs.declared.mode.Mode.{Mode}
-use Rattle.play_tool.specs.Words.{HasMode}
 use Rattle.play_tool.specs.Answers.{Answer, SomeFilesAnswer}
 use Rattle.play_tool.proofs.AnswerLemmas.{on_some}
 use Rattle.play_tool.proofs.WrittenLemmas.{wrote_within, front_within, prefix_within, wrote_text, wrote_front}
 use Rattle.zanutero.specs.Commands.{text_asked, shown}
-use Rattle.zanutero.proofs.CommandLemmas.{for_some, tool_answers, answers_tool, no_play}
+use Rattle.zanutero.proofs.CommandLemmas.{for_some, tool_answers, answers_tool, has_no_mode}
 use Rattle.zanutero.proofs.command.run_command.Goals as goal
 
 pub returns-in-Ok-clause-answer : goal.returns-in-Ok-clause-answer
@@ -58,16 +56,21 @@ returns-in-None-clause-memory g c = λ memory.
     on_some (g.S.Shelf.told c.args.shelf.now) (λ files. prefix_within (answers_tool (Answer words files) words none)) (c.run_tool.ensures.memory memory)
 
 pub returns-in-Ok-clause-leaves : goal.returns-in-Ok-clause-leaves
-returns-in-Ok-clause-leaves g c = λ has played.
-    absurd (no_play (map (string_bytes {Z = Global}) c.args.words.now) c.in-Some.text.now (sym c.text_asked.ensures ∙ ap (option_map (λ text. text.now)) c.in-Some.is) has)
+returns-in-Ok-clause-leaves g c = λ mode has playing played.
+    absurd (has_no_mode (map (string_bytes {Z = Global}) c.args.words.now) c.in-Some.text.now mode (sym c.text_asked.ensures ∙ ap (option_map (λ text. text.now)) c.in-Some.is) has)
 
 pub returns-in-Err-clause-leaves : goal.returns-in-Err-clause-leaves
-returns-in-Err-clause-leaves g c = λ has played.
-    absurd (no_play (map (string_bytes {Z = Global}) c.args.words.now) c.in-Some.text.now (sym c.text_asked.ensures ∙ ap (option_map (λ text. text.now)) c.in-Some.is) has)
+returns-in-Err-clause-leaves g c = λ mode has playing played.
+    absurd (has_no_mode (map (string_bytes {Z = Global}) c.args.words.now) c.in-Some.text.now mode (sym c.text_asked.ensures ∙ ap (option_map (λ text. text.now)) c.in-Some.is) has)
 
 pub returns-in-Ok-clause-alone : goal.returns-in-Ok-clause-alone
 returns-in-Ok-clause-alone g c = λ _.
     let words : List (List ℕ) = map (string_bytes {Z = Global}) c.args.words.now in
     for_some (g.S.Shelf.told c.args.shelf.now)
-    (λ files q. absurd (no_play words c.in-Some.text.now (sym c.text_asked.ensures ∙ ap (option_map (λ text. text.now)) c.in-Some.is)
-    (subst (λ (mode : Mode). HasMode words mode) q.plays q.asked.mode)))
+    (λ files q. absurd (has_no_mode words c.in-Some.text.now q.request.mode (sym c.text_asked.ensures ∙ ap (option_map (λ text. text.now)) c.in-Some.is) q.asked.mode))
+
+pub returns-in-Ok-clause-compiled : goal.returns-in-Ok-clause-compiled
+returns-in-Ok-clause-compiled g c = λ _.
+    let words : List (List ℕ) = map (string_bytes {Z = Global}) c.args.words.now in
+    for_some (g.S.Shelf.told c.args.shelf.now)
+    (λ files q. absurd (has_no_mode words c.in-Some.text.now q.request.mode (sym c.text_asked.ensures ∙ ap (option_map (λ text. text.now)) c.in-Some.is) q.asked.mode))
