@@ -2,7 +2,7 @@
 ghost use Rattle.std.specs.Int.{w32};
 ghost use Rattle.std.specs.Int.RustNames.{FitsSigned};
 ghost use Rattle.std.specs.Prelude.{◌≡◌, ◌<◌, ◌^◌, ◌∷◌, [], ◌++◌, length, All, OnOk};
-ghost use Rattle.stapl_code.specs.Fields.{integer, counted};
+ghost use Rattle.stapl_code.specs.Fields.{number, integer, counted};
 ghost use Rattle.stapl_code.specs.Instrs.{source, dest, cell, part, export_part, register_number, padding_number, kind_number, wait_number, flag_number, if_given, given, compare, scan_flags, scan, padding, state, instr, IsCountableInstr, FitsInstr};
 
 use crate::fields::{put_byte, put_bytes, put_count, put_integer, put_marked, put_number};
@@ -203,6 +203,71 @@ fn put_states(out: &mut Vec<u8>, states: &[Tap]) -> Result<(), AllocError>
     Ok(())
 }
 
+fn put_push(out: &mut Vec<u8>, value: i32) -> Result<(), AllocError>
+    ensures put { OnOk result (out.new.items ≡ out.old.items ++ 2 ∷ integer value) }
+    ensures fits { OnOk result (FitsSigned w32 value) }
+{
+    put_byte(out, 2)?;
+    put_integer(out, value)
+}
+
+fn put_to_int(out: &mut Vec<u8>, bits: Source) -> Result<(), AllocError>
+    ensures { OnOk result (out.new.items ≡ out.old.items ++ 12 ∷ source bits) }
+{
+    put_byte(out, 12)?;
+    put_source(out, bits)
+}
+
+fn put_copy(out: &mut Vec<u8>, target: Dest, bits: Source) -> Result<(), AllocError>
+    ensures { OnOk result (out.new.items ≡ out.old.items ++ 13 ∷ dest target ++ source bits) }
+{
+    put_byte(out, 13)?;
+    put_dest(out, target)?;
+    put_source(out, bits)
+}
+
+// An instruction with two numbers.
+fn put_pair(out: &mut Vec<u8>, mark: u8, first: u32, second: u32) -> Result<(), AllocError>
+    ensures put { OnOk result (out.new.items ≡ out.old.items ++ mark ∷ number first ++ number second) }
+    ensures fits { (first < 2 ^ 32) × (second < 2 ^ 32) }
+{
+    put_marked(out, mark, first)?;
+    put_number(out, second)
+}
+
+fn put_array(out: &mut Vec<u8>, variable: u32, values: &[i32]) -> Result<(), AllocError>
+    requires { length values.now < 2 ^ 32 }
+    ensures put { OnOk result (out.new.items
+        ≡ out.old.items ++ 15 ∷ number variable ++ counted integer values.now) }
+    ensures fits { OnOk result (All (FitsSigned w32) values.now) }
+{
+    put_marked(out, 15, variable)?;
+    put_integers(out, values)
+}
+
+fn put_print(out: &mut Vec<u8>, parts: &[PrintPart]) -> Result<(), AllocError>
+    requires { length parts.now < 2 ^ 32 }
+    ensures { OnOk result (out.new.items ≡ out.old.items ++ 24 ∷ counted part parts.now) }
+{
+    put_byte(out, 24)?;
+    put_parts(out, parts)
+}
+
+fn put_export(out: &mut Vec<u8>, key: u32, exported: ExportPart) -> Result<(), AllocError>
+    ensures { OnOk result (out.new.items ≡ out.old.items ++ 26 ∷ number key ++ export_part exported) }
+{
+    put_marked(out, 26, key)?;
+    put_export_part(out, exported)
+}
+
+fn put_state(out: &mut Vec<u8>, states: &[Tap]) -> Result<(), AllocError>
+    requires { length states.now < 2 ^ 32 }
+    ensures { OnOk result (out.new.items ≡ out.old.items ++ 31 ∷ counted state states.now) }
+{
+    put_byte(out, 31)?;
+    put_states(out, states)
+}
+
 /// An instruction.
 pub(crate) fn put_instr(out: &mut Vec<u8>, written: &Instr) -> Result<(), AllocError>
     requires { IsCountableInstr written.now }
@@ -211,10 +276,7 @@ pub(crate) fn put_instr(out: &mut Vec<u8>, written: &Instr) -> Result<(), AllocE
 {
     match written {
         Instr::Turn(piece) => put_marked(out, 1, *piece),
-        Instr::Push(value) => {
-            put_byte(out, 2)?;
-            put_integer(out, *value)
-        }
+        Instr::Push(value) => put_push(out, *value),
         Instr::PushBit(bit) => put_bytes(out, &[3, *bit]),
         Instr::Load(n) => put_marked(out, 4, *n),
         Instr::LoadAt(n) => put_marked(out, 5, *n),
@@ -224,53 +286,28 @@ pub(crate) fn put_instr(out: &mut Vec<u8>, written: &Instr) -> Result<(), AllocE
         Instr::StoreAt(n) => put_marked(out, 9, *n),
         Instr::Unary(op) => put_bytes(out, &[10, *op]),
         Instr::Binary(op) => put_bytes(out, &[11, *op]),
-        Instr::ToInt(source) => {
-            put_byte(out, 12)?;
-            put_source(out, *source)
-        }
-        Instr::CopyBits(dest, source) => {
-            put_byte(out, 13)?;
-            put_dest(out, *dest)?;
-            put_source(out, *source)
-        }
-        Instr::SetBits(n, literal) => {
-            put_marked(out, 14, *n)?;
-            put_number(out, *literal)
-        }
-        Instr::SetInts(n, values) => {
-            put_marked(out, 15, *n)?;
-            put_integers(out, values.as_slice())
-        }
+        Instr::ToInt(source) => put_to_int(out, *source),
+        Instr::CopyBits(dest, source) => put_copy(out, *dest, *source),
+        Instr::SetBits(n, literal) => put_pair(out, 14, *n, *literal),
+        Instr::SetInts(n, values) => put_array(out, *n, values.as_slice()),
         Instr::Jump(to) => put_marked(out, 16, *to),
         Instr::JumpIfZero(to) => put_marked(out, 17, *to),
-        Instr::For(n, body) => {
-            put_marked(out, 18, *n)?;
-            put_number(out, *body)
-        }
+        Instr::For(n, body) => put_pair(out, 18, *n, *body),
         Instr::Next(n) => put_marked(out, 19, *n),
         Instr::PushRecord(kind) => put_bytes(out, &[20, kind_number(*kind)]),
         Instr::PopRecord(kind) => put_bytes(out, &[21, kind_number(*kind)]),
         Instr::Call(procedure) => put_marked(out, 22, *procedure),
         Instr::EndProc => put_byte(out, 23),
-        Instr::Print(parts) => {
-            put_byte(out, 24)?;
-            put_parts(out, parts.as_slice())
-        }
+        Instr::Print(parts) => put_print(out, parts.as_slice()),
         Instr::CheckChar => put_byte(out, 25),
-        Instr::Export(key, part) => {
-            put_marked(out, 26, *key)?;
-            put_export_part(out, *part)
-        }
+        Instr::Export(key, part) => put_export(out, *key, *part),
         Instr::Exit => put_byte(out, 27),
         Instr::Scan(scan) => put_scan(out, scan),
         Instr::Stop(register, state) => {
             put_bytes(out, &[29, register_number(*register), state.number()])
         }
         Instr::Pad(which, source) => put_padding(out, *which, *source),
-        Instr::State(states) => {
-            put_byte(out, 31)?;
-            put_states(out, states.as_slice())
-        }
+        Instr::State(states) => put_state(out, states.as_slice()),
         Instr::Wait(state, counts, last) => {
             put_bytes(
                 out,

@@ -246,6 +246,22 @@ pub(crate) fn compare_of(
     ))
 }
 
+fn scan_with(
+    register: Register,
+    source: Source,
+    target: Option<Dest>,
+    compare: Option<Compare>,
+) -> Scan
+    ensures { result ≡ record { register = register; source = source; target = target; compare = compare } }
+{
+    Scan {
+        register,
+        source,
+        target,
+        compare,
+    }
+}
+
 // The parts of a scan, of this source through this register.
 #[tactic(auto, unfolding(crate::specs::ReadInstrs::tagged))]
 fn scan_parts_of(
@@ -259,49 +275,20 @@ fn scan_parts_of(
 {
     let (tag, rest) = byte_in(0, 4, bytes)?;
     match tag {
-        0 => Ok((
-            Scan {
-                register,
-                source,
-                target: None,
-                compare: None,
-            },
-            rest,
-        )),
+        0 => Ok((scan_with(register, source, None, None), rest)),
         1 => {
             let (target, rest) = dest_of(variables, literals, rest)?;
-            Ok((
-                Scan {
-                    register,
-                    source,
-                    target: Some(target),
-                    compare: None,
-                },
-                rest,
-            ))
+            Ok((scan_with(register, source, Some(target), None), rest))
         }
         2 => {
             let (compare, rest) = compare_of(variables, literals, rest)?;
-            Ok((
-                Scan {
-                    register,
-                    source,
-                    target: None,
-                    compare: Some(compare),
-                },
-                rest,
-            ))
+            Ok((scan_with(register, source, None, Some(compare)), rest))
         }
         3 => {
             let (target, rest) = dest_of(variables, literals, rest)?;
             let (compare, rest) = compare_of(variables, literals, rest)?;
             Ok((
-                Scan {
-                    register,
-                    source,
-                    target: Some(target),
-                    compare: Some(compare),
-                },
+                scan_with(register, source, Some(target), Some(compare)),
                 rest,
             ))
         }
