@@ -11,7 +11,6 @@ import pieces
 import read_and_cut
 
 SIZE = 4 << 20
-PROGRAM = measure.TOP / "crates" / "zanutero" / "out" / "zanutero"
 
 
 def filled(text):
@@ -45,23 +44,17 @@ KINDS = (
 )
 
 
-def shortest(words, code, runs):
-    """The shortest processor time of so many runs, and the greatest peak."""
-    times, peaks = zip(*(measure.alone(words, code) for _ in range(runs)))
-    return min(times), max(peaks)
-
-
 def main():
     with measure.Bench(__doc__.splitlines()[0], mode="check") as bench:
         scanner = measure.compiled("scan", bench.folder.name)
-        words = [PROGRAM, "check", f"program={bench.path}"], [scanner, bench.path]
+        words = [measure.PROGRAM, "check", f"program={bench.path}"], [scanner, bench.path]
         bench.path.write_bytes(b"")
-        starts = shortest(words[0], 4, bench.runs)[0], shortest(words[1], 0, bench.runs)[0]
+        starts = measure.shortest(words[0], 4, bench.runs)[0], measure.shortest(words[1], 0, bench.runs)[0]
         print("| Text | Check | Scanner | Check to scanner | Peak memory | Peak to text |\n|---|---|---|---|---|---|")
         for kind, text in KINDS:
             bench.path.write_bytes(text())
-            check, peak = shortest(words[0], 0, bench.runs)
-            check, scan = check - starts[0], shortest(words[1], 0, bench.runs)[0] - starts[1]
+            check, peak = measure.shortest(words[0], 0, bench.runs)
+            check, scan = check - starts[0], measure.shortest(words[1], 0, bench.runs)[0] - starts[1]
             print(f"| {kind} | {check:.4f} s | {scan:.4f} s | {check / scan:.1f} | {peak >> 20} MiB | "
                   f"{peak / SIZE:.1f} |", flush=True)
 

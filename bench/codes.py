@@ -13,7 +13,6 @@ import subprocess
 import measure
 import pieces
 
-PROGRAM = measure.TOP / "crates" / "zanutero" / "out" / "zanutero"
 SIZES = 16 << 20, 32 << 20, 64 << 20
 PIECES = 25_000, 50_000, 100_000
 
@@ -78,27 +77,22 @@ KINDS = (
 )
 
 
-def shortest(words, code, runs):
-    """The shortest processor time of so many runs, and the greatest peak."""
-    times, peaks = zip(*(measure.alone(words, code) for _ in range(runs)))
-    return min(times), max(peaks)
-
-
 def compiles(bench, code):
     """The times and the peak memory of compile and of run, of programs of some sizes."""
     print("| Program | Mode | " + " | ".join(f"{n:,} pieces" for n in PIECES) + " | ratios | Peak |")
     print("|---|---|---|---|---|---|---|")
-    compile_words = [PROGRAM, "compile", f"program={bench.path}"]
-    run_words = [PROGRAM, "run", f"code={code}", f"board={bench.board}", "action=A", "turns=0"]
+    compile_words = [measure.PROGRAM, "compile", f"program={bench.path}"]
+    run_words = [measure.PROGRAM, "run", f"code={code}", f"board={bench.board}", "action=A", "turns=0"]
     for kind, text in pieces.KINDS:
-        for mode in "compile", "run":
-            told = []
-            for number in PIECES:
-                bench.path.write_bytes(text(number))
-                with open(code, "wb") as out:
-                    subprocess.run(compile_words, stdout=out, check=True)
-                told.append(shortest(*((compile_words, 0) if mode == "compile" else (run_words, 3)), bench.runs))
-            row(f"{kind} | {mode}", told)
+        compiled, ran = [], []
+        for number in PIECES:
+            bench.path.write_bytes(text(number))
+            with open(code, "wb") as out:
+                subprocess.run(compile_words, stdout=out, check=True)
+            compiled.append(measure.shortest(compile_words, 0, bench.runs))
+            ran.append(measure.shortest(run_words, 3, bench.runs))
+        row(f"{kind} | compile", compiled)
+        row(f"{kind} | run", ran)
 
 
 def row(first, told, *more):
@@ -112,18 +106,18 @@ def row(first, told, *more):
 def readings(bench, code):
     """The times and the peak memory of reading files of some sizes, beside the plain loop."""
     plain = measure.compiled("bytes", bench.folder.name)
-    words = [PROGRAM, "run", f"code={code}", f"board={bench.board}", "action=B"]
+    words = [measure.PROGRAM, "run", f"code={code}", f"board={bench.board}", "action=B"]
     print("\n| File | " + " | ".join(f"{size >> 20} MiB" for size in SIZES) + " | ratios | Peak | C | Run to C |")
     print("|---|---|---|---|---|---|---|---|")
     code.write_bytes(file())
-    start, loop_start = shortest(words, 6, bench.runs)[0], shortest([plain, code], 0, bench.runs)[0]
+    start, loop_start = measure.shortest(words, 6, bench.runs)[0], measure.shortest([plain, code], 0, bench.runs)[0]
     for kind, made in KINDS:
         told = []
         for size in SIZES:
             code.write_bytes(made(size))
-            seconds, peak = shortest(words, 6, bench.runs)
+            seconds, peak = measure.shortest(words, 6, bench.runs)
             told.append((seconds - start, peak))
-        loop = shortest([plain, code], 0, bench.runs)[0] - loop_start
+        loop = measure.shortest([plain, code], 0, bench.runs)[0] - loop_start
         row(kind, told, f"{loop:.4f} s", f"{told[-1][0] / loop:.1f}")
 
 

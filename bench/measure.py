@@ -10,6 +10,7 @@ import tempfile
 import time
 
 TOP = pathlib.Path(__file__).resolve().parent.parent
+PROGRAM = TOP / "crates" / "zanutero" / "out" / "zanutero"
 
 
 def processor_time():
@@ -35,6 +36,12 @@ def alone(words, code):
     if int(ended) != code:
         sys.exit(f"exit code {int(ended)} in place of {code}")
     return float(seconds), 1024 * int(peak)
+
+
+def shortest(words, code, runs):
+    """The shortest processor time of so many runs of a program, which end with this code, and the greatest peak."""
+    times, peaks = zip(*(alone(words, code) for _ in range(runs)))
+    return min(times), max(peaks)
 
 
 def compiled(name, folder):

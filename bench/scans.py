@@ -14,7 +14,6 @@ import measure
 MOST_BITS = 4_194_304
 SIZES = (MOST_BITS // 4, MOST_BITS // 2, MOST_BITS)
 DEVICES = (1, 4, 16)
-PROGRAM = measure.TOP / "crates" / "zanutero" / "out" / "zanutero"
 
 
 def program(body, *arrays):
@@ -69,7 +68,7 @@ def print_times(bench):
 def print_peaks(bench):
     """A row for each program: the peak memory of its play on a board of one device."""
     bench.board.write_bytes(board(1))
-    words = [PROGRAM, "play", f"board={bench.board}", f"program={bench.path}", "action=A"]
+    words = [measure.PROGRAM, "play", f"board={bench.board}", f"program={bench.path}", "action=A"]
     print("\n| Play | Peak memory | Peak to 4 Mbit, in bytes a bit |\n|---|---|---|")
     for kind, text in PEAKS:
         bench.path.write_bytes(text)
