@@ -1,5 +1,5 @@
 //! The code of a program.
-ghost use Rattle.std.specs.Prelude.{◌≡◌, ◌+◌, ◌*◌, ◌<◌, ◌≤◌, ◌^◌, length, IfOk};
+ghost use Rattle.std.specs.Prelude.{◌≡◌, ◌+◌, ◌*◌, ◌<◌, ◌≤◌, ◌^◌, length, map, IfOk};
 ghost use Rattle.std.specs.List.{range_with_len};
 ghost use Rattle.stapl_syntax.specs.Trees.{trees};
 ghost use Rattle.stapl_syntax.specs.ProgramValues.{trees_of};
@@ -9,13 +9,16 @@ ghost use Rattle.stapl_code.specs.Files.{file};
 ghost use Rattle.stapl_code.specs.Ranges.{IsInRange};
 ghost use Rattle.stapl_code.specs.Valid.{IsValid};
 ghost use Rattle.stapl_codegen.specs.Accepted.{IsAccepted};
-ghost use Rattle.stapl_codegen.specs.Generated.{lists_of, IsCodeOf};
+ghost use Rattle.stapl_codegen.specs.Drafts.{AreStarts};
+ghost use Rattle.stapl_codegen.specs.Emit.{procedures_of, actions_of};
+ghost use Rattle.stapl_codegen.specs.Generated.{variable_def, lists_of, IsCodeOf};
+ghost use Rattle.stapl_codegen.specs.Numbers.{AreNumbers};
 
 use crate::definitions::{Numbers, actions, procedure_numbers, procedures, variables};
-use crate::draft::write_program;
+use crate::draft::{Written, write_program};
 use crate::laws::{accepted_code_is_valid, files_are_short, programs_are_accepted};
 use base::ItemList;
-use stapl_code::{Code, CodeLists, RawCode, ValidateRefused, validate};
+use stapl_code::{ActionDef, Code, CodeLists, ProcDef, RawCode, ValidateRefused, VarDef, validate};
 use stapl_names::{Names, collect};
 use stapl_syntax::{Program, Stmt};
 use std::alloc::{AllocError, Global};
@@ -43,29 +46,86 @@ fn names_of_program(alloc: Global, program: &[Stmt]) -> Result<Names, AllocError
     Ok(names)
 }
 
+// What a code defines beside its instructions.
+#[derive(Drop)]
+struct Outline {
+    variables: Vec<VarDef>,
+    procedures: Vec<ProcDef>,
+    actions: Vec<ActionDef>,
+}
+
+// What the code of an accepted program defines beside its instructions.
+fn outline_of(
+    alloc: Global,
+    program: &[Stmt],
+    numbers: &Numbers,
+    starts: &[u32],
+) -> Result<Outline, AllocError>
+    requires accepted { IsAccepted (as_played (trees program.now)) }
+    requires known { AreNumbers (as_played (trees program.now)) numbers.now }
+    requires names { numbers.now.names.now ≡ program_names (trees program.now) }
+    requires starts { AreStarts (as_played (trees program.now)) starts.now }
+    ensures variables { IfOk result (λ o.
+        o.variables.items ≡ map variable_def (as_played (trees program.now)).names.variables) }
+    ensures procedures { IfOk result (λ o. o.procedures.items ≡ procedures_of (as_played (trees program.now))) }
+    ensures actions { IfOk result (λ o. o.actions.items ≡ actions_of (as_played (trees program.now))) }
+{
+    let variables = variables(alloc, numbers.names)?;
+    let procedures = procedures(alloc, program, starts)?;
+    let actions = actions(alloc, program, numbers)?;
+    Ok(Outline {
+        variables,
+        procedures,
+        actions,
+    })
+}
+
+// The lists of a code, by what is written of it and what it defines.
+fn joined(written: Written, outline: Outline) -> CodeLists
+    ensures { result ≡ record {
+      variables = outline.variables.items;
+      literals = written.literals.items;
+      texts = written.texts.items;
+      procedures = outline.procedures.items;
+      actions = outline.actions.items;
+      instrs = written.code.items;
+    } }
+{
+    CodeLists {
+        variables: ItemList::of(outline.variables),
+        literals: ItemList::of(written.literals),
+        texts: ItemList::of(written.texts),
+        procedures: ItemList::of(outline.procedures),
+        actions: ItemList::of(outline.actions),
+        instrs: ItemList::of(written.code),
+    }
+}
+
+// The lists of the code of an accepted program with these names.
+fn named_lists(alloc: Global, program: &[Stmt], names: &Names) -> Result<CodeLists, AllocError>
+    requires accepted { IsAccepted (as_played (trees program.now)) }
+    requires names { names.now ≡ program_names (trees program.now) }
+    ensures { IfOk result (λ lists. lists ≡ lists_of (as_played (trees program.now))) }
+{
+    let next = procedure_numbers(alloc, names)?;
+    let numbers = Numbers { names, next };
+    let written = write_program(alloc, program, &numbers)?;
+    let Ok(outline) = outline_of(alloc, program, &numbers, &written.starts) else {
+        drop(written);
+        return Err(AllocError);
+    };
+    Ok(joined(written, outline))
+}
+
 // The lists of the code of an accepted program.
 fn program_lists(alloc: Global, program: &[Stmt]) -> Result<CodeLists, AllocError>
     requires { IsAccepted (as_played (trees program.now)) }
     ensures { IfOk result (λ lists. lists ≡ lists_of (as_played (trees program.now))) }
 {
     let names = names_of_program(alloc, program)?;
-    let next = procedure_numbers(alloc, &names)?;
-    let numbers = Numbers {
-        names: &names,
-        next,
-    };
-    let written = write_program(alloc, program, &numbers)?;
-    let variables = variables(alloc, &names)?;
-    let procedures = procedures(alloc, program, &written.starts)?;
-    let actions = actions(alloc, program, &numbers)?;
-    Ok(CodeLists {
-        variables: ItemList::of(variables),
-        literals: ItemList::of(written.literals),
-        texts: ItemList::of(written.texts),
-        procedures: ItemList::of(procedures),
-        actions: ItemList::of(actions),
-        instrs: ItemList::of(written.code),
-    })
+    let lists = named_lists(alloc, program, &names);
+    drop(names);
+    lists
 }
 
 // The same lists, which are in their ranges and valid, and stand for the program.

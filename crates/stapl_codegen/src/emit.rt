@@ -1,6 +1,6 @@
 //! The instructions of statements. Their targets are places of the program.
 ghost use Rattle.std.specs.Prelude.{◌≡◌, [], ◌∷◌, ◌++◌, ◌<◌, ◌^◌, ◌-◌, true, length, map, OnOk, IfOk};
-ghost use Rattle.stapl_syntax.specs.Trees.{assign_element, assign_array, assign_range, print, end_data, expr_tree, array_tree, part_tree, body_tree, stmt_tree};
+ghost use Rattle.stapl_syntax.specs.Trees.{assign, assign_element, assign_array, assign_range, exit, print, end_data, expr_tree, array_tree, part_tree, body_tree, stmt_tree};
 ghost use Rattle.stapl_meaning.specs.Values.{sides};
 ghost use Rattle.stapl_meaning.specs.Operands.{a_character, an_index, a_range};
 ghost use Rattle.stapl_code.specs.declared.instr.Instr.TheVariants.{Store, SetBits, SetInts, JumpIfZero};
@@ -434,6 +434,36 @@ impl<'a> Emitter<'a> {
         Ok(())
     }
 
+    // An assignment to a scalar more.
+    #[tactic(auto, using(crate::proofs::Lists::expr_before, std::proofs::Common::append_assoc))]
+    fn assign(&mut self, name: &Name, value: &Expr) -> Result<(), AllocError>
+        ensures code { OnOk result (self.new.code
+            ≡ self.old.code ++ body_code_in self.old (assign name.now (expr_tree value.now))) }
+        ensures texts { self.new.texts ≡ self.old.texts }
+        ensures literals { self.new.literals ≡ self.old.literals }
+        ensures site { self.new.site ≡ self.old.site }
+    {
+        let kind = given_kind(self.kind(name));
+        let number = self.variable(name);
+        self.expr(kind, value)?;
+        self.put(Instr::Store(number))?;
+        Ok(())
+    }
+
+    // An EXIT more.
+    #[tactic(auto, using(crate::proofs::Lists::expr_before, std::proofs::Common::append_assoc))]
+    fn exit(&mut self, e: &Expr) -> Result<(), AllocError>
+        ensures code { OnOk result (self.new.code
+            ≡ self.old.code ++ body_code_in self.old (exit (expr_tree e.now))) }
+        ensures texts { self.new.texts ≡ self.old.texts }
+        ensures literals { self.new.literals ≡ self.old.literals }
+        ensures site { self.new.site ≡ self.old.site }
+    {
+        self.expr(ValueKind::Int, e)?;
+        self.put(Instr::Exit)?;
+        Ok(())
+    }
+
     // An assignment to an element more.
     #[tactic(auto, using(crate::proofs::Lists::expr_before, std::proofs::Common::append_assoc))]
     fn assign_element(&mut self, name: &Name, index: &Expr, value: &Expr) -> Result<(), AllocError>
@@ -488,7 +518,6 @@ impl<'a> Emitter<'a> {
     }
 
     // A statement more.
-    #[tactic(auto, using(crate::proofs::Lists::expr_before, crate::proofs::Emits::if_written, std::proofs::Common::append_assoc))]
     fn body(&mut self, b: &Body) -> Result<(), AllocError>
         ensures code { OnOk result (self.new.code ≡ self.old.code ++ body_code_in self.old (body_tree b.now)) }
         ensures texts { OnOk result (self.new.texts ≡ self.old.texts ++ body_texts (body_tree b.now)) }
@@ -503,59 +532,29 @@ impl<'a> Emitter<'a> {
             Body::Boolean(name, Some(bit)) => {
                 self.start_scalar(name, literal(ValueKind::Bit, bit_number(*bit)))
             }
-            Body::BooleanArray(name, _, Some(bits)) => {
-                self.start_bits(name, bits)?;
-                Ok(())
-            }
+            Body::BooleanArray(name, _, Some(bits)) => self.start_bits(name, bits),
             Body::Integer(name, Some(value)) => self.start_scalar(name, Instr::Push(*value)),
-            Body::IntegerArray(name, _, Some(values)) => {
-                self.start_integers(name, values.as_slice())?;
-                Ok(())
-            }
+            Body::IntegerArray(name, _, Some(values)) => self.start_integers(
+                name,
+                values.as_slice(),
+            ),
             Body::EndProcedure => self.put(Instr::EndProc),
-            Body::Assign(name, e) => {
-                let kind = given_kind(self.kind(name));
-                let number = self.variable(name);
-                self.expr(kind, e)?;
-                self.put(Instr::Store(number))?;
-                Ok(())
-            }
-            Body::AssignElement(name, index, e) => {
-                self.assign_element(name, index, e)?;
-                Ok(())
-            }
-            Body::AssignArray(name, a) => {
-                self.assign_array(name, a)?;
-                Ok(())
-            }
-            Body::AssignRange(name, high, low, a) => {
-                self.assign_range(name, high, low, a)?;
-                Ok(())
-            }
+            Body::Assign(name, e) => self.assign(name, e),
+            Body::AssignElement(name, index, e) => self.assign_element(name, index, e),
+            Body::AssignArray(name, a) => self.assign_array(name, a),
+            Body::AssignRange(name, high, low, a) => self.assign_range(name, high, low, a),
             Body::Call(name) => {
                 let number = self.procedure(name);
                 self.put(Instr::Call(number))
             }
-            Body::For(name, from, to, step) => {
-                self.begin_loop(name, from, to, step)?;
-                Ok(())
-            }
+            Body::For(name, from, to, step) => self.begin_loop(name, from, to, step),
             Body::Next(name) => {
                 let number = self.variable(name);
                 self.put(Instr::Next(number))
             }
-            Body::Push(e) => {
-                self.push(e)?;
-                Ok(())
-            }
-            Body::Pop(cell) => {
-                self.pop(cell)?;
-                Ok(())
-            }
-            Body::Export(key, x) => {
-                self.export(key.as_slice(), x)?;
-                Ok(())
-            }
+            Body::Push(e) => self.push(e),
+            Body::Pop(cell) => self.pop(cell),
+            Body::Export(key, x) => self.export(key.as_slice(), x),
             Body::Goto(name) => {
                 let place = self.label(name);
                 self.put(Instr::Jump(place))
@@ -565,43 +564,17 @@ impl<'a> Emitter<'a> {
                 self.body(inner)?;
                 Ok(())
             }
-            Body::Print(parts) => {
-                self.print(parts.as_slice())?;
-                Ok(())
-            }
-            Body::Exit(e) => {
-                self.expr(ValueKind::Int, e)?;
-                self.put(Instr::Exit)?;
-                Ok(())
-            }
-            Body::Scan(scan) => {
-                self.scan(scan)?;
-                Ok(())
-            }
-            Body::Stop(register, state) => {
-                self.stop(*register, *state)?;
-                Ok(())
-            }
-            Body::Pad(which, length, bits) => {
-                self.pad(*which, length, bits)?;
-                Ok(())
-            }
-            Body::State(states) => {
-                self.state(states.as_slice())?;
-                Ok(())
-            }
-            Body::WaitCycles(state, cycles, usec, last) => {
-                self.wait_cycles(*state, cycles, usec, *last)?;
-                Ok(())
-            }
-            Body::WaitUsec(state, usec, last) => {
-                self.wait_usec(*state, usec, *last)?;
-                Ok(())
-            }
-            Body::Frequency(hertz) => {
-                self.frequency(hertz)?;
-                Ok(())
-            }
+            Body::Print(parts) => self.print(parts.as_slice()),
+            Body::Exit(e) => self.exit(e),
+            Body::Scan(scan) => self.scan(scan),
+            Body::Stop(register, state) => self.stop(*register, *state),
+            Body::Pad(which, length, bits) => self.pad(*which, length, bits),
+            Body::State(states) => self.state(states.as_slice()),
+            Body::WaitCycles(state, cycles, usec, last) => self.wait_cycles(
+                *state, cycles, usec, *last,
+            ),
+            Body::WaitUsec(state, usec, last) => self.wait_usec(*state, usec, *last),
+            Body::Frequency(hertz) => self.frequency(hertz),
             _ => self.put(Instr::Binary(NO_OPERATOR)),
         }
     }

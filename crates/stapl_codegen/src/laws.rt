@@ -51,8 +51,8 @@ pub fn files_are_short()
     statements_fit_into_their_text();
 }
 
-/// No run of an accepted program gets stuck, on whichever chain that is in a stable state when the run begins: it has an
-/// ending after its turns, or it still goes on, and then there is exactly one turn.
+/// No run of an accepted program gets stuck, on whichever chain that is in a stable state when the run begins: it has
+/// an ending after its turns, or it still goes on, and then there is exactly one turn.
 pub fn programs_are_not_stuck()
     ensures { ProgramsAreNotStuck }
 {
