@@ -11,7 +11,7 @@ use Rattle.play_tool.specs.declared.status.Status.{Status}
 use Rattle.play_tool.specs.declared.words.Request.{Request}
 use Rattle.play_tool.specs.Words.{reads_text, soaks}
 use Rattle.play_tool.specs.Answers.{CodeAnswer, FileAnswer, Contents, WordsAnswer}
-use Rattle.play_tool.specs.Compiled.{RunsCompiled, PlaysSource}
+use Rattle.play_tool.specs.Compiled.{RunsCompiled, PlaysProgram}
 use Rattle.play_tool.proofs.AnswerLemmas.{source_to_code}
 use Rattle.play_tool.proofs.CodeLemmas.{accepted_code}
 use Rattle.play_tool.proofs.ProgramLemmas.{code_to_program}
@@ -26,7 +26,7 @@ file_code {request = request} {devices = devices} {text = text} {status = status
 
 -- each answer is that of the play of the program
 pub answers_source : {words : List (List ℕ)} {contents_of : Request → Contents} → ((text : List ℕ) (program : List StmtTree) → IsProgram text program → IsTyped (as_played program)) →
-    (q : RunsCompiled words contents_of) → IsWithin (WordsAnswer words contents_of) (PlaysSource q)
+    (q : RunsCompiled words contents_of) → IsWithin (WordsAnswer words contents_of) (PlaysProgram q)
 answers_source {contents_of = contents_of} typed q = record {
   to = λ text status a.
       let answer = (words_request {contents_of = contents_of} q.asked).to text status a in

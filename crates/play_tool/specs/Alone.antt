@@ -17,8 +17,8 @@ use Rattle.play_tool.specs.Answers.{has_place, Contents, PlaysAction}
 abbrev pub alone_request : Request → Request
 alone_request request = record request { place = None }
 
--- The words ask for a play for one device of a board, without the clocks, and the same play on that device alone is quiet
--- for all its turns.
+-- The words ask for a play for one device of a board, without the clocks, and the same play on that device alone is
+-- quiet for all its turns.
 pub record IsQuietAlone (words : List (List ℕ)) (contents_of : Request → Contents) : Type 0 where
   pub request : Request
   pub asked : IsRequest words request

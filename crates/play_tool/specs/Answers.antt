@@ -53,8 +53,8 @@ reported_far None far = far
 reported_far (Some place) (Told cards) = Told (take 1 (drop (place - 1) cards))
 reported_far (Some place) (Heard answers) = Heard answers
 
--- The text of a play as a request asks for it, by its events, what stands at the far end after them, and its ending: the
--- clocks stand in it if they are asked for, and so does the report.
+-- The text of a play as a request asks for it, by its events, what stands at the far end after them, and its ending:
+-- the clocks stand in it if they are asked for, and so does the report.
 abbrev pub asked_text : Request → List Event → FarEnd → Ending → List ℕ
 asked_text request events far ending = text_of request.pins events (asked_report request.report (reported_far request.place far)) ending
 
@@ -125,8 +125,8 @@ pub record PlaysCodeAsked (code : CodeLists) (request : Request) (devices : List
   pub asked : request.action ≡ Some action
   pub plays : PlaysCodeAction code action request devices text status
 
--- What is written for the bytes of a code, and the status: they are refused at their first fault, or they are the file of
--- a code, which is played.
+-- What is written for the bytes of a code, and the status: they are refused at their first fault, or they are the file
+-- of a code, which is played.
 pub data CodeAnswer (request : Request) (devices : List Desc) (bytes : List ℕ) : List ℕ → Status → Type 0 where
   code_refused : (offset : ℕ) (reason : CodeReason) → IsCodeFault bytes offset reason →
       CodeAnswer request devices bytes (code_refusal_line offset reason) (CodeRefused offset reason)
@@ -161,8 +161,8 @@ pub data RequestAnswer (request : Request) (contents : Contents) : List ℕ → 
   board_read : (devices : List Desc) (text : List ℕ) (status : Status) → HasBoard request.board contents.board devices →
       FileAnswer request devices contents.source text status → RequestAnswer request contents text status
 
--- The play of action A that a soak asks for: for the device at a place, with a report, and without the clocks. Its files
--- are in no store, so their names mean nothing.
+-- The play of action A that a soak asks for: for the device at a place, with a report, and without the clocks. Its
+-- files are in no store, so their names mean nothing.
 abbrev pub request_at : ℕ → Request
 request_at place = record {
   mode = modes.Play;

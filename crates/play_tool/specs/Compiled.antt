@@ -27,5 +27,5 @@ pub record RunsCompiled (words : List (List ℕ)) (contents_of : Request → Con
   pub compiled : Compiles program file (Done (pos 0))
 
 -- The play of the program itself that asks for the same: what is written, and the status.
-abbrev pub PlaysSource : {words : List (List ℕ)} {contents_of : Request → Contents} → RunsCompiled words contents_of → (List ℕ → Status → Type 0)
-PlaysSource q = PlaysAsked q.program q.request q.devices
+abbrev pub PlaysProgram : {words : List (List ℕ)} {contents_of : Request → Contents} → RunsCompiled words contents_of → (List ℕ → Status → Type 0)
+PlaysProgram q = PlaysAsked q.program q.request q.devices

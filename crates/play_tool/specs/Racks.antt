@@ -2,8 +2,8 @@
 use Rattle.play_tool.specs.declared.status.Status.{Status}
 use Rattle.play_tool.specs.declared.status.Status.TheVariants.{Done, Fault, Spent, Refused, BoardRefused, CodeRefused, NoAction, BadChoice, BadPlace, Usage, ReadFault, WriteFault, Memory}
 
--- The status has a cause that comes before the board is fitted into the rack. Of want of memory and of a write fault the
--- status does not say when it came.
+-- The status has a cause that comes before the board is fitted into the rack. Of want of memory and of a write fault
+-- the status does not say when it came.
 abbrev pub ComesBeforeFitting : Status → Type 0
 ComesBeforeFitting (Usage n) = Unit {0}
 ComesBeforeFitting (BoardRefused line reason) = Unit {0}

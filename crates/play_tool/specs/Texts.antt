@@ -36,8 +36,8 @@ board_refusal_line line reason = labelled (codes "R board ") (pos line) ++ codes
 abbrev pub code_refusal_line : ℕ → CodeReason → List ℕ
 code_refusal_line offset reason = labelled (codes "R code ") (pos offset) ++ codes " " ++ word_line (code_files.reason_name reason)
 
--- the first line of a soak: the number that it is made from, how many devices its board has, the place of the device that
--- its program is for, and how many pieces the program has
+-- the first line of a soak: the number that it is made from, how many devices its board has, the place of the device
+-- that its program is for, and how many pieces the program has
 abbrev pub soak_line : ℕ → ℕ → ℕ → ℕ → List ℕ
 soak_line seed devices place pieces =
     labelled (codes "soak ") (pos seed) ++ labelled (codes " devices ") (pos devices) ++ labelled (codes " place ") (pos place)

@@ -300,8 +300,8 @@ pub data AskNames (words : List (List ℕ)) (part : List (List ℕ) → Part) : 
   names_given : (names : List (List ℕ)) → IsGiven words (part names) → AskNames words part names
   names_missing : ((names : List (List ℕ)) → IsGiven words (part names) → ⊥) → AskNames words part []
 
--- what a request has of a key that a mode may need; of no other key it lacks anything, since what is missing there has a
--- meaning
+-- what a request has of a key that a mode may need; of no other key it lacks anything, since what is missing there has
+-- a meaning
 abbrev pub has_key : Request → WordKey → Bool
 has_key request Board = is_some request.board
 has_key request Program = is_some request.program

@@ -16,7 +16,7 @@ ghost use Rattle.play_tool.specs.Boards.{CanBeFitted, HasReadCause};
 ghost use Rattle.play_tool.specs.Answers.{Work, TextAnswer, CodeAnswer, SourceAnswer, FileAnswer, SomeSourceAnswer, contents_in, RequestAnswer, SomeRequestAnswer, ModeAnswer, SomeModeAnswer, Answer, SomeFilesAnswer, IsFault};
 ghost use Rattle.play_tool.specs.Sources.{long_line, long_status};
 ghost use Rattle.play_tool.specs.Alone.{IsQuietAlone, PlaysAlone};
-ghost use Rattle.play_tool.specs.Compiled.{RunsCompiled, PlaysSource};
+ghost use Rattle.play_tool.specs.Compiled.{RunsCompiled, PlaysProgram};
 ghost use Rattle.play_tool.specs.Racks.{ComesBeforeFitting};
 ghost use Rattle.play_tool.specs.Finals.{IsPlayed, HoldsFinal, TextHoldsFinal, FileOfCodeHoldsFinal, SourceHoldsFinal, FileHoldsFinal, RequestHoldsFinal, ModeHoldsFinal, WordsHoldFinal};
 
@@ -443,15 +443,15 @@ fn run<S: Shelf, K: Sink>(
     }
 }
 
-/// Does what the words ask: the mode, which is `play`, `check`, `list`, `compile`, `run` or `soak`, and after it the keys
-/// that the mode takes, in any order. What the tool says goes to the sink.
+/// Does what the words ask: the mode, which is `play`, `check`, `list`, `compile`, `run` or `soak`, and after it the
+/// keys that the mode takes, in any order. What the tool says goes to the sink.
 ///
-/// A play reads its board first, and then its program; `check`, `list` and `compile` read a program alone, and `compile`
-/// writes the file of its code. `run` plays such a code in place of a program. `soak` reads nothing: it plays a program
-/// on a board that are both made from a number, and tells first which these are. If both are right, the board is fitted
-/// into the rack, its devices in order, and then the chosen procedures are played. If the words name a
-/// place, each scan is padded for the other devices of the board. After the play the devices are as it leaves them, and
-/// a report tells what they hold, if the words ask for one; with a place, what the device there holds.
+/// A play reads its board first, and then its program; `check`, `list` and `compile` read a program alone, and
+/// `compile` writes the file of its code. `run` plays such a code in place of a program. `soak` reads nothing: it plays
+/// a program on a board that are both made from a number, and tells first which these are. If both are right, the board
+/// is fitted into the rack, its devices in order, and then the chosen procedures are played. If the words name a place,
+/// each scan is padded for the other devices of the board. After the play the devices are as it leaves them, and a
+/// report tells what they hold, if the words ask for one; with a place, what the device there holds.
 pub fn run_tool<S: Shelf, K: Sink>(
     alloc: Global,
     words: &[String],
@@ -513,7 +513,7 @@ pub fn run_tool<S: Shelf, K: Sink>(
     // A play of a code that a program was compiled to is the play of that program.
     ensures compiled { (IsFault result → ⊥) → IfSome (S.told shelf.old) (λ files.
         (q : RunsCompiled (map string_bytes words.now) (contents_in files)) →
-        Wrote (PlaysSource q) (K.written out.old) (K.written out.new) result) }
+        Wrote (PlaysProgram q) (K.written out.old) (K.written out.new) result) }
 {
     programs_are_typed();
     match run(alloc, words, shelf, rack, out) {

@@ -9,7 +9,7 @@ ghost use Rattle.play_tool.specs.Written.{Wrote, WroteFront, IsPrefixOf};
 ghost use Rattle.play_tool.specs.Boards.{HasReadCause};
 ghost use Rattle.play_tool.specs.Answers.{contents_in, Answer, SomeFilesAnswer, IsFault};
 ghost use Rattle.play_tool.specs.Alone.{IsQuietAlone, PlaysAlone};
-ghost use Rattle.play_tool.specs.Compiled.{RunsCompiled, PlaysSource};
+ghost use Rattle.play_tool.specs.Compiled.{RunsCompiled, PlaysProgram};
 ghost use Rattle.play_tool.specs.Finals.{IsPlayed, WordsHoldFinal};
 ghost use Rattle.play_tool.specs.Racks.{ComesBeforeFitting};
 ghost use Rattle.zanutero.specs.Commands.{CommandAnswer};
@@ -87,7 +87,7 @@ pub fn run_command<S: Shelf, K: Sink>(
     // A play of a code that a program was compiled to is the play of that program.
     ensures compiled { (IsFault result → ⊥) → IfSome (S.told shelf.old) (λ files.
         (q : RunsCompiled (map string_bytes words.now) (contents_in files)) →
-        Wrote (PlaysSource q) (K.written out.old) (K.written out.new) result) }
+        Wrote (PlaysProgram q) (K.written out.old) (K.written out.new) result) }
 {
     match text_asked(words) {
         Some(text) => match write_text(out, text) {
