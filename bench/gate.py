@@ -7,8 +7,8 @@
 It runs `rt ci` over a copy of these crates, which proves all from nothing, and reads the processor time of each process
 that proves, five times a second. Then it checks the tests once more, one crate after the other, for the time of each by
 name. It prints two tables in Markdown: one row a crate, in minutes, and the ten dearest edits and tests, in seconds. A
-crate's edits are tried one after another over what those before them proved, so the first of them proves the crate,
-too: it has a star. The status is that of the gate.
+crate's edits are tried over one more proof of the crate, which has a column of its own. A crate's only edit is tried
+from nothing: it has a star. The status is that of the gate.
 """
 import glob
 import os
@@ -23,7 +23,7 @@ import time
 
 TOP = os.path.dirname(os.path.dirname(os.path.realpath(__file__)))
 TICKS = os.sysconf("SC_CLK_TCK")
-KINDS = ("proof", "edits", "tests")
+KINDS = ("proof", "proof for edits", "edits", "tests")
 DEAREST = 10
 
 
@@ -100,7 +100,8 @@ def work_of(pid):
         room = ""
     if not os.path.basename(room).startswith("rt-edit-"):
         return crate, "tests" if "--test" in words else "proof", None
-    return crate, "edits", edit_in(room, crate)
+    edit = edit_in(room, crate)
+    return crate, "edits" if edit else "proof for edits", edit
 
 
 class Watch:
@@ -190,7 +191,7 @@ def print_crates(watch, total):
     crates = sorted({crate for crate, _, _ in watch.work.values()})
     minutes = lambda crate, kind: watch.total(lambda it, of, _: (it, of) == (crate, kind)) / 60
     cost = {crate: [minutes(crate, kind) for kind in KINDS] for crate in crates}
-    print("| Crate | Proof | Edits | Tests | All |\n|---|---|---|---|---|")
+    print(f"| Crate | {' | '.join(map(str.capitalize, KINDS))} | All |\n|{'---|' * (len(KINDS) + 2)}")
     for crate in sorted(crates, key=lambda it: -sum(cost[it])):
         print(f"| {crate} | {' | '.join(f'{it:.1f}' for it in [*cost[crate], sum(cost[crate])])} |")
     sums = [sum(it[at] for it in cost.values()) for at in range(len(KINDS))]
@@ -217,8 +218,8 @@ def main(*names):
         tests = {name: it for crate in crates_with_tests(lines) for name, it in time_tests(folder, crate).items()}
     named = {(crate, name) for crate, _, name in watch.work.values() if name}
     seconds = {(crate, name): watch.total(lambda it, _, edit: (it, edit) == (crate, name)) for crate, name in named}
-    star = lambda crate, name: "*" * (name == next(iter(edits_of(crate))))
-    edits = {f"{crate}/{name}{star(crate, name)}": it for (crate, name), it in seconds.items()}
+    star = lambda crate: "*" * (len(edits_of(crate)) == 1)
+    edits = {f"{crate}/{name}{star(crate)}": it for (crate, name), it in seconds.items()}
     print(f"{len(os.sched_getaffinity(0))} processors: {took / 60:.0f} minutes, {total / 60:.0f} of processor time.\n")
     print_crates(watch, total)
     print_dearest(edits, tests)
