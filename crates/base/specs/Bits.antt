@@ -1,4 +1,5 @@
--- Numbers as lists of bits, the bit of lowest value first, which is the order of shifting. The notation is this profile's.
+-- Numbers as lists of bits, the bit of lowest value first, which is the order of shifting. The notation is this
+-- profile's.
 use Rattle.std.specs.Prelude.{ℕ, suc, zero, ◌+◌, ◌*◌, ◌/◌, ◌%◌, nat_eq, Bool, true, false, List, [], ◌∷◌}
 
 -- the lowest n bits of a number

@@ -92,8 +92,8 @@ const INTEGER_BITS: [(i32, &str); 9] = [
     (-65536, "FFFF0000"),
 ];
 
-/// A copy of a range: the target, the index in it, the source, the index in it, how many bits, and the target afterwards, all as binary
-/// digits, the highest index on the left.
+/// A copy of a range: the target, the index in it, the source, the index in it, how many bits, and the target
+/// afterwards, all as binary digits, the highest index on the left.
 const COPIES: [(&str, u32, &str, u32, u32, &str); 8] = [
     ("0000", 0, "1111", 0, 4, "1111"),
     ("0000", 0, "1111", 0, 0, "0000"),
@@ -105,7 +105,8 @@ const COPIES: [(&str, u32, &str, u32, u32, &str); 8] = [
     ("110011", 2, "0110", 1, 2, "111111"),
 ];
 
-/// A comparison: two lists, the mask, how many bits, and whether they agree, all as binary digits, the highest index on the left.
+/// A comparison: two lists, the mask, how many bits, and whether they agree, all as binary digits, the highest index on
+/// the left.
 const COMPARISONS: [(&str, &str, &str, u32, bool); 9] = [
     ("1010", "1010", "1111", 4, true),
     ("1010", "1011", "1111", 4, false),

@@ -2,8 +2,9 @@
 use std::test::Fail;
 use tap_states::{Path, Tap};
 
-/// The TMS values from each state to each state, written out from the state diagram of IEEE 1149.1: a row for each first state and a
-/// column for each last one, both by the states' numbers, the first value on the left. The path to reset is five ones by rule.
+/// The TMS values from each state to each state, written out from the state diagram of IEEE 1149.1: a row for each
+/// first state and a column for each last one, both by the states' numbers, the first value on the left. The path to
+/// reset is five ones by rule.
 const PATHS: [[&str; 16]; 16] = [
     // from RESET
     [

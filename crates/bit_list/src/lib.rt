@@ -39,8 +39,8 @@ impl Model for Bits {
     ghost invariant = { λ b. length b.bits.items ≤ MOST_BITS };
 }
 
-/// Why digits gave no list of bits: `BadDigit` with the place, counted from 0, of the first byte that is no digit, or `Memory` where there
-/// was no memory for the list.
+/// Why digits gave no list of bits: `BadDigit` with the place, counted from 0, of the first byte that is no digit, or
+/// `Memory` where there was no memory for the list.
 #[derive(Clone, Copy, Debug, PartialEq, Eq, Error)]
 pub enum BitsRefused {
     #[error("the byte at {0} is no digit")]
@@ -61,7 +61,8 @@ impl Bits {
 
     /// The list of these binary digits, highest digit first, so that the last digit stands at index 0.
     ///
-    /// Each digit is one bit. `BadDigit` comes exactly where a byte is neither `0` nor `1`, with the place of the first such byte.
+    /// Each digit is one bit. `BadDigit` comes exactly where a byte is neither `0` nor `1`, with the place of the first
+    /// such byte.
     pub fn from_binary(alloc: Global, digits: &[u8]) -> Result<Bits, BitsRefused>
         requires { length digits.now ≤ MOST_DIGITS }
         ensures bits { IfOk result (λ b. b ≡ bits_of_binary digits.now) }
@@ -73,8 +74,8 @@ impl Bits {
 
     /// The list of these hexadecimal digits, highest digit first, so that the last digit stands at the indexes 0 to 3.
     ///
-    /// Each digit is four bits; the letters A to F count in both cases. `BadDigit` comes exactly where a byte is no such digit, with
-    /// the place of the first one.
+    /// Each digit is four bits; the letters A to F count in both cases. `BadDigit` comes exactly where a byte is no
+    /// such digit, with the place of the first one.
     pub fn from_hex(alloc: Global, digits: &[u8]) -> Result<Bits, BitsRefused>
         requires { length digits.now ≤ MOST_DIGITS }
         ensures bits { IfOk result (λ b. b ≡ bits_of_hex digits.now) }
@@ -148,7 +149,8 @@ impl Bits {
         self.bits.copy_within(low..low + n, at);
     }
 
-    /// Sets the n bits from index `at` on to the lowest ones of `from`, and to 0 where it has none; the other bits stay.
+    /// Sets the n bits from index `at` on to the lowest ones of `from`, and to 0 where it has none; the other bits
+    /// stay.
     pub fn copy_padded(&mut self, at: u32, from: &Bits, n: u32)
         requires target { at + n ≤ length self.old }
         ensures copied { self.new ≡ spliced at (take n (from.now ++ replicate n false)) self.old }
@@ -180,8 +182,8 @@ impl Bits {
         parts::agree_under_mask(&mask.bits[..n], &self.bits[..n], &other.bits[..n])
     }
 
-    /// The n bits from index `low` on as an integer of 32 bits in two's complement: its bit i is the bit at `low + i`, and its bits from
-    /// n on are 0.
+    /// The n bits from index `low` on as an integer of 32 bits in two's complement: its bit i is the bit at `low + i`,
+    /// and its bits from n on are 0.
     pub fn to_int(&self, low: u32, n: u32) -> i32
         requires width { n ≤ 32 }
         requires inside { low + n ≤ length self.now }

@@ -1,4 +1,5 @@
--- Each text is a board or has a first fault: each reason holds of a line or not, so a line has a smallest reason or none, and so on line by line.
+-- Each text is a board or has a first fault: each reason holds of a line or not, so a line has a smallest reason or
+-- none, and so on line by line.
 use Rattle.std.proofs.Common.{◌≡◌, ◌<◌, ◌≤◌, ◌+◌, ℕ, zero, suc, List, [], length, take, get_or, refl, sym, ap, subst, ◌∙◌, Bool, true, false, Option, Some, None, arith, ◌⊎◌, inl, inr}
 use Rattle.std.specs.Prelude.{IsSomeAnd, ◌≢◌}
 use Rattle.std.specs.Str.{bytes_eq}

@@ -1,5 +1,6 @@
--- The devices at some places of a rack, as the cards of a board (IEEE 1149.1, serial connection). A rack is a list of devices, each unfitted or
--- with a sound card; a place is the number of a device in it, counted from 0. The rack is this profile's.
+-- The devices at some places of a rack, as the cards of a board (IEEE 1149.1, serial connection). A rack is a list of
+-- devices, each unfitted or with a sound card; a place is the number of a device in it, counted from 0. The rack is
+-- this profile's.
 use Rattle.std.specs.Prelude.{◌≢◌, ℕ, Bool, true, false, not, ◌&&◌, ◌==◌, is_some, List, [], ◌∷◌, Option, Some, None, slice_get}
 use Rattle.std.specs.Option.{option_map}
 use Rattle.dev_card.specs.Card.{Card}

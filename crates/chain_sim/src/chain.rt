@@ -11,10 +11,12 @@ use dev_card::Device;
 use scan_paths::Cable;
 use tool_io::Failed;
 
-/// The devices at some places of a lent rack as one chain, the first place nearest TDO (IEEE 1149.1, serial connection).
+/// The devices at some places of a lent rack as one chain, the first place nearest TDO (IEEE 1149.1, serial
+/// connection).
 ///
-/// It tells its board: the cards of these devices. A clock is one of that board, and touches no other device. No call fails, both counts of faults
-/// stay at 0, and it is never broken. A clock takes no memory, and time linear in the number of places.
+/// It tells its board: the cards of these devices. A clock is one of that board, and touches no other device. No call
+/// fails, both counts of faults stay at 0, and it is never broken. A clock takes no memory, and time linear in the
+/// number of places.
 #[derive(Drop)]
 pub struct ChainOf<'a, D> {
     rack: &'a mut Vec<D>,
@@ -27,7 +29,8 @@ pub type Chain<'a> = ChainOf<'a, Box<dyn Device>>;
 impl<'a, D: Device> ChainOf<'a, D> {
     ghost use Rattle.chain_sim.specs.Chains.{IsOver, devices_of, chain_places};
 
-    /// The chain of the devices at these places. There is at least one place, the places differ, and each has a fitted device.
+    /// The chain of the devices at these places. There is at least one place, the places differ, and each has a fitted
+    /// device.
     pub fn over(rack: &'a mut Vec<D>, places: &'a [u32]) -> ChainOf<'a, D>
         requires chain { IsTrue (is_chain (map D.fitted rack.old.items) places.now) }
         ensures same_rack { IsOver result rack.entry }

@@ -10,7 +10,8 @@ use std::alloc::Global;
 use std::test::Fail;
 use tap_states::Tap;
 
-// An instruction of a table. A print is told by its parts, where true stands for the first text and false for an integer.
+// An instruction of a table. A print is told by its parts, where true stands for the first text and false for an
+// integer.
 #[derive(Clone, Copy)]
 pub enum Op {
     Turn(u32),
@@ -140,7 +141,8 @@ pub fn lists(
 
 pub const VARIABLES: [(u8, u32); 4] = [(0, 1), (1, 1), (2, 4), (3, 4)];
 
-// What `validate` answers to a code in range: the most operands that it holds at once, or the first instruction that breaks a rule.
+// What `validate` answers to a code in range: the most operands that it holds at once, or the first instruction that
+// breaks a rule.
 fn answer(rt: &HostRuntime, entries: &[u32], ops: &[Op]) -> Result<Result<u32, usize>, Fail> {
     let code = lists(rt.alloc(), &VARIABLES, entries, ops)?;
     if !code.is_in_range() || !code.is_short() {

@@ -144,8 +144,8 @@ fn runs_the_prologue_and_chosen_procedures(rt: HostRuntime) -> Result<(), Fail> 
     Ok(())
 }
 
-// A code that clocks a cable with TDO 1. Its clocks are those of the state diagram of IEEE 1149.1, as digits: TMS counts
-// 4, TDI counts 2 and TDO counts 1.
+// A code that clocks a cable with TDO 1. Its clocks are those of the state diagram of IEEE 1149.1, as digits: TMS
+// counts 4, TDI counts 2 and TDO counts 1.
 #[test]
 fn clocks_the_chain(rt: HostRuntime) -> Result<(), Fail> {
     // The lowest bits of an integer are shifted in, and what comes out stands in an array of 4.

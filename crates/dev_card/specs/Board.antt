@@ -1,5 +1,5 @@
--- A board: the cards of a chain of devices, the first nearest TDO (IEEE 1149.1, serial connection: TDO of each device to TDI of the next one
--- towards the board's TDO, TMS and TCK to all).
+-- A board: the cards of a chain of devices, the first nearest TDO (IEEE 1149.1, serial connection: TDO of each device
+-- to TDI of the next one towards the board's TDO, TMS and TCK to all).
 use Rattle.std.specs.Prelude.{◌≡◌, ℕ, Bool, List, [], ◌∷◌, map}
 use Rattle.tap_states.specs.declared.Tap.{Tap}
 use Rattle.dev_card.specs.Card.{Card, step, tdo_of}
@@ -13,8 +13,8 @@ abbrev pub board_tdo : List Card → Bool → Bool
 board_tdo [] tdi = tdi
 board_tdo (c ∷ cs) tdi = tdo_of c
 
--- One clock of a board: all cards get the same TMS; the last one gets the TDI, and each other one the TDO that the card behind it has before
--- the clock.
+-- One clock of a board: all cards get the same TMS; the last one gets the TDI, and each other one the TDO that the card
+-- behind it has before the clock.
 abbrev pub board_step : List Card → Bool → Bool → List Card
 board_step [] tms tdi = []
 board_step (c ∷ cs) tms tdi = step c tms (board_tdo cs tdi) ∷ board_step cs tms tdi

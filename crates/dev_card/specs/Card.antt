@@ -1,6 +1,6 @@
--- A device as its chain sees it, and what one clock does to it (IEEE 1149.1, clauses 6 to 10 and 12: TAP controller, instruction register,
--- instructions, test data registers, bypass register, device identification register). Lists of bits have the bit nearest TDO first, which is the
--- bit of lowest value and the first to be shifted out.
+-- A device as its chain sees it, and what one clock does to it (IEEE 1149.1, clauses 6 to 10 and 12: TAP controller,
+-- instruction register, instructions, test data registers, bypass register, device identification register). Lists of
+-- bits have the bit nearest TDO first, which is the bit of lowest value and the first to be shifted out.
 use Rattle.std.specs.Prelude.{◌+◌, ◌-◌, ◌^◌, ◌++◌, ℕ, Bool, true, false, not, ◌&&◌, List, [], ◌∷◌, replicate, map, drop, Option, Some, None, if◌then◌else◌, ◌==◌, slice_index_or, slice_set}
 use Rattle.base.specs.Bits.{low_bits, number_of}
 use Rattle.tap_states.specs.declared.Tap.{Tap}
@@ -13,9 +13,10 @@ use Rattle.dev_card.specs.declared.desc.RegDesc.{RegDesc}
 use Rattle.dev_card.specs.declared.desc.FlashDesc.{FlashDesc}
 use Rattle.dev_card.specs.declared.desc.Desc.{Desc}
 
--- A device: its description, the state of its controller, the instruction in force as a number, the lists that are shifted through its
--- instruction register and through the selected data register, and what its registers hold. The cells are the held values of a Regs, in the
--- order of its description, or the address of a Flash, followed by its words. The busy count is that of a Flash.
+-- A device: its description, the state of its controller, the instruction in force as a number, the lists that are
+-- shifted through its instruction register and through the selected data register, and what its registers hold. The
+-- cells are the held values of a Regs, in the order of its description, or the address of a Flash, followed by its
+-- words. The busy count is that of a Flash.
 pub record Card : Type 0 where
   pub desc : Desc
   pub tap : Tap
@@ -25,7 +26,8 @@ pub record Card : Type 0 where
   pub cells : List (List Bool)
   pub busy : ℕ
 
--- the data register that an instruction selects: BYPASS, the identification register, register k of a Regs, or one of the four of a Flash
+-- the data register that an instruction selects: BYPASS, the identification register, register k of a Regs, or one of
+-- the four of a Flash
 pub data Selected : Type 0 where
   bypass : Selected
   identity_code : ℕ → Selected
@@ -55,8 +57,8 @@ abbrev pub identity_or_kind : Option IdCode → Desc → ℕ → Selected
 identity_or_kind None d op = kind_selects d.kind d op
 identity_or_kind (Some id) d op = if id.op == op then identity_code id.value else kind_selects d.kind d op
 
--- What an opcode selects. Every opcode that isn't named selects BYPASS, and so does the opcode of all ones, which no good description names
--- (IEEE 1149.1, clause 8, BYPASS instruction).
+-- What an opcode selects. Every opcode that isn't named selects BYPASS, and so does the opcode of all ones, which no
+-- good description names (IEEE 1149.1, clause 8, BYPASS instruction).
 abbrev pub selected_by : Desc → ℕ → Selected
 selected_by d op = identity_or_kind d.id d op
 
@@ -75,7 +77,8 @@ abbrev pub constant_or : Option (List Bool) → List Bool → List Bool
 constant_or (Some bits) held = bits
 constant_or None held = held
 
--- the parts of a Flash: the address, also as a number, the words, the addressed word or ones past the last, and whether it is busy
+-- the parts of a Flash: the address, also as a number, the words, the addressed word or ones past the last, and whether
+-- it is busy
 abbrev pub address_bits : ℕ
 address_bits = 16
 
@@ -115,8 +118,8 @@ selected_length (flash_erase f) = 1
 selected_length (flash_program f) = f.width
 selected_length (flash_read f) = f.width
 
--- Second part: what is captured in Capture-DR (IEEE 1149.1, clause 10: the bypass register captures 0; clause 12: the identification register
--- captures the identification code).
+-- Second part: what is captured in Capture-DR (IEEE 1149.1, clause 10: the bypass register captures 0; clause 12: the
+-- identification register captures the identification code).
 abbrev pub captured : Card → Selected → List Bool
 captured c bypass = false ∷ []
 captured c (identity_code value) = low_bits 32 value
@@ -126,8 +129,8 @@ captured c (flash_erase f) = is_busy c ∷ []
 captured c (flash_program f) = is_busy c ∷ replicate (f.width - 1) false
 captured c (flash_read f) = addressed_word f c
 
--- Third part: the cells after an update with these bits. A constant register holds its last update too. Programming can only clear bits; past
--- the last word it clears none, and the address goes on all the same, modulo 65,536.
+-- Third part: the cells after an update with these bits. A constant register holds its last update too. Programming can
+-- only clear bits; past the last word it clears none, and the address goes on all the same, modulo 65,536.
 abbrev pub updated_cells : Card → Selected → List Bool → List (List Bool)
 updated_cells c bypass bits = c.cells
 updated_cells c (identity_code value) bits = c.cells
@@ -160,12 +163,13 @@ reset_instruction d = reset_opcode d.ir_len d.id
 abbrev pub shifted : List Bool → Bool → List Bool
 shifted bits tdi = drop 1 bits ++ tdi ∷ []
 
--- what the instruction register captures: binary 01 in its two lowest bits (IEEE 1149.1, clause 7), here with zeros above
+-- what the instruction register captures: binary 01 in its two lowest bits (IEEE 1149.1, clause 7), here with zeros
+-- above
 abbrev pub captured_instruction : Desc → List Bool
 captured_instruction d = true ∷ replicate (d.ir_len - 1) false
 
--- What a clock does in the state from which it starts (IEEE 1149.1, clause 6, controller states Capture-IR, Shift-IR, Capture-DR, Shift-DR and
--- Run-Test/Idle; the busy count is this profile's).
+-- What a clock does in the state from which it starts (IEEE 1149.1, clause 6, controller states Capture-IR, Shift-IR,
+-- Capture-DR, Shift-DR and Run-Test/Idle; the busy count is this profile's).
 abbrev pub during : Tap → Bool → Card → Card
 during IrCapture tdi c = record c { ir_list = captured_instruction c.desc }
 during IrShift tdi c = record c { ir_list = shifted c.ir_list tdi }
@@ -178,7 +182,8 @@ during _ tdi c = c
 abbrev pub in_state : Tap → Card → Card
 in_state t c = record c { tap = t }
 
--- what a clock does on coming to a state (IEEE 1149.1, clause 6, controller states Update-IR, Update-DR and Test-Logic-Reset)
+-- what a clock does on coming to a state (IEEE 1149.1, clause 6, controller states Update-IR, Update-DR and
+-- Test-Logic-Reset)
 abbrev pub entered : Tap → Card → Card
 entered IrUpdate c = record c { tap = IrUpdate; instruction = number_of c.ir_list }
 entered DrUpdate c = in_state DrUpdate (updated c (selected c) c.dr_list)
@@ -199,8 +204,8 @@ tdo_in IrShift c = lowest c.ir_list
 tdo_in DrShift c = lowest c.dr_list
 tdo_in _ c = true
 
--- TDO before a clock: the lowest bit of what is shifted, and 1 where nothing is. By IEEE 1149.1, clause 4, TDO is not driven outside
--- the shift states; that it reads 1 then is this profile's.
+-- TDO before a clock: the lowest bit of what is shifted, and 1 where nothing is. By IEEE 1149.1, clause 4, TDO is not
+-- driven outside the shift states; that it reads 1 then is this profile's.
 abbrev pub tdo_of : Card → Bool
 tdo_of c = tdo_in c.tap c
 

@@ -1,5 +1,5 @@
--- The clocks of moves, stays and scans (JESD71, STATE, WAIT, IRSCAN and DRSCAN), and the board after them. TDI is 0 outside the shift clocks of a
--- scan. The ways between states are this profile's.
+-- The clocks of moves, stays and scans (JESD71, STATE, WAIT, IRSCAN and DRSCAN), and the board after them. TDI is 0
+-- outside the shift clocks of a scan. The ways between states are this profile's.
 use Rattle.std.specs.Prelude.{◌≡◌, ◌&&◌, ℕ, Bool, true, false, List, [], ◌∷◌, ◌++◌, map, replicate}
 use Rattle.tap_states.specs.declared.Tap.{Tap}
 use Rattle.tap_states.specs.declared.Tap.TheVariants.{Reset, Idle}
@@ -12,7 +12,8 @@ use Rattle.dev_card.specs.Line.{exit_state, pause_state, line_of, cut_back, shif
 abbrev pub with_zero : List Bool → List Input
 with_zero ms = map (λ m. record { tms = m; tdi = false }) ms
 
--- a move: the path between the two states, which `tap_states` holds in a table (its law: what the table holds are the paths)
+-- a move: the path between the two states, which `tap_states` holds in a table (its law: what the table holds are the
+-- paths)
 abbrev pub move_inputs : Tap → Tap → List Input
 move_inputs at to = with_zero (path_of at to)
 
@@ -25,7 +26,8 @@ rest_tms _ = false
 abbrev pub stay_inputs : Tap → ℕ → List Input
 stay_inputs at n = with_zero (replicate n (rest_tms at))
 
--- the entry list of a scan: TMS from a stable state through the capture to the shift, true for a scan of the instruction registers
+-- the entry list of a scan: TMS from a stable state through the capture to the shift, true for a scan of the
+-- instruction registers
 abbrev pub entry_tms : Tap → Bool → List Bool
 entry_tms Reset false = false ∷ true ∷ false ∷ false ∷ []
 entry_tms Reset true = false ∷ true ∷ true ∷ false ∷ false ∷ []
@@ -78,8 +80,8 @@ clocks_with (i ∷ is) (b ∷ out) = clock_with i b ∷ clocks_with is out
 abbrev pub at_shift : Tap → Bool → List Card → List Card
 at_shift at ir cs = board_after cs (entry_inputs at ir)
 
--- The shift clocks of a scan by the board's line, with no step of a device: TDI are the bits, TDO is what comes out of the line, and in the end
--- every card has its part of what stays in it, and its controller in the exit state.
+-- The shift clocks of a scan by the board's line, with no step of a device: TDI are the bits, TDO is what comes out of
+-- the line, and in the end every card has its part of what stays in it, and its controller in the exit state.
 abbrev pub shift_clocks : Bool → List Card → List Bool → List Clock
 shift_clocks ir cs bits = clocks_with (shift_inputs bits) (shifted_out (line_of ir cs) bits)
 

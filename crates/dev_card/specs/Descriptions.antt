@@ -1,5 +1,5 @@
--- Descriptions of devices, and which of them are good: those that a board text can give. The limits and the three kinds are this
--- profile's. Opcodes are the codes of the instruction register (IEEE 1149.1, clause 7), as numbers.
+-- Descriptions of devices, and which of them are good: those that a board text can give. The limits and the three kinds
+-- are this profile's. Opcodes are the codes of the instruction register (IEEE 1149.1, clause 7), as numbers.
 use Rattle.std.specs.Prelude.{◌≡◌, ◌≢◌, ◌<◌, ◌≤◌, ◌+◌, ◌%◌, ◌^◌, ◌++◌, ℕ, List, [], ◌∷◌, length, map, Option, Some, None, IsSomeAnd, All, AllPairs}
 use Rattle.std.specs.Option.{ForSome}
 use Rattle.stapl_lexer.specs.Names.{IsUpperName}
@@ -15,7 +15,8 @@ use Rattle.dev_card.specs.declared.desc.Desc.{Desc}
 abbrev pub IsOpcode : ℕ → ℕ → Type 0
 IsOpcode ir_len op = op + 1 < 2 ^ ir_len
 
--- a device identification code (IEEE 1149.1, clause 12, device identification register): 32 bits, of which the lowest is 1
+-- a device identification code (IEEE 1149.1, clause 12, device identification register): 32 bits, of which the lowest
+-- is 1
 pub record IsIdentity (id : IdCode) : Type 0 where
   pub width : id.value < 2 ^ 32
   pub odd : id.value % 2 ≡ 1

@@ -1,5 +1,5 @@
--- What answers the clocks of a cable, at its far end: a board that is told, or TDO bits that are still to be heard. So what
--- is said of clocks is said of any cable (IEEE 1149.1, test access port).
+-- What answers the clocks of a cable, at its far end: a board that is told, or TDO bits that are still to be heard. So
+-- what is said of clocks is said of any cable (IEEE 1149.1, test access port).
 use Rattle.std.specs.Prelude.{Bool, false, List, [], ◌∷◌, Option, None, Some}
 use Rattle.dev_card.specs.Card.{Card}
 use Rattle.dev_card.specs.Board.{Input, Clock, clock_with, clocks_of, board_after}

@@ -11,8 +11,8 @@ hex_digit n = if nat_lt n 10 then 48 + n else 55 + n
 abbrev pub digits_needed : ℕ → ℕ
 digits_needed n = (n + 3) / 4
 
--- the lowest so many hexadecimal digits of bits, the highest first; each digit stands for four bits, of which missing ones
--- are 0
+-- the lowest so many hexadecimal digits of bits, the highest first; each digit stands for four bits, of which missing
+-- ones are 0
 abbrev pub hex_digits : ℕ → List Bool → List ℕ
 hex_digits zero bits = []
 hex_digits (suc n) bits = hex_digit (number_of (taken (4 * n) 4 bits)) ∷ hex_digits n bits

@@ -1,6 +1,7 @@
 -- The line of a board: the shift registers of its cards, joined between TDI and TDO (IEEE 1149.1, clause 6,
 -- controller states Shift-DR and Shift-IR). Shifting bits into it
--- is one equation of lists. One Bool chooses the line: true for the instruction registers, false for the data registers.
+-- is one equation of lists. One Bool chooses the line: true for the instruction registers, false for the data
+-- registers.
 use Rattle.std.specs.Prelude.{◌≡◌, ◌<◌, Bool, true, false, List, [], ◌∷◌, ◌++◌, length, take, drop}
 use Rattle.tap_states.specs.declared.Tap.{Tap}
 use Rattle.tap_states.specs.declared.Tap.TheVariants.{DrShift, DrExit1, DrPause, IrShift, IrExit1, IrPause}

@@ -23,8 +23,8 @@ pub record AreCardsFrom (place : ℕ) (part board : List Card) : Type 0 where
   pub whole : board ≡ front ++ (part ++ back)
   pub place_is : length front ≡ place
 
--- What the run keeps and what the program captures. The scan is long enough where it has at least as many bits as the run's line, program
--- padding included, and short enough where it has at most as many.
+-- What the run keeps and what the program captures. The scan is long enough where it has at least as many bits as the
+-- run's line, program padding included, and short enough where it has at most as many.
 pub record IsSameScan (ir : Bool) (before run after : List Card) (p : Paddings) (bits : List Bool) : Type 0 where
   -- long enough: the run's cards are in their places as alone, and hold the last bits of the program
   pub kept : length (line_of ir run) ≤ length (program_bits p bits) →
@@ -41,9 +41,9 @@ pub record IsSameScan (ir : Bool) (before run after : List Card) (p : Paddings) 
       cut_back ir (before ++ (run ++ after)) (left_in (line_of ir (before ++ (run ++ after))) (padded p bits))
       ≡ cut_back ir before (replicate p.base_pre true) ++ (cut_back ir run (program_bits p bits) ++ cut_back ir after (replicate p.base_post true))
 
--- One scan of a board, from a stable state in which all its controllers are to the end of the shift clocks. At the shift the run's cards are as
--- alone, between those of the devices before and after it. If these have BYPASS selected, or the scan is one of the instruction registers, it is
--- the scan of the run alone.
+-- One scan of a board, from a stable state in which all its controllers are to the end of the shift clocks. At the
+-- shift the run's cards are as alone, between those of the devices before and after it. If these have BYPASS selected,
+-- or the scan is one of the instruction registers, it is the scan of the run alone.
 pub record IsOneScan (at : Tap) (ir : Bool) (before run after : List Card) (p : Paddings) (bits : List Bool) : Type 0 where
   pub front : List Card
   pub back : List Card

@@ -1,5 +1,5 @@
--- The bits of a scan (JESD71, PRE and POST padding): program paddings around the data, and base paddings around both. Base padding is this
--- profile's: all ones, which brings the neighbours of a device into BYPASS and passes them there.
+-- The bits of a scan (JESD71, PRE and POST padding): program paddings around the data, and base paddings around both.
+-- Base padding is this profile's: all ones, which brings the neighbours of a device into BYPASS and passes them there.
 use Rattle.std.specs.Prelude.{◌+◌, ◌-◌, ℕ, Bool, true, false, List, ◌++◌, length, take, drop, replicate, map, sum, Option, Some, None}
 use Rattle.dev_card.specs.declared.desc.Desc.{Desc}
 
@@ -37,7 +37,8 @@ pub record BaseLengths : Type 0 where
 abbrev pub instruction_lengths : List Desc → ℕ
 instruction_lengths ds = sum (map (λ (d : Desc). d.ir_len) ds)
 
--- base padding around a run of devices, of those before it and those after it: one bit for each device in scans of the data registers
+-- base padding around a run of devices, of those before it and those after it: one bit for each device in scans of the
+-- data registers
 abbrev pub base_around : List Desc → List Desc → BaseLengths
 base_around before after = record {
   ir_pre = instruction_lengths before;

@@ -1,4 +1,5 @@
--- What a report says of devices: a line for each, with the instruction in force and what is held. The format is this profile's.
+-- What a report says of devices: a line for each, with the instruction in force and what is held. The format is this
+-- profile's.
 use Rattle.std.specs.Prelude.{ℕ, pos, ◌+◌, ◌&&◌, Bool, true, List, [], ◌∷◌, ◌++◌, codes, if◌then◌else◌}
 use Rattle.std.specs.Fmt.{signed_decimal}
 use Rattle.std.specs.List.{flat_map}

@@ -1,5 +1,5 @@
--- Cards whose lists have the lengths of their registers. A device that was fitted has such a card from then on; of other cards the equations of
--- a scan need not hold.
+-- Cards whose lists have the lengths of their registers. A device that was fitted has such a card from then on; of
+-- other cards the equations of a scan need not hold.
 use Rattle.std.specs.Prelude.{◌≡◌, ◌<◌, ◌≤◌, ◌+◌, ◌^◌, ℕ, Bool, true, false, List, [], ◌∷◌, length, map, replicate, Option, Some, None}
 use Rattle.std.specs.Option.{option_map}
 use Rattle.tap_states.specs.declared.Tap.{Tap}

@@ -10,7 +10,8 @@ use crate::desc::{Desc, Kind};
 use std::alloc::Global;
 use thiserror::Error;
 
-/// Why a device was not fitted: `WrongKind` where the description is of another kind than the device, `Memory` where there was no memory.
+/// Why a device was not fitted: `WrongKind` where the description is of another kind than the device, `Memory` where
+/// there was no memory.
 #[derive(Clone, Copy, Debug, PartialEq, Eq, Error)]
 pub enum FitRefused {
     #[error("the description is of another kind than the device")]
@@ -21,8 +22,8 @@ pub enum FitRefused {
 
 /// A device that can be put on a chain.
 ///
-/// To contracts it is unfitted (`None`), or a card that is sound: each of its lists has the length that its description gives. Only `fit` takes
-/// memory.
+/// To contracts it is unfitted (`None`), or a card that is sound: each of its lists has the length that its description
+/// gives. Only `fit` takes memory.
 pub trait Device: Drop {
     ghost fitted: { Self → Option SoundCard };
 
@@ -32,10 +33,11 @@ pub trait Device: Drop {
     fn kind(&self) -> Kind
         ensures { result ≡ kind_of self.now };
 
-    /// Makes the device one of this description, as it is after power-up: in reset, and with nothing held but what the description says.
+    /// Makes the device one of this description, as it is after power-up: in reset, and with nothing held but what the
+    /// description says.
     ///
-    /// `WrongKind` comes exactly where the description is of another kind than the device, and `Memory` only for want of memory. A device that
-    /// was refused is unfitted.
+    /// `WrongKind` comes exactly where the description is of another kind than the device, and `Memory` only for want
+    /// of memory. A device that was refused is unfitted.
     fn fit(&mut self, alloc: Global, desc: &Desc) -> Result<(), FitRefused>
         requires { IsGood desc.now }
         ensures kind { kind_of self.new ≡ kind_of self.old }

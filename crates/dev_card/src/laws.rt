@@ -57,7 +57,8 @@ pub fn shift_clocks_shift_the_line()
     ensures { (ir : Bool) (cs : List Card) (bits : List Bool) → 0 < length bits → AllShift ir cs → ShiftsAsLine ir cs bits }
 {}
 
-/// The clocks of a scan, made one after another on a board of sound cards in one stable state, are those of the scan of its line.
+/// The clocks of a scan, made one after another on a board of sound cards in one stable state, are those of the scan of
+/// its line.
 pub fn a_scan_is_the_scan_of_the_line()
     ensures { (at : Tap) (ir : Bool) (stop : Tap) (cs : List Card) (bits : List Bool) → is_stable_state at ≡ true → 0 < length bits → AllIn at cs →
         AllSound cs → ScansAsLine at ir stop cs bits }
@@ -78,15 +79,15 @@ pub fn a_scan_leads_to_its_stop()
     ensures { (at : Tap) (ir : Bool) (stop : Tap) (cs : List Card) (bits : List Bool) → AllIn stop (board_scanned at ir stop cs bits) }
 {}
 
-/// A scan with base padding around a run of neighbours, as long as the lines of the other devices, is the scan of the run alone, as far as its
-/// length allows.
+/// A scan with base padding around a run of neighbours, as long as the lines of the other devices, is the scan of the
+/// run alone, as far as its length allows.
 pub fn a_padded_scan_is_the_scan_alone()
     ensures { (ir : Bool) (before run after : List Card) (p : Paddings) (bits : List Bool) → p.base_pre ≡ length (line_of ir before) →
         p.base_post ≡ length (line_of ir after) → IsSameScan ir before run after p bits }
 {}
 
-/// One scan of a board of sound cards in one stable state, with base padding around a run of neighbours, is the scan of the run alone, where
-/// the other devices have BYPASS selected or it is a scan of the instruction registers.
+/// One scan of a board of sound cards in one stable state, with base padding around a run of neighbours, is the scan of
+/// the run alone, where the other devices have BYPASS selected or it is a scan of the instruction registers.
 pub fn one_padded_scan_is_the_scan_alone()
     ensures { (at : Tap) (ir : Bool) (before run after : List Card) (p : Paddings) (bits : List Bool) → is_stable_state at ≡ true →
         AllIn at (before ++ (run ++ after)) → AllSound (before ++ (run ++ after)) →

@@ -56,8 +56,8 @@ fn registers(name: Name, alloc: Global) -> Result<Desc, Fail>
     })
 }
 
-// Each row: whether the device has an identity, and from power-up on the values at TMS and TDI, a clock each, with TDO before each clock, written
-// out from IEEE 1149.1. Outside the shift states TDO is 1.
+// Each row: whether the device has an identity, and from power-up on the values at TMS and TDI, a clock each, with TDO
+// before each clock, written out from IEEE 1149.1. Outside the shift states TDO is 1.
 #[test]
 fn answers_as_the_standard_says(rt: HostRuntime) -> Result<(), Fail> {
     let table: [(bool, &str, &str, &str); 6] = [

@@ -50,7 +50,8 @@ fn writes_to_standard_output(rt: HostRuntime) -> Result<(), Fail> {
     Ok(())
 }
 
-// What `read_whole` answers on a store of one file `p` of 5,000 bytes, of which the call of this number fails: the number of bytes.
+// What `read_whole` answers on a store of one file `p` of 5,000 bytes, of which the call of this number fails: the
+// number of bytes.
 fn read_of(
     rt: &HostRuntime,
     name: &str,

@@ -1,4 +1,5 @@
--- That an instruction was loaded is that a scan of the instruction registers was made, and no clock since led into reset.
+-- That an instruction was loaded is that a scan of the instruction registers was made, and no clock since led into
+-- reset.
 use Rattle.std.proofs.Common.{◌≡◌, ◌≢◌, ◌<◌, ◌||◌, ◌⊎◌, inl, inr, Bool, true, false, List, [], ◌∷◌, ◌++◌, length, replicate, refl, sym, ap, subst, ◌∙◌, arith, ℕ, suc, zero, cond}
 use Rattle.std.proofs.lemmas.List.{length-append}
 use Rattle.std.proofs.lemmas.Bool.{false≢true}

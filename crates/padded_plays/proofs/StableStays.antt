@@ -1,5 +1,5 @@
--- Each stay of a turn follows a move to a stable state. The deeds of a turn hold no scans: those decide how it goes on, and
--- each has a bit of data.
+-- Each stay of a turn follows a move to a stable state. The deeds of a turn hold no scans: those decide how it goes on,
+-- and each has a bit of data.
 use Rattle.std.proofs.Common.{◌≡◌, ◌+◌, ℕ, Bool, true, false, cond, List, [], ◌∷◌, ◌++◌, length, map, Option, Some, None, refl, ◌<◌, ◌≤◌, ◌&&◌, suc, zero, take, replicate, arith}
 use Rattle.std.specs.Prelude.{ℤ, pos, ◌+ℤ◌, nat_lt, slice_get, slice_set, negsuc, nat_le, nat_abs, int_le}
 use Rattle.std.proofs.lemmas.List.{length-append, length-take, length-replicate}

@@ -1,5 +1,6 @@
--- What a call does to a cable: the clocks that were made, the board that the cable tells, its counts of faults, and what is broken of it. A cable
--- that tells its board is clocked as the board is (IEEE 1149.1, test access port); counts and breakages are this profile's.
+-- What a call does to a cable: the clocks that were made, the board that the cable tells, its counts of faults, and
+-- what is broken of it. A cable that tells its board is clocked as the board is (IEEE 1149.1, test access port); counts
+-- and breakages are this profile's.
 use Rattle.std.specs.Prelude.{◌≡◌, ◌+◌, ◌++◌, ◌⊎◌, ℕ, Bool, true, false, List, [], ◌∷◌, map, Option, None, Some}
 use Rattle.std.specs.Option.{option_map}
 use Rattle.tool_io.specs.Causes.{CountKept, CountRose}
@@ -37,7 +38,8 @@ IsCableLast is_line_last is_pin_last cable = is_line_last cable ⊎ is_pin_last 
 abbrev pub input_of : Clock → Input
 input_of k = record { tms = k.tms; tdi = k.tdi }
 
--- One clock was made, with this TDO: where the board is told, it is the board's TDO before the clock, and the board is stepped.
+-- One clock was made, with this TDO: where the board is told, it is the board's TDO before the clock, and the board is
+-- stepped.
 pub record IsClocked {C : Type 0} (board : C → Option (List Card)) (makes : C → List Clock → C → Type 0) (old new : C) (tms tdi tdo : Bool) : Type 0 where
   pub made : makes old (record { tms = tms; tdi = tdi; tdo = tdo } ∷ []) new
   pub seen : (cs : List Card) → board old ≡ Some cs → tdo ≡ board_tdo cs tdi
@@ -63,7 +65,8 @@ pub record HasBrokenOff {C : Type 0} (board : C → Option (List Card)) (makes :
 abbrev pub IsClockedOrNot : {C : Type 0} → (C → Option (List Card)) → (C → List Clock → C → Type 0) → C → C → Bool → Bool → Type 0
 IsClockedOrNot board makes old new tms tdi = HasBrokenOff board makes old new [] ⊎ HasBrokenOff board makes old new (record { tms = tms; tdi = tdi } ∷ [])
 
--- These clocks were made, with exactly these inputs. Where the board is told, they are the board's clocks, and the board is the one after them.
+-- These clocks were made, with exactly these inputs. Where the board is told, they are the board's clocks, and the
+-- board is the one after them.
 pub record HasMadeClocks {C : Type 0} (board : C → Option (List Card)) (makes : C → List Clock → C → Type 0) (old new : C) (inputs : List Input) (clocks : List Clock) : Type 0 where
   pub made : makes old clocks new
   pub went_in : map input_of clocks ≡ inputs

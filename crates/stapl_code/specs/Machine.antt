@@ -487,8 +487,8 @@ module _ (entries : List ℕ) (constants : Constants) where
   code_beginning code chosen variables k =
       begins_chosen (entry_of entries) (stretch (length code) code [] (start chosen variables) k)
 
-  -- The prologue and then the chosen procedures, for at most n turns. The prologue falls into the first Turn, and the first
-  -- chosen procedure begins.
+  -- The prologue and then the chosen procedures, for at most n turns. The prologue falls into the first Turn, and the
+  -- first chosen procedure begins.
   abbrev pub code_play : List Instr → List ℕ → List Held → ℕ → Chain → Run
   code_play code chosen variables n k =
       goes_on (code_beginning code chosen variables k) (start chosen variables) k (code_run code n)

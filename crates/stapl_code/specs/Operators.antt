@@ -28,8 +28,8 @@ operator_table =
     ∷ comparison operators.AtLeast ∷ logic operators.BitAnd ∷ logic operators.BitOr ∷ logic operators.BitXor
     ∷ logic operators.And ∷ logic operators.Or ∷ logic operators.Equal ∷ logic operators.NotEqual ∷ []
 
--- The operators before a value, by their numbers: negation, complement, ABS and not. Of each the kind of the value, which
--- is that of the result, and the result.
+-- The operators before a value, by their numbers: negation, complement, ABS and not. Of each the kind of the value,
+-- which is that of the result, and the result.
 abbrev pub unary_kinds : List ValueKind
 unary_kinds = kinds.Int ∷ kinds.Int ∷ kinds.Int ∷ kinds.Bit ∷ []
 

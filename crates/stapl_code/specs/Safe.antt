@@ -42,9 +42,9 @@ abbrev pub AllBelow : ℕ → List ℕ → Type 0
 AllBelow n [] = Unit {0}
 AllBelow n (p ∷ ps) = (p < n) × AllBelow n ps
 
--- A valid code never stops for want of an operand, at an operand of the wrong kind, where no turn begins, or at a scan from a
--- state that is not stable: whichever procedures are chosen, whatever the variables hold, however many turns there are, and
--- whatever answers the clocks. The chain is in a stable state when the play begins.
+-- A valid code never stops for want of an operand, at an operand of the wrong kind, where no turn begins, or at a scan
+-- from a state that is not stable: whichever procedures are chosen, whatever the variables hold, however many turns
+-- there are, and whatever answers the clocks. The chain is in a stable state when the play begins.
 abbrev pub NeverStuck : Type 0
 NeverStuck =
     (code : CodeLists) → IsInRange code → IsValid code → (chosen : List ℕ) → AllBelow (length code.procedures) chosen →

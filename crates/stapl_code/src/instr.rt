@@ -68,8 +68,8 @@ pub struct Compare {
     pub cell: Cell,
 }
 
-/// What a Scan does: the registers that it goes through, its data, where the captured bits go, and what they are compared
-/// with.
+/// What a Scan does: the registers that it goes through, its data, where the captured bits go, and what they are
+/// compared with.
 #[derive(Clone, Copy, Debug, PartialEq, Eq)]
 pub struct Scan {
     pub register: Register,

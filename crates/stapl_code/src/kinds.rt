@@ -404,8 +404,8 @@ fn put_operands(
     }
 }
 
-/// Does to the kinds of the operands what an instruction does, and answers whether it found its operands and its variables
-/// are what they have to be.
+/// Does to the kinds of the operands what an instruction does, and answers whether it found its operands and its
+/// variables are what they have to be.
 pub(crate) fn follow(
     variables: &[VarDef],
     instr: &Instr,

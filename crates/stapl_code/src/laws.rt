@@ -2,9 +2,9 @@
 ghost use Rattle.stapl_code.specs.Safe.{NeverStuck, DepthIsKept, TurnsAreBounded, PlaysAreBounded};
 
 /// A valid code in range never gets stuck: where the chosen procedures exist, the variables hold what their kinds say,
-/// and the chain is in a stable state when the play begins, no play of it finds an operand missing or of the wrong kind,
-/// goes to a place where no turn begins, or waits in a state that is not stable or scans from one, whatever answers the
-/// clocks of the chain.
+/// and the chain is in a stable state when the play begins, no play of it finds an operand missing or of the wrong
+/// kind, goes to a place where no turn begins, or waits in a state that is not stable or scans from one, whatever
+/// answers the clocks of the chain.
 pub fn never_stuck()
     ensures { NeverStuck }
 {}

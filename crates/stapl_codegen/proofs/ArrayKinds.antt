@@ -1,5 +1,5 @@
--- Operands of arrays, of scans and of paddings have their kinds, and instructions find them; the variables are what these
--- instructions want.
+-- Operands of arrays, of scans and of paddings have their kinds, and instructions find them; the variables are what
+-- these instructions want.
 use Rattle.std.proofs.Common.{◌≡◌, ℕ, Bool, true, false, List, [], ◌∷◌, ◌++◌, Option, Some, None, refl, ap, ◌∙◌}
 use Rattle.std.specs.Prelude.{◌&&◌, is_some, if◌then◌else◌}
 use Rattle.std.specs.List.{list_all}

@@ -10,9 +10,9 @@ use Rattle.stapl_meaning.specs.Typed.{IsTyped}
 use Rattle.stapl_code.specs.Ranges.{IsLiteral}
 use Rattle.stapl_codegen.specs.Emit.{literals_of, texts_of}
 
--- A program that is compiled: its statements and the declarations of its DATA blocks have their shapes and are typed, its
--- actions and procedures have names that they may bear, neither its texts nor its statements nor those declarations are
--- larger than the text of a program may be, and its literals have bits.
+-- A program that is compiled: its statements and the declarations of its DATA blocks have their shapes and are typed,
+-- its actions and procedures have names that they may bear, neither its texts nor its statements nor those declarations
+-- are larger than the text of a program may be, and its literals have bits.
 pub record IsAccepted (program : Played) : Type 0 where
   pub shaped : All HasShape program.pieces
   pub presets_shaped : All (λ (preset : Preset). is_inner_shape preset.body ≡ true) program.presets

@@ -30,7 +30,8 @@ IsClosed (st ∷ rest) =
     (is_outer st.body ≡ false → falls st.body ≡ true → GoesOn rest)
     × IsClosed rest
 
--- A run of the program, with the places of the code in the place of its own: that of the outcome, and those in the state.
+-- A run of the program, with the places of the code in the place of its own: that of the outcome, and those in the
+-- state.
 
 abbrev pub placed_record : (ℕ → ℕ) → Record → Record
 placed_record place (Pushed z) = Pushed z

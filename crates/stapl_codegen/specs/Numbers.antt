@@ -11,8 +11,8 @@ abbrev pub numbers_from : ℕ → List (List ℕ × Block) → List ℕ
 numbers_from n [] = n ∷ []
 numbers_from n (e ∷ es) = n ∷ numbers_from (if e.1.is_data then n else suc n) es
 
--- These are the numbers of the procedures of a program, whose blocks have different names, and whose procedures are those
--- that are no DATA blocks.
+-- These are the numbers of the procedures of a program, whose blocks have different names, and whose procedures are
+-- those that are no DATA blocks.
 pub record AreNumbers (program : Played) (numbers : Numbers) : Type 0 where
   pub next : numbers.next.items ≡ numbers_from 0 numbers.names.now.blocks
   pub apart : AllPairs (λ a b. a ≢ b) (keys_of numbers.names.now.blocks)

@@ -1,5 +1,6 @@
--- What a turn does to the outside, as data: events that it says, and moves, stays and scans of the chain. What these come to
--- on a chain are events, clocks among them, and the chain after them. Source: JESD71, STATE, WAIT, IRSCAN and DRSCAN.
+-- What a turn does to the outside, as data: events that it says, and moves, stays and scans of the chain. What these
+-- come to on a chain are events, clocks among them, and the chain after them. Source: JESD71, STATE, WAIT, IRSCAN and
+-- DRSCAN.
 use Rattle.std.specs.Prelude.{ℕ, Bool, List, [], ◌∷◌, ◌++◌, map}
 use Rattle.tap_states.specs.declared.Tap.{Tap}
 use Rattle.dev_card.specs.Board.{Clock}
@@ -10,8 +11,8 @@ use Rattle.dev_card.specs.FarEnds.{FarEnd, far_clocks, far_after}
 use Rattle.stapl_meaning.specs.declared.events.Event.{Event}
 use Rattle.stapl_meaning.specs.declared.events.Event.TheVariants as events
 
--- It says an event that is no clock, it moves the controllers to a state, it stays where they are for so many clocks, or it
--- scans.
+-- It says an event that is no clock, it moves the controllers to a state, it stays where they are for so many clocks,
+-- or it scans.
 pub data Deed : Type 0 where
   Says : (event : Event) → Deed
   Goes : (to : Tap) → Deed

@@ -287,8 +287,8 @@ usec_of z = passed (int_le (pos 0) z) BadCount (nat_abs z)
 abbrev pub hertz_of : ℤ → Got ℕ
 hertz_of z = passed (int_lt (pos 0) z) BadCount (nat_abs z)
 
--- A WAIT in a state: the move there, a stay of so many clocks, so many microseconds, and the move to another state. Both
--- counts are there before the first is tested.
+-- A WAIT in a state: the move there, a stay of so many clocks, so many microseconds, and the move to another state.
+-- Both counts are there before the first is tested.
 abbrev pub waited_for : WaitKind → Tap → Tap → List Value → Got (List Deed)
 waited_for waits.Cycles at last (Int n ∷ []) = then_get (cycles_of n) (λ c. Known (Goes at ∷ Stays c ∷ Goes last ∷ []))
 waited_for waits.Usec at last (Int n ∷ []) = then_get (usec_of n) (λ u. Known (Goes at ∷ Says (Usec u) ∷ Goes last ∷ []))

@@ -1,5 +1,5 @@
--- Runs and plays on a chain. Source: JESD71, actions and procedures. The bound on turns and the five clocks at the start
--- are this profile's.
+-- Runs and plays on a chain. Source: JESD71, actions and procedures. The bound on turns and the five clocks at the
+-- start are this profile's.
 use Rattle.std.specs.Prelude.{ℕ, zero, suc, List, [], ◌∷◌, ◌++◌, Option, Some, None}
 use Rattle.tap_states.specs.declared.Tap.TheVariants.{Reset, Idle}
 use Rattle.tap_states.specs.Path.{five_ones}

@@ -1,5 +1,5 @@
--- The parts of a scan, by its tree. Source: JESD71, IRSCAN and DRSCAN. Captured bits go to an array or to a range of one, and
--- the result of a comparison goes to a scalar or an element; no program has another form.
+-- The parts of a scan, by its tree. Source: JESD71, IRSCAN and DRSCAN. Captured bits go to an array or to a range of
+-- one, and the result of a comparison goes to a scalar or an element; no program has another form.
 use Rattle.std.specs.Prelude.{Option, Some, None}
 use Rattle.std.specs.Option.{option_map}
 use Rattle.stapl_lexer.specs.declared.terminal.Register.{Register}

@@ -71,7 +71,8 @@ abbrev pub presets_from : Option (List ℕ) → List StmtTree → List Preset
 presets_from now [] = []
 presets_from now (st ∷ rest) = cons_option (preset_of now st.body) (presets_from (data_behind now st.body) rest)
 
--- What of a program plays: the names of all of it, the initial values of its DATA blocks in their order, and its pieces.
+-- What of a program plays: the names of all of it, the initial values of its DATA blocks in their order, and its
+-- pieces.
 pub record Played : Type 0 where
   pub names : Names
   pub presets : List Preset

@@ -16,8 +16,8 @@ use Rattle.stapl_meaning.specs.Values.{Got, Known, Faults, Stuck}
 pub record Store : Type 0 where
   pub variables : List Held
 
--- how scans of the instruction registers go, or of the data registers: the bits that the program shifts before their data and
--- after it, and the state in which they end
+-- how scans of the instruction registers go, or of the data registers: the bits that the program shifts before their
+-- data and after it, and the state in which they end
 pub record ScanSettings : Type 0 where
   pub pre : List Bool
   pub post : List Bool
@@ -31,8 +31,9 @@ pub record State : Type 0 where
   pub ir : ScanSettings
   pub dr : ScanSettings
 
--- What a statement does: with its deeds it goes on to what follows, it scans and goes on in a state that the captured bits
--- decide, it jumps to its target, it goes on at the place that a record kept, it ends its procedure, or it ends the run.
+-- What a statement does: with its deeds it goes on to what follows, it scans and goes on in a state that the captured
+-- bits decide, it jumps to its target, it goes on at the place that a record kept, it ends its procedure, or it ends
+-- the run.
 pub data Did : Type 0 where
   Falls : (deeds : List Deed) (state : State) → Did
   Captures : (scan : BoardScan) (lands : List Bool → State) → Did
@@ -41,9 +42,9 @@ pub data Did : Type 0 where
   Returns : (state : State) → Did
   Ends : (ending : Ending) (state : State) → Did
 
--- What a turn does, whatever the chain is: with its deeds it leads to a place, it ends the run, or a fault breaks it; or it
--- scans after its deeds, and the bits that the scan captures decide the rest. A turn that no accepted program meets finds
--- nothing to do; it carries the deeds so far.
+-- What a turn does, whatever the chain is: with its deeds it leads to a place, it ends the run, or a fault breaks it;
+-- or it scans after its deeds, and the bits that the scan captures decide the rest. A turn that no accepted program
+-- meets finds nothing to do; it carries the deeds so far.
 pub data Turned : Type 0 where
   Leads : (deeds : List Deed) (place : ℕ) (state : State) → Turned
   Over : (deeds : List Deed) (ending : Ending) (state : State) → Turned

@@ -1,5 +1,5 @@
--- The written text of a play: a line for each event, a report of the devices if it is asked for, and a line for its ending.
--- The format is this profile's.
+-- The written text of a play: a line for each event, a report of the devices if it is asked for, and a line for its
+-- ending. The format is this profile's.
 use Rattle.std.specs.Prelude.{ℕ, pos, ◌+◌, ◌*◌, ◌/◌, ◌%◌, List, [], ◌∷◌, ◌++◌, length, Bool, true, false, ◌&&◌, ◌==◌, nat_le, not, codes, if◌then◌else◌}
 use Rattle.std.specs.List.{flat_map}
 use Rattle.std.specs.Fmt.{signed_decimal}
@@ -62,8 +62,8 @@ full_line digits = if length digits == pin_limit then pin_line digits else []
 abbrev pub with_digit : List ℕ → ℕ → List ℕ
 with_digit digits d = if length digits == pin_limit then d ∷ [] else digits ++ d ∷ []
 
--- The bytes that an event puts where these digits wait, and the digits that wait after it. True asks for the clocks. Any
--- other event ends a line of clocks.
+-- The bytes that an event puts where these digits wait, and the digits that wait after it. True asks for the clocks.
+-- Any other event ends a line of clocks.
 abbrev pub event_bytes : Bool → List ℕ → Event → List ℕ
 event_bytes true digits (Clock tms tdi tdo) = full_line digits
 event_bytes false digits (Clock tms tdi tdo) = []

@@ -1,5 +1,6 @@
--- Which procedures of an action of a code run. Source: JESD71, ACTION: an OPTIONAL procedure runs only if it is asked for, and a
--- RECOMMENDED one unless it is left out. That a name has to be that of such a procedure is this profile's rule.
+-- Which procedures of an action of a code run. Source: JESD71, ACTION: an OPTIONAL procedure runs only if it is asked
+-- for, and a RECOMMENDED one unless it is left out. That a name has to be that of such a procedure is this profile's
+-- rule.
 use Rattle.std.specs.Prelude.{ℕ, ◌==◌, ◌&&◌, ◌||◌, not, Bool, false, List, map, Option, None, Some, slice_get, if◌then◌else◌}
 use Rattle.std.specs.List.{find, filter, list_any, list_all}
 use Rattle.std.specs.Option.{option_map_or}

@@ -1,5 +1,5 @@
--- Plays of a code from the first clocks on. A play begins with five clocks with TMS 1 (IEEE 1149.1, TAP controller state
--- diagram); that it does so is this profile's rule.
+-- Plays of a code from the first clocks on. A play begins with five clocks with TMS 1 (IEEE 1149.1, TAP controller
+-- state diagram); that it does so is this profile's rule.
 use Rattle.std.specs.Prelude.{◌≡◌, ◌≤◌, ℕ, ◌+◌, Bool, List, [], ◌++◌, Option, Some}
 use Rattle.dev_card.specs.Card.{Card}
 use Rattle.dev_card.specs.Board.{Clock, tdos}
@@ -13,16 +13,16 @@ use Rattle.stapl_machine.specs.declared.running.Machine.{Machine}
 use Rattle.stapl_machine.specs.Papers.{Shown, Puts, PutsFront}
 use Rattle.stapl_machine.specs.Machines.{play_of, play_ticks_of, variables_in}
 
--- the play of a code at the far end of a cable, for at most n turns of the chosen procedures, with this base padding of its
--- scans, and how many instructions it takes
+-- the play of a code at the far end of a cable, for at most n turns of the chosen procedures, with this base padding of
+-- its scans, and how many instructions it takes
 abbrev pub whole_play : CodeLists → List ℕ → ℕ → BaseLengths → FarEnd → Run
 whole_play code chosen n base far = after (reset_events far) (play_of code chosen n (chain_reset base far))
 
 abbrev pub whole_ticks : CodeLists → List ℕ → ℕ → BaseLengths → FarEnd → ℕ
 whole_ticks code chosen n base far = play_ticks_of code chosen n (chain_reset base far)
 
--- The far end is the board of the cable, where that is told, else the TDO bits of the clocks that were made, with any that
--- may follow.
+-- The far end is the board of the cable, where that is told, else the TDO bits of the clocks that were made, with any
+-- that may follow.
 module _ {C O : Type 0} (board : C → Option (List Card)) (makes : C → List Clock → C → Type 0) (shown : O → Shown) (pins : Bool) (run : FarEnd → Run) (count : FarEnd → ℕ) where
   abbrev pub far_before : C → List Clock → List Bool → FarEnd
   far_before cable clocks more = far_end (board cable) (tdos clocks ++ more)

@@ -111,8 +111,8 @@ fn find_action<'a>(actions: &'a [ActionDef], name: &Name) -> Option<&'a ActionDe
 /// The procedures of an action that run, by number, in the order of its items: all but the OPTIONAL ones that are not
 /// asked for and the RECOMMENDED ones that are left out.
 ///
-/// Each name of `asked` has to be that of an OPTIONAL procedure of the action, and each of `skipped` that of a RECOMMENDED
-/// one; else the answer is `BadChoice`. The time is that of the items times the names.
+/// Each name of `asked` has to be that of an OPTIONAL procedure of the action, and each of `skipped` that of a
+/// RECOMMENDED one; else the answer is `BadChoice`. The time is that of the items times the names.
 pub fn choose(
     alloc: Global,
     code: &Code,

@@ -41,8 +41,8 @@ HoldsLiteral n _ = Unit {0}
 abbrev pub HoldsBoth : ℕ → CompareTree → Type 0
 HoldsBoth n compare = HoldsLiteral n compare.0 × HoldsLiteral n compare.1.0
 
--- each literal that stands as an array in a declaration, an assignment, an EXPORT, a scan or a padding has the bits of one
--- in so many bytes
+-- each literal that stands as an array in a declaration, an assignment, an EXPORT, a scan or a padding has the bits of
+-- one in so many bytes
 abbrev pub HoldsLiterals : ℕ → BodyTree → Type 0
 HoldsLiterals n (boolean_array name size bits) = IfSome bits (AreLiteralBits n)
 HoldsLiterals n (assign_array name array) = HoldsLiteral n array

@@ -25,8 +25,8 @@ pub fn texts_of_prints_are_short()
         IsProgram text statements → All (λ st. PrintsShortStrings (length text) st.body) statements }
 {}
 
-/// A literal that stands as an array in a declaration, an assignment, an EXPORT, a scan or a padding has at least one bit,
-/// and at most four for each byte of the text.
+/// A literal that stands as an array in a declaration, an assignment, an EXPORT, a scan or a padding has at least one
+/// bit, and at most four for each byte of the text.
 pub fn literals_have_bits()
     ensures { (text : List ℕ) (statements : List StmtTree) →
         IsProgram text statements → All (λ st. HoldsLiterals (length text) st.body) statements }

@@ -1,4 +1,5 @@
--- The table of paths meets the definition: a test over all pairs of states, and the induction that turns it into the rule.
+-- The table of paths meets the definition: a test over all pairs of states, and the induction that turns it into the
+-- rule.
 use Rattle.std.proofs.Common.{◌≡◌, ◌<◌, ◌≤◌, ◌^◌, Bool, true, false, ◌&&◌, ◌||◌, eqb, ltb, List, [], ◌∷◌, length, refl, sym, ap, ◌∙◌, subst, inl, inr, ◌⊎◌, arith}
 use Rattle.std.specs.List.{list_all}
 use Rattle.std.proofs.lemmas.Bool.{false≢true}

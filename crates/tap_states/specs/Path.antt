@@ -24,7 +24,8 @@ pub record ComesBefore (earlier later : List Bool) : Type 0 where
   pub earlier_is : earlier ≡ common ++ false ∷ earlier_rest
   pub later_is : later ≡ common ++ true ∷ later_rest
 
--- the list leads from one state to the other, none that does so is shorter, and none of equal length that does so comes before it
+-- the list leads from one state to the other, none that does so is shorter, and none of equal length that does so comes
+-- before it
 pub record IsShortestPath (from to : Tap) (bits : List Bool) : Type 0 where
   pub leads : Leads from bits to
   pub shortest : (other : List Bool) → Leads from other to → length bits ≤ length other
@@ -34,8 +35,8 @@ pub record IsShortestPath (from to : Tap) (bits : List Bool) : Type 0 where
 abbrev pub five_ones : List Bool
 five_ones = true ∷ true ∷ true ∷ true ∷ true ∷ []
 
--- The list is the path from one state to another. To reset that is always five times 1, which lead there also from a state that nobody
--- knows; to any other state it is the shortest path, so from a state to itself it is empty.
+-- The list is the path from one state to another. To reset that is always five times 1, which lead there also from a
+-- state that nobody knows; to any other state it is the shortest path, so from a state to itself it is empty.
 pub record IsPath (from to : Tap) (bits : List Bool) : Type 0 where
   pub to_reset : to ≡ Reset → bits ≡ five_ones
   pub elsewhere : ¬ (to ≡ Reset) → IsShortestPath from to bits

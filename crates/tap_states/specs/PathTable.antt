@@ -1,5 +1,5 @@
--- The code's table of paths, for the crates above to compute with at states that they know. No definition of the path stands on it:
--- that what it holds are the paths is a law, and the contract of `Tap::path`.
+-- The code's table of paths, for the crates above to compute with at states that they know. No definition of the path
+-- stands on it: that what it holds are the paths is a law, and the contract of `Tap::path`.
 use Rattle.std.specs.Prelude.{◌+◌, ◌*◌, Bool, List, slice_index_or}
 use Rattle.tap_states.specs.declared.Tap.{Tap}
 use Rattle.tap_states.specs.declared.Path.{Path}

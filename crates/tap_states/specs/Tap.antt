@@ -1,5 +1,6 @@
 -- The states of the controller and their successors (IEEE 1149.1, TAP controller state diagram).
--- Our names stand for the standard's: Reset is Test-Logic-Reset, Idle is Run-Test/Idle, and Dr and Ir stand for its endings -DR and -IR.
+-- Our names stand for the standard's: Reset is Test-Logic-Reset, Idle is Run-Test/Idle, and Dr and Ir stand for its
+-- endings -DR and -IR.
 use Rattle.std.specs.Prelude.{ℕ, Bool, true, false}
 use Rattle.tap_states.specs.declared.Tap.{Tap}
 use Rattle.tap_states.specs.declared.Tap.TheVariants.{Reset, Idle, DrSelect, DrCapture, DrShift, DrExit1, DrPause, DrExit2, DrUpdate, IrSelect, IrCapture, IrShift, IrExit1, IrPause, IrExit2, IrUpdate}

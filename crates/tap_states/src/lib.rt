@@ -13,8 +13,8 @@ use paths::PATHS;
 
 /// A state of the controller (IEEE 1149.1, TAP controller state diagram), in the order of the states' numbers.
 ///
-/// `Reset` is the standard's Test-Logic-Reset and `Idle` its Run-Test/Idle. `Dr` and `Ir` in front of a name stand for its endings
-/// -DR and -IR: `DrShift` is Shift-DR.
+/// `Reset` is the standard's Test-Logic-Reset and `Idle` its Run-Test/Idle. `Dr` and `Ir` in front of a name stand for
+/// its endings -DR and -IR: `DrShift` is Shift-DR.
 #[derive(Clone, Copy, Debug, PartialEq, Eq)]
 pub enum Tap {
     Reset,
@@ -146,8 +146,9 @@ pub struct Path {
 impl Tap {
     /// The path from one state to another.
     ///
-    /// To `Reset` it is always five times 1. To any other state it is the shortest list of TMS values that leads there, among equals
-    /// the one that comes first in the order of lists, where 0 comes before 1. From such a state to itself it is empty.
+    /// To `Reset` it is always five times 1. To any other state it is the shortest list of TMS values that leads there,
+    /// among equals the one that comes first in the order of lists, where 0 comes before 1. From such a state to itself
+    /// it is empty.
     pub fn path(from: Tap, to: Tap) -> Path
         ensures path { IsPath from to (path_bits result) }
         ensures leads { Leads from (path_bits result) to }

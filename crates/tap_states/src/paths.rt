@@ -2,7 +2,8 @@
 
 use crate::Path;
 
-/// The path between any two states: 16 rows by the first state's number, each by the number of the state that it leads to.
+/// The path between any two states: 16 rows by the first state's number, each by the number of the state that it leads
+/// to.
 pub static PATHS: [Path; 256] = [
     // from RESET
     Path { len: 5, bits: 31 },
