@@ -180,6 +180,23 @@ module _ (dest : Dest) (vs : List Value) (part : Part) (chosen : List ℕ) (reco
       (range_bits variables n high low ∙ known_bits n (range_span high low) from is)
       ∙ ap (bits_put variables part (state_with chosen records ir dr variables)) (asked_there n (range_span high low) from is)
 
+-- bits go into a part of a variable where it lies
+pub part_put : (variables : List Held) (part : Part) (bits : List Bool) (old new : Held) → part.array < length variables → old ≡ get_or variables part.array old →
+    new ≡ with_bits old part.span bits → slice_set variables part.array new ≡ with_part variables part bits
+part_put variables part bits old new inside old_is e =
+    let at = item_at variables part.array old inside old_is in
+    ap (λ (h : Held). slice_set variables part.array h)
+    (e ∙ ap (λ (b : List Bool). let h : Held = held.Bits (spliced part.span.low bits b) in h) (sym (ap bits_in at)))
+
+-- bits of the same array go into a part of it
+pub moved_put : (variables : List Held) (part : Part) (from low : ℕ) (old new : Held) → part.array < length variables → part.array ≡ from → old ≡ get_or variables part.array old →
+    new ≡ with_bits old part.span (taken low part.span.count (bits_of old)) →
+    slice_set variables part.array new ≡ with_part variables part (taken low part.span.count (bits_in (slice_get variables from)))
+moved_put variables part from low old new inside same old_is e =
+    let at = item_at variables part.array old inside old_is in
+    part_put variables part (taken low part.span.count (bits_of old)) old new inside old_is e
+    ∙ ap (λ (b : List Bool). with_part variables part (taken low part.span.count b)) (sym (ap bits_in at) ∙ ap (λ (n : ℕ). bits_in (slice_get variables n)) same)
+
 -- a variable that was taken out is put back, with bits of another one
 pub other_put : (variables : List Held) (part : Part) (from low : ℕ) (taken_out old new there : Held) → part.array < length variables → from < length variables → part.array ≢ from →
     old ≡ get_or variables part.array old → there ≡ get_or (slice_set variables part.array taken_out) from there →

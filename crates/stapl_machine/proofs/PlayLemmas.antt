@@ -1,4 +1,5 @@
--- On a whole play over a port: the line of the digits that wait, what the answer says of the parts, and the play over these parts.
+-- On a whole play over a port: the line of the digits that wait, what the answer says of the parts, and the play over
+-- these parts.
 use Rattle.std.proofs.Common.{◌≡◌, ◌≤◌, ◌+◌, ℕ, Bool, true, false, List, ◌++◌, Option, Some, refl, sym, ap, subst, ◌∙◌, arith, reverse}
 use Rattle.tool_io.specs.Causes.{HasRisen}
 use Rattle.tap_states.specs.declared.Tap.{Tap}

@@ -46,8 +46,8 @@ pub record IsUnused (memory : Memory) : Type 0 where
   pub ir_first : memory.ir ≡ first_settings
   pub dr_first : memory.dr ≡ first_settings
 
--- what tells the deeds: the text of the last Print, what instructions name by number, the states of the instruction, and
--- the bits of the last scan
+-- what tells the deeds: the text of the last Print, what instructions name by number, the states of the instruction,
+-- and the bits of the last scan
 pub record Told : Type 0 where
   pub text : List ℕ
   pub constants : Constants
@@ -88,8 +88,8 @@ abbrev pub RestsIn : Doing → Type 0
 RestsIn (doing.Waits w) = is_stable_state w.at ≡ true
 RestsIn _ = Unit {0}
 
--- What was made, from one state to another. Values, other than one that was taken off the records, and a fault leave the
--- state as it is.
+-- What was made, from one state to another. Values, other than one that was taken off the records, and a fault leave
+-- the state as it is.
 abbrev pub IsMade : Result Made Stop → Told → State → State → Got machine.Made → Type 0
 IsMade (Ok (made.Put v)) told old new g = (g ≡ Known (Puts v)) × (new ≡ old)
 IsMade (Ok (made.PutTwo v w)) told old new g = (g ≡ Known (PutsTwo v w)) × (new ≡ old)

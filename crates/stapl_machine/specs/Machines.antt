@@ -50,12 +50,13 @@ pub record IsPrepared (code : CodeLists) (machine : Machine) : Type 0 where
   pub ready : IsReady code machine
   pub no_digit : digits_in machine ≡ []
 
--- the chain over a cable with all controllers in the reset state, with TDO bits that are still to be heard where no board is told
+-- the chain over a cable with all controllers in the reset state, with TDO bits that are still to be heard where no
+-- board is told
 abbrev pub chain_at : {C : Type 0} → BaseLengths → (C → Option (List Card)) → C → List Bool → Chain
 chain_at base board cable heard = record { tap = Reset; base = base; far = far_end (board cable) heard }
 
--- A run on the far end that the cable is: its board, where that is told, else the TDO bits of the clocks that were made, with
--- any that may follow.
+-- A run on the far end that the cable is: its board, where that is told, else the TDO bits of the clocks that were
+-- made, with any that may follow.
 module _ {C O : Type 0} (board : C → Option (List Card)) (makes : C → List Clock → C → Type 0) (shown : O → Shown) (pins : Bool) (digits : List ℕ) (base : BaseLengths) (run : Chain → Run) (count : Chain → ℕ) where
   -- The whole text of the run was put, and the run, the cable and the machine stand so.
   pub record IsPlayed (old : C) (out : O) (steps : ℕ) (ending : Ending) (new : C) (new_out : O) (now : ℕ) (machine : Machine) : Type 0 where

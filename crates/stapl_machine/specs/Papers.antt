@@ -1,4 +1,5 @@
--- What text is put on, told by values alone, so that gathered lines meet it by what they hold. The rules are the tool's own.
+-- What text is put on, told by values alone, so that gathered lines meet it by what they hold. The rules are the tool's
+-- own.
 use Rattle.std.specs.Prelude.{◌≡◌, ℕ, Bool, List, ◌++◌, Option}
 use Rattle.std.specs.Borrow.{GName}
 use Rattle.tool_io.specs.declared.lines.Lines.{Lines}

@@ -92,8 +92,8 @@ pub record IsSamePort {C O : Type 0} (old new : PinCable C O) : Type 0 where
 abbrev pub port_chain : {C O : Type 0} → (C → Option (List Card)) → PinCable C O → List Bool → Chain
 port_chain board port heard = record { tap = tap_of port; base = base_of port; far = far_end (board (cable_of port)) heard }
 
--- Events are put wholly where nothing is broken afterwards, and else in part. A clock that the line answers with a failure
--- may be made, and has no digit.
+-- Events are put wholly where nothing is broken afterwards, and else in part. A clock that the line answers with a
+-- failure may be made, and has no digit.
 module _ {C O : Type 0} (breakage : PinCable C O → Breakage) (shown : O → Shown) where
   -- The text of these events was put, but for the digits that wait.
   pub record PutsEvents (old : PinCable C O) (events : List Event) (new : PinCable C O) : Type 0 where

@@ -1,5 +1,5 @@
--- What deeds, turns and runs do over a cable whose clocks are written. Where that cable tells no board, the TDO bits of the
--- clocks that were made answer, and whatever is still to be heard.
+-- What deeds, turns and runs do over a cable whose clocks are written. Where that cable tells no board, the TDO bits of
+-- the clocks that were made answer, and whatever is still to be heard.
 use Rattle.std.specs.Prelude.{◌≡◌, ℕ, ◌+◌, ◌≤◌, Bool, List, [], ◌∷◌, ◌++◌, Option, Some, None, Result, Ok, Err, IfErr, OnOk}
 use Rattle.dev_card.specs.Card.{Card}
 use Rattle.dev_card.specs.Board.{Clock, tdos, AllIn}

@@ -13,6 +13,7 @@ ghost use Rattle.stapl_machine.specs.Arrays.{place_in};
 
 use crate::effects::Made;
 use crate::operate::Stop;
+use crate::parts::held_at;
 use base::ItemList;
 use bit_list::Bits;
 use stapl_meaning::{Held, RunFault, Value};
@@ -50,7 +51,7 @@ fn bit_at(bits: &Bits, index: i32) -> Result<Value, Stop>
 pub fn element(variables: &[Held], n: u32, index: i32) -> Result<Value, Stop>
     ensures { IsValue result (element_of (slice_get variables.now n) (Int index)) }
 {
-    match variables.get(n as usize) {
+    match held_at(variables, n) {
         Some(Held::Ints(items)) => integer_at(items.as_slice(), index),
         Some(Held::Bits(bits)) => bit_at(bits, index),
         _ => Err(Stop::Wrong),
@@ -83,7 +84,7 @@ fn index_in(index: i32, count: usize) -> Result<Value, Stop>
 pub fn index_of(variables: &[Held], n: u32, index: i32) -> Result<Value, Stop>
     ensures { IsValue result (index_held (slice_get variables.now n) (Int index)) }
 {
-    match variables.get(n as usize) {
+    match held_at(variables, n) {
         Some(Held::Ints(items)) => index_in(index, items.len()),
         Some(Held::Bits(bits)) => index_in(index, bits.len() as usize),
         _ => Err(Stop::Wrong),
@@ -144,7 +145,7 @@ fn set_integer(held: &mut Held, index: i32, value: i32) -> Result<(), Stop>
         Held::Ints(items) => {
             let mut items = items.into_items();
             let done = write_integer(&mut items, index, value);
-            *held = Held::Ints(ItemList::of(items));
+            drop(std::mem::replace(held, Held::Ints(ItemList::of(items))));
             done
         }
         other => {

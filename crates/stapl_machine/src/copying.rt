@@ -14,7 +14,7 @@ ghost use Rattle.stapl_machine.specs.Arrays.{HasSpan, IsPart, with_bits, with_pa
 
 use crate::effects::Made;
 use crate::operate::Stop;
-use crate::parts::{Part, Span, behind, place, range, whole};
+use crate::parts::{Part, Span, behind, holder, literal_at, place, range, whole};
 use bit_list::Bits;
 use stapl_code::{Dest, Source};
 use stapl_meaning::{Held, RunFault, Value};
@@ -249,7 +249,7 @@ pub fn copy(
     ensures sure { IfErr result (λ stop. stop ≢ Stop.Memory) }
 {
     match source {
-        Source::Literal(n) => match literals.get(n as usize) {
+        Source::Literal(n) => match literal_at(literals, n) {
             Some(literal) => copy_literal(literal, dest, values, variables),
             None => Err(Stop::Wrong),
         },
@@ -298,10 +298,18 @@ fn whole_integer(variables: &[Held], from: u32, values: &[Value]) -> Result<Valu
     match values {
         [] => {
             let part = whole(variables, from)?;
-            Ok(part_integer(&variables[part.array as usize], part.span))
+            Ok(part_integer(holder(variables, part), part.span))
         }
         _ => Err(Stop::Wrong),
     }
+}
+
+// The integer with the lowest 32 bits of the range between these indexes.
+fn integer_between(variables: &[Held], from: u32, high: Value, low: Value) -> Result<Value, Stop>
+    ensures { IsValue result (source_integer variables.now (Range from) (high ∷ low ∷ [])) }
+{
+    let part = range(variables, from, high, low)?;
+    Ok(part_integer(holder(variables, part), part.span))
 }
 
 /// The integer with the lowest 32 bits of a range, whose high and low indexes these values are.
@@ -309,10 +317,7 @@ pub fn range_integer(variables: &[Held], from: u32, values: &[Value]) -> Result<
     ensures { IsValue result (source_integer variables.now (Range from) values.now) }
 {
     match values {
-        [high, low] => {
-            let part = range(variables, from, *high, *low)?;
-            Ok(part_integer(&variables[part.array as usize], part.span))
-        }
+        [high, low] => integer_between(variables, from, *high, *low),
         _ => Err(Stop::Wrong),
     }
 }
@@ -346,7 +351,7 @@ fn integer_of(
         (then_get (known_source literals.now source) (λ from. source_integer variables.now from values.now)) }
 {
     match source {
-        Source::Literal(n) => match literals.get(n as usize) {
+        Source::Literal(n) => match literal_at(literals, n) {
             Some(literal) => literal_integer(literal, values),
             None => Err(Stop::Wrong),
         },

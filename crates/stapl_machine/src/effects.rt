@@ -11,7 +11,7 @@ ghost use Rattle.stapl_machine.specs.Found.{IsValue, if_written};
 ghost use Rattle.stapl_machine.specs.Acts.{IsMade, Told, state_with};
 
 use crate::operate::{Stop, absolute, combine, sign};
-use crate::parts::Part;
+use crate::parts::{Part, held_at};
 use stapl_code::operator_of;
 use stapl_lexer::Register;
 use stapl_meaning::{Ending, Held, RunFault, Value};
@@ -19,7 +19,7 @@ use stapl_syntax::UnOp;
 use tap_states::Tap;
 
 /// Where bits lie.
-#[derive(Clone, Copy, Debug, PartialEq, Eq)]
+#[derive(Clone, Copy)]
 pub enum BitsAt {
     /// In the literal of a number.
     Literal(u32),
@@ -30,7 +30,7 @@ pub enum BitsAt {
 }
 
 /// What is exported.
-#[derive(Clone, Copy, Debug, PartialEq, Eq)]
+#[derive(Clone, Copy)]
 pub enum Exported {
     /// A value.
     Value(Value),
@@ -39,14 +39,14 @@ pub enum Exported {
 }
 
 /// An export under the text of a number, which is written from where its bits lie.
-#[derive(Clone, Copy, Debug, PartialEq, Eq)]
+#[derive(Clone, Copy)]
 pub struct Export {
     pub key: u32,
     pub value: Exported,
 }
 
 /// What a WAIT does: where it waits, for how many clocks, for how many microseconds, and where it goes then.
-#[derive(Clone, Copy, Debug, PartialEq, Eq)]
+#[derive(Clone, Copy)]
 pub struct Wait {
     pub at: Tap,
     pub cycles: Option<u32>,
@@ -55,7 +55,7 @@ pub struct Wait {
 }
 
 /// The cell of the result of a comparison: a scalar, or an element at an index.
-#[derive(Clone, Copy, Debug, PartialEq, Eq)]
+#[derive(Clone, Copy)]
 pub enum CellAt {
     Scalar(u32),
     Element(u32, i32),
@@ -63,7 +63,7 @@ pub enum CellAt {
 
 /// A scan that is still to be done, whose bits were taken: its registers, where the captured bits go, and if they are
 /// compared, where the result goes.
-#[derive(Clone, Copy, Debug, PartialEq, Eq)]
+#[derive(Clone, Copy)]
 pub struct ScanJob {
     pub register: Register,
     pub target: Option<Part>,
@@ -71,7 +71,7 @@ pub struct ScanJob {
 }
 
 /// What is still to be done to the outside.
-#[derive(Clone, Copy, Debug, PartialEq, Eq)]
+#[derive(Clone, Copy)]
 pub enum Doing {
     /// The text of the last Print is printed.
     Prints,
@@ -86,7 +86,7 @@ pub enum Doing {
 }
 
 /// What an instruction made.
-#[derive(Clone, Copy, Debug, PartialEq, Eq)]
+#[derive(Clone, Copy)]
 pub enum Made {
     /// A value, which goes on top of the operands.
     Put(Value),
@@ -115,7 +115,7 @@ pub enum Made {
 pub fn load(variables: &[Held], n: u32) -> Result<Value, Stop>
     ensures { IsValue result (scalar_of (slice_get variables.now n)) }
 {
-    match variables.get(n as usize) {
+    match held_at(variables, n) {
         Some(Held::Int(value)) => Ok(Value::Int(*value)),
         Some(Held::Bit(value)) => Ok(Value::Bit(*value)),
         _ => Err(Stop::Wrong),

@@ -16,7 +16,7 @@ ghost use Rattle.stapl_machine.specs.Acts.{IsMade, state_with};
 
 use crate::effects::{BitsAt, Doing, Export, Exported, Made};
 use crate::operate::Stop;
-use crate::parts::{range, whole};
+use crate::parts::{literal_at, range, whole};
 use bit_list::Bits;
 use stapl_code::{CodeLists, ExportPart, Source};
 use stapl_meaning::{Held, Value};
@@ -32,7 +32,7 @@ fn literal_bits(
     ensures there { IfOk result (IsThere literals.now variables.now) }
     ensures kind { IfOk result (IsOf (Source.Literal n)) }
 {
-    match literals.get(n as usize) {
+    match literal_at(literals, n) {
         Some(_) => match values {
             [] => Ok(BitsAt::Literal(n)),
             _ => Err(Stop::Wrong),

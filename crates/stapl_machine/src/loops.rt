@@ -11,6 +11,7 @@ ghost use Rattle.stapl_machine.specs.Records.{begun_loop, IsSearched};
 use crate::effects::{Made, store};
 use crate::memory::Memory;
 use crate::operate::{Stop, sum};
+use crate::parts::held_at;
 use crate::records::{is_full, put};
 use stapl_meaning::{Held, Loop, Record, RunFault, Value};
 
@@ -54,7 +55,7 @@ pub fn begin_loop(memory: &mut Memory, n: u32, body: u32, values: &[Value]) -> R
 }
 
 /// The nearest loop of a variable, and the place of its record.
-#[derive(Clone, Copy, Debug, PartialEq, Eq)]
+#[derive(Clone, Copy)]
 pub struct Nearest {
     pub at: usize,
     pub for_loop: Loop,
@@ -92,7 +93,7 @@ pub fn is_over(for_loop: Loop, z: i32) -> bool
 pub fn integer_held(variables: &[Held], n: u32) -> Result<i32, Stop>
     ensures { IsSure (λ z g. g ≡ Known z) result (integer_held (slice_get variables.now n)) }
 {
-    match variables.get(n as usize) {
+    match held_at(variables, n) {
         Some(Held::Int(z)) => Ok(*z),
         _ => Err(Stop::Wrong),
     }

@@ -1,11 +1,20 @@
 //! What instructions change beside the operands.
+ghost use Rattle.std.specs.Prelude.{◌≡◌, All, IfOk, map};
+ghost use Rattle.stapl_code.specs.Ranges.{IsVariable};
+ghost use Rattle.stapl_meaning.specs.Plays.{first_settings};
+ghost use Rattle.stapl_machine.specs.Acts.{IsUnused};
+ghost use Rattle.stapl_machine.specs.Zeros.{zero_of};
+
+use crate::records::RECORD_LIMIT;
 use crate::settings::Settings;
+use crate::zeros::zeros;
 use bit_list::Bits;
+use stapl_code::VarDef;
 use stapl_meaning::{Held, Record};
 use std::alloc::{AllocError, Global};
 
-/// The bits of a scan: its data, those that it captures, as many, and if it compares, as many expected ones and as many of
-/// the mask. They are taken before the scan begins.
+/// The bits of a scan: its data, those that it captures, as many, and if it compares, as many expected ones and as many
+/// of the mask. They are taken before the scan begins.
 #[derive(Drop)]
 pub struct Shifted {
     pub data: Bits,
@@ -26,8 +35,8 @@ impl Shifted {
     }
 }
 
-/// The variables, the records, the topmost last, the text of the last Print, how scans of the instruction registers and of
-/// the data registers go, and the bits of the last scan.
+/// The variables, the records, the topmost last, the text of the last Print, how scans of the instruction registers and
+/// of the data registers go, and the bits of the last scan.
 #[derive(Drop)]
 pub struct Memory {
     pub alloc: Global,
@@ -37,4 +46,53 @@ pub struct Memory {
     pub ir: Settings,
     pub dr: Settings,
     pub shifted: Shifted,
+}
+
+// How scans of the instruction registers and of the data registers go at first, and no bits.
+fn first_scan(alloc: Global) -> Result<(Settings, Settings, Shifted), AllocError>
+    ensures ir { IfOk result (λ scan. scan.0 ≡ first_settings) }
+    ensures dr { IfOk result (λ scan. scan.1 ≡ first_settings) }
+{
+    let ir = Settings::first(alloc)?;
+    let Ok(dr) = Settings::first(alloc) else {
+        drop(ir);
+        return Err(AllocError);
+    };
+    let Ok(shifted) = Shifted::none(alloc) else {
+        drop(ir);
+        drop(dr);
+        return Err(AllocError);
+    };
+    Ok((ir, dr, shifted))
+}
+
+impl Memory {
+    /// The memory that a run with these variables begins with: they are 0, there is no record, and scans have no
+    /// padding and end in Run-Test/Idle. It has room for the most records there may be.
+    pub fn first(alloc: Global, defs: &[VarDef]) -> Result<Memory, AllocError>
+        requires { All IsVariable defs.now }
+        ensures variables { IfOk result (λ memory. memory.variables.items ≡ map zero_of defs.now) }
+        ensures unused { IfOk result IsUnused }
+    {
+        let scan = first_scan(alloc)?;
+        let Ok(records) = Vec::with_capacity(alloc, RECORD_LIMIT) else {
+            drop(scan);
+            return Err(AllocError);
+        };
+        let Ok(variables) = zeros(alloc, defs) else {
+            drop(scan);
+            drop(records);
+            return Err(AllocError);
+        };
+        let (ir, dr, shifted) = scan;
+        Ok(Memory {
+            alloc,
+            variables,
+            records,
+            text: Vec::new(alloc),
+            ir,
+            dr,
+            shifted,
+        })
+    }
 }

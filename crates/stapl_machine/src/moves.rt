@@ -19,7 +19,7 @@ use stapl_meaning::{Ending, Value};
 use std::alloc::AllocError;
 
 /// Where a turn leads.
-#[derive(Clone, Copy, PartialEq, Eq, Debug)]
+#[derive(Clone, Copy)]
 pub enum Went {
     /// To the turn at this place.
     On(u32),
@@ -28,7 +28,7 @@ pub enum Went {
 }
 
 /// Where an instruction leads.
-#[derive(Clone, Copy, PartialEq, Eq, Debug)]
+#[derive(Clone, Copy)]
 pub enum Moved {
     /// On to the next one.
     On,

@@ -11,7 +11,7 @@ use stapl_meaning::{RunFault, Value};
 use stapl_syntax::UnOp;
 
 /// Why nothing was made.
-#[derive(Clone, Copy, Debug, PartialEq, Eq)]
+#[derive(Clone, Copy)]
 pub enum Stop {
     /// A fault ends the run.
     Fault(RunFault),

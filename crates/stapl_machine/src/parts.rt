@@ -1,12 +1,12 @@
 //! Parts of BOOLEAN arrays.
-ghost use Rattle.std.specs.Prelude.{◌≡◌, ◌≢◌, ◌≤◌, ◌+◌, IfOk, IfErr, List, ℕ, slice_get};
-ghost use Rattle.stapl_meaning.specs.Values.{is_index, span_between, span_of, range_held};
+ghost use Rattle.std.specs.Prelude.{◌≡◌, ◌≢◌, ◌≤◌, ◌+◌, IfOk, IfErr, IfSome, IfNone, Some, None, List, ℕ, slice_get};
+ghost use Rattle.stapl_meaning.specs.Values.{is_index, span_between, span_of, range_held, bits_in, bits_of};
 ghost use Rattle.stapl_meaning.specs.Values.{Known};
 ghost use Rattle.stapl_meaning.specs.States.{State};
 ghost use Rattle.stapl_code.specs.Machine.{kept};
 ghost use Rattle.stapl_machine.specs.Found.{IsSure};
 ghost use Rattle.stapl_machine.specs.Acts.{IsMade, Told};
-ghost use Rattle.stapl_machine.specs.Arrays.{span_in, whole_span, range_span, IsPartOf, array_of, dest_span, behind_dest};
+ghost use Rattle.stapl_machine.specs.Arrays.{span_in, whole_span, range_span, HasSpan, IsPart, IsPartOf, array_of, dest_span, behind_dest};
 
 use crate::effects::Made;
 use crate::operate::Stop;
@@ -15,17 +15,42 @@ use stapl_code::Dest;
 use stapl_meaning::{Held, RunFault, Value};
 
 /// A part of an array: its lowest index, and how many bits it has.
-#[derive(Clone, Copy, Debug, PartialEq, Eq)]
+#[derive(Clone, Copy)]
 pub struct Span {
     pub low: u32,
     pub count: u32,
 }
 
 /// A part of the array of a number.
-#[derive(Clone, Copy, Debug, PartialEq, Eq)]
+#[derive(Clone, Copy)]
 pub struct Part {
     pub array: u32,
     pub span: Span,
+}
+
+/// The literal of this number.
+pub fn literal_at(literals: &[Bits], n: u32) -> Option<&Bits>
+    ensures some { IfSome result (λ literal. slice_get literals.now n ≡ Some literal.now) }
+    ensures none { IfNone result (slice_get literals.now n ≡ None) }
+{
+    literals.get(n as usize)
+}
+
+/// What the variable of this number holds.
+pub fn held_at(variables: &[Held], n: u32) -> Option<&Held>
+    ensures some { IfSome result (λ held. slice_get variables.now n ≡ Some held.now) }
+    ensures none { IfNone result (slice_get variables.now n ≡ None) }
+{
+    variables.get(n as usize)
+}
+
+/// The variable that has a part.
+pub fn holder(variables: &[Held], part: Part) -> &Held
+    requires { IsPart variables.now part }
+    ensures span { HasSpan result.now part.span }
+    ensures bits { bits_in (slice_get variables.now part.array) ≡ bits_of result.now }
+{
+    &variables[part.array as usize]
 }
 
 /// Whether it is an index of a list of so many items.
@@ -65,7 +90,7 @@ fn span_of(count: u32, high: Value, low: Value) -> Result<Span, Stop>
 pub fn whole(variables: &[Held], n: u32) -> Result<Part, Stop>
     ensures { IsPartOf result variables.now n whole_span }
 {
-    match variables.get(n as usize) {
+    match held_at(variables, n) {
         Some(Held::Bits(bits)) => {
             let span = Span {
                 low: 0,
@@ -81,7 +106,7 @@ pub fn whole(variables: &[Held], n: u32) -> Result<Part, Stop>
 pub fn range(variables: &[Held], n: u32, high: Value, low: Value) -> Result<Part, Stop>
     ensures { IsPartOf result variables.now n (range_span high low) }
 {
-    match variables.get(n as usize) {
+    match held_at(variables, n) {
         Some(Held::Bits(bits)) => {
             let span = span_of(bits.len(), high, low)?;
             Ok(Part { array: n, span })

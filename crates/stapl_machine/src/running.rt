@@ -16,15 +16,12 @@ ghost use Rattle.stapl_machine.specs.Machines.{play_of, play_ticks_of, IsPrepare
 
 use crate::act::Workspace;
 use crate::digits::Digits;
-use crate::memory::{Memory, Shifted};
+use crate::memory::Memory;
 use crate::paper::Paper;
 use crate::pin_cable::PinCable;
-use crate::records::RECORD_LIMIT;
 use crate::reset::five_ones;
 use crate::runs::play_out;
-use crate::settings::Settings;
 use crate::turns::Trouble;
-use crate::zeros::zeros;
 use base::Steps;
 use scan_paths::{BasePads, Cable};
 use stapl_code::Code;
@@ -51,19 +48,15 @@ impl Machine {
         ensures { IfOk result (IsPrepared code.now) }
     {
         let lists = code.raw().lists();
-        let variables = zeros(alloc, lists.variables.as_slice())?;
+        let operands = Vec::with_capacity(alloc, code.depth() as usize)?;
+        let Ok(memory) = Memory::first(alloc, lists.variables.as_slice()) else {
+            drop(operands);
+            return Err(AllocError);
+        };
         Ok(Machine {
             work: Workspace {
-                memory: Memory {
-                    alloc,
-                    variables,
-                    records: Vec::with_capacity(alloc, RECORD_LIMIT)?,
-                    text: Vec::new(alloc),
-                    ir: Settings::first(alloc)?,
-                    dr: Settings::first(alloc)?,
-                    shifted: Shifted::none(alloc)?,
-                },
-                operands: Vec::with_capacity(alloc, code.depth() as usize)?,
+                memory,
+                operands,
                 next: 0,
                 piece: 0,
             },

@@ -15,14 +15,14 @@ use crate::arrays::index_of;
 use crate::effects::{BitsAt, CellAt};
 use crate::exporting::find_bits;
 use crate::operate::Stop;
-use crate::parts::{Part, is_index, range, whole};
+use crate::parts::{Part, holder, is_index, range, whole};
 use bit_list::Bits;
 use stapl_code::{Cell, Compare, Dest, Scan, Source};
 use stapl_meaning::{Held, RunFault, Value};
 use std::alloc::{AllocError, Global};
 
 /// What a scan compares with, by where it lies.
-#[derive(Clone, Copy, Debug, PartialEq, Eq)]
+#[derive(Clone, Copy)]
 pub struct ComparedAt {
     pub expected: BitsAt,
     pub mask: BitsAt,
@@ -30,7 +30,7 @@ pub struct ComparedAt {
 }
 
 /// The parts of a scan, by where they lie.
-#[derive(Clone, Copy, Debug, PartialEq, Eq)]
+#[derive(Clone, Copy)]
 pub struct PartsAt {
     pub source: BitsAt,
     pub target: Option<Part>,
@@ -316,7 +316,7 @@ pub fn take_bits(
             if n > part.span.count {
                 return Err(Stop::Fault(RunFault::LengthMismatch));
             }
-            match take_part(alloc, &variables[part.array as usize], part.span.low, n) {
+            match take_part(alloc, holder(variables, part), part.span.low, n) {
                 Ok(bits) => Ok(bits),
                 Err(_) => Err(Stop::Memory),
             }

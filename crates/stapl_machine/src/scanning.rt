@@ -1,5 +1,5 @@
 //! Scans, paddings, and the states in which scans end.
-ghost use Rattle.std.specs.Prelude.{◌≡◌, ◌≤◌, ◌+◌, ℕ, List, Bool, length, replicate, IfOk, IfErr, true, None, Some};
+ghost use Rattle.std.specs.Prelude.{◌≡◌, ◌≤◌, ◌+◌, ◌∷◌, ℕ, List, Bool, length, replicate, IfOk, IfErr, true, None, Some};
 ghost use Rattle.std.specs.Option.{option_map};
 ghost use Rattle.bit_list.specs.Ranges.{spliced};
 ghost use Rattle.stapl_meaning.specs.declared.values.Held.TheVariants as arrays;
@@ -132,7 +132,8 @@ fn take_scan(
         (state_in chosen memory.old) n)) }
 {
     let alloc = memory.alloc;
-    let data = take_bits(alloc, literals, &memory.variables, found.source, n)?;
+    memory.shifted.captured = zeros(alloc, n)?;
+    memory.shifted.data = take_bits(alloc, literals, &memory.variables, found.source, n)?;
     test_room(found.target, n)?;
     let both = take_compared(
         alloc,
@@ -142,17 +143,37 @@ fn take_scan(
         found.compare,
         n,
     )?;
-    memory.shifted = Shifted {
-        data,
-        captured: zeros(alloc, n)?,
-        expected: both.expected,
-        mask: both.mask,
-    };
+    memory.shifted.expected = both.expected;
+    memory.shifted.mask = both.mask;
     Ok(Made::Scans(ScanJob {
         register: scan.register,
         target: found.target,
         cell: cell_at(found.compare),
     }))
+}
+
+// Takes the bits of a scan whose length is the first value.
+fn scan_first(
+    literals: &[Bits],
+    scan: &Scan,
+    first: Value,
+    values: &[Value],
+    memory: &mut Memory,
+) -> Result<Made, Stop>
+    requires { is_scan_known literals.now scan.now ≡ true }
+    ensures { (text : List ℕ) (constants : Constants) (states : List Tap) (chosen : List ℕ) →
+        IsMade result (record { text = text; constants = constants; states = states; shifted = memory.new.shifted })
+        (state_in chosen memory.old) (state_in chosen memory.new)
+        (does (scanned (scan_resolved literals.now scan.now) (first ∷ values.now) (state_in chosen memory.old))) }
+{
+    match first {
+        Value::Int(length) => {
+            let found = find_parts(literals, scan, values, &memory.variables)?;
+            let n = scan_length(length)?;
+            take_scan(literals, scan, found, n, memory)
+        }
+        Value::Bit(_) => Err(Stop::Wrong),
+    }
 }
 
 fn scan_known(
@@ -167,13 +188,9 @@ fn scan_known(
         (state_in chosen memory.old) (state_in chosen memory.new)
         (does (scanned (scan_resolved literals.now scan.now) values.now (state_in chosen memory.old))) }
 {
-    match values {
-        [Value::Int(length), ..] => {
-            let found = find_parts(literals, scan, &values[1..], &memory.variables)?;
-            let n = scan_length(*length)?;
-            take_scan(literals, scan, found, n, memory)
-        }
-        _ => Err(Stop::Wrong),
+    match values.split_first() {
+        Some((first, rest)) => scan_first(literals, scan, *first, rest, memory),
+        None => Err(Stop::Wrong),
     }
 }
 
@@ -278,6 +295,31 @@ fn padding_bits(
     }
 }
 
+// A padding of the length that is the first value is set.
+fn pad_first(
+    literals: &[Bits],
+    which: Padding,
+    source: Option<Source>,
+    first: Value,
+    values: &[Value],
+    memory: &mut Memory,
+) -> Result<Made, Stop>
+    requires { is_given_known literals.now source ≡ true }
+    ensures { (told : Told) (chosen : List ℕ) →
+        IsMade result told (state_in chosen memory.old) (state_in chosen memory.new)
+        (does (surrounded which (option_map (resolved literals.now) source) (first ∷ values.now)
+        (state_in chosen memory.old))) }
+{
+    match first {
+        Value::Int(length) => {
+            let bits = padding_bits(literals, source, values, length, memory)?;
+            set_padding(memory, which, bits);
+            Ok(Made::On)
+        }
+        Value::Bit(_) => Err(Stop::Wrong),
+    }
+}
+
 fn pad_known(
     literals: &[Bits],
     which: Padding,
@@ -290,13 +332,9 @@ fn pad_known(
         IsMade result told (state_in chosen memory.old) (state_in chosen memory.new)
         (does (surrounded which (option_map (resolved literals.now) source) values.now (state_in chosen memory.old))) }
 {
-    match values {
-        [Value::Int(length), ..] => {
-            let bits = padding_bits(literals, source, &values[1..], *length, memory)?;
-            set_padding(memory, which, bits);
-            Ok(Made::On)
-        }
-        _ => Err(Stop::Wrong),
+    match values.split_first() {
+        Some((first, rest)) => pad_first(literals, which, source, *first, rest, memory),
+        None => Err(Stop::Wrong),
     }
 }
 

@@ -28,7 +28,7 @@ use stapl_code::{Instr, Source};
 use stapl_meaning::{Held, Loop, Record, Value};
 
 /// What came of an instruction that was tried.
-#[derive(Clone, Copy, PartialEq, Eq, Debug)]
+#[derive(Clone, Copy)]
 pub enum Tried {
     /// It is done, and the next one follows.
     On,

@@ -351,7 +351,7 @@ fn try_at<L: Ledger>(
 }
 
 /// Where common instructions led.
-#[derive(Clone, Copy, PartialEq, Eq, Debug)]
+#[derive(Clone, Copy)]
 pub enum Reached {
     /// To an instruction of the same turn, which is not done.
     Within(usize),

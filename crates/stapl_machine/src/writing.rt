@@ -11,11 +11,11 @@ ghost use Rattle.stapl_meaning.specs.Texts.{hex_digit, hex_digits, is_plain, esc
 ghost use Rattle.stapl_meaning.specs.declared.events.Event.TheVariants.{Print, Usec, Hertz};
 ghost use Rattle.stapl_meaning.specs.declared.events.Event.TheVariants as events;
 ghost use Rattle.stapl_code.specs.Safe.{constants_of};
-ghost use Rattle.stapl_meaning.specs.Values.{bits_in};
+ghost use Rattle.stapl_meaning.specs.Values.{bits_in, bits_of};
 ghost use Rattle.stapl_machine.specs.Exports.{text_in, literal_in, bits_at, value_exported, export_event, hex_text};
 
 use crate::effects::{BitsAt, Export, Exported};
-use crate::parts::{Part, Span};
+use crate::parts::{Part, Span, held_at, literal_at};
 use crate::printing::digit_of;
 use bit_list::Bits;
 use stapl_code::CodeLists;
@@ -181,6 +181,31 @@ fn whole_span(bits: &Bits) -> Span
     }
 }
 
+// Puts the text of all of a list of bits.
+fn put_all<K: Sink>(out: &mut Lines<K>, bits: &Bits) -> Result<(), Failed>
+    requires { IsWhole out.old }
+    ensures same_sink { IsOverSame out.old out.new }
+    ensures whole { OnOk result (IsWhole out.new) }
+    ensures ok { OnOk result (Puts K.written out.old (hex_text bits.now) out.new) }
+    ensures front { OnErr result (PutsFront K.written out.old (hex_text bits.now) out.new) }
+    ensures cause { HasSinkCause K.faults K.is_last out.old out.new result }
+{
+    let whole = whole_span(bits);
+    put_part(out, bits, whole)
+}
+
+// Puts the text of a part of no bits.
+fn put_none<K: Sink>(out: &mut Lines<K>, span: Span) -> Result<(), Failed>
+    requires { IsWhole out.old }
+    ensures same_sink { IsOverSame out.old out.new }
+    ensures whole { OnOk result (IsWhole out.new) }
+    ensures ok { OnOk result (Puts K.written out.old (hex_text (taken span.low span.count [])) out.new) }
+    ensures front { OnErr result (PutsFront K.written out.old (hex_text (taken span.low span.count [])) out.new) }
+    ensures cause { HasSinkCause K.faults K.is_last out.old out.new result }
+{
+    out.put(b"$")
+}
+
 fn put_literal<K: Sink>(out: &mut Lines<K>, literals: &[Bits], n: u32) -> Result<(), Failed>
     requires { IsWhole out.old }
     ensures same_sink { IsOverSame out.old out.new }
@@ -190,9 +215,26 @@ fn put_literal<K: Sink>(out: &mut Lines<K>, literals: &[Bits], n: u32) -> Result
         (hex_text (literal_in (slice_get literals.now n))) out.new) }
     ensures cause { HasSinkCause K.faults K.is_last out.old out.new result }
 {
-    match literals.get(n as usize) {
-        Some(literal) => put_part(out, literal, whole_span(literal)),
+    match literal_at(literals, n) {
+        Some(literal) => put_all(out, literal),
         None => out.put(b"$"),
+    }
+}
+
+// Puts the text of a part of what a variable holds, which is no bits if it is no array of bits.
+fn put_held<K: Sink>(out: &mut Lines<K>, held: &Held, span: Span) -> Result<(), Failed>
+    requires { IsWhole out.old }
+    ensures same_sink { IsOverSame out.old out.new }
+    ensures whole { OnOk result (IsWhole out.new) }
+    ensures ok { OnOk result (Puts K.written out.old
+        (hex_text (taken span.low span.count (bits_of held.now))) out.new) }
+    ensures front { OnErr result (PutsFront K.written out.old
+        (hex_text (taken span.low span.count (bits_of held.now))) out.new) }
+    ensures cause { HasSinkCause K.faults K.is_last out.old out.new result }
+{
+    match held {
+        Held::Bits(bits) => put_part(out, bits, span),
+        _ => put_none(out, span),
     }
 }
 
@@ -206,9 +248,9 @@ fn put_variable<K: Sink>(out: &mut Lines<K>, variables: &[Held], part: Part) -> 
         (hex_text (taken part.span.low part.span.count (bits_in (slice_get variables.now part.array)))) out.new) }
     ensures cause { HasSinkCause K.faults K.is_last out.old out.new result }
 {
-    match variables.get(part.array as usize) {
-        Some(Held::Bits(bits)) => put_part(out, bits, part.span),
-        _ => out.put(b"$"),
+    match held_at(variables, part.array) {
+        Some(held) => put_held(out, held, part.span),
+        None => put_none(out, part.span),
     }
 }
 

@@ -4,21 +4,19 @@ use Rattle.stapl_meaning.specs.Values as values
 use Rattle.stapl_meaning.specs.declared.values.Value.{Value}
 use Rattle.stapl_code.specs.Machine.{known_source, known_literal}
 use Rattle.stapl_machine.specs.Found.{IsValue}
-use Rattle.stapl_machine.proofs.PrintLemmas.{item_at, no_item}
 use Rattle.stapl_machine.proofs.copying.integer_of.Goals as goal
 
 pub returns-in-Some : goal.returns-in-Some
 returns-in-Some c =
     let go = λ (from : values.Source). source_integer c.args.variables.now from c.args.values.now in
-    let at = item_at c.args.literals.now c.in-Literal.n c.in-Some.literal.now c.in-Some.ensures.lookup.3.0 c.in-Some.ensures.lookup.1 in
-    let is = ap (λ s. then_get (known_source c.args.literals.now s) go) c.in-Literal.is ∙ ap (λ o. then_get (known_literal o) go) at in
+    let is = ap (λ s. then_get (known_source c.args.literals.now s) go) c.in-Literal.is ∙ ap (λ o. then_get (known_literal o) go) c.in-Some.ensures.some in
     subst (λ (g : Got Value). IsValue c.literal_integer.result g) (sym is) (c.literal_integer.ensures c.args.variables.now)
 
 pub returns-in-None : goal.returns-in-None
 returns-in-None c =
     let go = λ (from : values.Source). source_integer c.args.variables.now from c.args.values.now in
     ap (λ s. then_get (known_source c.args.literals.now s) go) c.in-Literal.is
-    ∙ ap (λ o. then_get (known_literal o) go) (no_item c.args.literals.now c.in-Literal.n c.in-None.ensures.lookup.3)
+    ∙ ap (λ o. then_get (known_literal o) go) c.in-None.ensures.none
 
 pub returns-in-FromInt : goal.returns-in-FromInt
 returns-in-FromInt c =
