@@ -33,7 +33,7 @@ sizes_few [] n each = omega arith
 sizes_few (v ∷ variables) zero each = each.0
 sizes_few (v ∷ variables) (suc n) each = sizes_few variables n each.1
 
--- the lists of a code, each with what stands behind it
+-- the lists of a code, each with what stands after it
 module _ (code : CodeLists) (h : IsInRange code) (few : IsCountable code) (fits : IsFitting code) where
   variables_again : (rest : List ℕ) → listed_in variable_at 0 any_end (counted variable code.variables ++ rest) ≡ Ok (code.variables, rest)
   variables_again rest =

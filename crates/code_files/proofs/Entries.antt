@@ -1,4 +1,4 @@
--- The least entry behind one more procedure.
+-- The least entry after one more procedure.
 use Rattle.std.proofs.Common.{◌≡◌, ◌+◌, ℕ, List, [], ◌∷◌, ◌++◌, refl}
 use Rattle.std.specs.Prelude.{fold}
 use Rattle.stapl_code.specs.declared.raw.ProcDef.{ProcDef}

@@ -212,7 +212,7 @@ bytes_take front low end made spell P is has = made_takes front made (byte_in lo
 
 -- ---- tables
 
--- Each row of a table, of which the first one has this number, spells its values by its number behind the bytes in
+-- Each row of a table, of which the first one has this number, spells its values by its number after the bytes in
 -- front.
 abbrev pub RowsTake : {A : Type 0} → List ℕ → ℕ → List (Reads A) → (A → List ℕ) → (A → Type 0) → Type 0
 RowsTake front low [] spell P = Unit {0}

@@ -41,7 +41,7 @@ module _ (variables : List VarDef) (literals texts procedures : ℕ) (few : AreF
   instr_again (CopyBits d s) rest h counted_few fits =
       let regrouped : dest d ++ source s ++ rest ≡ dest d ++ (source s ++ rest) = append_assoc (dest d) (source s) rest in
       tagged_again 1 _ 13 (dest d ++ source s ++ rest) refl ∙ ap (row (slice_get (instr_table variables literals texts procedures) 12)) regrouped
-      ∙ followed_again (dest_at (length variables) literals) _ (dest d ++ (source s ++ rest)) d (source s ++ rest) (dest_again (length variables) literals d (source s ++ rest) few.few_variables h.0)
+      ∙ followed_again (dest_at (length variables)) _ (dest d ++ (source s ++ rest)) d (source s ++ rest) (dest_again (length variables) d (source s ++ rest) few.few_variables h.0)
       ∙ made_again (CopyBits d) (source_at (length variables) literals) (source s ++ rest) s rest (source_again (length variables) literals s rest few.few_variables few.few_literals h.1)
   instr_again (SetBits n literal) rest h counted_few fits =
       tagged_again 1 _ 14 (number n ++ (number literal ++ rest)) refl

@@ -49,7 +49,7 @@ module _ (variables : List VarDef) (literals texts procedures : ℕ) where
                         (
                           made_takes _ ToInt (source_at (length variables) literals) source (IsSource (length variables) literals) instr IsGood (source_takes (length variables) literals) (λ x. refl) (λ x h. (h, tt)),
                           (
-                            followed_takes _ (dest_at (length variables) literals) _ dest (IsDest (length variables)) instr IsGood (dest_takes (length variables) literals) (λ d dh. made_takes _ (CopyBits d) (source_at (length variables) literals) source (IsSource (length variables) literals) instr IsGood (source_takes (length variables) literals) (λ s. refl) (λ s h. ((dh, h), tt))),
+                            followed_takes _ (dest_at (length variables)) _ dest (IsDest (length variables)) instr IsGood (dest_takes (length variables)) (λ d dh. made_takes _ (CopyBits d) (source_at (length variables) literals) source (IsSource (length variables) literals) instr IsGood (source_takes (length variables) literals) (λ s. refl) (λ s h. ((dh, h), tt))),
                             (
                               followed_takes _ (with_number (length variables) (λ n. n)) _ number (IsFrom 0 (length variables)) instr IsGood (number_is (length variables)) (λ n nh. numbers_take _ 0 literals (SetBits n) instr IsGood (λ m. refl) (λ m h. ((nh.1, h.1), tt))),
                               (

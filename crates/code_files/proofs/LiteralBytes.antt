@@ -41,7 +41,7 @@ next_byte bits count k lt =
     let on : 8 * k + 8 ≡ 8 * (k + 1) = omega arith in
     rw (one, drop-drop 8 (8 * k) bits, on) refl
 
--- a byte is put behind the ones before it
+-- a byte is put after the ones before it
 pub put_next : (out new total : List ℕ) (byte : ℕ) (rest next : List ℕ) → new ≡ out ++ byte ∷ [] → rest ≡ byte ∷ next → out ++ rest ≡ total → new ++ next ≡ total
 put_next out new total byte rest next made step so_far =
     ap (λ (x : List ℕ). x ++ next) made ∙ append_assoc out (byte ∷ []) next ∙ ap (λ (x : List ℕ). out ++ x) (sym step) ∙ so_far

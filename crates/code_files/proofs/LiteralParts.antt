@@ -57,7 +57,7 @@ drop_few zero (x ∷ xs) few = absurd (omega arith)
 drop_few (suc k) [] few = refl
 drop_few (suc k) (x ∷ xs) few = drop_few k xs (omega arith)
 
--- what stands behind the next byte: the bits so far, and those of this byte
+-- what stands after the next byte: the bits so far, and those of this byte
 front_next : (bits part : List Bool) (at room : ℕ) → length bits ≡ at + room → 0 < room → length part ≡ min 8 room
     → take (at + 8) (spliced at part bits) ≡ take at bits ++ part
 front_next bits part at room long some many =
@@ -124,7 +124,7 @@ zero_from byte used small few =
     ap (λ (n : ℕ). list_all not (drop used (low_bits n byte))) split ∙ ap (list_all not) (drop-low_bits used (8 - used) byte)
     ∙ low_zero (8 - used) (byte / 2 ^ used) (part_below byte used small few)
 
--- the bits behind those of a literal are in its last byte
+-- the bits after those of a literal are in its last byte
 behind_last : (packed : List ℕ) (bits : ℕ) → 1 ≤ length packed → 8 * (length packed - 1) ≤ bits
     → drop bits (flat_map (low_bits 8) packed) ≡ drop (bits - 8 * (length packed - 1)) (low_bits 8 (get_or packed (length packed - 1) 0))
 behind_last [] bits some least = absurd (omega arith)

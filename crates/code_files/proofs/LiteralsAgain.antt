@@ -21,7 +21,7 @@ lowest_of : (b : Bool) (k : ℕ) → nat_eq ((bit_value b + 2 * k) % 2) 1 ≡ b
 lowest_of true k = let low : (1 + 2 * k) % 2 ≡ 1 = omega arith in rw low refl
 lowest_of false k = let low : (0 + 2 * k) % 2 ≡ 0 = omega arith in rw low refl
 
--- the bits of a number, and zeros behind them
+-- the bits of a number, and zeros after them
 low_bits_padded : (k : ℕ) (bits : List Bool) → length bits ≤ k → low_bits k (number_of bits) ≡ bits ++ replicate (k - length bits) false
 low_bits_padded zero [] few = refl
 low_bits_padded zero (b ∷ bits) few = absurd (omega arith)
@@ -44,7 +44,7 @@ none_left : (bits : List Bool) → length bits ≤ 0 → bits ≡ []
 none_left [] few = refl
 none_left (b ∷ bits) few = absurd (omega arith)
 
--- eight bits and the rest, each with zeros behind it, where the first ones are fewer than eight only at the end
+-- eight bits and the rest, each with zeros after it, where the first ones are fewer than eight only at the end
 joined : (a b : List Bool) (n : ℕ) → length a ≤ 8 → (length a < 8 → b ≡ []) → length b ≤ 8 * n
     → (a ++ replicate (8 - length a) false) ++ (b ++ replicate (8 * n - length b) false) ≡ (a ++ b) ++ replicate (8 * suc n - length (a ++ b)) false
 joined a b n few last rest =
@@ -61,7 +61,7 @@ joined a b n few last rest =
           rw (none, append-nil a, total) (sym (append_assoc a b (replicate (8 * suc n - length (a ++ b)) false)))
     ]
 
--- zeros alone stand behind the bits
+-- zeros alone stand after the bits
 pub unpacked : (n : ℕ) (bits : List Bool) → length bits ≤ 8 * n → flat_map (low_bits 8) (bytes_of_bits n bits) ≡ bits ++ replicate (8 * n - length bits) false
 unpacked zero bits few = rw (none_left bits few) refl
 unpacked (suc n) bits few =

@@ -111,13 +111,13 @@ source_again v l (sources.Whole n) rest wv wl h = tagged_again 0 _ 1 (number n +
 source_again v l (sources.Range n) rest wv wl h = tagged_again 0 _ 2 (number n ++ rest) refl ∙ with_number_again v sources.Range n rest wv h
 source_again v l sources.FromInt rest wv wl h = tagged_again 0 _ 3 rest refl
 
-pub dest_again : (v l : ℕ) (d : Dest) (rest : List ℕ) → v ≤ 2 ^ 32 → IsDest v d → dest_at v l (dest d ++ rest) ≡ Ok (d, rest)
-dest_again v l (dests.Whole n) rest wv h = tagged_again 1 _ 1 (number n ++ rest) refl ∙ with_number_again v dests.Whole n rest wv h
-dest_again v l (dests.Range n) rest wv h = tagged_again 1 _ 2 (number n ++ rest) refl ∙ with_number_again v dests.Range n rest wv h
+pub dest_again : (v : ℕ) (d : Dest) (rest : List ℕ) → v ≤ 2 ^ 32 → IsDest v d → dest_at v (dest d ++ rest) ≡ Ok (d, rest)
+dest_again v (dests.Whole n) rest wv h = tagged_again 1 _ 1 (number n ++ rest) refl ∙ with_number_again v dests.Whole n rest wv h
+dest_again v (dests.Range n) rest wv h = tagged_again 1 _ 2 (number n ++ rest) refl ∙ with_number_again v dests.Range n rest wv h
 
-cell_again : (v l : ℕ) (x : Cell) (rest : List ℕ) → v ≤ 2 ^ 32 → IsCell v x → cell_at v l (cell x ++ rest) ≡ Ok (x, rest)
-cell_again v l (cells.Scalar n) rest wv h = tagged_again 0 _ 0 (number n ++ rest) refl ∙ with_number_again v cells.Scalar n rest wv h
-cell_again v l (cells.Element n) rest wv h = tagged_again 0 _ 1 (number n ++ rest) refl ∙ with_number_again v cells.Element n rest wv h
+cell_again : (v : ℕ) (x : Cell) (rest : List ℕ) → v ≤ 2 ^ 32 → IsCell v x → cell_at v (cell x ++ rest) ≡ Ok (x, rest)
+cell_again v (cells.Scalar n) rest wv h = tagged_again 0 _ 0 (number n ++ rest) refl ∙ with_number_again v cells.Scalar n rest wv h
+cell_again v (cells.Element n) rest wv h = tagged_again 0 _ 1 (number n ++ rest) refl ∙ with_number_again v cells.Element n rest wv h
 
 pub export_again : (v l : ℕ) (x : ExportPart) (rest : List ℕ) → v ≤ 2 ^ 32 → l ≤ 2 ^ 32 → IsExport v l x → export_part_at v l (export_part x ++ rest) ≡ Ok (x, rest)
 export_again v l exports.Int rest wv wl h = tagged_again 0 _ 0 rest refl
@@ -137,7 +137,7 @@ compare_again v l c rest wv wl h =
     ap (compare_at v l) regrouped
     ∙ followed_again (source_at v l) _ (source c.expected ++ (source c.mask ++ (cell c.cell ++ rest))) c.expected _ (source_again v l c.expected (source c.mask ++ (cell c.cell ++ rest)) wv wl h.expected)
     ∙ followed_again (source_at v l) _ (source c.mask ++ (cell c.cell ++ rest)) c.mask _ (source_again v l c.mask (cell c.cell ++ rest) wv wl h.mask)
-    ∙ made_again (λ x. record { expected = c.expected; mask = c.mask; cell = x }) (cell_at v l) (cell c.cell ++ rest) c.cell rest (cell_again v l c.cell rest wv h.cell)
+    ∙ made_again (λ x. record { expected = c.expected; mask = c.mask; cell = x }) (cell_at v) (cell c.cell ++ rest) c.cell rest (cell_again v c.cell rest wv h.cell)
 
 scan_parts_again : (v l : ℕ) (register : Register) (bits : Source) (target : Option Dest) (compared : Option Compare) (rest : List ℕ) → v ≤ 2 ^ 32 → l ≤ 2 ^ 32
     → IsGiven (IsDest v) target → IsGiven (IsCompare v l) compared
@@ -146,13 +146,13 @@ scan_parts_again : (v l : ℕ) (register : Register) (bits : Source) (target : O
 scan_parts_again v l register bits None None rest wv wl h g = tagged_again 0 _ 0 rest refl
 scan_parts_again v l register bits (Some d) None rest wv wl h g =
     tagged_again 0 _ 1 (dest d ++ rest) refl
-    ∙ made_again (λ target. record { register = register; source = bits; target = Some target; compare = None }) (dest_at v l) (dest d ++ rest) d rest (dest_again v l d rest wv h)
+    ∙ made_again (λ target. record { register = register; source = bits; target = Some target; compare = None }) (dest_at v) (dest d ++ rest) d rest (dest_again v d rest wv h)
 scan_parts_again v l register bits None (Some c) rest wv wl h g =
     tagged_again 0 _ 2 (compare c ++ rest) refl
     ∙ made_again (λ compare. record { register = register; source = bits; target = None; compare = Some compare }) (compare_at v l) (compare c ++ rest) c rest (compare_again v l c rest wv wl g)
 scan_parts_again v l register bits (Some d) (Some c) rest wv wl h g =
     tagged_again 0 _ 3 (dest d ++ (compare c ++ rest)) refl
-    ∙ followed_again (dest_at v l) _ (dest d ++ (compare c ++ rest)) d (compare c ++ rest) (dest_again v l d (compare c ++ rest) wv h)
+    ∙ followed_again (dest_at v) _ (dest d ++ (compare c ++ rest)) d (compare c ++ rest) (dest_again v d (compare c ++ rest) wv h)
     ∙ made_again (λ compare. record { register = register; source = bits; target = Some d; compare = Some compare }) (compare_at v l) (compare c ++ rest) c rest (compare_again v l c rest wv wl g)
 
 pub scan_again : (v l : ℕ) (s : Scan) (rest : List ℕ) → v ≤ 2 ^ 32 → l ≤ 2 ^ 32 → IsScan v l s → scan_at v l (scan s ++ rest) ≡ Ok (s, rest)

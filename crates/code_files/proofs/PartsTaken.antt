@@ -112,6 +112,19 @@ part_takes texts = tagged_takes [] 0 _ part (IsPart texts) (
   (nothing_takes _ _ _ _ refl tt, (nothing_takes _ _ _ _ refl tt, (nothing_takes _ _ _ _ refl tt, tt))),
 )
 
+module _ (v : ℕ) where
+  pub dest_takes : Takes [] (dest_at v) dest (IsDest v)
+  dest_takes = tagged_takes [] 1 _ dest (IsDest v) (
+    numbers_take _ 0 v dests.Whole dest (IsDest v) (λ n. refl) (λ n h. h.1),
+    (numbers_take _ 0 v dests.Range dest (IsDest v) (λ n. refl) (λ n h. h.1), tt),
+  )
+
+  cell_takes : Takes [] (cell_at v) cell (IsCell v)
+  cell_takes = tagged_takes [] 0 _ cell (IsCell v) (
+    numbers_take _ 0 v cells.Scalar cell (IsCell v) (λ n. refl) (λ n h. h.1),
+    (numbers_take _ 0 v cells.Element cell (IsCell v) (λ n. refl) (λ n h. h.1), tt),
+  )
+
 module _ (v l : ℕ) where
   pub source_takes : Takes [] (source_at v l) source (IsSource v l)
   source_takes = tagged_takes [] 0 _ source (IsSource v l) (
@@ -120,18 +133,6 @@ module _ (v l : ℕ) where
       numbers_take _ 0 v sources.Whole source (IsSource v l) (λ n. refl) (λ n h. h.1),
       (numbers_take _ 0 v sources.Range source (IsSource v l) (λ n. refl) (λ n h. h.1), (nothing_takes _ _ _ _ refl tt, tt)),
     ),
-  )
-
-  pub dest_takes : Takes [] (dest_at v l) dest (IsDest v)
-  dest_takes = tagged_takes [] 1 _ dest (IsDest v) (
-    numbers_take _ 0 v dests.Whole dest (IsDest v) (λ n. refl) (λ n h. h.1),
-    (numbers_take _ 0 v dests.Range dest (IsDest v) (λ n. refl) (λ n h. h.1), tt),
-  )
-
-  cell_takes : Takes [] (cell_at v l) cell (IsCell v)
-  cell_takes = tagged_takes [] 0 _ cell (IsCell v) (
-    numbers_take _ 0 v cells.Scalar cell (IsCell v) (λ n. refl) (λ n h. h.1),
-    (numbers_take _ 0 v cells.Element cell (IsCell v) (λ n. refl) (λ n h. h.1), tt),
   )
 
   pub export_takes : Takes [] (export_part_at v l) export_part (IsExport v l)
@@ -143,7 +144,7 @@ module _ (v l : ℕ) where
     ),
   )
 
-  -- a source that may be left out, behind these bytes
+  -- a source that may be left out, after these bytes
   abbrev pub given_source : Option Source → List ℕ
   given_source s = if_given 1 s ∷ given source s
 
@@ -157,8 +158,8 @@ module _ (v l : ℕ) where
   compare_takes =
       followed_takes [] (source_at v l) _ source (IsSource v l) compare (IsCompare v l) source_takes (λ expected e.
       followed_takes ([] ++ source expected) (source_at v l) _ source (IsSource v l) compare (IsCompare v l) source_takes (λ mask m.
-      made_takes (([] ++ source expected) ++ source mask) (λ x. record { expected = expected; mask = mask; cell = x }) (cell_at v l) cell (IsCell v) compare (IsCompare v l)
-      cell_takes (λ x. refl) (λ x h. record { expected = e; mask = m; cell = h })))
+      made_takes (([] ++ source expected) ++ source mask) (λ x. record { expected = expected; mask = mask; cell = x }) (cell_at v) cell (IsCell v) compare (IsCompare v l)
+      (cell_takes v) (λ x. refl) (λ x h. record { expected = e; mask = m; cell = h })))
 
   -- what stands in front of a scan's parts
   module _ (r : Register) (s : Source) (is : IsSource v l s) where
@@ -172,13 +173,13 @@ module _ (v l : ℕ) where
     scan_parts_take = tagged_takes front 0 _ scan (IsScan v l) (
       nothing_takes _ _ _ _ (append-nil (front ++ 0 ∷ [])) (record { source = is; target = tt; compare = tt }),
       (
-        made_takes _ (λ target. record { register = r; source = s; target = Some target; compare = None }) (dest_at v l) dest (IsDest v) scan (IsScan v l) dest_takes
+        made_takes _ (λ target. record { register = r; source = s; target = Some target; compare = None }) (dest_at v) dest (IsDest v) scan (IsScan v l) (dest_takes v)
             (λ d. append-nil (front ++ (1 ∷ dest d)) ∙ sym (append_assoc front (1 ∷ []) (dest d))) (λ d h. record { source = is; target = h; compare = tt }),
         (
           made_takes _ (λ compare. record { register = r; source = s; target = None; compare = Some compare }) (compare_at v l) compare (IsCompare v l) scan (IsScan v l) compare_takes
               (λ c. refl) (λ c h. record { source = is; target = tt; compare = h }),
           (
-            followed_takes _ (dest_at v l) _ dest (IsDest v) scan (IsScan v l) dest_takes (λ d dh.
+            followed_takes _ (dest_at v) _ dest (IsDest v) scan (IsScan v l) (dest_takes v) (λ d dh.
                 made_takes _ (λ compare. record { register = r; source = s; target = Some d; compare = Some compare }) (compare_at v l) compare (IsCompare v l) scan (IsScan v l) compare_takes
                 (λ c. of_target 3 (dest d) (compare c)) (λ c h. record { source = is; target = dh; compare = h })),
             tt,

@@ -15,7 +15,7 @@ use Rattle.stapl_code.specs.Files.{head}
 use Rattle.code_files.specs.Reading.{field, listed_in, any_end}
 use Rattle.code_files.specs.ReadInstrs.{Reads, with_number, with_number_from, with_byte, with_byte_from, made_of, followed, instr_at}
 
--- the size of a variable of a kind is below this, behind earlier ones: a scalar has 1 element, a BOOLEAN array at most
+-- the size of a variable of a kind is below this, after earlier ones: a scalar has 1 element, a BOOLEAN array at most
 -- 4194304, and all INTEGER and all BOOLEAN elements together have their limits
 abbrev pub size_end : List VarDef → ℕ → ℕ
 size_end earlier zero = min 2 (1048577 - sum_by (elements_of 0 2) earlier)
@@ -33,7 +33,7 @@ abbrev pub variable_at : List VarDef → Reads VarDef
 variable_at earlier = followed (with_byte 4 (λ kind. kind)) (λ kind.
     with_number_from 1 (size_end earlier kind) (λ size. record { kind = kind; size = size }))
 
--- the bits of so many bytes, of which those behind the last one of the literal are 0
+-- the bits of so many bytes, of which those after the last one of the literal are 0
 abbrev pub is_padded : ℕ → List ℕ → Bool
 is_padded bits packed = list_all not (drop bits (flat_map (low_bits 8) packed))
 

@@ -31,7 +31,7 @@ use Rattle.code_files.specs.declared.fault.CodeReason.TheVariants.{Field}
 use Rattle.code_files.specs.declared.fault.Fault.{Fault}
 use Rattle.code_files.specs.Reading.{◌>>=◌, fault, byte_in, number_in, listed_in, any_end}
 
--- a reader of a value: it gives the value, and the bytes behind it
+-- a reader of a value: it gives the value, and the bytes after it
 abbrev pub Reads : Type 0 → Type 0
 Reads A = List ℕ → Result (A × List ℕ) Fault
 
@@ -56,7 +56,7 @@ with_byte end made = with_byte_from 0 end made
 abbrev pub made_of : {A B : Type 0} → (A → B) → Reads A → Reads B
 made_of made reads bytes = reads bytes >>= λ x. Ok (made x.0, x.1)
 
--- a value, and behind it what it leads to
+-- a value, and after it what it leads to
 abbrev pub followed : {A B : Type 0} → Reads A → (A → Reads B) → Reads B
 followed first second bytes = first bytes >>= λ x. second x.0 x.1
 
@@ -95,7 +95,7 @@ state_at = tagged 0 (nothing taps.Reset ∷ nothing taps.Idle
 abbrev pub integer_at : Reads ℤ
 integer_at = with_number any_end (cast_signed w32)
 
--- what may be left out, behind a byte that says whether it stands
+-- what may be left out, after a byte that says whether it stands
 abbrev pub given_at : {A : Type 0} → Reads A → Reads (Option A)
 given_at reads = tagged 0 (nothing None ∷ made_of Some reads ∷ [])
 
@@ -103,33 +103,33 @@ abbrev pub part_at : ℕ → Reads PrintPart
 part_at texts = tagged 0 (with_number texts parts.Text
     ∷ nothing parts.Int ∷ nothing parts.Bit ∷ nothing parts.Char ∷ [])
 
+abbrev pub dest_at : ℕ → Reads Dest
+dest_at variables = tagged 1 (with_number variables dests.Whole ∷ with_number variables dests.Range ∷ [])
+
+abbrev pub cell_at : ℕ → Reads Cell
+cell_at variables = tagged 0 (with_number variables cells.Scalar ∷ with_number variables cells.Element ∷ [])
+
 module _ (variables literals : ℕ) where
   abbrev pub source_at : Reads Source
   source_at = tagged 0 (with_number literals sources.Literal ∷ with_number variables sources.Whole
       ∷ with_number variables sources.Range ∷ nothing sources.FromInt ∷ [])
-
-  abbrev pub dest_at : Reads Dest
-  dest_at = tagged 1 (with_number variables dests.Whole ∷ with_number variables dests.Range ∷ [])
-
-  abbrev pub cell_at : Reads Cell
-  cell_at = tagged 0 (with_number variables cells.Scalar ∷ with_number variables cells.Element ∷ [])
 
   abbrev pub export_part_at : Reads ExportPart
   export_part_at = tagged 0 (nothing exports.Int ∷ nothing exports.Bit ∷ made_of exports.Array source_at ∷ [])
 
   abbrev pub compare_at : Reads Compare
   compare_at = followed source_at (λ expected. followed source_at (λ mask.
-      made_of (λ cell. record { expected = expected; mask = mask; cell = cell }) cell_at))
+      made_of (λ cell. record { expected = expected; mask = mask; cell = cell }) (cell_at variables)))
 
-  -- a scan through a register, of a source, behind which a byte says which parts stand
+  -- a scan through a register, of a source, after which a byte says which parts stand
   abbrev pub scan_parts_at : Register → Source → Reads Scan
   scan_parts_at register source = tagged 0 (
       nothing (record { register = register; source = source; target = None; compare = None })
       ∷ made_of (λ target. record { register = register; source = source; target = Some target; compare = None })
-      dest_at
+      (dest_at variables)
       ∷ made_of (λ compare. record { register = register; source = source; target = None; compare = Some compare })
       compare_at
-      ∷ followed dest_at (λ target.
+      ∷ followed (dest_at variables) (λ target.
       made_of (λ compare. record { register = register; source = source; target = Some target; compare = Some compare })
       compare_at)
       ∷ [])
@@ -153,7 +153,7 @@ module _ (variables : List VarDef) (literals texts procedures : ℕ) where
       ∷ with_byte 4 Unary
       ∷ with_byte 23 Binary
       ∷ made_of ToInt (source_at (length variables) literals)
-      ∷ followed (dest_at (length variables) literals) (λ d.
+      ∷ followed (dest_at (length variables)) (λ d.
       made_of (CopyBits d) (source_at (length variables) literals))
       ∷ followed (with_number (length variables) (λ n. n)) (λ n. with_number literals (SetBits n))
       ∷ followed (with_number (length variables) (λ n. n)) (λ n.

@@ -1,5 +1,5 @@
 -- Reading from left to right. The first field that is cut or outside its range is the fault. What is read stands beside
--- the bytes behind it. The format is this profile's.
+-- the bytes after it. The format is this profile's.
 use Rattle.std.specs.Prelude.{◌≡◌, ℕ, zero, suc, Bool, ◌&&◌, List, [], ◌∷◌, ◌++◌, length, take, drop, Result, Ok, Err, nat_lt, nat_le, slice_index_or, ◌^◌, if◌then◌else◌}
 use Rattle.std.specs.Int.{w32, from_be_bytes}
 use Rattle.code_files.specs.declared.fault.CodeReason.{CodeReason}

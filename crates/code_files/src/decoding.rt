@@ -61,6 +61,8 @@ fn whole_code(alloc: Global, bytes: &[u8]) -> Result<CodeLists, DecodeRefused>
             if rest.is_empty() {
                 Ok(lists)
             } else {
+                // Dropped by a call, which is cheap to prove for a struct of many lists.
+                drop(lists);
                 Err(faulty(bytes, rest.len(), CodeReason::Extra))
             }
         }
@@ -88,18 +90,23 @@ fn invalid_at(alloc: Global, bytes: &[u8], i: usize) -> DecodeRefused
         NamesFault bytes.now result }
 {
     match whole_code(alloc, bytes) {
-        Err(_) => DecodeRefused::Memory,
-        Ok(lists) => match bytes_from(alloc, &lists, i) {
-            Err(_) => DecodeRefused::Memory,
-            Ok(left) => faulty(bytes, left, CodeReason::Invalid),
-        },
+        Err(refused) => refused,
+        Ok(lists) => {
+            let counted = bytes_from(alloc, &lists, i);
+            // Dropped by a call, as above.
+            drop(lists);
+            match counted {
+                Err(_) => DecodeRefused::Memory,
+                Ok(left) => faulty(bytes, left, CodeReason::Invalid),
+            }
+        }
     }
 }
 
 /// The valid code whose file these bytes are.
 ///
 /// `At` names exactly the first fault. That there are too many bytes is told without reading them; otherwise the first
-/// field that is cut or outside its range is the fault, then bytes behind the last field, then the first instruction
+/// field that is cut or outside its range is the fault, then bytes after the last field, then the first instruction
 /// that breaks a rule. `Memory` comes only for want of memory.
 pub fn decode_code(alloc: Global, bytes: &[u8]) -> Result<Code, DecodeRefused>
     ensures file { IfOk result (IsFileOf bytes.now) }

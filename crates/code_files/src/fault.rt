@@ -12,7 +12,7 @@ pub enum CodeReason {
     Cut,
     /// A field is outside its range.
     Field,
-    /// Bytes stand behind the last field.
+    /// Bytes stand after the last field.
     Extra,
     /// An instruction breaks a rule of valid codes.
     Invalid,

@@ -10,6 +10,9 @@ use stapl_lexer::Name;
 use stapl_meaning::Text;
 use std::alloc::AllocError;
 
+/// The bytes that each file begins with.
+pub(crate) const HEAD: [u8; 8] = [83, 84, 65, 80, 76, 67, 0, 1];
+
 pub(crate) fn put_byte(out: &mut Vec<u8>, byte: u8) -> Result<(), AllocError>
     ensures { OnOk result (out.new.items ≡ out.old.items ++ byte ∷ []) }
 {

@@ -16,7 +16,7 @@ pub fn a_file_is_of_one_code()
     ensures { (a b : CodeLists) (x y : List ℕ) → HasFile a → HasFile b → file a ++ x ≡ file b ++ y → (a ≡ b) × (x ≡ y) }
 {}
 
-/// The file of a code is read as this code, whatever stands behind it.
+/// The file of a code is read as this code, whatever stands after it.
 pub fn a_file_is_read_as_its_code()
     ensures { (code : CodeLists) (rest : List ℕ) → HasFile code → code_at (file code ++ rest) ≡ Ok (code, rest) }
 {}

@@ -38,7 +38,7 @@ fn instrs_behind<'a>(
     instrs_of(alloc, counts, bytes)
 }
 
-/// The lists of a code, and the bytes behind the last one.
+/// The lists of a code, and the bytes after the last one.
 pub(crate) fn code_of(alloc: Global, bytes: &[u8]) -> Result<(CodeLists, &[u8]), Stop>
     ensures { Gives (λ x. (x.0, x.1.now)) result (code_at bytes.now) }
 {

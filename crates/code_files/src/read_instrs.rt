@@ -104,7 +104,7 @@ fn value_instr_of<'a>(counts: Counts, tag: u8, rest: &'a [u8]) -> Result<(Instr,
             Ok((Instr::ToInt(source), rest))
         }
         13 => {
-            let (dest, rest) = dest_of(variables, literals, rest)?;
+            let (dest, rest) = dest_of(variables, rest)?;
             let (source, rest) = source_of(variables, literals, rest)?;
             Ok((Instr::CopyBits(dest, source), rest))
         }
@@ -117,15 +117,15 @@ fn value_instr_of<'a>(counts: Counts, tag: u8, rest: &'a [u8]) -> Result<(Instr,
     }
 }
 
-// The instructions 15 to 21: what fills an array, jumps, loops and records.
-fn flow_instr_of<'a>(
+// The instructions 15 to 17: what fills an array, and jumps.
+fn jump_instr_of<'a>(
     alloc: Global,
     counts: Counts,
     tag: u8,
     rest: &'a [u8],
 ) -> Result<(Instr, &'a [u8]), Stop>
     requires low { 15 ≤ tag }
-    requires high { tag ≤ 21 }
+    requires high { tag ≤ 17 }
     ensures { let c = counts.entry in let table = instr_table c.variables.now c.literals c.texts c.procedures in
         Gives (λ x. (x.0, x.1.now)) result (row (slice_get table (tag - 1)) rest.now) }
 {
@@ -145,6 +145,19 @@ fn flow_instr_of<'a>(
             let (n, rest) = number_in(0, 1 << 32, rest)?;
             Ok((Instr::JumpIfZero(n), rest))
         }
+        _ => Err(wrong(rest)),
+    }
+}
+
+// The instructions 18 to 21: loops and records.
+fn loop_instr_of<'a>(counts: Counts, tag: u8, rest: &'a [u8]) -> Result<(Instr, &'a [u8]), Stop>
+    requires low { 18 ≤ tag }
+    requires high { tag ≤ 21 }
+    ensures { let c = counts.entry in let table = instr_table c.variables.now c.literals c.texts c.procedures in
+        Gives (λ x. (x.0, x.1.now)) result (row (slice_get table (tag - 1)) rest.now) }
+{
+    let variables = counts.variables.len();
+    match tag {
         18 => {
             let (n, rest) = number_in(0, variables, rest)?;
             let (m, rest) = number_in(0, 1 << 32, rest)?;
@@ -262,7 +275,8 @@ pub(crate) fn instr_of<'a>(
     match tag {
         1..=7 => operand_instr_of(counts, tag, rest),
         8..=14 => value_instr_of(counts, tag, rest),
-        15..=21 => flow_instr_of(alloc, counts, tag, rest),
+        15..=17 => jump_instr_of(alloc, counts, tag, rest),
+        18..=21 => loop_instr_of(counts, tag, rest),
         22..=27 => text_instr_of(alloc, counts, tag, rest),
         _ => chain_instr_of(alloc, counts, tag, rest),
     }

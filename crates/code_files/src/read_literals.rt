@@ -21,7 +21,7 @@ fn is_zero_from(byte: u8, used: u32) -> bool
     byte >> used == 0
 }
 
-// Whether the bits behind the last one of a literal are 0.
+// Whether the bits after the last one of a literal are 0.
 fn is_padded(len: u32, packed: &[u8]) -> bool
     requires { length packed.now ≡ bytes_for len }
     ensures { result ≡ is_padded len packed.now }

@@ -91,15 +91,21 @@ fn action_of<'a>(
     }
 }
 
-fn procedures_at(alloc: Global, count: u32, bytes: &[u8]) -> Result<(Vec<ProcDef>, &[u8]), Stop>
+// So many procedures, whose names are gathered.
+fn named_procedures_at<'a>(
+    alloc: Global,
+    count: u32,
+    names: &mut IndexSet<Name>,
+    bytes: &'a [u8],
+) -> Result<(Vec<ProcDef>, &'a [u8]), Stop>
+    requires { names.old.keys ≡ [] }
     ensures { Gives (λ x. (x.0.items, x.1.now)) result (items_at procedure_at [] count bytes.now) }
 {
     let mut items = Vec::new(alloc);
-    let mut names = IndexSet::new(alloc);
     let mut least: usize = 0;
     let mut rest = bytes;
     for _ in 0..count {
-        match procedure_of(&names, least, rest) {
+        match procedure_of(names, least, rest) {
             Err(stop) => return Err(stop),
             Ok((item, after)) => {
                 least = item.entry as usize + 1;
@@ -112,6 +118,13 @@ fn procedures_at(alloc: Global, count: u32, bytes: &[u8]) -> Result<(Vec<ProcDef
     Ok((items, rest))
 }
 
+fn procedures_at(alloc: Global, count: u32, bytes: &[u8]) -> Result<(Vec<ProcDef>, &[u8]), Stop>
+    ensures { Gives (λ x. (x.0.items, x.1.now)) result (items_at procedure_at [] count bytes.now) }
+{
+    let mut names = IndexSet::new(alloc);
+    named_procedures_at(alloc, count, &mut names, bytes)
+}
+
 /// The procedures of a code.
 #[tactic(auto, unfolding(crate::specs::Reading::listed_in))]
 pub(crate) fn procedures_of(alloc: Global, bytes: &[u8]) -> Result<(ItemList<ProcDef>, &[u8]), Stop>
@@ -122,6 +135,29 @@ pub(crate) fn procedures_of(alloc: Global, bytes: &[u8]) -> Result<(ItemList<Pro
     Ok((ItemList::of(items), rest))
 }
 
+// So many actions, whose names are gathered.
+fn named_actions_at<'a>(
+    alloc: Global,
+    procedures: usize,
+    count: u32,
+    names: &mut IndexSet<Name>,
+    bytes: &'a [u8],
+) -> Result<(Vec<ActionDef>, &'a [u8]), Stop>
+    requires { names.old.keys ≡ [] }
+    ensures { Gives (λ x. (x.0.items, x.1.now)) result (items_at (action_at procedures) [] count bytes.now) }
+{
+    let mut items = Vec::new(alloc);
+    let mut rest = bytes;
+    for _ in 0..count {
+        let (item, after) = action_of(alloc, procedures, names, rest)?;
+        let name = item.name;
+        items.push(item)?;
+        names.insert(name)?;
+        rest = after;
+    }
+    Ok((items, rest))
+}
+
 fn actions_at(
     alloc: Global,
     procedures: usize,
@@ -130,16 +166,8 @@ fn actions_at(
 ) -> Result<(Vec<ActionDef>, &[u8]), Stop>
     ensures { Gives (λ x. (x.0.items, x.1.now)) result (items_at (action_at procedures) [] count bytes.now) }
 {
-    let mut items = Vec::new(alloc);
     let mut names = IndexSet::new(alloc);
-    let mut rest = bytes;
-    for _ in 0..count {
-        let (item, after) = action_of(alloc, procedures, &names, rest)?;
-        names.insert(item.name)?;
-        items.push(item)?;
-        rest = after;
-    }
-    Ok((items, rest))
+    named_actions_at(alloc, procedures, count, &mut names, bytes)
 }
 
 /// The actions of a code with so many procedures.

@@ -144,12 +144,8 @@ pub(crate) fn source_of(
 }
 
 #[tactic(auto, unfolding(crate::specs::ReadInstrs::tagged))]
-pub(crate) fn dest_of(
-    variables: usize,
-    literals: usize,
-    bytes: &[u8],
-) -> Result<(Dest, &[u8]), Stop>
-    ensures { Gives (λ x. (x.0, x.1.now)) result (dest_at variables literals bytes.now) }
+pub(crate) fn dest_of(variables: usize, bytes: &[u8]) -> Result<(Dest, &[u8]), Stop>
+    ensures { Gives (λ x. (x.0, x.1.now)) result (dest_at variables bytes.now) }
 {
     let (tag, rest) = byte_in(1, 3, bytes)?;
     match tag {
@@ -166,12 +162,8 @@ pub(crate) fn dest_of(
 }
 
 #[tactic(auto, unfolding(crate::specs::ReadInstrs::tagged))]
-pub(crate) fn cell_of(
-    variables: usize,
-    literals: usize,
-    bytes: &[u8],
-) -> Result<(Cell, &[u8]), Stop>
-    ensures { Gives (λ x. (x.0, x.1.now)) result (cell_at variables literals bytes.now) }
+pub(crate) fn cell_of(variables: usize, bytes: &[u8]) -> Result<(Cell, &[u8]), Stop>
+    ensures { Gives (λ x. (x.0, x.1.now)) result (cell_at variables bytes.now) }
 {
     let (tag, rest) = byte_in(0, 2, bytes)?;
     match tag {
@@ -235,7 +227,7 @@ pub(crate) fn compare_of(
 {
     let (expected, rest) = source_of(variables, literals, bytes)?;
     let (mask, rest) = source_of(variables, literals, rest)?;
-    let (cell, rest) = cell_of(variables, literals, rest)?;
+    let (cell, rest) = cell_of(variables, rest)?;
     Ok((
         Compare {
             expected,
@@ -277,7 +269,7 @@ fn scan_parts_of(
     match tag {
         0 => Ok((scan_with(register, source, None, None), rest)),
         1 => {
-            let (target, rest) = dest_of(variables, literals, rest)?;
+            let (target, rest) = dest_of(variables, rest)?;
             Ok((scan_with(register, source, Some(target), None), rest))
         }
         2 => {
@@ -285,7 +277,7 @@ fn scan_parts_of(
             Ok((scan_with(register, source, None, Some(compare)), rest))
         }
         3 => {
-            let (target, rest) = dest_of(variables, literals, rest)?;
+            let (target, rest) = dest_of(variables, rest)?;
             let (compare, rest) = compare_of(variables, literals, rest)?;
             Ok((
                 scan_with(register, source, Some(target), Some(compare)),

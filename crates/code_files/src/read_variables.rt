@@ -1,5 +1,5 @@
 //! Variables of a code file, read from the front of the bytes.
-ghost use Rattle.std.specs.Prelude.{◌≡◌, ◌<◌, ◌≤◌, ◌+◌, [], List, min, sum_by, IfOk};
+ghost use Rattle.std.specs.Prelude.{◌≡◌, ◌<◌, ◌≤◌, ◌+◌, [], List, sum_by, IfOk};
 ghost use Rattle.stapl_code.specs.declared.raw.VarDef.{VarDef};
 ghost use Rattle.stapl_code.specs.Ranges.{elements_of};
 ghost use Rattle.code_files.specs.Reading.{Gives, items_at, listed_in, any_end};
@@ -22,12 +22,6 @@ fn elements_of(scalar: u8, array: u8, variable: VarDef) -> usize
     }
 }
 
-fn least_of(a: usize, b: usize) -> usize
-    ensures { result ≡ min a b }
-{
-    if b < a { b } else { a }
-}
-
 // What the size of a variable of a kind has to be below, if so many INTEGER and so many BOOLEAN elements stand before
 // it.
 fn size_end(ints: usize, bits: usize, kind: u8) -> usize
@@ -39,10 +33,10 @@ fn size_end(ints: usize, bits: usize, kind: u8) -> usize
     ensures room { HasRoom ints bits kind result }
 {
     match kind {
-        0 => least_of(2, 1_048_577 - ints),
-        1 => least_of(2, 16_777_217 - bits),
+        0 => 2usize.min(1_048_577 - ints),
+        1 => 2usize.min(16_777_217 - bits),
         2 => 1_048_577 - ints,
-        3 => least_of(4_194_305, 16_777_217 - bits),
+        3 => 4_194_305usize.min(16_777_217 - bits),
         _ => 0,
     }
 }

@@ -5,6 +5,7 @@ ghost use Rattle.stapl_code.specs.Files.{head};
 ghost use Rattle.code_files.specs.Reading.{Gives, field, byte_in, number_in};
 
 use crate::fault::{CodeReason, Fault, Stop};
+use crate::fields::HEAD;
 
 // The bytes end inside a field.
 pub(crate) fn cut() -> Stop
@@ -60,7 +61,7 @@ pub(crate) fn number_in(low: usize, end: usize, bytes: &[u8]) -> Result<(u32, &[
     }
 }
 
-/// The bytes behind the head of a file.
+/// The bytes after the head of a file.
 pub(crate) fn behind_head(bytes: &[u8]) -> Result<&[u8], Stop>
     ensures { Gives (λ rest. (head, rest.now)) result (field 8 (bytes_eq head) bytes.now) }
 {
@@ -68,7 +69,7 @@ pub(crate) fn behind_head(bytes: &[u8]) -> Result<&[u8], Stop>
         return Err(cut());
     }
     let (front, rest) = bytes.split_at(8);
-    if front == [83, 84, 65, 80, 76, 67, 0, 1].as_slice() {
+    if front == HEAD.as_slice() {
         Ok(rest)
     } else {
         Err(wrong(bytes))

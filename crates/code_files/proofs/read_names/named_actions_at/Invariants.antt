@@ -2,7 +2,7 @@ use Rattle.std.proofs.Common.{◌≡◌, ◌-◌, [], map}
 use Rattle.stapl_code.specs.declared.raw.ActionDef.{ActionDef}
 use Rattle.code_files.specs.Reading.{items_at}
 use Rattle.code_files.specs.ReadFiles.{action_at}
-use Rattle.code_files.proofs.read_names.actions_at.Given as goal
+use Rattle.code_files.proofs.read_names.named_actions_at.Given as goal
 
 abbrev pub invariant-loop : goal.invariant-loop
 invariant-loop l = record {

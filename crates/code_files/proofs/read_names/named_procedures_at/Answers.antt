@@ -5,7 +5,7 @@ use Rattle.code_files.specs.ReadFiles.{procedure_among, procedure_at}
 use Rattle.code_files.proofs.Entries.{least_push}
 use Rattle.code_files.proofs.Loops.{goes_on, ends, is_done}
 use Rattle.code_files.proofs.NameFields.{names_next, procedure_behind}
-use Rattle.code_files.proofs.read_names.procedures_at.Goals as goal
+use Rattle.code_files.proofs.read_names.named_procedures_at.Goals as goal
 
 pub returns-in-Err : goal.returns-in-Err
 returns-in-Err c =

@@ -5,7 +5,7 @@ use Rattle.code_files.specs.Reading.{Fails, items_at}
 use Rattle.code_files.specs.ReadFiles.{action_among, action_at}
 use Rattle.code_files.proofs.Loops.{goes_on, ends, is_done}
 use Rattle.code_files.proofs.NameFields.{names_next, action_behind}
-use Rattle.code_files.proofs.read_names.actions_at.Goals as goal
+use Rattle.code_files.proofs.read_names.named_actions_at.Goals as goal
 
 pub returns-in_err-item : goal.returns-in_err-item
 returns-in_err-item c =
