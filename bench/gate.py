@@ -1,14 +1,17 @@
 #!/usr/bin/env python3
 """Measures what the merge gate costs in processor time, crate by crate: proof, edits and tests apart.
 
-    python3 bench/gate.py             the whole gate
-    python3 bench/gate.py NAME..      these crates and those that they stand on
+    python3 bench/gate.py                      the whole gate
+    python3 bench/gate.py NAME..               these crates and those that they stand on
+    python3 bench/gate.py --by-name [NAME..]   the same, and each test by its name
 
 It runs `rt ci` over a copy of these crates, which proves all from nothing, and reads the processor time of each process
-that proves, five times a second. Then it checks the tests once more, one crate after the other, for the time of each by
-name. It prints two tables in Markdown: one row a crate, in minutes, and the ten dearest edits and tests, in seconds. A
-crate's edits are tried over one more proof of the crate, which has a column of its own. A crate's only edit is tried
-from nothing: it has a star. The status is that of the gate.
+that proves, five times a second. It prints tables in Markdown: one row a crate, in minutes, and the ten dearest edits,
+in seconds. A crate's edits are tried over one more proof of the crate, which has a column of its own. A crate's only
+edit is tried from nothing: it has a star. The status is that of the gate.
+
+With --by-name it then checks the tests once more, one crate after the other, and prints the ten dearest, too. What they
+stand on is proved once more for that, so it takes about as long again as the gate.
 """
 import glob
 import os
@@ -199,30 +202,31 @@ def print_crates(watch, total):
     print(f"\nOther work of the gate, as linking and running: {total / 60 - sum(sums):.1f} minutes.")
 
 
-def print_dearest(edits, tests):
-    print("\n| Dearest edits | Seconds | Dearest tests | Seconds |\n|---|---|---|---|")
-    columns = [sorted(it.items(), key=lambda pair: -pair[1])[:DEAREST] for it in (edits, tests)]
-    for at in range(max(map(len, columns), default=0)):
-        cells = [it[at] if at < len(it) else ("", "") for it in columns]
-        print("| " + " | ".join(f"{name} | {seconds and round(seconds)}" for name, seconds in cells) + " |")
+def print_dearest(what, seconds):
+    print(f"\n| Dearest {what} | Seconds |\n|---|---|")
+    for name, spent in sorted(seconds.items(), key=lambda pair: -pair[1])[:DEAREST]:
+        print(f"| {name} | {round(spent)} |")
 
 
-def main(*names):
-    lines = crates_below(names)
+def main(*words):
+    names = [it for it in words if it != "--by-name"]
+    lines, tests = crates_below(names), {}
     with tempfile.TemporaryDirectory(prefix="gate-") as folder:
         copy_repository(folder, lines)
         begun, before = time.monotonic(), resource.getrusage(resource.RUSAGE_CHILDREN)
         status, watch = run_gate(folder)
         took, after = time.monotonic() - begun, resource.getrusage(resource.RUSAGE_CHILDREN)
         total = after.ru_utime + after.ru_stime - before.ru_utime - before.ru_stime
-        tests = {name: it for crate in crates_with_tests(lines) for name, it in time_tests(folder, crate).items()}
+        for crate in crates_with_tests(lines) if "--by-name" in words else ():
+            tests.update(time_tests(folder, crate))
     named = {(crate, name) for crate, _, name in watch.work.values() if name}
     seconds = {(crate, name): watch.total(lambda it, _, edit: (it, edit) == (crate, name)) for crate, name in named}
     star = lambda crate: "*" * (len(edits_of(crate)) == 1)
-    edits = {f"{crate}/{name}{star(crate)}": it for (crate, name), it in seconds.items()}
     print(f"{len(os.sched_getaffinity(0))} processors: {took / 60:.0f} minutes, {total / 60:.0f} of processor time.\n")
     print_crates(watch, total)
-    print_dearest(edits, tests)
+    print_dearest("edits", {f"{crate}/{name}{star(crate)}": it for (crate, name), it in seconds.items()})
+    if tests:
+        print_dearest("tests", tests)
     return status
 
 
