@@ -1,20 +1,22 @@
 //! Lists of bits, the lowest index first.
 #![tactic(auto)]
 
-ghost use Rattle.std.specs.Prelude.{◌≡◌, ◌<◌, ◌≤◌, ◌+◌, ◌↔◌, ◌++◌, ℕ, Bool, false, [], IsTrue, IfOk, OnOk, All, length, replicate, take, drop, slice_get, slice_set};
+ghost use Rattle.std.specs.Prelude.{◌≡◌, ◌<◌, ◌≤◌, ◌+◌, ◌-◌, ◌↔◌, ◌++◌, ℕ, Bool, false, [], IsTrue, IfOk, OnOk, All, length, replicate, reverse, take, drop, slice_get, slice_set};
 ghost use Rattle.std.specs.Bool.{beq};
 ghost use Rattle.std.specs.Cmp.Lexicographic.{pointwise};
 ghost use Rattle.bit_list.specs.Digits.{IsDigit, IsFirstBadDigit, bits_of_binary, bits_of_hex};
 ghost use Rattle.bit_list.specs.Integers.{int_of, bits_of_int};
 ghost use Rattle.bit_list.specs.Ranges.{taken, spliced, AgreeUnderMask};
+ghost use Rattle.base.specs.Bits.{low_bits, number_of};
 
 mod digits;
 pub mod laws;
-mod parts;
+mod words;
 
 use std::alloc::{AllocError, Global};
 use std::marker::Model;
 use thiserror::Error;
+use words::WORD_SIZE;
 
 /// The most bits of a list.
 pub const MOST_BITS: u32 = 16_777_216;
@@ -25,18 +27,19 @@ pub const MOST_DIGITS: usize = 4_194_304;
 /// A list of at most `MOST_BITS` bits, the lowest index first, which is the order of shifting.
 #[derive(Debug, Drop)]
 pub struct Bits {
-    bits: Vec<bool>,
+    words: Vec<u64>,
+    len: u32,
 }
 
 impl Model for Bits {
-    ghost use Rattle.std.specs.Prelude.{Bool, List, length, ◌≤◌};
-    ghost use Rattle.bit_list.specs.declared.TheConstants.{MOST_BITS};
+    ghost use Rattle.std.specs.Prelude.{Bool, List, take};
+    ghost use Rattle.bit_list.specs.Words.{bits_of_words, IsPacked};
 
     ghost Value = { List Bool };
 
-    ghost view = { λ b. b.bits.items };
+    ghost view = { λ b. take b.len (bits_of_words b.words.items) };
 
-    ghost invariant = { λ b. length b.bits.items ≤ MOST_BITS };
+    ghost invariant = { λ b. IsPacked b.words.items b.len };
 }
 
 /// Why digits gave no list of bits: `BadDigit` with the place, counted from 0, of the first byte that is no digit, or
@@ -55,8 +58,8 @@ impl Bits {
         requires { n ≤ MOST_BITS }
         ensures { IfOk result (λ b. b ≡ replicate n false) }
     {
-        let bits = vec![in alloc; false; n as usize]?;
-        Ok(Bits { bits })
+        let words = words::zeros(alloc, (n as usize).div_ceil(WORD_SIZE))?;
+        Ok(Bits { words, len: n })
     }
 
     /// The list of these binary digits, highest digit first, so that the last digit stands at index 0.
@@ -67,7 +70,8 @@ impl Bits {
         requires { length digits.now ≤ MOST_DIGITS }
         ensures bits { IfOk result (λ b. b ≡ bits_of_binary digits.now) }
         ensures all_digits { OnOk result (All (IsDigit 2) digits.now) }
-        ensures bad_digit { (place : ℕ) → (result ≡ Err (BitsRefused.BadDigit place)) ↔ IsFirstBadDigit 2 digits.now place }
+        ensures bad_digit { (place : ℕ) →
+            (result ≡ Err (BitsRefused.BadDigit place)) ↔ IsFirstBadDigit 2 digits.now place }
     {
         digits::read_bits(alloc, digits, 2, 1)
     }
@@ -80,7 +84,8 @@ impl Bits {
         requires { length digits.now ≤ MOST_DIGITS }
         ensures bits { IfOk result (λ b. b ≡ bits_of_hex digits.now) }
         ensures all_digits { OnOk result (All (IsDigit 16) digits.now) }
-        ensures bad_digit { (place : ℕ) → (result ≡ Err (BitsRefused.BadDigit place)) ↔ IsFirstBadDigit 16 digits.now place }
+        ensures bad_digit { (place : ℕ) →
+            (result ≡ Err (BitsRefused.BadDigit place)) ↔ IsFirstBadDigit 16 digits.now place }
     {
         digits::read_bits(alloc, digits, 16, 4)
     }
@@ -89,8 +94,9 @@ impl Bits {
     pub fn copied(&self, alloc: Global) -> Result<Bits, AllocError>
         ensures { IfOk result (λ b. b ≡ self.now) }
     {
-        let bits = self.bits.as_slice().to_vec(alloc)?;
-        Ok(Bits { bits })
+        let words = self.words.as_slice().to_vec(alloc)?;
+        let len = self.len;
+        Ok(Bits { words, len })
     }
 
     /// How many bits the list has, at most `MOST_BITS`.
@@ -98,14 +104,14 @@ impl Bits {
         ensures length { result ≡ length self.now }
         ensures limit { result ≤ MOST_BITS }
     {
-        self.bits.len() as u32
+        self.len
     }
 
     /// Whether the list has no bit.
     pub fn is_empty(&self) -> bool
         ensures { IsTrue result ↔ (self.now ≡ []) }
     {
-        self.bits.is_empty()
+        self.len() == 0
     }
 
     /// The bit at index i.
@@ -113,7 +119,7 @@ impl Bits {
         requires { i < length self.now }
         ensures { slice_get self.now i ≡ Some result }
     {
-        self.bits[i as usize]
+        words::bit_at(&self.words, i as usize)
     }
 
     /// Sets the bit at index i, and no other.
@@ -122,7 +128,7 @@ impl Bits {
         ensures changed { self.new ≡ slice_set self.old i bit }
         ensures length { length self.new ≡ length self.old }
     {
-        self.bits[i as usize] = bit;
+        words::set_bit(&mut self.words, i as usize, bit);
     }
 
     /// Copies the n bits of `from` from index `low` on to the indexes from `at` on; the other bits stay.
@@ -132,9 +138,28 @@ impl Bits {
         ensures copied { self.new ≡ spliced at (taken low n from.now) self.old }
         ensures length { length self.new ≡ length self.old }
     {
-        let (at, low, n) = (at as usize, low as usize, n as usize);
-        let source = &from.bits[low..low + n];
-        self.bits[at..at + n].copy_from_slice(source);
+        words::copy_bits(
+            &mut self.words,
+            at as usize,
+            &from.words,
+            low as usize,
+            n as usize,
+        );
+    }
+
+    /// Copies the n bits of `from` from index `high` down to the indexes from `at` on: the bit at `at + i` becomes the
+    /// bit of `from` at `high - i`. The other bits stay.
+    pub fn reverse_range(&mut self, at: u32, from: &Bits, high: u32, n: u32)
+        requires target { at + n ≤ length self.old }
+        requires some { n ≤ high + 1 }
+        requires source { 0 < n → high < length from.now }
+        ensures reversed { self.new ≡ spliced at (reverse (taken (high + 1 - n) n from.now)) self.old }
+        ensures length { length self.new ≡ length self.old }
+    {
+        if n > 0 {
+            let low = high as usize + 1 - n as usize;
+            words::reverse_bits(&mut self.words, at as usize, &from.words, low, n as usize);
+        }
     }
 
     /// Copies the n bits from index `low` on to the indexes from `at` on; the other bits stay. All are read before one
@@ -146,7 +171,11 @@ impl Bits {
         ensures length { length self.new ≡ length self.old }
     {
         let (at, low, n) = (at as usize, low as usize, n as usize);
-        self.bits.copy_within(low..low + n, at);
+        if at <= low {
+            words::move_down(&mut self.words, at, low, n);
+        } else {
+            words::move_up(&mut self.words, at, low, n);
+        }
     }
 
     /// Sets the n bits from index `at` on to the lowest ones of `from`, and to 0 where it has none; the other bits
@@ -156,8 +185,10 @@ impl Bits {
         ensures copied { self.new ≡ spliced at (take n (from.now ++ replicate n false)) self.old }
         ensures length { length self.new ≡ length self.old }
     {
-        let (at, n) = (at as usize, n as usize);
-        parts::write_padded(&mut self.bits[at..at + n], &from.bits);
+        let _len = self.len();
+        let count = from.len().min(n);
+        self.copy_range(at, from, 0, count);
+        self.fill_range(at + count, n - count, false);
     }
 
     /// Sets the n bits from index `at` on to the lowest ones of an integer in two's complement; the other bits stay.
@@ -167,8 +198,7 @@ impl Bits {
         ensures bits { self.new ≡ spliced at (take n (bits_of_int value)) self.old }
         ensures length { length self.new ≡ length self.old }
     {
-        let (at, n) = (at as usize, n as usize);
-        parts::write_low_part(&mut self.bits[at..at + n], value);
+        self.set_word(at, n, u64::from(value.cast_unsigned()));
     }
 
     /// Whether the lowest n bits of two lists agree wherever the mask has a 1.
@@ -178,8 +208,7 @@ impl Bits {
         requires mask { n ≤ length mask.now }
         ensures { IsTrue result ↔ AgreeUnderMask mask.now n self.now other.now }
     {
-        let n = n as usize;
-        parts::agree_under_mask(&mask.bits[..n], &self.bits[..n], &other.bits[..n])
+        words::agree_under_mask(&mask.words, &self.words, &other.words, n as usize)
     }
 
     /// The n bits from index `low` on as an integer of 32 bits in two's complement: its bit i is the bit at `low + i`,
@@ -189,8 +218,7 @@ impl Bits {
         requires inside { low + n ≤ length self.now }
         ensures { result ≡ int_of (taken low n self.now) }
     {
-        let (low, n) = (low as usize, n as usize);
-        parts::number_of_bits(&self.bits[low..low + n]).cast_signed()
+        (self.word(low, n) as u32).cast_signed()
     }
 
     /// Sets the bits 0 to 31 to those of an integer in two's complement; the other bits stay.
@@ -199,8 +227,37 @@ impl Bits {
         ensures bits { self.new ≡ bits_of_int value ++ drop 32 self.old }
         ensures length { length self.new ≡ length self.old }
     {
-        let number = value.cast_unsigned();
-        parts::write_low_bits(&mut self.bits, 32, number);
+        self.set_word(0, 32, u64::from(value.cast_unsigned()));
+    }
+
+    /// The n bits from index `at` on, of which there are at most 64, as a number.
+    pub fn word(&self, at: u32, n: u32) -> u64
+        requires most { n ≤ 64 }
+        requires inside { at + n ≤ length self.now }
+        ensures value { result ≡ number_of (taken at n self.now) }
+        ensures bits { low_bits n result ≡ taken at n self.now }
+    {
+        words::word_at(&self.words, at as usize, n as usize)
+    }
+
+    /// Sets the n bits from index `at` on, of which there are at most 64, to the lowest ones of a number; the other
+    /// bits stay.
+    pub fn set_word(&mut self, at: u32, n: u32, word: u64)
+        requires most { n ≤ 64 }
+        requires inside { at + n ≤ length self.old }
+        ensures bits { self.new ≡ spliced at (low_bits n word) self.old }
+        ensures length { length self.new ≡ length self.old }
+    {
+        words::set_word(&mut self.words, at as usize, n as usize, word);
+    }
+
+    /// Sets the n bits from index `at` on to this bit; the other bits stay.
+    pub fn fill_range(&mut self, at: u32, n: u32, bit: bool)
+        requires { at + n ≤ length self.old }
+        ensures bits { self.new ≡ spliced at (replicate n bit) self.old }
+        ensures length { length self.new ≡ length self.old }
+    {
+        words::fill_bits(&mut self.words, at as usize, n as usize, bit);
     }
 }
 
@@ -216,7 +273,7 @@ impl PartialEq for Bits {
         ensures value { result ≡ pointwise beq self.now other.now }
         ensures same { IsTrue result ↔ (self.now ≡ other.now) }
     {
-        self.bits.as_slice() == other.bits.as_slice()
+        self.len == other.len && words::are_same(&self.words, &other.words)
     }
 }
 

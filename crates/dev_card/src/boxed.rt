@@ -46,4 +46,8 @@ impl Device for Box<dyn Device> {
     fn cell_bit(&self, cell: u32, bit: u32) -> bool {
         (**self).cell_bit(cell, bit)
     }
+
+    fn cell_word(&self, cell: u32, at: u32, n: u32) -> u64 {
+        (**self).cell_word(cell, at, n)
+    }
 }

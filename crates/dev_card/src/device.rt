@@ -1,6 +1,8 @@
 //! The interface of a boxed device.
-ghost use Rattle.std.specs.Prelude.{◌≡◌, ◌≢◌, ◌<◌, ◌↔◌, length, Option, Some, None, IsSome, IsSomeAnd, IsErrOf, OnOk, OnErr};
+ghost use Rattle.std.specs.Prelude.{◌≡◌, ◌≢◌, ◌<◌, ◌≤◌, ◌+◌, ◌↔◌, length, Option, Some, None, IsSome, IsSomeAnd, IsErrOf, OnOk, OnErr};
 ghost use Rattle.std.specs.Option.{option_map};
+ghost use Rattle.base.specs.Bits.{number_of};
+ghost use Rattle.bit_list.specs.Ranges.{taken};
 ghost use Rattle.dev_card.specs.declared.desc.Kind.{Kind};
 ghost use Rattle.dev_card.specs.Descriptions.{IsGood};
 ghost use Rattle.dev_card.specs.Card.{fresh, tdo_of, step, cell_of, bit_of};
@@ -82,4 +84,12 @@ pub trait Device: Drop {
     fn cell_bit(&self, cell: u32, bit: u32) -> bool
         requires { IsSomeAnd (card_in (fitted self.now)) (λ c. (cell < length c.cells) × (bit < length (cell_of c cell))) }
         ensures { option_map (λ c. bit_of c cell bit) (card_in (fitted self.now)) ≡ Some result };
+
+    /// The n bits of a cell from bit `at` on, of which there are at most 64, as a number.
+    fn cell_word(&self, cell: u32, at: u32, n: u32) -> u64
+        requires most { n ≤ 64 }
+        requires inside { IsSomeAnd (card_in (fitted self.now))
+            (λ c. (cell < length c.cells) × (at + n ≤ length (cell_of c cell))) }
+        ensures { option_map (λ c. number_of (taken at n (cell_of c cell))) (card_in (fitted self.now))
+            ≡ Some result };
 }
