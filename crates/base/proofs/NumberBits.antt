@@ -1,8 +1,10 @@
 -- Laws of numbers and their lists of bits.
-use Rattle.std.proofs.Common.{◌≡◌, ◌<◌, ℕ, zero, suc, ◌+◌, ◌*◌, ◌/◌, ◌%◌, ◌^◌, nat_eq, Bool, true, false, List, [], ◌∷◌, length, drop, refl, sym, ap, ◌∙◌, arith}
+use Rattle.std.proofs.Common.{◌≡◌, ◌<◌, ◌≤◌, ℕ, zero, suc, ◌+◌, ◌-◌, ◌*◌, ◌/◌, ◌%◌, ◌^◌, nat_eq, Bool, true, false, List, [], ◌∷◌, ◌++◌, length, take, drop, replicate, get_or, refl, sym, ap, ap₂, ◌∙◌, arith}
+use Rattle.std.specs.Int.{bit_at}
 use Rattle.std.proofs.Math.Nat.{pow-suc, div-div-eq-div-mul}
 use Rattle.std.proofs.Math.Arith.{mod-mul}
-use Rattle.std.proofs.lemmas.Nat.{pow_pos}
+use Rattle.std.proofs.lemmas.Nat.{pow_pos, shr_high, mod_low}
+use Rattle.std.proofs.lemmas.List.{take-append-drop}
 use Rattle.base.specs.Bits.{low_bits, bit_value, number_of}
 
 pub length-low_bits : (n x : ℕ) → length (low_bits n x) ≡ n
@@ -52,3 +54,69 @@ low_bits-number_of (true ∷ bits) =
 low_bits-number_of (false ∷ bits) =
     let low : (0 + 2 * number_of bits) % 2 ≡ 0 = omega arith in
     rw (low, half_of_even (number_of bits)) (ap (λ z. false ∷ z) (low_bits-number_of bits))
+
+-- parts of a number
+
+-- the lowest bits of the lowest bits
+pub lowest_bits : (n m x : ℕ) → n ≤ m → take n (low_bits m x) ≡ low_bits n x
+lowest_bits zero m x h = refl
+lowest_bits (suc n) zero x h = absurd (omega (arith, h))
+lowest_bits (suc n) (suc m) x h = ap (λ l. nat_eq (x % 2) 1 ∷ l) (lowest_bits n m (x / 2) (omega (arith, h)))
+
+-- the lowest bits and the rest
+pub low_bits_cut : (a b z : ℕ) → low_bits (a + b) z ≡ low_bits a z ++ low_bits b (z / 2 ^ a)
+low_bits_cut a b z =
+    sym (take-append-drop a (low_bits (a + b) z))
+    ∙ ap₂ (λ x y. x ++ y) (lowest_bits a (a + b) z (omega arith)) (drop-low_bits a b z)
+
+-- the lowest bits do not see what stands above them
+pub low_bits_mod : (n z : ℕ) → low_bits n (z % 2 ^ n) ≡ low_bits n z
+low_bits_mod n z =
+    ap (low_bits n) (sym (number_of-low_bits n z)) ∙ ap (λ k. low_bits k (number_of (low_bits n z))) (sym (length-low_bits n z))
+    ∙ low_bits-number_of (low_bits n z)
+
+-- the bits of two numbers, one above the other
+pub low_bits_joined : (a b x y : ℕ) → x < 2 ^ a → low_bits (a + b) (y * 2 ^ a + x) ≡ low_bits a x ++ low_bits b y
+low_bits_joined a b x y small =
+    low_bits_cut a b (y * 2 ^ a + x)
+    ∙ ap₂ (λ u v. u ++ v)
+    (sym (low_bits_mod a (y * 2 ^ a + x)) ∙ ap (low_bits a) (mod_low y a x small))
+    (ap (low_bits b) (shr_high y a x small))
+
+-- the n bits from bit r on
+pub part_of_number : (r n m z : ℕ) → r + n ≤ m → take n (drop r (low_bits m z)) ≡ low_bits n (z / 2 ^ r)
+part_of_number r n m z h =
+    let whole : r + (m - r) ≡ m = omega arith in
+    ap (λ k. take n (drop r (low_bits k z))) (sym whole) ∙ ap (take n) (drop-low_bits r (m - r) z) ∙ lowest_bits n (m - r) (z / 2 ^ r) (omega arith)
+
+-- the number of two lists of bits in a row
+pub number_of-append : (xs ys : List Bool) → number_of (xs ++ ys) ≡ number_of ys * 2 ^ length xs + number_of xs
+number_of-append [] ys = omega arith
+number_of-append (x ∷ xs) ys =
+    let more : number_of (xs ++ ys) ≡ number_of ys * 2 ^ length xs + number_of xs = number_of-append xs ys in
+    let power : number_of ys * 2 ^ suc (length xs) ≡ 2 * (number_of ys * 2 ^ length xs) =
+    ap (λ k. number_of ys * k) (pow-suc 2 (length xs)) ∙ omega arith in
+    omega arith
+
+-- bit j of a number
+pub get_or-low_bits : (n x j : ℕ) → j < n → get_or (low_bits n x) j false ≡ nat_eq (bit_at x j) 1
+get_or-low_bits zero x j h = absurd (omega arith)
+get_or-low_bits (suc n) x zero h = let one : x / 2 ^ 0 ≡ x = omega arith in ap (λ z. nat_eq (z % 2) 1) (sym one)
+get_or-low_bits (suc n) x (suc j) h =
+    let power : 2 * 2 ^ j ≡ 2 ^ suc j = omega (arith, pow-suc 2 j) in
+    get_or-low_bits n (x / 2) j (omega arith) ∙ ap (λ z. nat_eq (z % 2) 1) (div-div-eq-div-mul x 2 (2 ^ j) ∙ ap (λ d. x / d) power)
+
+-- the bits of zero and of all ones
+pub low_bits_of_zero : (n : ℕ) → low_bits n 0 ≡ replicate n false
+low_bits_of_zero zero = refl
+low_bits_of_zero (suc n) = ap (λ z. false ∷ z) (low_bits_of_zero n)
+
+pub low_bits_of_ones : (n k : ℕ) → n ≤ k → low_bits n (2 ^ k - 1) ≡ replicate n true
+low_bits_of_ones zero k h = refl
+low_bits_of_ones (suc n) zero h = absurd (omega arith)
+low_bits_of_ones (suc n) (suc k) h =
+    let power : 2 ^ suc k ≡ 2 ^ k * 2 = pow-suc 2 k in
+    let some : 0 < 2 ^ k = pow_pos k in
+    let odd : (2 ^ suc k - 1) % 2 ≡ 1 = omega arith in
+    let half : (2 ^ suc k - 1) / 2 ≡ 2 ^ k - 1 = omega arith in
+    ap₂ (λ r x. nat_eq r 1 ∷ low_bits n x) odd half ∙ ap (λ z. true ∷ z) (low_bits_of_ones n k (omega arith))

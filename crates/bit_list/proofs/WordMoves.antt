@@ -1,9 +1,7 @@
 -- Bits that are copied between words.
-use Rattle.std.proofs.Common.{◌≡◌, ◌<◌, ◌≤◌, ℕ, zero, suc, ◌+◌, ◌-◌, ◌*◌, ◌/◌, ◌%◌, ◌^◌, nat_eq, Bool, true, false, List, [], ◌∷◌, ◌++◌, length, take, drop, set, replicate, refl, sym, ap, ap₂, ◌∙◌, append_assoc, arith}
+use Rattle.std.proofs.Common.{◌≡◌, ◌<◌, ◌≤◌, ℕ, zero, suc, ◌+◌, ◌-◌, ◌*◌, ◌/◌, ◌%◌, Bool, List, [], ◌∷◌, ◌++◌, length, take, drop, set, replicate, refl, sym, ap, ap₂, ◌∙◌, append_assoc, arith}
 use borrow.Rule.Slice.PartMut.{put_mid}
 use Rattle.std.proofs.lemmas.List.{append-nil, length-drop, length-take-le, take_more_set, set_split, drop-drop, length-replicate, replicate-append-replicate}
-use Rattle.std.proofs.Math.Nat.{pow-suc}
-use Rattle.std.proofs.lemmas.Nat.{pow_pos}
 use Rattle.std.proofs.lemmas.List.Concat.{flat_map-append}
 use Rattle.base.specs.Bits.{low_bits, number_of}
 use Rattle.base.proofs.NumberBits.{length-low_bits, low_bits-number_of}
@@ -118,25 +116,6 @@ moved_up at low n k len word start now new up inside h before e w =
     ∙ ap (λ z. spliced (at + k) z (bits_of_words start))
     (ap (λ p. taken (low + k) len (bits_of_words start) ++ taken p (n - (k + len)) (bits_of_words start)) (sym place)
     ∙ taken_joined (low + k) len (n - (k + len)) (bits_of_words start) ∙ ap (λ m. taken (low + k) m (bits_of_words start)) whole)
-
--- zeros
-
-pub low_bits_of_zero : (n : ℕ) → low_bits n 0 ≡ replicate n false
-low_bits_of_zero zero = refl
-low_bits_of_zero (suc n) = ap (λ z. false ∷ z) (low_bits_of_zero n)
-
--- ones
-
--- the words of one bit
-pub low_bits_of_ones : (n k : ℕ) → n ≤ k → low_bits n (2 ^ k - 1) ≡ replicate n true
-low_bits_of_ones zero k h = refl
-low_bits_of_ones (suc n) zero h = absurd (omega arith)
-low_bits_of_ones (suc n) (suc k) h =
-    let power : 2 ^ suc k ≡ 2 ^ k * 2 = pow-suc 2 k in
-    let some : 0 < 2 ^ k = pow_pos k in
-    let odd : (2 ^ suc k - 1) % 2 ≡ 1 = omega arith in
-    let half : (2 ^ suc k - 1) / 2 ≡ 2 ^ k - 1 = omega arith in
-    ap₂ (λ r x. nat_eq r 1 ∷ low_bits n x) odd half ∙ ap (λ z. true ∷ z) (low_bits_of_ones n k (omega arith))
 
 -- one more block is filled
 pub filled_more : (b : Bool) (at done len word : ℕ) (start now new : List ℕ) → at + done ≤ 64 * length start →

@@ -8,10 +8,9 @@ use Rattle.std.proofs.lemmas.Int.{of_z-to_z}
 use Rattle.std.proofs.lemmas.List.{append-nil, drop_all, take_all, length-map, length-replicate, length-set, with_items_is}
 use Rattle.std.proofs.lemmas.List.Elements.{All-head, All-tail, All-replicate, All-get_or, All-set}
 use Rattle.base.specs.Bits.{low_bits, number_of}
-use Rattle.base.proofs.NumberBits.{length-low_bits, number_of-below}
+use Rattle.base.proofs.NumberBits.{lowest_bits, length-low_bits, number_of-below}
 use Rattle.bit_list.specs.Integers.{int_of, bits_of_int}
 use Rattle.bit_list.specs.Ranges.{taken, spliced}
-use Rattle.bit_list.proofs.Padding.{lowest_bits}
 use Rattle.dev_card.specs.declared.desc.FlashDesc.{FlashDesc}
 use Rattle.dev_card.specs.Card.{and_bits, flash_erase}
 use Rattle.dev_kinds.specs.Logic.{Logic}

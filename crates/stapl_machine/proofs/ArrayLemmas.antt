@@ -5,11 +5,11 @@ use Rattle.std.specs.Int.{w32, cast_unsigned}
 use Rattle.std.specs.Int.RustNames.{FitsSigned}
 use Rattle.std.proofs.lemmas.List.{set-set, get_or-set_other, take_all, take-take, length-take-le, length-drop}
 use borrow.Author.Tests.{leb-true}
-use Rattle.base.proofs.NumberBits.{length-low_bits}
+use Rattle.base.proofs.NumberBits.{lowest_bits, length-low_bits}
 use Rattle.bit_list.specs.Integers.{bits_of_int, int_of}
 use Rattle.bit_list.specs.Ranges.{taken, spliced}
 use Rattle.bit_list.proofs.IntegerBits.{int_of-bits_of_int}
-use Rattle.bit_list.proofs.Padding.{lowest_bits, first_of_first}
+use Rattle.bit_list.proofs.Padding.{first_of_first}
 use Rattle.stapl_meaning.specs.declared.events.RunFault.{RunFault}
 use Rattle.stapl_meaning.specs.declared.events.RunFault.TheVariants.{LengthMismatch}
 use Rattle.stapl_meaning.specs.declared.values.Value.{Value}

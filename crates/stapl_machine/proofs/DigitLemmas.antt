@@ -7,10 +7,10 @@ use Rattle.std.proofs.lemmas.List.{drop-take, drop-drop, length-take-le, length-
 use Rattle.std.proofs.lemmas.Nat.{pow_pos}
 use Rattle.std.proofs.Math.Nat.{pow-suc}
 use Rattle.base.specs.Bits.{low_bits, number_of}
-use Rattle.base.proofs.NumberBits.{drop-low_bits, number_of-low_bits}
+use Rattle.base.proofs.NumberBits.{lowest_bits, drop-low_bits, number_of-low_bits}
 use Rattle.bit_list.specs.Integers.{int_of}
 use Rattle.bit_list.specs.Ranges.{taken}
-use Rattle.bit_list.proofs.Padding.{lowest_bits, first_of_first}
+use Rattle.bit_list.proofs.Padding.{first_of_first}
 use Rattle.tool_io.specs.declared.lines.Lines.{Lines}
 use Rattle.tool_io.specs.Lines.{Puts, PutsFront}
 use Rattle.tool_io.proofs.PutLemmas.{put_then, put_then_front, puts_nothing, front_with}

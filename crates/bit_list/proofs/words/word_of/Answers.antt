@@ -1,4 +1,4 @@
-use Rattle.bit_list.proofs.WordMoves.{low_bits_of_zero, low_bits_of_ones}
+use Rattle.base.proofs.NumberBits.{low_bits_of_zero, low_bits_of_ones}
 use Rattle.bit_list.proofs.words.word_of.Goals as goal
 
 pub returns-then-bit : goal.returns-then-bit
