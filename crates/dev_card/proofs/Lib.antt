@@ -9,3 +9,6 @@ pub mod PaddedLines
 pub mod OneScan
 pub mod Resetting
 pub mod Scanning
+pub mod BlockSteps
+pub mod BlockShifts
+pub mod HexDigits

@@ -42,13 +42,13 @@ length_of_tdos : (is : List Input) (cs : List Card) → length (tdos (clocks_of 
 length_of_tdos [] cs = refl
 length_of_tdos (i ∷ is) cs = omega (arith, length_of_tdos is (after_input cs i))
 
-tdos_of_with : (is : List Input) (out : List Bool) → length is ≡ length out → tdos (clocks_with is out) ≡ out
+pub tdos_of_with : (is : List Input) (out : List Bool) → length is ≡ length out → tdos (clocks_with is out) ≡ out
 tdos_of_with [] [] h = refl
 tdos_of_with [] (b ∷ out) h = absurd (omega arith)
 tdos_of_with (i ∷ is) [] h = absurd (omega arith)
 tdos_of_with (i ∷ is) (b ∷ out) h = ap (λ z. b ∷ z) (tdos_of_with is out (omega arith))
 
-length_of_shift : (bits : List Bool) → length (shift_inputs bits) ≡ length bits
+pub length_of_shift : (bits : List Bool) → length (shift_inputs bits) ≡ length bits
 length_of_shift [] = refl
 length_of_shift (b ∷ []) = refl
 length_of_shift (b ∷ c ∷ bs) = omega (arith, length_of_shift (c ∷ bs))

@@ -7,6 +7,7 @@ pub mod Clocks
 pub mod Sound
 pub mod PaddedScan
 pub mod Scans
+pub mod Blocks
 pub mod FarEnds
 pub mod Hexadecimal
 pub mod Reports

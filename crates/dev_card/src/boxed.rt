@@ -31,6 +31,10 @@ impl Device for Box<dyn Device> {
         (**self).clock(tms, tdi)
     }
 
+    fn shift_block(&mut self, tdi: u64, n: u32, last: bool) -> u64 {
+        (**self).shift_block(tdi, n, last)
+    }
+
     fn instruction(&self) -> u64 {
         (**self).instruction()
     }

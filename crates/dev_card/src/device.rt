@@ -6,6 +6,7 @@ ghost use Rattle.bit_list.specs.Ranges.{taken};
 ghost use Rattle.dev_card.specs.declared.desc.Kind.{Kind};
 ghost use Rattle.dev_card.specs.Descriptions.{IsGood};
 ghost use Rattle.dev_card.specs.Card.{fresh, tdo_of, step, cell_of, bit_of};
+ghost use Rattle.dev_card.specs.Blocks.{card_after_block, card_block};
 ghost use Rattle.dev_card.specs.Sound.{SoundCard, card_in};
 
 use crate::desc::{Desc, Kind};
@@ -64,6 +65,18 @@ pub trait Device: Drop {
         requires { IsSome (card_in (fitted self.old)) }
         ensures kind { kind_of self.new ≡ kind_of self.old }
         ensures card { card_in (fitted self.new) ≡ option_map (λ c. step c tms tdi) (card_in (fitted self.old)) };
+
+    /// n clocks as one call, in any state of the controller: with the lowest n bits of `tdi`, the lowest first, and
+    /// with TMS 0, but TMS 1 at the last of them where `last` is true. It answers the TDO bits before these clocks, the
+    /// first one as the lowest, with zeros above. It takes no memory, and refuses nothing.
+    fn shift_block(&mut self, tdi: u64, n: u32, last: bool) -> u64
+        requires fitted { IsSome (card_in (fitted self.old)) }
+        requires some { 1 ≤ n }
+        requires most { n ≤ 64 }
+        ensures kind { kind_of self.new ≡ kind_of self.old }
+        ensures card { card_in (fitted self.new)
+            ≡ option_map (λ c. card_after_block c tdi n last) (card_in (fitted self.old)) }
+        ensures tdo { option_map (λ c. card_block c tdi n last) (card_in (fitted self.old)) ≡ Some result };
 
     /// The opcode of the instruction in force.
     fn instruction(&self) -> u64

@@ -8,11 +8,12 @@ ghost use Rattle.dev_card.specs.declared.desc.Desc.{Desc};
 ghost use Rattle.dev_card.specs.Descriptions.{IsGood, opcodes_of};
 ghost use Rattle.dev_card.specs.Card.{Card, bypass, fresh, selected_by, step};
 ghost use Rattle.dev_card.specs.Board.{Input, Clock, board_after, AllIn};
-ghost use Rattle.dev_card.specs.Line.{shift_state, line_of, AllShift};
+ghost use Rattle.dev_card.specs.Line.{shift_state, line_of, IsShifting, AllShift};
 ghost use Rattle.dev_card.specs.Padding.{Paddings, base_pre_of, base_post_of, base_lengths};
 ghost use Rattle.dev_card.specs.PaddedScan.{IsSameScan, IsOneScan, base_of_cards, descriptions_of};
 ghost use Rattle.dev_card.specs.Clocks.{with_zero, move_inputs, is_nil, shift_inputs, part_inputs, at_shift, board_scanned, StaysShifting, ShiftsAsLine, ScansAsLine};
 ghost use Rattle.dev_card.specs.Scans.{BoardScan, inputs_of_scan, clocks_of_scan, captured_bits, captured_from, HasBaseAround, IsScanOfRun};
+ghost use Rattle.dev_card.specs.Blocks.{RunsCardByCard, ShiftsCardByCard, ShiftsBlock};
 ghost use Rattle.dev_card.specs.Reports.{report_of};
 ghost use Rattle.dev_card.specs.ReportExample.{example_plain, example_registers, example_flash, example_report};
 ghost use Rattle.dev_card.specs.Sound.{IsSound, AllSound, AllBypass, register_lengths, SoundCard, card_in};
@@ -93,6 +94,22 @@ pub fn one_padded_scan_is_the_scan_alone()
         AllIn at (before ++ (run ++ after)) → AllSound (before ++ (run ++ after)) →
         p.base_pre ≡ base_pre_of ir (base_of_cards before after) → p.base_post ≡ base_post_of ir (base_of_cards before after) →
         IsOneScan at ir before run after p bits }
+{}
+
+/// Clocks of a board can be taken card by card, from the last to the first: TDO of each card before a clock does not hang
+/// on its TDI at that clock.
+pub fn a_board_runs_card_by_card()
+    ensures { (c : Card) (cs : List Card) (inputs : List Input) → RunsCardByCard c cs inputs }
+{}
+
+/// A block of a board is a block of each card, from the last to the first, and each gets what the one behind it answers.
+pub fn a_board_shifts_card_by_card()
+    ensures { (c : Card) (cs : List Card) (tdi n : ℕ) (last : Bool) → ShiftsCardByCard c cs tdi n last }
+{}
+
+/// A block of a card that shifts is one equation of lists.
+pub fn a_shifting_card_shifts_a_block()
+    ensures { (ir : Bool) (c : Card) (tdi n : ℕ) (last : Bool) → 1 ≤ n → IsShifting ir c → ShiftsBlock ir c tdi n last }
 {}
 
 /// All bits of a scan are one part of it, with which it ends.
