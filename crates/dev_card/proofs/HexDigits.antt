@@ -1,14 +1,15 @@
 -- Hexadecimal digits: those of a word, and those of a list of bits in parts.
-use Rattle.std.proofs.Common.{◌≡◌, ◌≤◌, ◌<◌, ℕ, zero, suc, ◌+◌, ◌-◌, ◌*◌, ◌/◌, ◌%◌, ◌^◌, Bool, true, false, List, [], ◌∷◌, ◌++◌, length, take, drop, get_or, refl, sym, ap, ap₂, ◌∙◌, arith}
-use Rattle.std.proofs.lemmas.List.{drop-drop, drop_all, length-drop, length-take-le, drop-take}
+use Rattle.std.proofs.Common.{◌≡◌, ◌≤◌, ◌<◌, ℕ, zero, suc, ◌+◌, ◌-◌, ◌*◌, ◌/◌, ◌%◌, ◌^◌, Bool, true, false, List, [], ◌∷◌, ◌++◌, length, take, drop, get_or, refl, sym, ap, ap₂, ◌∙◌, subst, arith}
+use Rattle.std.proofs.lemmas.List.{drop-drop, drop_all, length-drop, length-take-le, drop-take, take_all}
 use Rattle.std.proofs.lemmas.Nat.{pow_pos, pow-add}
 use Rattle.std.proofs.Math.Nat.{pow-suc, div-div-eq-div-mul, mod-eq_of_lt, zero-div}
 use Rattle.std.proofs.Math.Arith.{mod-mul}
 use Rattle.std.proofs.Math.Seq.{drop-cons}
 use Rattle.base.specs.Bits.{low_bits, bit_value, number_of}
-use Rattle.base.proofs.NumberBits.{length-low_bits, number_of-low_bits}
+use Rattle.base.proofs.NumberBits.{length-low_bits, number_of-low_bits, number_of-below}
 use Rattle.bit_list.specs.Ranges.{taken}
-use Rattle.bit_list.proofs.Splices.{taken_of_first}
+use Rattle.bit_list.proofs.Splices.{taken_of_first, length_taken}
+use Rattle.bit_list.proofs.WordMoves.{bits_of_part}
 use Rattle.dev_card.specs.Hexadecimal.{hex_digit, digits_needed, hex_digits, all_hex_digits}
 
 -- ---- numbers of parts of a list
@@ -76,13 +77,16 @@ module _ (digits : List ℕ) (word : ℕ) (all : length digits ≡ 16)
       ∙ ap (λ (l : List ℕ). hex_digit (number_of (taken (4 * m) 4 bits)) ∷ l) (last_digits m bits (omega (arith, h)) e)
 
   -- those of the lowest bits of the word, if the others are 0
-  pub word_digits_of : (len : ℕ) → len ≤ 64 → word < 2 ^ len → drop (16 - (len + 3) / 4) digits ≡ all_hex_digits (low_bits len word)
-  word_digits_of len most fits =
+  pub digits_of_part : (len first : ℕ) → len ≤ 64 → word < 2 ^ len → first ≡ 16 - (len + 3) / 4 →
+      take (16 - first) (drop first digits) ≡ all_hex_digits (low_bits len word)
+  digits_of_part len first most fits place =
       let whole : number_of (low_bits len word) ≡ word = number_of-low_bits len word ∙ mod-eq_of_lt fits in
-      last_digits ((len + 3) / 4) (low_bits len word) (omega (arith, most)) whole
+      take_all (16 - first) (drop first digits) (omega (arith, all, length-drop first digits))
+      ∙ ap (λ (k : ℕ). drop k digits) place
+      ∙ last_digits ((len + 3) / 4) (low_bits len word) (omega (arith, most)) whole
       ∙ ap (λ (n : ℕ). hex_digits (digits_needed n) (low_bits len word)) (sym (length-low_bits len word))
 
--- ---- the digits of a list, in parts
+-- ---- the digits of a list, word by word
 
 -- those from digit a on, and then those below it
 digits_from : (a m : ℕ) (bits : List Bool) → hex_digits (a + m) bits ≡ hex_digits m (drop (4 * a) bits) ++ hex_digits a bits
@@ -102,7 +106,7 @@ digits_below (suc m) n bits h =
     (taken_of_first n (4 * m) 4 bits (omega (arith, h))) (digits_below m n bits (omega (arith, h)))
 
 -- the digits of the lowest bits: those of the bits from a place on at which a digit begins, and then those below it
-pub digits_parted : (left low : ℕ) (bits : List Bool) → low ≤ left → left ≤ length bits → low % 4 ≡ 0 →
+digits_parted : (left low : ℕ) (bits : List Bool) → low ≤ left → left ≤ length bits → low % 4 ≡ 0 →
     all_hex_digits (take left bits) ≡ all_hex_digits (taken low (left - low) bits) ++ all_hex_digits (take low bits)
 digits_parted left low bits below inside whole =
     let a : ℕ = low / 4 in
@@ -118,3 +122,28 @@ digits_parted left low bits below inside whole =
     ∙ digits_from a (digits_needed (length (taken low (left - low) bits))) (take left bits)
     ∙ ap₂ (λ (h : List ℕ) (l : List ℕ). h ++ l) (ap (hex_digits (digits_needed (length (taken low (left - low) bits)))) high)
     (digits_below a left bits (omega (arith, place, below)) ∙ sym (digits_below a low bits (omega (arith, place))) ∙ ap (λ (n : ℕ). hex_digits n (take low bits)) (sym lowest))
+
+-- a word of a part fits
+pub word_fits : (at n word : ℕ) (bits : List Bool) → at + n ≤ length bits → word ≡ number_of (taken at n bits) → word < 2 ^ n
+word_fits at n word bits inside e =
+    subst (λ (m : ℕ). word < 2 ^ m) (length_taken at n bits inside)
+    (subst (λ (x : ℕ). x < 2 ^ length (taken at n bits)) (sym e) (number_of-below (taken at n bits)))
+
+-- the digits of the lowest bits: those of a word that is read from a place on at which a digit begins, and then those
+-- below it
+pub digits_down : (left low word : ℕ) (bits : List Bool) → low ≤ left → left ≤ length bits → low % 4 ≡ 0 → word ≡ number_of (taken low (left - low) bits) →
+    all_hex_digits (take left bits) ≡ all_hex_digits (low_bits (left - low) word) ++ all_hex_digits (take low bits)
+digits_down left low word bits below inside whole e =
+    digits_parted left low bits below inside whole
+    ∙ ap (λ (l : List Bool). all_hex_digits l ++ all_hex_digits (take low bits)) (sym (bits_of_part low (left - low) word bits (omega (arith, below, inside)) e))
+
+-- no bit is left, and all bits are
+pub none_left : (left : ℕ) (bits : List Bool) → left ≤ 0 → all_hex_digits (take left bits) ≡ []
+none_left left bits h = let e : left ≡ 0 = omega (arith, h) in ap (λ (n : ℕ). all_hex_digits (take n bits)) e ∙ nothing bits
+  where
+    nothing : (bits : List Bool) → all_hex_digits (take 0 bits) ≡ []
+    nothing [] = refl
+    nothing (b ∷ bits) = refl
+
+pub all_left : (left : ℕ) (bits : List Bool) → left ≡ length bits → all_hex_digits (take left bits) ≡ all_hex_digits bits
+all_left left bits e = ap all_hex_digits (take_all left bits (omega (arith, e)))
