@@ -58,14 +58,14 @@ cards_kept f xs ys p (q ∷ qs) h s =
 some_is : {X : Type 0} (x : X) → IsSome (Some x)
 some_is x = refl
 
-some_same : {X : Type 0} {x y : X} → Some x ≡ Some y → x ≡ y
+pub some_same : {X : Type 0} {x y : X} → Some x ≡ Some y → x ≡ y
 some_same e = cc
 
-first_is_some : (o : Option Card) (os : Option (List Card)) → IsSome (joined o os) → IsSome o
+pub first_is_some : (o : Option Card) (os : Option (List Card)) → IsSome (joined o os) → IsSome o
 first_is_some None os h = h
 first_is_some (Some c) os h = some_is c
 
-rest_is_some : (o : Option Card) (os : Option (List Card)) → IsSome (joined o os) → IsSome os
+pub rest_is_some : (o : Option Card) (os : Option (List Card)) → IsSome (joined o os) → IsSome os
 rest_is_some None os h = absurd (false≢true h)
 rest_is_some (Some c) None h = h
 rest_is_some (Some c) (Some cs) h = some_is cs

@@ -1,6 +1,7 @@
 pub mod Clocking
 pub mod Fitting
 pub mod Racks
-pub mod ReportDigits
+pub mod ReportOnes
 pub mod PutParts
 pub mod ReportCards
+pub mod BlockRuns

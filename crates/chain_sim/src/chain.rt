@@ -6,7 +6,7 @@ ghost use Rattle.chain_sim.specs.RunLaws.{told_sound, run_none, run_both};
 ghost use Rattle.std.proofs.Common.{◌∙◌};
 ghost use Rattle.scan_paths.specs.Cables.{whole_if};
 
-use crate::rack::{clock_all, first_tdo};
+use crate::rack::{clock_all, first_tdo, shift_all};
 use dev_card::Device;
 use scan_paths::Cable;
 use tool_io::Failed;
@@ -63,6 +63,10 @@ impl<D: Device> Cable for ChainOf<'_, D> {
         let tdo = first_tdo(self.rack, self.places, tdi);
         clock_all(self.rack, self.places, tms, tdi);
         Ok(tdo)
+    }
+
+    fn shift_block(&mut self, tdi: u64, n: u32, last: bool) -> Result<u64, Failed> {
+        Ok(shift_all(self.rack, self.places, tdi, n, last))
     }
 
     fn usec(&mut self, _n: u32) -> Result<(), Failed> {

@@ -1,8 +1,10 @@
 // One clock of the devices at some places of a rack.
-ghost use Rattle.std.specs.Prelude.{◌≡◌, ◌≢◌, ◌<◌, ℕ, map, Some, IsSome, slice_get, vec_len};
+ghost use Rattle.std.specs.Prelude.{◌≡◌, ◌≢◌, ◌<◌, ◌≤◌, ℕ, map, Some, IsSome, slice_get, vec_len};
 ghost use Rattle.std.specs.Option.{option_map};
 ghost use Rattle.dev_card.specs.Card.{tdo_of, step};
 ghost use Rattle.dev_card.specs.Board.{board_step, board_tdo};
+ghost use Rattle.dev_card.specs.Blocks.{card_after_block, card_block, board_after_block, board_block};
+ghost use Rattle.base.specs.Bits.{low_bits, number_of};
 ghost use Rattle.chain_sim.specs.Places.{card_at, cards_at, IsAbsent, AreApart};
 
 use dev_card::Device;
@@ -52,5 +54,51 @@ pub fn clock_all<D: Device>(rack: &mut Vec<D>, places: &[u32], tms: bool, tdi: b
         let bit = first_tdo(rack, rest, tdi);
         clock_at(rack, *first as usize, tms, bit);
         clock_all(rack, rest, tms, tdi);
+    }
+}
+
+// A block of the device at a place; the others stay as they are.
+fn shift_at<D: Device>(rack: &mut Vec<D>, place: usize, tdi: u64, n: u32, last: bool) -> u64
+    requires inside { place < vec_len rack.old }
+    requires fitted { IsSome (card_at (map D.fitted rack.old.items) place) }
+    requires some { 1 ≤ n }
+    requires most { n ≤ 64 }
+    ensures kinds { map D.kind_of rack.new.items ≡ map D.kind_of rack.old.items }
+    ensures card { card_at (map D.fitted rack.new.items) place
+        ≡ option_map (λ c. card_after_block c tdi n last) (card_at (map D.fitted rack.old.items) place) }
+    ensures tdo { option_map (λ c. card_block c tdi n last) (card_at (map D.fitted rack.old.items) place) ≡ Some result }
+    ensures others { (k : ℕ) → k ≢ place → slice_get rack.new.items k ≡ slice_get rack.old.items k }
+{
+    rack[place].shift_block(tdi, n, last)
+}
+
+// The lowest n bits of a number.
+fn lowest(number: u64, n: u32) -> u64
+    requires { n ≤ 64 }
+    ensures { result ≡ number_of (low_bits n number) }
+{
+    if n < 64 { number % (1u64 << n) } else { number }
+}
+
+// A block of the devices at all places, one call of each, from the last place to the first: each gets what the one
+// behind it answers, and the last one what comes in.
+pub fn shift_all<D: Device>(rack: &mut Vec<D>, places: &[u32], tdi: u64, n: u32, last: bool) -> u64
+    requires fitted { IsSome (cards_at (map D.fitted rack.old.items) places.now) }
+    requires apart { AreApart places.now }
+    requires some { 1 ≤ n }
+    requires most { n ≤ 64 }
+    ensures kinds { map D.kind_of rack.new.items ≡ map D.kind_of rack.old.items }
+    ensures cards { cards_at (map D.fitted rack.new.items) places.now
+        ≡ option_map (λ cs. board_after_block cs tdi n last) (cards_at (map D.fitted rack.old.items) places.now) }
+    ensures tdo { option_map (λ cs. board_block cs tdi n last) (cards_at (map D.fitted rack.old.items) places.now)
+        ≡ Some result }
+    ensures others { (k : ℕ) → IsAbsent k places.now → slice_get rack.new.items k ≡ slice_get rack.old.items k }
+{
+    match places.split_first() {
+        None => lowest(tdi, n),
+        Some((first, rest)) => {
+            let behind = shift_all(rack, rest, tdi, n, last);
+            shift_at(rack, *first as usize, behind, n, last)
+        }
     }
 }

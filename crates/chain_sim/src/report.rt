@@ -1,10 +1,10 @@
 //! The report of a board: a line for each device, with what it holds.
-ghost use Rattle.std.specs.Prelude.{◌≡◌, ◌<◌, ◌≤◌, ◌+◌, ◌-◌, ◌*◌, ◌^◌, ◌++◌, ◌∷◌, [], false, pos, codes, drop, length, map, slice_index_or, IsSomeAnd, OnOk, OnErr};
+ghost use Rattle.std.specs.Prelude.{◌≡◌, ◌<◌, ◌≤◌, ◌+◌, ◌-◌, ◌*◌, ◌^◌, ◌++◌, ◌∷◌, [], pos, codes, drop, length, map, IsSomeAnd, OnOk, OnErr};
 ghost use Rattle.std.specs.Fmt.{signed_decimal};
-ghost use Rattle.base.specs.Bits.{bit_value, low_bits, number_of};
+ghost use Rattle.base.specs.Bits.{low_bits, number_of};
 ghost use Rattle.bit_list.specs.Ranges.{taken};
 ghost use Rattle.dev_card.specs.declared.desc.Kind.TheVariants as kinds;
-ghost use Rattle.dev_card.specs.Hexadecimal.{hex_digit, all_hex_digits};
+ghost use Rattle.dev_card.specs.Hexadecimal.{all_hex_digits};
 ghost use Rattle.dev_card.specs.PaddedScan.{descriptions_of};
 ghost use Rattle.dev_card.specs.Reports.{named_text, registers_text, are_ones, word_text, words_text, memory_text};
 ghost use Rattle.dev_card.specs.Sound.{card_in};
@@ -12,16 +12,8 @@ ghost use Rattle.tool_io.specs.Lines.{IsWhole, IsOverSame, HasSinkCause, Puts, P
 ghost use Rattle.chain_sim.specs.Places.{card_at, cards_at};
 ghost use Rattle.chain_sim.specs.Reports.{cells_in, cell_in, instruction_in, held_in, line_in, report_in};
 
-use dev_card::{Desc, Device, Kind, RegDesc};
+use dev_card::{Desc, Device, Kind, RegDesc, word_digits};
 use tool_io::{Failed, Lines, Sink};
-
-// An upper-case hexadecimal digit.
-fn hex_byte(digit: u8) -> u8
-    requires { digit < 16 }
-    ensures { result ≡ hex_digit digit }
-{
-    if digit < 10 { 48 + digit } else { 55 + digit }
-}
 
 // The length of a cell in bits.
 fn length_of<D: Device>(device: &D, cell: u32) -> u32
@@ -31,34 +23,30 @@ fn length_of<D: Device>(device: &D, cell: u32) -> u32
     device.cell_len(cell)
 }
 
-// What bit i of a cell counts at the lowest place, and 0 past the last bit.
-fn bit_number<D: Device>(device: &D, cell: u32, i: usize) -> u8
-    requires { cell < length (cells_in (card_in (D.fitted device.now))) }
-    ensures value { result ≡ bit_value (slice_index_or (cell_in (card_in (D.fitted device.now)) cell) i false) }
-    ensures small { result ≤ 1 }
+// The n bits of a cell from bit `at` on, of which there are at most 64, as a number.
+fn word_of<D: Device>(device: &D, cell: u32, at: u32, n: u32) -> u64
+    requires cell { cell < length (cells_in (card_in (D.fitted device.now))) }
+    requires most { n ≤ 64 }
+    requires inside { at + n ≤ length (cell_in (card_in (D.fitted device.now)) cell) }
+    ensures { result ≡ number_of (taken at n (cell_in (card_in (D.fitted device.now)) cell)) }
 {
-    if i < length_of(device, cell) as usize && device.cell_bit(cell, i as u32) {
-        1
-    } else {
-        0
-    }
+    device.cell_word(cell, at, n)
 }
 
-// The digit that stands for the four bits of a cell from index 4 * k on.
-fn digit_at<D: Device>(device: &D, cell: u32, k: u32) -> u8
-    requires { cell < length (cells_in (card_in (D.fitted device.now))) }
-    ensures { result ≡ hex_digit (number_of (taken (4 * k) 4 (cell_in (card_in (D.fitted device.now)) cell))) }
+// Puts all digits of the bits of a number, the highest first.
+fn put_number<K: Sink>(out: &mut Lines<K>, number: u64, len: u32) -> Result<(), Failed>
+    requires whole { IsWhole out.old }
+    requires most { len ≤ 64 }
+    requires fits { number < 2 ^ len }
+    ensures same_sink { IsOverSame out.old out.new }
+    ensures whole { OnOk result (IsWhole out.new) }
+    ensures ok { OnOk result (Puts K.written out.old (all_hex_digits (low_bits len number)) out.new) }
+    ensures front { OnErr result (PutsFront K.written out.old (all_hex_digits (low_bits len number)) out.new) }
+    ensures cause { HasSinkCause K.faults K.is_last out.old out.new result }
 {
-    let low = 4 * k as usize;
-    let (first, second) = (
-        bit_number(device, cell, low),
-        bit_number(device, cell, low + 1),
-    );
-    let (third, fourth) = (
-        bit_number(device, cell, low + 2),
-        bit_number(device, cell, low + 3),
-    );
-    hex_byte(first + 2 * second + 4 * third + 8 * fourth)
+    let digits = word_digits(number);
+    let first = 16 - len.div_ceil(4) as usize;
+    out.put(&digits[first..])
 }
 
 // Puts all digits of a cell, the highest first.
@@ -73,39 +61,11 @@ fn put_cell<D: Device, K: Sink>(out: &mut Lines<K>, device: &D, cell: u32) -> Re
         (all_hex_digits (cell_in (card_in (D.fitted device.now)) cell)) out.new) }
     ensures cause { HasSinkCause K.faults K.is_last out.old out.new result }
 {
-    let mut left = length_of(device, cell).div_ceil(4);
+    let mut left = length_of(device, cell);
     'down: while left > 0 {
-        left -= 1;
-        out.put(&[digit_at(device, cell, left)])?;
-    }
-    Ok(())
-}
-
-// The digit that stands for the four bits of a number from index 4 * k on.
-fn digit_of(number: u64, len: u32, k: u32) -> u8
-    requires some { 4 * k < len }
-    requires most { len ≤ 64 }
-    requires fits { number < 2 ^ len }
-    ensures { result ≡ hex_digit (number_of (taken (4 * k) 4 (low_bits len number))) }
-{
-    hex_byte(((number >> (4 * k)) % 16) as u8)
-}
-
-// Puts all digits of the bits of a number, the highest first.
-fn put_number<K: Sink>(out: &mut Lines<K>, number: u64, len: u32) -> Result<(), Failed>
-    requires whole { IsWhole out.old }
-    requires most { len ≤ 64 }
-    requires fits { number < 2 ^ len }
-    ensures same_sink { IsOverSame out.old out.new }
-    ensures whole { OnOk result (IsWhole out.new) }
-    ensures ok { OnOk result (Puts K.written out.old (all_hex_digits (low_bits len number)) out.new) }
-    ensures front { OnErr result (PutsFront K.written out.old (all_hex_digits (low_bits len number)) out.new) }
-    ensures cause { HasSinkCause K.faults K.is_last out.old out.new result }
-{
-    let mut left = len.div_ceil(4);
-    'down: while left > 0 {
-        left -= 1;
-        out.put(&[digit_of(number, len, left)])?;
+        let low = (left - 1) / 64 * 64;
+        put_number(out, word_of(device, cell, low, left - low), left - low)?;
+        left = low;
     }
     Ok(())
 }
@@ -170,15 +130,28 @@ fn put_registers<D: Device, K: Sink>(
     Ok(())
 }
 
+// The number of n ones.
+fn ones(n: u32) -> u64
+    requires some { 1 ≤ n }
+    requires most { n ≤ 64 }
+    ensures { result ≡ 2 ^ n - 1 }
+{
+    u64::MAX >> (64 - n)
+}
+
 // Whether all bits of a cell are 1.
 fn is_ones<D: Device>(device: &D, cell: u32) -> bool
     requires { cell < length (cells_in (card_in (D.fitted device.now))) }
     ensures { result ≡ are_ones (cell_in (card_in (D.fitted device.now)) cell) }
 {
-    for i in 0..length_of(device, cell) {
-        if !device.cell_bit(cell, i) {
+    let len = length_of(device, cell);
+    let mut at = 0;
+    'up: while at < len {
+        let n = (len - at).min(64);
+        if word_of(device, cell, at, n) != ones(n) {
             return false;
         }
+        at += n;
     }
     true
 }

@@ -5,5 +5,9 @@ pub mod Searching
 pub mod RegsCards
 pub mod FlashCards
 pub mod SoundCards
-pub mod Packing
+pub mod CommonBits
 pub mod MemoryLemmas
+pub mod BlockClocks
+pub mod BlockNumbers
+pub mod RingBlocks
+pub mod LogicBlocks

@@ -1,11 +1,11 @@
--- The memory of a Flash: bits that two lists have in common, addresses, and words.
-use Rattle.std.proofs.Common.{◌≡◌, ◌<◌, ◌+◌, ◌^◌, ℕ, zero, suc, Bool, true, false, ◌&&◌, List, [], ◌∷◌, ◌++◌, length, take, drop, set, get_or, map, replicate, cond, All, refl, sym, ap, subst, ◌∙◌, add-one, arith}
+-- The memory of a Flash: addresses and words.
+use Rattle.std.proofs.Common.{◌≡◌, ◌<◌, ◌+◌, ◌^◌, ℕ, Bool, true, false, ◌&&◌, List, [], ◌∷◌, length, take, set, get_or, map, replicate, cond, All, refl, sym, ap, subst, ◌∙◌, arith}
 use Rattle.std.specs.Prelude.{ℤ, Vec, ◌==◌, not, slice_get, slice_index_or, Some}
 use Rattle.std.specs.Vec.{with_items}
 use Rattle.std.proofs.lemmas.Option.{get_or_from_slice_get}
 use Rattle.std.specs.Int.{w32, cast_signed, cast_unsigned}
 use Rattle.std.proofs.lemmas.Int.{of_z-to_z}
-use Rattle.std.proofs.lemmas.List.{append-nil, drop_all, take_all, length-map, length-replicate, length-set, with_items_is}
+use Rattle.std.proofs.lemmas.List.{take_all, length-map, length-replicate, length-set, with_items_is}
 use Rattle.std.proofs.lemmas.List.Elements.{All-head, All-tail, All-replicate, All-get_or, All-set}
 use Rattle.base.specs.Bits.{low_bits, number_of}
 use Rattle.base.proofs.NumberBits.{lowest_bits, length-low_bits, number_of-below}
@@ -15,48 +15,7 @@ use Rattle.dev_card.specs.declared.desc.FlashDesc.{FlashDesc}
 use Rattle.dev_card.specs.Card.{and_bits, flash_erase}
 use Rattle.dev_kinds.specs.Logic.{Logic}
 use Rattle.dev_kinds.specs.Memories.{Store, IsStore, IsUpdated, fresh_store}
-
--- the first bits of a list were brought together with those of another one
-abbrev pub partly : List Bool → List Bool → ℕ → List Bool
-partly old bits i = and_bits (take i old) (take i bits) ++ drop i old
-
-pub length-partly : (old bits : List Bool) (i : ℕ) → length bits ≡ length old → length (partly old bits i) ≡ length old
-length-partly old bits zero e = refl
-length-partly [] [] (suc i) e = refl
-length-partly [] (b ∷ bits) (suc i) e = absurd (omega (arith, e))
-length-partly (o ∷ old) [] (suc i) e = absurd (omega (arith, e))
-length-partly (o ∷ old) (b ∷ bits) (suc i) e = ap suc (length-partly old bits i (omega (arith, e)))
-
-and_false : (o b : Bool) → b ≡ false → false ≡ (o && b)
-and_false true b e = sym e
-and_false false b e = refl
-
-and_true : (o b : Bool) → b ≡ true → o ≡ (o && b)
-and_true true b e = sym e
-and_true false b e = refl
-
-cleared : (old bits : List Bool) (i : ℕ) (d : Bool) → i < length old → length bits ≡ length old → get_or bits i d ≡ false → set (partly old bits i) i false ≡ partly old bits (suc i)
-cleared [] bits i d h e f = absurd (omega arith)
-cleared (o ∷ old) [] i d h e f = absurd (omega (arith, e))
-cleared (o ∷ old) (b ∷ bits) zero d h e f = ap (λ x. x ∷ old) (and_false o b f)
-cleared (o ∷ old) (b ∷ bits) (suc i) d h e f = ap (λ l. (o && b) ∷ l) (cleared old bits i d (omega arith) (omega (arith, e)) f)
-
-kept : (old bits : List Bool) (i : ℕ) (d : Bool) → i < length old → length bits ≡ length old → get_or bits i d ≡ true → partly old bits i ≡ partly old bits (suc i)
-kept [] bits i d h e f = absurd (omega arith)
-kept (o ∷ old) [] i d h e f = absurd (omega (arith, e))
-kept (o ∷ old) (b ∷ bits) zero d h e f = ap (λ x. x ∷ old) (and_true o b f)
-kept (o ∷ old) (b ∷ bits) (suc i) d h e f = ap (λ l. (o && b) ∷ l) (kept old bits i d (omega arith) (omega (arith, e)) f)
-
-pub cleared_more : (old bits now : List Bool) (i : ℕ) (d : Bool) → i < length old → length bits ≡ length old → get_or bits i d ≡ false → now ≡ partly old bits i → set now i false ≡ partly old bits (i + 1)
-cleared_more old bits now i d h e f n = ap (λ l. set l i false) n ∙ cleared old bits i d h e f ∙ ap (partly old bits) (sym (add-one i))
-
-pub kept_more : (old bits now : List Bool) (i : ℕ) (d : Bool) → i < length old → length bits ≡ length old → get_or bits i d ≡ true → now ≡ partly old bits i → now ≡ partly old bits (i + 1)
-kept_more old bits now i d h e f n = n ∙ kept old bits i d h e f ∙ ap (partly old bits) (sym (add-one i))
-
-pub length-and_bits : (xs ys : List Bool) → length ys ≡ length xs → length (and_bits xs ys) ≡ length xs
-length-and_bits [] ys e = refl
-length-and_bits (x ∷ xs) [] e = absurd (omega (arith, e))
-length-and_bits (x ∷ xs) (y ∷ ys) e = ap suc (length-and_bits xs ys (omega (arith, e)))
+use Rattle.dev_kinds.proofs.CommonBits.{spliced_whole, length-and_bits}
 
 -- the number of an address, and the next address
 pub address_below : (now : List Bool) → length now ≡ 16 → number_of now < 65536
@@ -77,9 +36,8 @@ raised old new n z e v b i s =
     ap (λ m. cast_unsigned w32 (cast_signed w32 m)) (ap (cast_unsigned w32) i ∙ of_z-to_z w32 n small) ∙ of_z-to_z w32 n small in
     let part : take 16 (bits_of_int (cast_signed w32 (cast_unsigned w32 z))) ≡ low_bits 16 n =
     lowest_bits 16 32 (cast_unsigned w32 (cast_signed w32 (cast_unsigned w32 z))) (omega arith) ∙ ap (low_bits 16) number in
-    let none : drop 16 old ≡ [] = drop_all 16 old (omega (arith, e)) in
-    let whole : spliced 0 (low_bits 16 n) old ≡ low_bits 16 n ++ drop 16 old = ap (λ k. low_bits 16 n ++ drop k old) (length-low_bits 16 n) in
-    s ∙ ap (λ l. spliced 0 l old) part ∙ whole ∙ ap (λ l. low_bits 16 n ++ l) none ∙ append-nil (low_bits 16 n) ∙ ap (low_bits 16) v
+    let size : length (low_bits 16 n) ≡ length old = length-low_bits 16 n ∙ sym e in
+    s ∙ ap (λ l. spliced 0 l old) part ∙ spliced_whole (low_bits 16 n) old size ∙ ap (low_bits 16) v
 
 -- words of one bit
 pub words_filled : (words : List (List Bool)) (width count : ℕ) (b : Bool) → All (λ word. length word ≡ width) words → length words ≡ count →

@@ -16,7 +16,7 @@ rotated-set head ring b h =
     rw (t, d, old, add-one) (sym (append_assoc (drop (suc head) ring) (take head ring) (b ∷ [])))
 
 -- a ring that begins behind its end begins at its front
-rotated-length : (ring : List Bool) → rotated (length ring) ring ≡ rotated 0 ring
+pub rotated-length : (ring : List Bool) → rotated (length ring) ring ≡ rotated 0 ring
 rotated-length ring = rw (drop-length ring, take-length ring) (sym (append-nil ring))
 
 ring_moved : (head : ℕ) (ring : List Bool) (b : Bool) (at_end : Bool) → (head + 1 == length ring) ≡ at_end → head < length ring →

@@ -1,11 +1,12 @@
 -- What every kind of device holds (IEEE 1149.1, clauses 6 to 8 and 12).
-use Rattle.std.specs.Prelude.{◌<◌, ◌≤◌, ◌^◌, ◌==◌, length, Option, Some, None, if◌then◌else◌, ℕ, Bool, List, []}
+use Rattle.std.specs.Prelude.{◌≡◌, ◌<◌, ◌≤◌, ◌^◌, ◌==◌, length, Option, Some, None, if◌then◌else◌, ℕ, Bool, List, []}
 use Rattle.tap_states.specs.declared.Tap.{Tap}
 use Rattle.tap_states.specs.declared.Tap.TheVariants.{DrCapture}
 use Rattle.dev_card.specs.declared.desc.Desc.{Desc}
 use Rattle.dev_card.specs.declared.desc.IdCode.{IdCode}
 use Rattle.dev_card.specs.Descriptions.{IsGood}
 use Rattle.dev_card.specs.Card.{Card, during, entered, fresh}
+use Rattle.dev_card.specs.Blocks.{card_block, card_after_block}
 
 -- the parts of a card that all kinds have, and the room for the data list
 pub record Logic : Type 0 where
@@ -64,3 +65,8 @@ pub record IsLogic (desc : Desc) (ir_number : ℕ) (dr_list : List Bool) (room :
   pub ir_fits : ir_number < 2 ^ desc.ir_len
   pub some : 0 < length dr_list
   pub room_for_identity : 32 ≤ room
+
+-- a block was made, with this answer, whatever the cells of the device and its busy count
+pub record IsBlockShifted (old new : Logic) (tdi n : ℕ) (last : Bool) (seen : ℕ) : Type 0 where
+  pub tdo : (cells : List (List Bool)) (busy : ℕ) → seen ≡ card_block (card_of old cells busy) tdi n last
+  pub card : (cells : List (List Bool)) (busy : ℕ) → card_of new cells busy ≡ card_after_block (card_of old cells busy) tdi n last

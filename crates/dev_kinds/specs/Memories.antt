@@ -28,8 +28,7 @@ fresh_store f = record {
 abbrev pub flash_card : Logic → Store → Card
 flash_card k m = card_of k (m.address ∷ m.words) m.busy
 
--- what a memory keeps: each of its lists has the length that its description gives, and so has the list in which a word
--- is copied
+-- what a memory keeps: each of its lists has the length that its description gives, and so has its buffer for a word
 pub record IsStore (shape : FlashDesc) (address : List Bool) (words : List (List Bool)) (buffer : List Bool)
     : Type 0 where
   pub good : IsGoodFlash shape

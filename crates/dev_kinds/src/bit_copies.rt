@@ -1,37 +1,30 @@
-//! Copies of lists of bits.
+//! Lists of bits that are changed as a whole.
 ghost use Rattle.std.specs.Prelude.{◌≡◌, length, replicate};
 ghost use Rattle.dev_card.specs.Card.{and_bits};
 
-use crate::packed::PackedBits;
 use bit_list::Bits;
+
+// How many bits are changed at a time.
+const WORD_SIZE: u32 = 64;
 
 // Every bit becomes this one.
 pub fn fill_bits(bits: &mut Bits, bit: bool)
     ensures { bits.new ≡ replicate (length bits.old) bit }
 {
-    for i in 0..bits.len() {
-        bits.set(i, bit);
-    }
+    bits.fill_range(0, bits.len(), bit);
 }
 
-// The bits become those of a packed list of the same length.
-pub fn unpack(packed: &PackedBits, bits: &mut Bits)
-    requires { length bits.old ≡ length packed.now }
-    ensures { bits.new ≡ packed.now }
+// The bits that are 1 in the other list too stay 1; the others become 0.
+pub fn keep_common(bits: &mut Bits, other: &Bits)
+    requires { length other.now ≡ length bits.old }
+    ensures { bits.new ≡ and_bits bits.old other.now }
 {
-    for i in 0..bits.len() {
-        bits.set(i, packed.get(i));
-    }
-}
-
-// The packed bits that are 1 in the other list too stay 1; the others become 0.
-pub fn keep_common(packed: &mut PackedBits, bits: &Bits)
-    requires { length bits.now ≡ length packed.old }
-    ensures { packed.new ≡ and_bits packed.old bits.now }
-{
-    for i in 0..bits.len() {
-        if !bits.get(i) {
-            packed.clear(i);
-        }
+    let len = bits.len();
+    let mut done = 0;
+    while done < len {
+        let n = (len - done).min(WORD_SIZE);
+        let common = bits.word(done, n) & other.word(done, n);
+        bits.set_word(done, n, common);
+        done += n;
     }
 }

@@ -5,10 +5,12 @@ ghost use Rattle.tap_states.specs.declared.Tap.TheVariants as taps;
 ghost use Rattle.dev_card.specs.declared.desc.Kind.TheVariants as kinds;
 ghost use Rattle.dev_card.specs.Descriptions.{IsGood};
 ghost use Rattle.dev_card.specs.Card.{step, during, entered, captured, selected, selected_by, selected_length, fresh};
+ghost use Rattle.dev_card.specs.Blocks.{card_after_block, card_block};
 ghost use Rattle.dev_card.specs.Sound.{IsSound};
 ghost use Rattle.dev_kinds.specs.Memories.{flash_card, register_of, IsUpdated};
 ghost use Rattle.dev_kinds.specs.Propositions.{IsSound-prop, same_flash-prop};
 
+use crate::clocks::{Clocked, shift_by_clocks};
 use crate::memory::{FlashRegister, Memory};
 use crate::test_logic::TestLogic;
 use dev_card::{Desc, Device, FitRefused, Kind};
@@ -162,6 +164,33 @@ fn fitted(alloc: Global, desc: &Desc) -> Result<FittedFlash, AllocError>
     }
 }
 
+impl Clocked for FittedFlash {
+    ghost card = { λ s. flash_card s.logic s.memory };
+
+    fn tdo_now(&self) -> bool {
+        self.logic.tdo()
+    }
+
+    fn clock_once(&mut self, tms: bool, tdi: bool) {
+        clock(&mut self.logic, &mut self.memory, tms, tdi);
+    }
+}
+
+impl FittedFlash {
+    // A block of clocks: at once where a list is shifted, and else one clock after another.
+    fn shift_block(&mut self, tdi: u64, n: u32, last: bool) -> u64
+        requires some { 1 ≤ n }
+        requires most { n ≤ 64 }
+        ensures card { flash_card self.new.logic self.new.memory ≡ card_after_block (flash_card self.old.logic self.old.memory) tdi n last }
+        ensures tdo { result ≡ card_block (flash_card self.old.logic self.old.memory) tdi n last }
+    {
+        match self.logic.shift_block(tdi, n, last) {
+            Some(tdo) => tdo,
+            None => shift_by_clocks(self, tdi, n, last),
+        }
+    }
+}
+
 impl Flash {
     /// A device that is not fitted yet. It takes no memory.
     pub fn unfitted() -> Flash
@@ -214,7 +243,14 @@ impl Device for Flash {
 
     fn clock(&mut self, tms: bool, tdi: bool) {
         match &mut self.state {
-            Some(s) => clock(&mut s.logic, &mut s.memory, tms, tdi),
+            Some(s) => s.clock_once(tms, tdi),
+            None => unreachable!(),
+        }
+    }
+
+    fn shift_block(&mut self, tdi: u64, n: u32, last: bool) -> u64 {
+        match &mut self.state {
+            Some(s) => s.shift_block(tdi, n, last),
             None => unreachable!(),
         }
     }
@@ -243,6 +279,13 @@ impl Device for Flash {
     fn cell_bit(&self, cell: u32, bit: u32) -> bool {
         match &self.state {
             Some(s) => s.memory.cell_bit(cell, bit),
+            None => unreachable!(),
+        }
+    }
+
+    fn cell_word(&self, cell: u32, at: u32, n: u32) -> u64 {
+        match &self.state {
+            Some(s) => s.memory.cell_word(cell, at, n),
             None => unreachable!(),
         }
     }

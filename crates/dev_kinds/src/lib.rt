@@ -2,12 +2,14 @@
 #![tactic(auto)]
 
 mod bit_copies;
+mod blocks;
+mod clocks;
 mod flash;
 mod memory;
-mod packed;
 mod plain;
 mod registers;
 mod regs;
+mod ring;
 mod shift_list;
 mod test_logic;
 

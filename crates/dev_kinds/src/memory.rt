@@ -2,12 +2,12 @@
 ghost use Rattle.std.specs.Prelude.{◌≡◌, ◌<◌, ◌≤◌, ◌+◌, ◌-◌, ◌==◌, not, false, [], ◌∷◌, length, map, replicate, Some, IfOk};
 ghost use Rattle.std.specs.Prelude.{slice_get, slice_index_or, List, Bool};
 ghost use Rattle.base.specs.Bits.{low_bits, number_of};
+ghost use Rattle.bit_list.specs.Ranges.{taken};
 ghost use Rattle.dev_card.specs.Descriptions.{IsGoodFlash};
 ghost use Rattle.dev_card.specs.Card.{captured, flash_register_with, flash_address, flash_erase, flash_program, flash_read};
 ghost use Rattle.dev_kinds.specs.Memories.{fresh_store, flash_card, register_of, IsUpdated};
 
-use crate::bit_copies::{fill_bits, keep_common, unpack};
-use crate::packed::PackedBits;
+use crate::bit_copies::{fill_bits, keep_common};
 use crate::test_logic::TestLogic;
 use bit_list::Bits;
 use dev_card::FlashDesc;
@@ -34,9 +34,9 @@ pub enum FlashRegister {
 pub struct Memory {
     shape: FlashDesc,
     address: Bits,
-    words: Vec<PackedBits>,
+    words: Vec<Bits>,
     busy: u32,
-    // as long as a word, which is copied here
+    // as long as a word, for what is programmed, and for what is captured where no word is read
     buffer: Bits,
 }
 
@@ -186,11 +186,11 @@ impl Memory {
     {
         let place = number_at(&self.address) as usize;
         if place < self.words.len() {
-            unpack(&self.words[place], &mut self.buffer);
+            logic.capture_bits(&self.words[place]);
         } else {
             fill_bits(&mut self.buffer, true);
+            logic.capture_bits(&self.buffer);
         }
-        logic.capture_bits(&self.buffer);
     }
 }
 
@@ -224,31 +224,41 @@ impl Memory {
             self.words[cell as usize - 1].get(bit)
         }
     }
+
+    pub fn cell_word(&self, cell: u32, at: u32, n: u32) -> u64
+        requires most { n ≤ 64 }
+        requires cell { cell < length (self.now.address ∷ self.now.words) }
+        requires inside { at + n ≤ length (slice_index_or (self.now.address ∷ self.now.words) cell []) }
+        ensures { result ≡ number_of (taken at n (slice_index_or (self.now.address ∷ self.now.words) cell [])) }
+    {
+        if cell == 0 {
+            self.address.word(at, n)
+        } else {
+            self.words[cell as usize - 1].word(at, n)
+        }
+    }
 }
 
 // So many words of this width, filled with this bit.
-fn filled_words(
-    alloc: Global,
-    count: u32,
-    width: u32,
-    fill: bool,
-) -> Result<Vec<PackedBits>, AllocError>
+fn filled_words(alloc: Global, count: u32, width: u32, fill: bool) -> Result<Vec<Bits>, AllocError>
     requires { width ≤ 4096 }
     ensures { IfOk result (λ words. words.items ≡ replicate count (replicate width fill)) }
 {
     let mut words = Vec::new(alloc);
     for _word in 0..count {
-        words.push(PackedBits::filled(alloc, width, fill)?)?;
+        let mut word = Bits::zeros(alloc, width)?;
+        fill_bits(&mut word, fill);
+        words.push(word)?;
     }
     Ok(words)
 }
 
 // Every bit of the words becomes this one.
-fn fill_words(words: &mut [PackedBits], bit: bool)
+fn fill_words(words: &mut [Bits], bit: bool)
     ensures { words.new ≡ map (λ (word : List Bool). replicate (length word) bit) words.old }
 {
     for i in 0..words.len() {
-        words[i].fill(bit);
+        fill_bits(&mut words[i], bit);
     }
 }
 

@@ -1,12 +1,14 @@
 //! A device of kind `Plain`.
-ghost use Rattle.std.specs.Prelude.{◌≡◌, false, []};
+ghost use Rattle.std.specs.Prelude.{◌≡◌, ◌≤◌, false, []};
 ghost use Rattle.std.specs.Option.{option_map};
 ghost use Rattle.dev_card.specs.declared.desc.Kind.TheVariants as kinds;
 ghost use Rattle.dev_card.specs.Card.{step, captured, selected};
+ghost use Rattle.dev_card.specs.Blocks.{card_after_block, card_block};
 ghost use Rattle.dev_card.specs.Sound.{IsSound};
 ghost use Rattle.dev_kinds.specs.Logic.{card_of};
 ghost use Rattle.dev_kinds.specs.Propositions.{IsSound-prop};
 
+use crate::clocks::{Clocked, shift_by_clocks};
 use crate::test_logic::TestLogic;
 use dev_card::{Desc, Device, FitRefused, Kind};
 use std::alloc::Global;
@@ -56,6 +58,33 @@ fn clock(logic: &mut TestLogic, tms: bool, tdi: bool)
         _ => logic.move_lists(tdi),
     }
     logic.enter(tap.next(tms));
+}
+
+impl Clocked for FittedPlain {
+    ghost card = { λ s. card_of s.logic [] 0 };
+
+    fn tdo_now(&self) -> bool {
+        self.logic.tdo()
+    }
+
+    fn clock_once(&mut self, tms: bool, tdi: bool) {
+        clock(&mut self.logic, tms, tdi);
+    }
+}
+
+impl FittedPlain {
+    // A block of clocks: at once where a list is shifted, and else one clock after another.
+    fn shift_block(&mut self, tdi: u64, n: u32, last: bool) -> u64
+        requires some { 1 ≤ n }
+        requires most { n ≤ 64 }
+        ensures card { card_of self.new.logic [] 0 ≡ card_after_block (card_of self.old.logic [] 0) tdi n last }
+        ensures tdo { result ≡ card_block (card_of self.old.logic [] 0) tdi n last }
+    {
+        match self.logic.shift_block(tdi, n, last) {
+            Some(tdo) => tdo,
+            None => shift_by_clocks(self, tdi, n, last),
+        }
+    }
 }
 
 impl Plain {
@@ -108,7 +137,14 @@ impl Device for Plain {
 
     fn clock(&mut self, tms: bool, tdi: bool) {
         match &mut self.state {
-            Some(s) => clock(&mut s.logic, tms, tdi),
+            Some(s) => s.clock_once(tms, tdi),
+            None => unreachable!(),
+        }
+    }
+
+    fn shift_block(&mut self, tdi: u64, n: u32, last: bool) -> u64 {
+        match &mut self.state {
+            Some(s) => s.shift_block(tdi, n, last),
             None => unreachable!(),
         }
     }
@@ -136,5 +172,12 @@ impl Device for Plain {
         ensures { result ≡ false }
     {
         false
+    }
+
+    // There is no cell, as above.
+    fn cell_word(&self, _cell: u32, _at: u32, _n: u32) -> u64
+        ensures { result ≡ 0 }
+    {
+        0
     }
 }

@@ -5,10 +5,12 @@ ghost use Rattle.tap_states.specs.declared.Tap.TheVariants as taps;
 ghost use Rattle.dev_card.specs.declared.desc.Kind.TheVariants as kinds;
 ghost use Rattle.dev_card.specs.Descriptions.{IsGood};
 ghost use Rattle.dev_card.specs.Card.{step, during, entered, captured, selected, selected_length, updated_cells, fresh};
+ghost use Rattle.dev_card.specs.Blocks.{card_after_block, card_block};
 ghost use Rattle.dev_card.specs.Sound.{IsSound, cell_lengths};
 ghost use Rattle.dev_kinds.specs.Logic.{card_of};
 ghost use Rattle.dev_kinds.specs.Propositions.{IsSound-prop};
 
+use crate::clocks::{Clocked, shift_by_clocks};
 use crate::registers::HeldList;
 use crate::test_logic::{DataRegister, TestLogic};
 use dev_card::{Desc, Device, FitRefused, Kind};
@@ -130,6 +132,33 @@ fn fitted(alloc: Global, desc: &Desc) -> Result<FittedRegs, AllocError>
     Ok(FittedRegs { logic, held })
 }
 
+impl Clocked for FittedRegs {
+    ghost card = { λ s. card_of s.logic s.held 0 };
+
+    fn tdo_now(&self) -> bool {
+        self.logic.tdo()
+    }
+
+    fn clock_once(&mut self, tms: bool, tdi: bool) {
+        clock(&mut self.logic, &mut self.held, tms, tdi);
+    }
+}
+
+impl FittedRegs {
+    // A block of clocks: at once where a list is shifted, and else one clock after another.
+    fn shift_block(&mut self, tdi: u64, n: u32, last: bool) -> u64
+        requires some { 1 ≤ n }
+        requires most { n ≤ 64 }
+        ensures card { card_of self.new.logic self.new.held 0 ≡ card_after_block (card_of self.old.logic self.old.held 0) tdi n last }
+        ensures tdo { result ≡ card_block (card_of self.old.logic self.old.held 0) tdi n last }
+    {
+        match self.logic.shift_block(tdi, n, last) {
+            Some(tdo) => tdo,
+            None => shift_by_clocks(self, tdi, n, last),
+        }
+    }
+}
+
 impl Regs {
     /// A device that is not fitted yet. It takes no memory.
     pub fn unfitted() -> Regs
@@ -182,7 +211,14 @@ impl Device for Regs {
 
     fn clock(&mut self, tms: bool, tdi: bool) {
         match &mut self.state {
-            Some(s) => clock(&mut s.logic, &mut s.held, tms, tdi),
+            Some(s) => s.clock_once(tms, tdi),
+            None => unreachable!(),
+        }
+    }
+
+    fn shift_block(&mut self, tdi: u64, n: u32, last: bool) -> u64 {
+        match &mut self.state {
+            Some(s) => s.shift_block(tdi, n, last),
             None => unreachable!(),
         }
     }
@@ -211,6 +247,13 @@ impl Device for Regs {
     fn cell_bit(&self, cell: u32, bit: u32) -> bool {
         match &self.state {
             Some(s) => s.held.get(cell).get(bit),
+            None => unreachable!(),
+        }
+    }
+
+    fn cell_word(&self, cell: u32, at: u32, n: u32) -> u64 {
+        match &self.state {
+            Some(s) => s.held.get(cell).word(at, n),
             None => unreachable!(),
         }
     }

@@ -1,14 +1,15 @@
 //! What all kinds share.
 ghost use Rattle.std.specs.Prelude.{◌≡◌, ◌<◌, ◌≤◌, ◌+◌, ◌-◌, ◌*◌, ◌/◌, ◌^◌, ℕ, Bool, List, [], ◌∷◌, length};
-ghost use Rattle.std.specs.Prelude.{Some, IfOk, slice_get};
+ghost use Rattle.std.specs.Prelude.{Some, IfOk, MatchOption, slice_get};
 ghost use Rattle.base.specs.Bits.{low_bits, bit_value};
 ghost use Rattle.dev_card.specs.Descriptions.{IsGood};
 ghost use Rattle.dev_card.specs.declared.desc.Kind.TheVariants as kinds;
 ghost use Rattle.dev_card.specs.declared.desc.RegDesc.{RegDesc};
 ghost use Rattle.dev_card.specs.Card.{reset_instruction, tdo_of, constant_or};
 ghost use Rattle.dev_kinds.specs.Registers.{IsSelected};
-ghost use Rattle.dev_kinds.specs.Logic.{card_of, lists_moved, state_entered, fresh_logic, selected_identity};
+ghost use Rattle.dev_kinds.specs.Logic.{IsBlockShifted, card_of, lists_moved, state_entered, fresh_logic, selected_identity};
 
+use crate::blocks::through;
 use crate::registers::find_register;
 use crate::shift_list::ShiftList;
 use bit_list::Bits;
@@ -94,6 +95,7 @@ impl TestLogic {
     pub fn new(alloc: Global, desc: &Desc, room: u32) -> Result<TestLogic, AllocError>
         requires good { IsGood desc.now }
         requires room { 32 ≤ room }
+        requires most { room ≤ 65536 }
         ensures { IfOk result (λ k. k ≡ fresh_logic desc.now room) }
     {
         let instruction = opcode_in_reset(desc);
@@ -140,6 +142,31 @@ impl TestLogic {
             Tap::IrShift => self.ir_number = shift_in(self.ir_number, self.desc.ir_len, tdi),
             Tap::DrShift => self.dr_list.shift(tdi),
             _ => {}
+        }
+    }
+
+    // A block in one of the two states in which a list is shifted, all at once; in another state none.
+    pub fn shift_block(&mut self, tdi: u64, n: u32, last: bool) -> Option<u64>
+        requires some { 1 ≤ n }
+        requires most { n ≤ 64 }
+        ensures desc { self.new.desc ≡ self.old.desc }
+        ensures room { self.new.room ≡ self.old.room }
+        ensures shifted { MatchOption result (self.new ≡ self.old)
+            (λ tdo. IsBlockShifted self.old self.new tdi n last tdo) }
+    {
+        match self.tap {
+            Tap::IrShift => {
+                let (tdo, list) = through(self.ir_number, self.desc.ir_len, tdi, n);
+                self.ir_number = list;
+                self.tap = Tap::IrShift.next(last);
+                Some(tdo)
+            }
+            Tap::DrShift => {
+                let tdo = self.dr_list.shift_block(tdi, n);
+                self.tap = Tap::DrShift.next(last);
+                Some(tdo)
+            }
+            _ => None,
         }
     }
 

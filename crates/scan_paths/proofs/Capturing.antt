@@ -1,13 +1,17 @@
 -- What scans capture, clock by clock and call by call.
-use Rattle.std.proofs.Common.{◌≡◌, ◌+◌, ℕ, Bool, List, [], ◌∷◌, ◌++◌, length, Option, refl, sym, ap, subst, ◌∙◌, append_assoc, arith}
+use Rattle.std.proofs.Common.{◌≡◌, ◌+◌, ℕ, Bool, List, [], ◌++◌, length, Option, refl, sym, ap, subst, ◌∙◌, append_assoc, arith}
 use Rattle.std.proofs.lemmas.List.{append-nil, length-append, length-map}
 use Rattle.dev_card.specs.Card.{Card}
-use Rattle.dev_card.specs.Board.{Clock, Input, clock_with, tdos}
+use Rattle.base.specs.Bits.{low_bits, number_of}
+use Rattle.base.proofs.NumberBits.{length-low_bits, low_bits-number_of}
+use Rattle.dev_card.specs.Board.{Clock, Input, tdos}
+use Rattle.dev_card.specs.Blocks.{block_inputs}
 use Rattle.dev_card.proofs.Scanning.{tdos_of_both}
-use Rattle.scan_paths.specs.Cables.{input_of, IsClocked, IsClockedOrNot, HasMadeClocks, HasMade, HasMadeFront}
+use Rattle.scan_paths.specs.Cables.{input_of, HasMadeClocks, HasMade, HasMadeFront, HasShifted}
 use Rattle.scan_paths.specs.Scans.{HasSeen}
-use Rattle.scan_paths.proofs.CallsInARow.{clocks_one, clocks_both}
-use Rattle.scan_paths.proofs.Way.{way_failed}
+use Rattle.scan_paths.proofs.CallsInARow.{clocks_both}
+use Rattle.scan_paths.proofs.Way.{way_block_failed}
+use Rattle.scan_paths.proofs.Shifting.{length_of_inputs}
 
 -- Of all inputs a front was clocked, these are the rest, and these TDO bits were seen.
 pub record IsSeen {C : Type 0} (board : C → Option (List Card)) (makes : C → List Clock → C → Type 0) (start now : C) (rest all : List Input) (captured : List Bool) : Type 0 where
@@ -37,29 +41,35 @@ module _ {C : Type 0} (board : C → Option (List Card)) (makes : C → List Clo
   pub made_of_seen : (a b : C) (xs : List Input) (place : ℕ) (bits : List Bool) → HasSeen board makes a b xs place bits → HasMade board makes a b xs
   made_of_seen a b xs place bits p = record { clocks = p.clocks; made = p.made }
 
+  pub made_of_shifted : (a b : C) (xs : List Input) (tdo : ℕ) → HasShifted board makes a b xs tdo → HasMade board makes a b xs
+  made_of_shifted a b xs tdo p = record { clocks = p.clocks; made = p.made }
+
   length_of_seen : (a b : C) (xs : List Input) (ks : List Clock) → HasMadeClocks board makes a b xs ks → length (tdos ks) ≡ length xs
   length_of_seen a b xs ks p = length-map ks (λ (k : Clock). k.tdo) ∙ sym (length-map ks input_of) ∙ ap length p.went_in
 
   module _ (both : (a b c : C) (front back : List Clock) → makes a front b → makes b back c → makes a (front ++ back) c) where
-    -- one clock more
-    pub seen_more : (start now next : C) (i : Input) (rest all : List Input) (captured : List Bool) (tdo : Bool) → IsClocked board makes now next i.tms i.tdi tdo →
-        IsSeen board makes start now (i ∷ rest) all captured → IsSeen board makes start next rest all (captured ++ tdo ∷ [])
-    seen_more start now next i rest all captured tdo k s =
-        let one : List Clock = clock_with i tdo ∷ [] in
+    -- one block more
+    pub seen_block : (start now next : C) (tdi n : ℕ) (last : Bool) (rest all : List Input) (captured : List Bool) (tdo : ℕ) →
+        HasShifted board makes now next (block_inputs tdi n last) tdo → IsSeen board makes start now (block_inputs tdi n last ++ rest) all captured →
+        IsSeen board makes start next rest all (captured ++ low_bits n tdo)
+    seen_block start now next tdi n last rest all captured tdo k s =
+        let is : List Input = block_inputs tdi n last in
+        let count : length (tdos k.clocks) ≡ n = length_of_seen now next is k.clocks k.made ∙ length_of_inputs last (low_bits n tdi) ∙ length-low_bits n tdi in
+        let bits : low_bits n tdo ≡ tdos k.clocks = ap (low_bits n) k.bits ∙ ap (λ m. low_bits m (number_of (tdos k.clocks))) (sym count) ∙ low_bits-number_of (tdos k.clocks) in
         record {
-          front = s.front ++ i ∷ [];
-          clocks = s.clocks ++ one;
-          parts = s.parts ∙ sym (append_assoc s.front (i ∷ []) rest);
-          made = clocks_both board makes both start now next s.front (i ∷ []) s.clocks one s.made (clocks_one board makes now next i tdo k);
-          bits = ap (λ z. z ++ tdo ∷ []) s.bits ∙ sym (tdos_of_both s.clocks one);
+          front = s.front ++ is;
+          clocks = s.clocks ++ k.clocks;
+          parts = s.parts ∙ sym (append_assoc s.front is rest);
+          made = clocks_both board makes both start now next s.front is s.clocks k.clocks s.made k.made;
+          bits = ap (λ z. z ++ low_bits n tdo) s.bits ∙ ap (λ z. tdos s.clocks ++ z) bits ∙ sym (tdos_of_both s.clocks k.clocks);
         }
 
-    -- a clock that failed after some of the inputs
-    pub seen_failed : (start now next : C) (i : Input) (rest all : List Input) (captured : List Bool) →
-        IsClockedOrNot board makes now next i.tms i.tdi → IsSeen board makes start now (i ∷ rest) all captured → HasMadeFront board makes start next all
-    seen_failed start now next i rest all captured k s =
+    -- a block that failed after some of the inputs
+    pub seen_failed : (start now next : C) (is rest all : List Input) (captured : List Bool) → HasMadeFront board makes now next is →
+        IsSeen board makes start now (is ++ rest) all captured → HasMadeFront board makes start next all
+    seen_failed start now next is rest all captured f s =
         let m : HasMade board makes start now s.front = record { clocks = s.clocks; made = s.made } in
-        way_failed board makes both start now next i rest all k (record { front = s.front; parts = s.parts; made = m })
+        way_block_failed board makes both start now next is rest all f (record { front = s.front; parts = s.parts; made = m })
 
     -- a call before the one that captures
     pub seen_after : (a b c : C) (xs ys : List Input) (place : ℕ) (bits : List Bool) → HasMade board makes a b xs → HasSeen board makes b c ys place bits →

@@ -4,7 +4,7 @@ use Rattle.std.proofs.lemmas.List.{append-nil}
 use Rattle.dev_card.specs.Card.{Card}
 use Rattle.dev_card.specs.Board.{Clock, Input}
 use Rattle.scan_paths.specs.Cables.{IsClocked, IsClockedOrNot, HasMade, HasMadeFront}
-use Rattle.scan_paths.proofs.CallsInARow.{made_nothing, made_one, made_both, front_clock, front_after}
+use Rattle.scan_paths.proofs.CallsInARow.{made_nothing, made_one, made_both, front_clock, front_after, front_longer}
 
 -- Of all inputs a front was clocked, and these are the rest.
 pub record IsUnderWay {C : Type 0} (board : C → Option (List Card)) (makes : C → List Clock → C → Type 0) (start now : C) (rest all : List Input) : Type 0 where
@@ -37,3 +37,19 @@ module _ {C : Type 0} (board : C → Option (List Card)) (makes : C → List Clo
   way_failed start now next i rest all k w =
       subst (λ z. HasMadeFront board makes start next z) (sym w.parts)
       (front_after board makes both start now next w.front (i ∷ rest) w.made (front_clock board makes now next i rest k))
+
+  -- one block more
+  pub way_block : (start now next : C) (is rest all : List Input) → HasMade board makes now next is → IsUnderWay board makes start now (is ++ rest) all →
+      IsUnderWay board makes start next rest all
+  way_block start now next is rest all p w = record {
+    front = w.front ++ is;
+    parts = w.parts ∙ sym (append_assoc w.front is rest);
+    made = made_both board makes both start now next w.front is w.made p;
+  }
+
+  -- a block that failed after some of the inputs
+  pub way_block_failed : (start now next : C) (is rest all : List Input) → HasMadeFront board makes now next is → IsUnderWay board makes start now (is ++ rest) all →
+      HasMadeFront board makes start next all
+  way_block_failed start now next is rest all f w =
+      subst (λ z. HasMadeFront board makes start next z) (sym w.parts)
+      (front_after board makes both start now next w.front (is ++ rest) w.made (front_longer board makes now next is rest f))

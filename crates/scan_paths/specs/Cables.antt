@@ -5,7 +5,8 @@ use Rattle.std.specs.Prelude.{◌≡◌, ◌+◌, ◌++◌, ◌⊎◌, ℕ, Bool
 use Rattle.std.specs.Option.{option_map}
 use Rattle.tool_io.specs.Causes.{CountKept, CountRose}
 use Rattle.dev_card.specs.Card.{Card}
-use Rattle.dev_card.specs.Board.{board_tdo, board_step, board_after, clocks_of, Clock, Input}
+use Rattle.base.specs.Bits.{number_of}
+use Rattle.dev_card.specs.Board.{board_tdo, board_step, board_after, clocks_of, tdos, Clock, Input}
 
 -- what is broken of a cable: nothing, the line to the devices, or the lines in which its clocks are written
 pub data Breakage : Type 0 where
@@ -77,6 +78,12 @@ pub record HasMadeClocks {C : Type 0} (board : C → Option (List Card)) (makes 
 pub record HasMade {C : Type 0} (board : C → Option (List Card)) (makes : C → List Clock → C → Type 0) (old new : C) (inputs : List Input) : Type 0 where
   pub clocks : List Clock
   pub made : HasMadeClocks board makes old new inputs clocks
+
+-- Clocks were made with exactly these inputs, and this is the number of the TDO bits before them.
+pub record HasShifted {C : Type 0} (board : C → Option (List Card)) (makes : C → List Clock → C → Type 0) (old new : C) (inputs : List Input) (tdo : ℕ) : Type 0 where
+  pub clocks : List Clock
+  pub made : HasMadeClocks board makes old new inputs clocks
+  pub bits : tdo ≡ number_of (tdos clocks)
 
 -- Clocks were made with exactly a front of these inputs, and then a call failed.
 pub record HasMadeFront {C : Type 0} (board : C → Option (List Card)) (makes : C → List Clock → C → Type 0) (old new : C) (inputs : List Input) : Type 0 where

@@ -1,9 +1,10 @@
 //! The cable to a chain of devices.
-ghost use Rattle.std.specs.Prelude.{◌≡◌, ◌≢◌, ℕ, List, [], ◌++◌, Option, Some, IfOk, OnOk, OnErr};
+ghost use Rattle.std.specs.Prelude.{◌≡◌, ◌≢◌, ◌≤◌, ℕ, List, [], ◌++◌, Option, Some, IfOk, OnOk, OnErr};
 ghost use Rattle.dev_card.specs.Card.{Card};
 ghost use Rattle.dev_card.specs.Board.{Clock};
 ghost use Rattle.dev_card.specs.Sound.{AllSound};
-ghost use Rattle.scan_paths.specs.Cables.{Breakage, whole, line, pins, HasPartCause, IsClocked, IsUnclocked, IsClockedOrNot};
+ghost use Rattle.dev_card.specs.Blocks.{block_inputs};
+ghost use Rattle.scan_paths.specs.Cables.{Breakage, whole, line, pins, HasPartCause, IsClocked, IsUnclocked, IsClockedOrNot, HasMadeFront, HasShifted};
 
 use tool_io::Failed;
 
@@ -44,6 +45,23 @@ pub trait Cable {
         requires { breakage self.old ≡ whole }
         ensures clocked { IfOk result (λ tdo. IsClocked board made self.old self.new tms tdi tdo) }
         ensures failed { OnErr result (IsClockedOrNot board made self.old self.new tms tdi) }
+        ensures unbroken { OnOk result (breakage self.new ≡ whole) }
+        ensures broken { OnErr result (breakage self.new ≢ whole) }
+        ensures line { HasPartCause line line_faults is_line_last breakage self.old self.new }
+        ensures pins { HasPartCause pins pin_faults is_pin_last breakage self.old self.new };
+
+    /// n clocks as one call: with the lowest n bits of `tdi`, the lowest first, and with TMS 0, but TMS 1 at the last of
+    /// them where `last` is true. It answers the TDO bits before these clocks, the first one as the lowest, with zeros
+    /// above.
+    ///
+    /// `Failed` has the cause that it has at `clock`. Then the clocks that were made are the first of these, perhaps
+    /// none, perhaps all.
+    fn shift_block(&mut self, tdi: u64, n: u32, last: bool) -> Result<u64, Failed>
+        requires whole { breakage self.old ≡ whole }
+        requires some { 1 ≤ n }
+        requires most { n ≤ 64 }
+        ensures shifted { IfOk result (λ tdo. HasShifted board made self.old self.new (block_inputs tdi n last) tdo) }
+        ensures failed { OnErr result (HasMadeFront board made self.old self.new (block_inputs tdi n last)) }
         ensures unbroken { OnOk result (breakage self.new ≡ whole) }
         ensures broken { OnErr result (breakage self.new ≢ whole) }
         ensures line { HasPartCause line line_faults is_line_last breakage self.old self.new }

@@ -11,6 +11,9 @@ use crate::scans::ScanPlan;
 use bit_list::Bits;
 use tool_io::Failed;
 
+// How many bits go in at one call of the cable.
+const BLOCK: u32 = 64;
+
 /// Shifts all bits of a scan, with TMS 1 at the last one alone, and captures TDO at the places of its data.
 pub fn shift_padded<C: Cable>(
     cable: &mut C,
@@ -57,8 +60,11 @@ fn shift_ones<C: Cable>(cable: &mut C, n: u32, last: bool) -> Result<(), Failed>
     ensures line { HasPartCause line C.line_faults C.is_line_last C.breakage cable.old cable.new }
     ensures pins { HasPartCause pins C.pin_faults C.is_pin_last C.breakage cable.old cable.new }
 {
-    for i in 0..n {
-        cable.clock(ends_at(last, i, n), true)?;
+    let mut at = 0;
+    while at < n {
+        let len = (n - at).min(BLOCK);
+        cable.shift_block(u64::MAX, len, ends_at(last, at + len, n))?;
+        at += len;
     }
     Ok(())
 }
@@ -75,8 +81,11 @@ fn shift_padding<C: Cable>(cable: &mut C, padding: &Bits, n: u32, last: bool) ->
     ensures line { HasPartCause line C.line_faults C.is_line_last C.breakage cable.old cable.new }
     ensures pins { HasPartCause pins C.pin_faults C.is_pin_last C.breakage cable.old cable.new }
 {
-    for i in 0..n {
-        cable.clock(ends_at(last, i, n), padding.get(i))?;
+    let mut at = 0;
+    while at < n {
+        let len = (n - at).min(BLOCK);
+        cable.shift_block(padding.word(at, len), len, ends_at(last, at + len, n))?;
+        at += len;
     }
     Ok(())
 }
@@ -103,9 +112,12 @@ fn shift_data<C: Cable>(
     ensures line { HasPartCause line C.line_faults C.is_line_last C.breakage cable.old cable.new }
     ensures pins { HasPartCause pins C.pin_faults C.is_pin_last C.breakage cable.old cable.new }
 {
-    for i in 0..n {
-        let tdo = cable.clock(ends_at(last, i, n), bits.get(i))?;
-        captured.set(i, tdo);
+    let mut at = 0;
+    while at < n {
+        let len = (n - at).min(BLOCK);
+        let tdo = cable.shift_block(bits.word(at, len), len, ends_at(last, at + len, n))?;
+        captured.set_word(at, len, tdo);
+        at += len;
     }
     Ok(())
 }
@@ -117,10 +129,9 @@ fn ends_with_data(pads: &Pads, base_post: u32) -> bool
     pads.post == 0 && base_post == 0
 }
 
-// TMS at bit i of n: 1 at the last one, if the scan ends there.
-fn ends_at(last: bool, i: u32, n: u32) -> bool
-    requires { i < n }
-    ensures { result ≡ (last && (i + 1 == n)) }
+// Whether a block that comes to this place of n is the last one of its scan, if the scan ends with these n bits.
+fn ends_at(last: bool, place: u32, n: u32) -> bool
+    ensures { result ≡ (last && (place == n)) }
 {
-    last && i + 1 == n
+    last && place == n
 }

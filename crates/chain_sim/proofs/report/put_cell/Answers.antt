@@ -1,29 +1,58 @@
-use Rattle.std.proofs.Common.{rules, ◌-◌, [], ◌∷◌, suc, ◌≡◌, arith}
-use Rattle.dev_card.specs.Hexadecimal.{hex_digits, all_hex_digits}
+use Rattle.std.proofs.Common.{rules, ◌/◌, ◌-◌, ◌*◌, ℕ, take, refl, arith}
+use Rattle.base.specs.Bits.{low_bits}
+use Rattle.dev_card.specs.Hexadecimal.{all_hex_digits}
 use Rattle.dev_card.specs.Sound.{card_in}
+use Rattle.dev_card.proofs.HexDigits.{word_fits, digits_down, none_left, all_left}
 use Rattle.tool_io.proofs.BytesLemmas.{on_err}
-use Rattle.tool_io.proofs.CauseLemmas.{kept_then}
+use Rattle.tool_io.proofs.CauseLemmas.{kept_start, kept_then}
 use Rattle.chain_sim.specs.Reports.{cell_in}
-use Rattle.chain_sim.proofs.PutParts.{part_put, part_failed}
-use Rattle.chain_sim.proofs.ReportDigits.{digit_more}
+use Rattle.chain_sim.proofs.PutParts.{nothing_put, part_put, part_failed, all_put}
 use Rattle.chain_sim.proofs.report.put_cell.Goals as goal
+
+pub down-init : goal.down-init
+down-init g c =
+    let bits = cell_in (card_in (g.D.Device.fitted c.args.device.now)) c.args.cell in
+    let len : ℕ = c.length_of-left.result in
+    record {
+      same_sink = refl;
+      whole = c.requires.whole;
+      inside = omega arith;
+      puts = nothing_put (all_hex_digits bits) c.args.out.now (all_hex_digits (take len bits)) (all_left len bits c.length_of-left.ensures);
+      kept = kept_start _ _;
+    }
+
+pub put_number-requires-clause-fits : goal.put_number-requires-clause-fits
+put_number-requires-clause-fits g c =
+    let bits = cell_in (card_in (g.D.Device.fitted c.args.device.now)) c.args.cell in
+    let left : ℕ = c.down.left in
+    let low : ℕ = (left - 1) / 64 * 64 in
+    word_fits low (left - low) c.word_of.result bits (omega (arith, c.down.invariant.inside)) c.word_of.ensures
 
 pub down-preserved : goal.down-preserved
 down-preserved g c =
     let bits = cell_in (card_in (g.D.Device.fitted c.args.device.now)) c.args.cell in
-    let e : c.down.left ≡ suc (c.down.left - 1) = omega arith in
+    let left : ℕ = c.down.left in
+    let low : ℕ = (left - 1) / 64 * 64 in
+    let inside = c.down.invariant.inside in
     record {
       same_sink = search rules;
       whole = search rules;
-      puts = part_put (all_hex_digits bits) (hex_digits c.down.left bits) (c.digit_at.result ∷ []) (hex_digits (c.down.left - 1) bits)
-          (digit_more bits c.down.left (c.down.left - 1) c.digit_at.result e c.digit_at.ensures) c.down.invariant.puts c.in_ok-put.ensures.ok;
-      kept = kept_then c.down.invariant.kept c.in_ok-put.ensures.cause.kept;
+      inside = omega arith;
+      puts = part_put (all_hex_digits bits) (all_hex_digits (take left bits)) (all_hex_digits (low_bits (left - low) c.word_of.result)) (all_hex_digits (take low bits))
+          (digits_down left low c.word_of.result bits (omega arith) inside (omega arith) c.word_of.ensures) c.down.invariant.puts c.in_ok-put_number.ensures.ok;
+      kept = kept_then c.down.invariant.kept c.in_ok-put_number.ensures.cause.kept;
     }
 
-pub returns-in_err-put-clause-front : goal.returns-in_err-put-clause-front
-returns-in_err-put-clause-front g c =
+pub returns-in_err-put_number-clause-front : goal.returns-in_err-put_number-clause-front
+returns-in_err-put_number-clause-front g c =
     let bits = cell_in (card_in (g.D.Device.fitted c.args.device.now)) c.args.cell in
-    let e : c.down.left ≡ suc (c.down.left - 1) = omega arith in
+    let left : ℕ = c.down.left in
+    let low : ℕ = (left - 1) / 64 * 64 in
     on_err c.from_residual.result
-    (part_failed (all_hex_digits bits) (hex_digits c.down.left bits) (c.digit_at.result ∷ []) (hex_digits (c.down.left - 1) bits)
-    (digit_more bits c.down.left (c.down.left - 1) c.digit_at.result e c.digit_at.ensures) c.down.invariant.puts c.in_err-put.ensures.front)
+    (part_failed (all_hex_digits bits) (all_hex_digits (take left bits)) (all_hex_digits (low_bits (left - low) c.word_of.result)) (all_hex_digits (take low bits))
+    (digits_down left low c.word_of.result bits (omega arith) c.down.invariant.inside (omega arith) c.word_of.ensures) c.down.invariant.puts c.in_err-put_number.ensures.front)
+
+pub returns-clause-ok : goal.returns-clause-ok
+returns-clause-ok g c =
+    let bits = cell_in (card_in (g.D.Device.fitted c.args.device.now)) c.args.cell in
+    all_put (all_hex_digits bits) (all_hex_digits (take c.down.left bits)) (none_left c.down.left bits (omega arith)) c.down.invariant.puts

@@ -1,21 +1,14 @@
-use Rattle.std.proofs.Common.{◌≡◌, ◌<◌, false, length, ap, ◌∙◌, arith}
-use Rattle.std.proofs.lemmas.Option.{get_or_from_slice_get}
-use Rattle.dev_kinds.proofs.MemoryLemmas.{length-partly, cleared_more, kept_more}
+use Rattle.std.proofs.Common.{◌∙◌, arith}
+use Rattle.dev_kinds.proofs.CommonBits.{common_more, common_end}
 use Rattle.dev_kinds.proofs.bit_copies.keep_common.Goals as goal
-use Rattle.dev_kinds.proofs.bit_copies.keep_common.Goals.{then-not-get, else-not-get}
 
-pub clear-requires : goal.clear-requires
-clear-requires c =
-    let old = c.args.packed.now in
-    let size : length c.loop-i.packed ≡ length old = ap length c.loop-i.invariant ∙ length-partly old c.args.bits.now c.loop-i.i c.requires in
-    omega (arith, size)
+pub loop-done-preserved : goal.loop-done-preserved
+loop-done-preserved c = record {
+  within = omega arith;
+  way = common_more c.args.bits.now c.args.other.now c.loop-done.bits c.set_word.new.self c.loop-done.done c.min-n.result c.word.result c.word-in-loop-done.result c.requires (omega arith)
+      c.loop-done.invariant.way c.word.ensures.bits c.word-in-loop-done.ensures.bits c.set_word.ensures.bits;
+  length = c.set_word.ensures.length ∙ c.loop-done.invariant.length;
+}
 
-pub loop-i-preserved : goal.loop-i-preserved
-loop-i-preserved c =
-    let old = c.args.packed.now in
-    let bits = c.args.bits.now in
-    let now = c.loop-i.packed in
-    let i = c.loop-i.i in
-    let read = get_or_from_slice_get bits i c.get.result false c.get.ensures in
-    let inside : i < length old = omega arith in
-    elim c.if-not-get.branch [ then-not-get w ↦ w.packed-is ∙ w.clear.ensures ∙ cleared_more old bits now i false inside c.requires (read ∙ w.if-not-get.true) c.loop-i.invariant | else-not-get w ↦ w.packed-is ∙ kept_more old bits now i false inside c.requires (read ∙ w.if-not-get.false) c.loop-i.invariant ]
+pub returns : goal.returns
+returns c = common_end c.args.bits.now c.args.other.now c.loop-done.bits c.loop-done.done c.requires (omega arith) c.loop-done.invariant.way

@@ -1,6 +1,13 @@
-use Rattle.std.proofs.Common.{◌≡◌, ◌++◌, take, drop}
-use Rattle.dev_card.specs.Card.{and_bits}
+use Rattle.std.proofs.Common.{◌≡◌, ◌≤◌, ◌-◌, length}
+use Rattle.dev_kinds.proofs.CommonBits.{common_below}
 use Rattle.dev_kinds.proofs.bit_copies.keep_common.Given as goal
 
-abbrev pub invariant-loop-i : goal.invariant-loop-i
-invariant-loop-i l = l.packed ≡ and_bits (take l.i l.fn.packed) (take l.i l.bits) ++ drop l.i l.fn.packed
+abbrev pub invariant-loop-done : goal.invariant-loop-done
+invariant-loop-done l = record {
+  within : l.done ≤ l.len;
+  way : l.bits ≡ common_below l.done l.fn.bits l.other;
+  length : length l.bits ≡ length l.fn.bits;
+}
+
+abbrev pub decreases-loop-done : goal.decreases-loop-done
+decreases-loop-done l = l.len - l.done

@@ -1,8 +1,7 @@
 use Rattle.dev_kinds.proofs.Rings.{ring_shifted}
-use Rattle.std.proofs.lemmas.List.{length-set}
 use Rattle.dev_kinds.proofs.shift_list.ShiftList.shift.Goals as goal
 
 pub returns : goal.returns
 returns c =
-    let e = ring_shifted c.self.inside.head c.self.inside.len c.self.inside.ring.items c.args.bit c.self.invariant.inside c.self.invariant.within in
-    rw (← c.self.view_is, c.next_place-self-inside.ensures, e, length-set)
+    let e = ring_shifted c.self.inside.head c.self.inside.len c.self.inside.ring c.args.bit c.self.invariant.inside c.self.invariant.within in
+    rw (← c.self.view_is, c.next_place-self-inside.ensures, c.set.ensures.length, c.set.ensures.changed, e)
