@@ -1,102 +1,115 @@
--- The bits of a literal, byte by byte.
-use Rattle.std.proofs.Common.{◌≡◌, ◌≤◌, ◌<◌, ◌^◌, ◌+◌, ◌-◌, ◌*◌, ◌/◌, ◌%◌, min, ℕ, zero, suc, Bool, true, not, List, [], ◌∷◌, ◌++◌, length, take, drop, get_or, nat_eq, add-one, ◌≢◌, refl, sym, ap, ◌∙◌, append_assoc, arith, inl, inr}
+-- The bits of a literal, word by word.
+use Rattle.std.proofs.Common.{◌≡◌, ◌≤◌, ◌<◌, ◌^◌, ◌+◌, ◌-◌, ◌*◌, ◌/◌, ◌%◌, min, ℕ, zero, suc, Bool, true, not, List, [], ◌∷◌, ◌++◌, length, take, drop, replicate, get_or, nat_eq, ◌≢◌, refl, sym, ap, ap₂, ◌∙◌, arith}
 use Rattle.std.specs.List.{flat_map, list_all}
-use Rattle.std.specs.Int.{w32, cast_signed, cast_unsigned}
-use Rattle.std.proofs.lemmas.Int.{of_z-to_z}
-use Rattle.std.proofs.Math.Seq.{drop-cons}
+use Rattle.std.specs.Int.{w64, from_le_bytes}
+use Rattle.std.proofs.Math.Seq.{take-add}
 use Rattle.std.proofs.Math.Nat.{pow-suc}
-use Rattle.std.proofs.lemmas.Bool.{cases_lt}
+use Rattle.std.proofs.lemmas.Nat.{le_bytes_8}
 use Rattle.std.proofs.lemmas.Bool.Decides.{nat_tests}
-use Rattle.std.proofs.lemmas.List.{take_at, append-nil, length-append, length-take, length-take-le}
+use Rattle.std.proofs.lemmas.List.{append-nil, length-append, length-drop, length-take-le, take-append-drop, take-append-le, take_all, drop_all, take_min}
+use Rattle.std.proofs.lemmas.List.Concat.{flat_map-append}
 use Rattle.base.specs.Bits.{low_bits}
-use Rattle.base.proofs.NumberBits.{length-low_bits, drop-low_bits}
-use Rattle.bit_list.specs.Integers.{bits_of_int}
+use Rattle.base.proofs.NumberBits.{length-low_bits, drop-low_bits, lowest_bits}
 use Rattle.bit_list.specs.Ranges.{spliced}
+use Rattle.bit_list.proofs.Splices.{taken_of_first, spliced_next}
 use Rattle.stapl_code.specs.Fields.{bytes_for}
 use Rattle.code_files.specs.ReadFiles.{is_padded}
-use Rattle.code_files.proofs.LiteralsTaken.{take_few, drop_front, length-unpack}
+use Rattle.code_files.proofs.LiteralBytes.{bits_of_bytes}
+use Rattle.code_files.proofs.LiteralsTaken.{drop_front, length-unpack}
 
-drop_next : (packed : List ℕ) (k byte : ℕ) → k < length packed → byte ≡ get_or packed k 0 → drop k packed ≡ byte ∷ drop (k + 1) packed
-drop_next packed k byte lt is = drop-cons packed k 0 lt ∙ ap (λ (b : ℕ). b ∷ drop (suc k) packed) (sym is) ∙ ap (λ (n : ℕ). byte ∷ drop n packed) (sym (add-one k))
+-- ---- the bits of words
 
--- the front of a number's bits
-take_low : (n m x : ℕ) → n ≤ m → take n (low_bits m x) ≡ low_bits n x
-take_low zero m x le = refl
-take_low (suc n) zero x le = absurd (omega arith)
-take_low (suc n) (suc m) x le = ap (λ (z : List Bool). nat_eq (x % 2) 1 ∷ z) (take_low n m (x / 2) (omega arith))
+-- the bits of the bytes from one on
+drop_bytes : (q : ℕ) (packed : List ℕ) → q ≤ length packed → drop (8 * q) (flat_map (low_bits 8) packed) ≡ flat_map (low_bits 8) (drop q packed)
+drop_bytes zero packed inside = refl
+drop_bytes (suc q) [] inside = absurd (omega arith)
+drop_bytes (suc q) (b ∷ packed) inside =
+    let left : 8 * suc q - length (low_bits 8 b) ≡ 8 * q = omega (arith, length-low_bits 8 b) in
+    drop_front (8 * suc q) (low_bits 8 b) (flat_map (low_bits 8) packed) (omega (arith, length-low_bits 8 b))
+    ∙ ap (λ k. drop k (flat_map (low_bits 8) packed)) left ∙ drop_bytes q packed (omega arith)
 
-part_of : (room count byte : ℕ) → count ≡ min 8 room → take count (low_bits 32 byte) ≡ take room (low_bits 8 byte)
-part_of room count byte is =
-    elim (cases_lt room 8) [
-      | inl less ↦
-          let all : count ≡ room = omega arith in
-          take_low count 32 byte (omega arith) ∙ ap (λ (n : ℕ). low_bits n byte) all ∙ sym (take_low room 8 byte (omega arith))
-      | inr more ↦
-          let eight : count ≡ 8 = omega arith in
-          take_low count 32 byte (omega arith) ∙ ap (λ (n : ℕ). low_bits n byte) eight
-          ∙ sym (take_few room (low_bits 8 byte) (omega (arith, length-low_bits 8 byte)))
-    ]
+-- the first bits do not see what stands behind their bytes
+front_bits : (n : ℕ) (bytes rest : List ℕ) → n ≤ 8 * length bytes → take n (flat_map (low_bits 8) (bytes ++ rest)) ≡ take n (flat_map (low_bits 8) bytes)
+front_bits n bytes rest few =
+    ap (take n) (flat_map-append (low_bits 8) bytes rest)
+    ∙ take-append-le n (flat_map (low_bits 8) bytes) (flat_map (low_bits 8) rest) (omega (arith, length-unpack bytes))
 
--- the lowest bits of a byte, as an integer and as a number
-pub byte_part : (room count byte : ℕ) → byte < 256 → count ≡ min 8 room → take count (bits_of_int (cast_signed w32 byte)) ≡ take room (low_bits 8 byte)
-byte_part room count byte small is =
-    let same : cast_unsigned w32 (cast_signed w32 byte) ≡ byte = of_z-to_z w32 byte (omega arith) in
-    ap (λ (n : ℕ). take count (low_bits 32 n)) same ∙ part_of room count byte is
+-- the word of eight bytes
+word_bits : (n word : ℕ) (bytes : List ℕ) → n ≤ 64 → length bytes ≡ 8 → ((i : ℕ) → get_or bytes i 0 < 256) → word ≡ from_le_bytes w64 bytes
+    → low_bits n word ≡ take n (flat_map (low_bits 8) bytes)
+word_bits n word bytes few eight small is =
+    sym (lowest_bits n 64 word few)
+    ∙ ap (take n) (sym (bits_of_bytes 8 word) ∙ ap (flat_map (low_bits 8)) (le_bytes_8 bytes word eight small is))
 
--- the front of two lists
-take_both : (m : ℕ) (xs ys : List Bool) → take m (xs ++ ys) ≡ take m xs ++ take (m - length xs) ys
-take_both m [] ys = let all : m - 0 ≡ m = omega arith in let none : take m [] ≡ [] = take_few m [] (omega arith) in rw (none, all) refl
-take_both zero (x ∷ xs) ys = let none : 0 - suc (length xs) ≡ 0 = omega arith in rw none refl
-take_both (suc m) (x ∷ xs) ys =
-    let less : suc m - suc (length xs) ≡ m - length xs = omega arith in
-    rw less (ap (λ (z : List Bool). x ∷ z) (take_both m xs ys))
+-- ---- numbers that are bytes
 
-drop_few : (k : ℕ) (xs : List Bool) → length xs ≤ k → drop k xs ≡ []
-drop_few zero [] few = refl
-drop_few zero (x ∷ xs) few = absurd (omega arith)
-drop_few (suc k) [] few = refl
-drop_few (suc k) (x ∷ xs) few = drop_few k xs (omega arith)
+small_take : (k : ℕ) (xs : List ℕ) → ((i : ℕ) → get_or xs i 0 < 256) → (i : ℕ) → get_or (take k xs) i 0 < 256
+small_take zero xs small i = omega arith
+small_take (suc k) [] small i = omega arith
+small_take (suc k) (x ∷ xs) small zero = small 0
+small_take (suc k) (x ∷ xs) small (suc i) = small_take k xs (λ j. small (suc j)) i
 
--- what stands after the next byte: the bits so far, and those of this byte
-front_next : (bits part : List Bool) (at room : ℕ) → length bits ≡ at + room → 0 < room → length part ≡ min 8 room
-    → take (at + 8) (spliced at part bits) ≡ take at bits ++ part
-front_next bits part at room long some many =
-    let front : length (take at bits) ≡ at = length-take-le at bits (omega arith) in
-    let both : length (take at bits ++ part) ≡ at + min 8 room = omega (arith, length-append (take at bits) part) in
-    elim (cases_lt room 8) [
-      | inl less ↦
-          let none : drop (at + length part) bits ≡ [] = drop_few (at + length part) bits (omega arith) in
-          rw none (ap (take (at + 8)) (append-nil (take at bits ++ part)) ∙ take_few (at + 8) (take at bits ++ part) (omega arith))
-      | inr more ↦ take_at (take at bits ++ part) (drop (at + length part) bits) (at + 8) (omega arith)
-    ]
+small_append : (xs ys : List ℕ) → ((i : ℕ) → get_or xs i 0 < 256) → ((i : ℕ) → get_or ys i 0 < 256) → (i : ℕ) → get_or (xs ++ ys) i 0 < 256
+small_append [] ys small others i = others i
+small_append (x ∷ xs) ys small others zero = small 0
+small_append (x ∷ xs) ys small others (suc i) = small_append xs ys (λ j. small (suc j)) others i
 
--- one byte more
-joined : (bits byte rest new total : List Bool) (at room : ℕ) → length bits ≡ at + room → 0 < room → length byte ≡ 8
-    → new ≡ spliced at (take room byte) bits → take at bits ++ take room (byte ++ rest) ≡ total
-    → take (at + 8) new ++ take (room - 8) rest ≡ total
-joined bits byte rest new total at room long some eight made so_far =
-    let many : length (take room byte) ≡ min 8 room = omega (arith, length-take room byte) in
-    let front : take (at + 8) new ≡ take at bits ++ take room byte = ap (take (at + 8)) made ∙ front_next bits (take room byte) at room long some many in
-    let left : room - length byte ≡ room - 8 = omega arith in
-    let split : take room (byte ++ rest) ≡ take room byte ++ take (room - 8) rest = take_both room byte rest ∙ ap (λ (n : ℕ). take room byte ++ take n rest) left in
-    ap (λ (z : List Bool). z ++ take (room - 8) rest) front ∙ append_assoc (take at bits) (take room byte) (take (room - 8) rest)
-    ∙ ap (λ (z : List Bool). take at bits ++ z) (sym split) ∙ so_far
+small_zeros : (k m i : ℕ) → get_or (drop m (replicate k 0)) i 0 < 256
+small_zeros zero zero i = omega arith
+small_zeros zero (suc m) i = omega arith
+small_zeros (suc k) zero zero = omega arith
+small_zeros (suc k) zero (suc i) = small_zeros k zero i
+small_zeros (suc k) (suc m) i = small_zeros k m i
 
-pub next_part : (bits new total : List Bool) (packed : List ℕ) (len k byte : ℕ) → length bits ≡ len → length packed ≡ bytes_for len → k < length packed
-    → byte ≡ get_or packed k 0 → new ≡ spliced (8 * k) (take (len - 8 * k) (low_bits 8 byte)) bits
-    → take (8 * k) bits ++ take (len - 8 * k) (flat_map (low_bits 8) (drop k packed)) ≡ total
-    → take (8 * (k + 1)) new ++ take (len - 8 * (k + 1)) (flat_map (low_bits 8) (drop (k + 1) packed)) ≡ total
-next_part bits new total packed len k byte long size lt is made so_far =
-    let next : drop k packed ≡ byte ∷ drop (k + 1) packed = drop_next packed k byte lt is in
-    let room : 0 < len - 8 * k = omega arith in
-    let on : 8 * k + 8 ≡ 8 * (k + 1) = omega arith in
-    let left : len - 8 * k - 8 ≡ len - 8 * (k + 1) = omega arith in
-    let read : take (8 * k) bits ++ take (len - 8 * k) (low_bits 8 byte ++ flat_map (low_bits 8) (drop (k + 1) packed)) ≡ total =
-    ap (λ (z : List ℕ). take (8 * k) bits ++ take (len - 8 * k) (flat_map (low_bits 8) z)) (sym next) ∙ so_far in
-    let step : take (8 * k + 8) new ++ take (len - 8 * k - 8) (flat_map (low_bits 8) (drop (k + 1) packed)) ≡ total =
-    joined bits (low_bits 8 byte) (flat_map (low_bits 8) (drop (k + 1) packed)) new total (8 * k) (len - 8 * k) (omega arith) room (length-low_bits 8 byte) made read in
-    ap (λ (n : ℕ). take n new ++ take (len - 8 * (k + 1)) (flat_map (low_bits 8) (drop (k + 1) packed))) (sym on)
-    ∙ ap (λ (n : ℕ). take (8 * k + 8) new ++ take n (flat_map (low_bits 8) (drop (k + 1) packed))) (sym left) ∙ step
+-- ---- words
+
+-- the word of the first eight of more bytes
+pub front_word : (n word : ℕ) (bytes front : List ℕ) → n ≤ 64 → 8 ≤ length bytes → ((i : ℕ) → get_or bytes i 0 < 256) → front ≡ take 8 bytes → word ≡ from_le_bytes w64 front
+    → low_bits n word ≡ take n (flat_map (low_bits 8) bytes)
+front_word n word bytes front few long small is value =
+    word_bits n word (take 8 bytes) few (length-take-le 8 bytes long) (small_take 8 bytes small) (value ∙ ap (from_le_bytes w64) is)
+    ∙ sym (front_bits n (take 8 bytes) (drop 8 bytes) (omega (arith, length-take-le 8 bytes long)))
+    ∙ ap (λ x. take n (flat_map (low_bits 8) x)) (take-append-drop 8 bytes)
+
+-- the word of fewer bytes, with zeros after them
+pub short_word : (n word : ℕ) (bytes copied : List ℕ) → n ≤ 8 * length bytes → length bytes < 8 → ((i : ℕ) → get_or bytes i 0 < 256) → copied ≡ bytes
+    → word ≡ from_le_bytes w64 (copied ++ drop (length bytes) (replicate 8 0)) → low_bits n word ≡ take n (flat_map (low_bits 8) bytes)
+short_word n word bytes copied few short small same value =
+    let filler : List ℕ = replicate 8 0 in
+    let zeros : List ℕ = drop (length bytes) filler in
+    let eight : length (bytes ++ zeros) ≡ 8 = omega (arith, length-append bytes zeros, length-drop (length bytes) filler) in
+    word_bits n word (bytes ++ zeros) (omega arith) eight (small_append bytes zeros small (small_zeros 8 (length bytes)))
+    (value ∙ ap (λ x. from_le_bytes w64 (x ++ zeros)) same)
+    ∙ front_bits n bytes zeros few
+
+-- a word more is read
+pub word_read : (packed : List ℕ) (start bits new : List Bool) (len k n word : ℕ) → length packed ≡ bytes_for len → length start ≡ len → 64 * k < len →
+    n ≡ min 64 (len - 64 * k) → low_bits n word ≡ take n (flat_map (low_bits 8) (take (length packed - 8 * k) (drop (8 * k) packed))) → new ≡ spliced (64 * k) (low_bits n word) bits →
+    bits ≡ spliced 0 (take (64 * k) (take len (flat_map (low_bits 8) packed))) start → new ≡ spliced 0 (take (64 * (k + 1)) (take len (flat_map (low_bits 8) packed))) start
+word_read packed start bits new len k n word size long lt is read made so_far =
+    let all : List Bool = flat_map (low_bits 8) packed in
+    let many : length (take len all) ≡ len = length-take-le len all (omega (arith, length-unpack packed)) in
+    let front : length (take (64 * k) (take len all)) ≡ 64 * k = length-take-le (64 * k) (take len all) (omega arith) in
+    let place : 8 * (8 * k) ≡ 64 * k = omega arith in
+    let next : 64 * k + 64 ≡ 64 * (k + 1) = omega arith in
+    let room : n ≡ min 64 (length (drop (64 * k) (take len all))) = omega (arith, length-drop (64 * k) (take len all)) in
+    let part : low_bits n word ≡ take 64 (drop (64 * k) (take len all)) =
+    read ∙ ap (λ x. take n (flat_map (low_bits 8) x)) (take_all (length packed - 8 * k) (drop (8 * k) packed) (omega (arith, length-drop (8 * k) packed)))
+    ∙ ap (take n) (sym (drop_bytes (8 * k) packed (omega arith)) ∙ ap (λ j. drop j all) place)
+    ∙ sym (taken_of_first len (64 * k) n all (omega arith))
+    ∙ ap (λ j. take j (drop (64 * k) (take len all))) room ∙ take_min 64 (drop (64 * k) (take len all)) in
+    made ∙ ap₂ (spliced (64 * k)) part so_far
+    ∙ spliced_next 0 (64 * k) (take (64 * k) (take len all)) (take 64 (drop (64 * k) (take len all))) start (omega arith) (omega arith)
+    ∙ ap (λ z. spliced 0 z start) (sym (take-add (64 * k) 64 (take len all)) ∙ ap (λ j. take j (take len all)) next)
+
+-- all words are read
+pub words_read : (packed : List ℕ) (start bits : List Bool) (len k : ℕ) → length packed ≡ bytes_for len → length start ≡ len → len ≤ 64 * k →
+    bits ≡ spliced 0 (take (64 * k) (take len (flat_map (low_bits 8) packed))) start → bits ≡ take len (flat_map (low_bits 8) packed)
+words_read packed start bits len k size long all is =
+    let whole : List Bool = take len (flat_map (low_bits 8) packed) in
+    let many : length whole ≡ len = length-take-le len (flat_map (low_bits 8) packed) (omega (arith, length-unpack packed)) in
+    let none : drop (0 + length whole) start ≡ [] = drop_all (0 + length whole) start (omega arith) in
+    is ∙ ap (λ z. spliced 0 z start) (take_all (64 * k) whole (omega arith)) ∙ ap (λ z. whole ++ z) none ∙ append-nil whole
 
 -- ---- the unused bits
 
@@ -143,7 +156,7 @@ behind_last (b ∷ (d ∷ packed)) bits some least =
 
 pub padded_full : (packed : List ℕ) (bits : ℕ) → length packed ≡ bytes_for bits → bits % 8 ≡ 0 → is_padded bits packed ≡ true
 padded_full packed bits size none =
-    let all : drop bits (flat_map (low_bits 8) packed) ≡ [] = drop_few bits (flat_map (low_bits 8) packed) (omega (arith, length-unpack packed)) in
+    let all : drop bits (flat_map (low_bits 8) packed) ≡ [] = drop_all bits (flat_map (low_bits 8) packed) (omega (arith, length-unpack packed)) in
     rw all refl
 
 pub padded_last : (packed : List ℕ) (bits : ℕ) → length packed ≡ bytes_for bits → bits % 8 ≢ 0

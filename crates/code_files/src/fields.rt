@@ -1,8 +1,7 @@
 //! Fields of a code file.
-ghost use Rattle.std.specs.Prelude.{◌≡◌, ◌+◌, ◌<◌, ◌*◌, ◌^◌, ◌≤◌, ◌∷◌, [], ◌++◌, length, take, drop, OnOk};
+ghost use Rattle.std.specs.Prelude.{◌≡◌, ◌+◌, ◌-◌, ◌<◌, ◌*◌, ◌^◌, ◌≤◌, ◌∷◌, [], ◌++◌, length, min, drop, OnOk};
 ghost use Rattle.std.specs.Int.{w32};
 ghost use Rattle.std.specs.Int.RustNames.{FitsSigned};
-ghost use Rattle.base.specs.Bits.{number_of};
 ghost use Rattle.stapl_code.specs.Fields.{number, integer, marked, name, text, bytes_for, bytes_of_bits, literal};
 
 use bit_list::Bits;
@@ -71,21 +70,23 @@ pub(crate) fn put_text(out: &mut Vec<u8>, bytes: &Text) -> Result<(), AllocError
     put_bytes(out, bytes.as_slice())
 }
 
-// The byte with the bits from a place on, of which it holds eight at most.
-fn byte_at(bits: &Bits, low: u32) -> u8
-    requires { low < length bits.now }
-    ensures { result ≡ number_of (take 8 (drop low bits.now)) }
+// Puts the bytes of the bits from index `at` on, of which a word holds 64 at most.
+fn put_word(out: &mut Vec<u8>, bits: &Bits, at: u32) -> Result<(), AllocError>
+    requires { at < length bits.now }
+    ensures { OnOk result (out.new.items
+        ≡ out.old.items ++ bytes_of_bits (min 8 (bytes_for (length bits.now - at))) (drop at bits.now)) }
 {
-    let count = 8.min(bits.len() - low);
-    bits.to_int(low, count).cast_unsigned() as u8
+    let n = 64.min(bits.len() - at);
+    let bytes = bits.word(at, n).to_le_bytes();
+    put_bytes(out, &bytes[..n.div_ceil(8) as usize])
 }
 
 pub(crate) fn put_literal(out: &mut Vec<u8>, bits: &Bits) -> Result<(), AllocError>
     ensures { OnOk result (out.new.items ≡ out.old.items ++ literal bits.now) }
 {
     put_number(out, bits.len())?;
-    for k in 0..bits.len().div_ceil(8) {
-        put_byte(out, byte_at(bits, 8 * k))?;
+    for k in 0..bits.len().div_ceil(64) {
+        put_word(out, bits, 64 * k)?;
     }
     Ok(())
 }

@@ -1,8 +1,7 @@
 //! Literals of a code file, read from the front of the bytes.
-ghost use Rattle.std.specs.Prelude.{◌≡◌, ◌<◌, ◌≤◌, ◌-◌, [], not, length, take, drop, IfOk};
+ghost use Rattle.std.specs.Prelude.{◌≡◌, ◌<◌, ◌≤◌, ◌*◌, ℕ, [], not, length, take, drop, IfOk};
 ghost use Rattle.std.specs.List.{flat_map, list_all};
 ghost use Rattle.base.specs.Bits.{low_bits};
-ghost use Rattle.bit_list.specs.Ranges.{spliced};
 ghost use Rattle.stapl_code.specs.Fields.{bytes_for};
 ghost use Rattle.code_files.specs.Reading.{Gives, field, items_at, listed_in, any_end};
 ghost use Rattle.code_files.specs.ReadFiles.{is_padded, literal_at};
@@ -47,14 +46,25 @@ fn packed_of(len: u32, bytes: &[u8]) -> Result<(&[u8], &[u8]), Stop>
     }
 }
 
-// Puts the bits of a byte from a place on, as many as there is room for.
-fn put_part(bits: &mut Bits, at: u32, byte: u8)
-    requires { at < length bits.old }
-    ensures part { bits.new ≡ spliced at (take (length bits.old - at) (low_bits 8 byte)) bits.old }
-    ensures length { length bits.new ≡ length bits.old }
+// The word whose lowest bits are those of the bytes in front, of which it holds eight at most.
+fn front_word(bytes: &[u8]) -> u64
+    ensures { (n : ℕ) → n ≤ 64 → n ≤ 8 * length bytes.now →
+        low_bits n result ≡ take n (flat_map (low_bits 8) bytes.now) }
 {
-    let count = 8.min(bits.len() - at);
-    bits.set_low_bits(at, byte as i32, count);
+    match bytes.first_chunk::<8>() {
+        Some(word) => u64::from_le_bytes(*word),
+        None => short_word(bytes),
+    }
+}
+
+// The word whose lowest bits are those of these bytes, of which there are fewer than eight.
+fn short_word(bytes: &[u8]) -> u64
+    requires { length bytes.now < 8 }
+    ensures { (n : ℕ) → n ≤ 8 * length bytes.now → low_bits n result ≡ take n (flat_map (low_bits 8) bytes.now) }
+{
+    let mut word = [0; 8];
+    word[..bytes.len()].copy_from_slice(bytes);
+    u64::from_le_bytes(word)
 }
 
 // The first bits of these bytes.
@@ -64,8 +74,9 @@ fn bits_of(alloc: Global, len: u32, packed: &[u8]) -> Result<Bits, AllocError>
     ensures { IfOk result (λ bits. bits ≡ take len (flat_map (low_bits 8) packed.now)) }
 {
     let mut bits = Bits::zeros(alloc, len)?;
-    for k in 0..packed.len() {
-        put_part(&mut bits, 8 * k as u32, packed[k]);
+    for k in 0..len.div_ceil(64) {
+        let n = 64.min(len - 64 * k);
+        bits.set_word(64 * k, n, front_word(&packed[8 * k as usize..]));
     }
     Ok(bits)
 }

@@ -1,11 +1,14 @@
-use Rattle.std.proofs.Common.{◌≡◌, ◌++◌, ◌-◌, ◌*◌, length, take, drop}
+use Rattle.std.proofs.Common.{◌≡◌, ◌*◌, false, length, take, replicate}
+use Rattle.std.specs.Int.{div_ceil}
 use Rattle.std.specs.List.{flat_map}
 use Rattle.base.specs.Bits.{low_bits}
+use Rattle.bit_list.specs.Ranges.{spliced}
 use Rattle.code_files.proofs.read_literals.bits_of.Given as goal
 
--- the bits that stand, and those that are still to come, are the literal
+-- the bits of the words so far stand in front of zeros
 abbrev pub invariant-loop-k : goal.invariant-loop-k
 invariant-loop-k l = record {
+  end : l.k-end ≡ div_ceil l.len 64;
   long : length l.bits ≡ l.len;
-  bits : take (8 * l.k) l.bits ++ take (l.len - 8 * l.k) (flat_map (low_bits 8) (drop l.k l.packed)) ≡ take l.len (flat_map (low_bits 8) l.packed);
+  bits : l.bits ≡ spliced 0 (take (64 * l.k) (take l.len (flat_map (low_bits 8) l.packed))) (replicate l.len false);
 }
