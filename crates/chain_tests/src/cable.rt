@@ -6,12 +6,14 @@ ghost use Rattle.tap_states.specs.Path.{five_ones};
 ghost use Rattle.dev_card.specs.Clocks.{with_zero, move_inputs};
 ghost use Rattle.scan_paths.specs.Cables.{whole, whole_if, HasMade, HasMadeFront};
 
-use scan_paths::{Cable, move_to, reset_chain, stay};
+use bit_list::Bits;
+use scan_paths::{BasePads, Cable, Pads, ScanPlan, move_to, reset_chain, scan, stay};
 use std::test::Fail;
 use tap_states::Tap;
 use tool_io::Failed;
 
-/// A cable that tells nothing and answers 0 for each bit. The clock with the number `failing`, counted from 1, fails.
+/// A cable that tells nothing and answers 0 for each bit. It counts its calls that clock; the one with the number
+/// `failing`, counted from 1, fails.
 #[derive(Drop)]
 struct SilentCable {
     clocks: u32,
@@ -56,6 +58,16 @@ impl Cable for SilentCable {
             return Err(Failed);
         }
         Ok(false)
+    }
+
+    fn shift_block(&mut self, _tdi: u64, _n: u32, _last: bool) -> Result<u64, Failed> {
+        self.clocks = self.clocks.saturating_add(1);
+        if self.clocks == self.failing {
+            self.faults = self.faults.saturating_add(1);
+            self.is_broken = true;
+            return Err(Failed);
+        }
+        Ok(0)
     }
 
     fn usec(&mut self, _n: u32) -> Result<(), Failed> {
@@ -115,5 +127,30 @@ fn stops_at_the_clock_that_fails(rt: HostRuntime) -> Result<(), Fail> {
         assert_eq!(rt; restarted.is_ok(), failing > 6);
         assert_eq!(rt; cable.clocks, failing.min(6));
     }
+    Ok(())
+}
+
+// A scan of 4,096 bits takes a call for each 64 of them, and those of the moves before and after.
+#[test]
+fn scans_by_blocks(rt: HostRuntime) -> Result<(), Fail> {
+    let alloc = rt.alloc();
+    let bits = Bits::zeros(alloc, 4096)?;
+    let mut captured = Bits::zeros(alloc, 4096)?;
+    let pads = Pads {
+        pre: 0,
+        pre_bits: Bits::zeros(alloc, 0)?,
+        post: 0,
+        post_bits: Bits::zeros(alloc, 0)?,
+    };
+    let plan = ScanPlan {
+        ir: false,
+        len: 4096,
+        stop: Tap::Idle,
+        base: BasePads::none(),
+    };
+    let mut cable = SilentCable::new(0);
+    let scanned = scan(&mut cable, Tap::Idle, plan, &bits, &mut captured, &pads);
+    assert_eq!(rt; scanned.ok(), Some(Tap::Idle));
+    assert_eq!(rt; cable.clocks, 71);
     Ok(())
 }

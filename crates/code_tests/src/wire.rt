@@ -48,6 +48,11 @@ impl Cable for Wire {
         Ok(true)
     }
 
+    fn shift_block(&mut self, _tdi: u64, n: u32, _last: bool) -> Result<u64, Failed> {
+        self.count()?;
+        Ok(u64::MAX >> (64 - n))
+    }
+
     fn usec(&mut self, _n: u32) -> Result<(), Failed> {
         self.count()?;
         Ok(())

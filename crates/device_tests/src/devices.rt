@@ -19,7 +19,7 @@ const IDENTITY: IdCode = IdCode {
 };
 
 // A Plain with the identity above, or with none.
-fn plain(name: Name, id: bool, alloc: Global) -> Desc
+pub fn plain(name: Name, id: bool, alloc: Global) -> Desc
     requires { IsUpperName name }
     ensures good { IsGood result }
     ensures kind { result.kind ≡ kinds.Plain }
@@ -35,7 +35,7 @@ fn plain(name: Name, id: bool, alloc: Global) -> Desc
 }
 
 // A Regs with one register.
-fn registers(name: Name, alloc: Global) -> Result<Desc, Fail>
+pub fn registers(name: Name, alloc: Global) -> Result<Desc, Fail>
     requires { IsUpperName name }
     ensures good { IfOk result IsGood }
     ensures kind { IfOk result (λ d. d.kind ≡ kinds.Regs) }

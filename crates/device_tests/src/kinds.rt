@@ -45,7 +45,7 @@ fn registers(alloc: Global, keep: Name, fixed: Name, constant: Bits) -> Result<D
 }
 
 // A Flash of two words of four bits, with an identity. It is busy for two clocks.
-fn flash(alloc: Global, name: Name) -> Desc
+pub fn flash(alloc: Global, name: Name) -> Desc
     requires { IsUpperName name }
     ensures good { IsGood result }
     ensures kind { result.kind ≡ kinds.Flash }

@@ -2,6 +2,7 @@
 #![tactic(auto)]
 
 #[cfg(test)]
+mod blocks;
 mod cards;
 #[cfg(test)]
 mod devices;

@@ -5,3 +5,4 @@ pub mod Arriving
 pub mod Shifting
 pub mod Capturing
 pub mod Scanning
+pub mod Untold

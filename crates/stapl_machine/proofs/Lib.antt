@@ -17,3 +17,4 @@ pub mod FarLemmas
 pub mod DeedLemmas
 pub mod ResetLemmas
 pub mod PlayLemmas
+pub mod BlockLemmas

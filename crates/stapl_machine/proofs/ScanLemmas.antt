@@ -1,8 +1,7 @@
 -- On the parts of scans.
-use Rattle.std.proofs.Common.{◌≡◌, ℕ, zero, suc, ◌+◌, ◌-◌, ◌<◌, ◌≤◌, Bool, true, false, List, [], ◌∷◌, ◌++◌, length, take, drop, Option, Some, None, arith, refl, sym, ap, ◌∙◌, append_assoc, length-append}
-use Rattle.std.specs.Prelude.{replicate, not, ◌&&◌, ◌||◌, IsTrue, ◌↔◌, is_some, slice_get, slice_set, if◌then◌else◌, Result, Ok, Err, IfOk}
+use Rattle.std.proofs.Common.{◌≡◌, ℕ, zero, suc, ◌+◌, ◌≤◌, Bool, true, false, List, [], ◌∷◌, ◌++◌, length, take, drop, Option, Some, None, arith, refl, sym, ap, ◌∙◌}
+use Rattle.std.specs.Prelude.{replicate, not, ◌&&◌, ◌||◌, IsTrue, ◌↔◌, is_some, slice_get, if◌then◌else◌, Result, Ok, Err, IfOk}
 use Rattle.std.specs.Option.{option_map}
-use Rattle.std.proofs.Math.Seq.{set-append_seam}
 use Rattle.std.specs.Bool.{beq}
 use Rattle.std.proofs.lemmas.Bool.{and_parts, true≢false}
 use Rattle.std.proofs.lemmas.List.{append-nil, drop_all, take_all, length-replicate, length-take-le}
@@ -197,34 +196,6 @@ given_known literals source e = given_as literals source true e
 
 pub given_unknown : (literals : List (List Bool)) (source : Option Source) → is_given_known literals source ≡ false → known_given literals source ≡ Stuck
 given_unknown literals source e = given_as literals source false e
-
--- ---- ones
-
--- one more
-pub ones_more : (i n : ℕ) → i < n → slice_set (replicate i true ++ replicate (n - i) false) i true ≡ replicate (i + 1) true ++ replicate (n - (i + 1)) false
-ones_more i n less =
-    let rest : n - i ≡ suc (n - (i + 1)) = omega (arith, less) in
-    let left : List Bool = replicate (n - (i + 1)) false in
-    ap (λ (m : ℕ). slice_set (replicate i true ++ replicate m false) i true) rest
-    ∙ ap (λ (j : ℕ). slice_set (replicate i true ++ false ∷ left) j true) (sym (length-replicate i true))
-    ∙ set-append_seam (replicate i true) false left true
-    ∙ sym (append_assoc (replicate i true) (true ∷ []) left)
-    ∙ ap (λ l. l ++ left) (last_one i)
-  where
-    last_one : (i : ℕ) → replicate i true ++ true ∷ [] ≡ replicate (i + 1) true
-    last_one zero = refl
-    last_one (suc i) =
-        let same : suc (i + 1) ≡ suc i + 1 = omega arith in
-        ap (λ l. true ∷ l) (last_one i) ∙ ap (λ (m : ℕ). replicate m true) same
-
-pub ones_count : (i n : ℕ) → i ≤ n → length (replicate i true ++ replicate (n - i) false) ≡ n
-ones_count i n less = omega (arith, less, length-append (replicate i true) (replicate (n - i) false), length-replicate i true, length-replicate (n - i) false)
-
-pub ones_all : (i n : ℕ) → i ≤ n → n ≤ i → replicate i true ++ replicate (n - i) false ≡ replicate n true
-ones_all i n less more =
-    let none : n - i ≡ 0 = omega (arith, less, more) in
-    let same : i ≡ n = omega (arith, less, more) in
-    ap (λ (m : ℕ). replicate i true ++ replicate m false) none ∙ append-nil (replicate i true) ∙ ap (λ (m : ℕ). replicate m true) same
 
 -- all bits of a list of zeros were set to those of an integer
 pub integer_set : (n : ℕ) (z w : ℤ) (old new : List Bool) → w ≡ z → n ≤ 32 → old ≡ replicate n false → new ≡ spliced 0 (take n (bits_of_int w)) old →

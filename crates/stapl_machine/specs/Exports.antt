@@ -1,10 +1,10 @@
 -- What an Export exports, by where it lies.
-use Rattle.std.specs.Prelude.{◌≡◌, ℕ, Bool, List, [], ◌++◌, length, codes, Option, Some, None, slice_get}
+use Rattle.std.specs.Prelude.{◌≡◌, ℕ, Bool, List, [], ◌++◌, take, codes, Option, Some, None, slice_get}
 use Rattle.bit_list.specs.Integers.{bits_of_int}
 use Rattle.bit_list.specs.Ranges.{taken}
 use Rattle.tool_io.specs.declared.lines.Lines.{Lines}
 use Rattle.tool_io.specs.Lines.{Puts}
-use Rattle.stapl_meaning.specs.Texts.{hex_digits, digits_needed}
+use Rattle.dev_card.specs.Hexadecimal.{all_hex_digits}
 use Rattle.stapl_meaning.specs.declared.events.Event.{Event}
 use Rattle.stapl_meaning.specs.declared.events.Event.TheVariants as events
 use Rattle.stapl_meaning.specs.declared.events.ExportValue.{ExportValue}
@@ -46,10 +46,10 @@ export_event constants variables export =
 
 -- the text of bits: a dollar sign, and their digits
 abbrev pub hex_text : List Bool → List ℕ
-hex_text list = codes "$" ++ hex_digits (digits_needed (length list)) list
+hex_text list = codes "$" ++ all_hex_digits list
 
--- The text of digits was put in front of the lowest n digits of bits, and with them it is this whole.
+-- A text was put in front of the digits of the lowest n bits, and with them it is this whole.
 pub record PutsDigits {K : Type 0} (written : K → Option (List ℕ)) (list : List Bool) (whole : List ℕ) (old : Lines K) (n : ℕ) (new : Lines K) : Type 0 where
   pub front : List ℕ
   pub put : Puts written old front new
-  pub rest : front ++ hex_digits n list ≡ whole
+  pub rest : front ++ all_hex_digits (take n list) ≡ whole

@@ -19,3 +19,4 @@ pub mod Reaches
 pub mod Zeros
 pub mod Runs
 pub mod Machines
+pub mod Blocks

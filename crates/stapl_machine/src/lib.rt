@@ -29,6 +29,7 @@ mod waiting;
 mod writing;
 mod zeros;
 
+pub use dev_card::hex_byte;
 pub use running::Machine;
 pub use turns::Trouble;
-pub use writing::{hex_byte, put_escaped};
+pub use writing::put_escaped;

@@ -1,18 +1,19 @@
 //! A cable whose clocks are written, and what a turn does over it.
-ghost use Rattle.std.specs.Prelude.{◌≡◌, ◌≢◌, ◌≤◌, ◌∷◌, ◌++◌, [], false, length, List, OnOk, OnErr, IsTrue};
+ghost use Rattle.std.specs.Prelude.{◌≡◌, ◌≢◌, ◌≤◌, ◌<◌, ◌+◌, ◌&&◌, ◌==◌, ◌∷◌, ◌++◌, [], true, false, length, List, OnOk, OnErr, IsTrue};
 ghost use Rattle.base.specs.Bits.{bit_value};
 ghost use Rattle.tool_io.specs.Causes.{HasCause};
 ghost use Rattle.tap_states.specs.declared.Tap.TheVariants as taps;
 ghost use Rattle.tap_states.specs.Tap.{is_stable_state};
 ghost use Rattle.scan_paths.specs.Cables.{whole, line, pins, HasPartCause};
 ghost use Rattle.stapl_meaning.specs.declared.events.Event.TheVariants.{Print, Usec, Hertz};
-ghost use Rattle.stapl_meaning.specs.Texts.{pin_digit, pin_line, full_line, with_digit, event_line};
+ghost use Rattle.stapl_meaning.specs.Texts.{pin_digit, pin_line, full_line, with_digit, event_line, bytes_of, waiting};
 ghost use Rattle.scan_paths.specs.Scans.{lengths_of};
-ghost use Rattle.stapl_meaning.specs.Deeds.{Deed, Says, Goes, Stays, Scans};
+ghost use Rattle.stapl_meaning.specs.Deeds.{Deed, Says, Goes, Stays, Scans, pulses};
 ghost use Rattle.stapl_meaning.specs.Scans.{is_instruction, scan_of};
 ghost use Rattle.stapl_code.specs.Safe.{constants_of};
 ghost use Rattle.stapl_machine.specs.Exports.{export_event};
 ghost use Rattle.stapl_machine.specs.Papers.{IsOverSame, Puts, PutsFront};
+ghost use Rattle.stapl_machine.specs.Blocks.{block_clocks};
 ghost use Rattle.stapl_machine.specs.Ports.{IsInStep, IsKept, Did, DidFront, DidScan};
 
 use crate::digits::Digits;
@@ -80,6 +81,47 @@ fn note<O: Paper>(out: &mut O, digits: &mut Digits, digit: u8) -> Result<(), Fai
         return Ok(());
     }
     digits.push(digit);
+    Ok(())
+}
+
+// TMS at clock i of n: 1 at the last one, where the block is so marked.
+fn ends_at(last: bool, i: u32, n: u32) -> bool
+    requires { i < n }
+    ensures { result ≡ (last && (i + 1 == n)) }
+{
+    last && i + 1 == n
+}
+
+// Notes the clocks of a block, one after another.
+fn note_block<O: Paper>(
+    out: &mut O,
+    digits: &mut Digits,
+    tdi: u64,
+    tdo: u64,
+    n: u32,
+    last: bool,
+) -> Result<(), Failed>
+    requires whole { O.failed out.old ≡ false }
+    ensures same { IsOverSame O.shown out.old out.new }
+    ensures whole { OnOk result (O.failed out.new ≡ false) }
+    ensures ok { OnOk result (Puts O.shown out.old
+        (bytes_of true digits.old (pulses (block_clocks tdi tdo n last))) out.new) }
+    ensures digits { OnOk result (digits.new ≡ waiting true digits.old (pulses (block_clocks tdi tdo n last))) }
+    ensures front { OnErr result (PutsFront O.shown out.old
+        (bytes_of true digits.old (pulses (block_clocks tdi tdo n last))) out.new) }
+    ensures cause { HasCause O.faults O.is_last out.old out.new result }
+{
+    let mut rest = tdi;
+    let mut seen = tdo;
+    for i in 0..n {
+        note(
+            out,
+            digits,
+            digit(ends_at(last, i, n), rest % 2 == 1, seen % 2 == 1),
+        )?;
+        rest /= 2;
+        seen /= 2;
+    }
     Ok(())
 }
 
@@ -177,6 +219,17 @@ impl<C: Cable, O: Paper> Cable for PinCable<'_, C, O> {
         }
         self.torn = true;
         note(self.out, &mut self.digits, digit(tms, tdi, tdo))?;
+        self.torn = false;
+        Ok(tdo)
+    }
+
+    fn shift_block(&mut self, tdi: u64, n: u32, last: bool) -> Result<u64, Failed> {
+        let tdo = self.cable.shift_block(tdi, n, last)?;
+        if !self.pins {
+            return Ok(tdo);
+        }
+        self.torn = true;
+        note_block(self.out, &mut self.digits, tdi, tdo, n, last)?;
         self.torn = false;
         Ok(tdo)
     }

@@ -214,15 +214,12 @@ pub fn scan(
 }
 
 // So many ones.
-#[tactic(auto, using(crate::proofs::ScanLemmas::ones_more, crate::proofs::ScanLemmas::ones_count, crate::proofs::ScanLemmas::ones_all))]
 fn ones(alloc: Global, n: u32) -> Result<Bits, AllocError>
     requires { n ≤ padding_limit }
     ensures { IfOk result (λ bits. bits ≡ replicate n true) }
 {
     let mut bits = Bits::zeros(alloc, n)?;
-    for i in 0..n {
-        bits.set(i, true);
-    }
+    bits.fill_range(0, n, true);
     Ok(bits)
 }
 

@@ -3,11 +3,12 @@ ghost use Rattle.std.specs.Prelude.{◌≡◌, ◌<◌, ◌≤◌, ◌+◌, ◌*
 ghost use Rattle.std.specs.Fmt.{signed_decimal};
 ghost use Rattle.std.specs.List.{flat_map};
 ghost use Rattle.tool_io.specs.Lines.{IsWhole, IsOverSame, HasSinkCause, Puts, PutsFront};
-ghost use Rattle.base.specs.Bits.{low_bits, number_of};
+ghost use Rattle.base.specs.Bits.{low_bits};
 ghost use Rattle.bit_list.specs.Integers.{bits_of_int};
 ghost use Rattle.bit_list.specs.Ranges.{taken};
+ghost use Rattle.dev_card.specs.Hexadecimal.{all_hex_digits};
 ghost use Rattle.stapl_meaning.specs.Effects.{export_of};
-ghost use Rattle.stapl_meaning.specs.Texts.{hex_digit, hex_digits, is_plain, escaped_byte, escaped, export_text, event_line, pin_line};
+ghost use Rattle.stapl_meaning.specs.Texts.{is_plain, escaped_byte, escaped, export_text, event_line, pin_line};
 ghost use Rattle.stapl_meaning.specs.declared.events.Event.TheVariants.{Print, Usec, Hertz};
 ghost use Rattle.stapl_meaning.specs.declared.events.Event.TheVariants as events;
 ghost use Rattle.stapl_code.specs.Safe.{constants_of};
@@ -18,17 +19,10 @@ use crate::effects::{BitsAt, Export, Exported};
 use crate::parts::{Part, Span, held_at, literal_at};
 use crate::printing::digit_of;
 use bit_list::Bits;
+use dev_card::{hex_byte, word_digits};
 use stapl_code::CodeLists;
 use stapl_meaning::{Held, Text, Value};
 use tool_io::{Failed, Lines, Sink};
-
-/// An upper-case hexadecimal digit.
-pub fn hex_byte(digit: u8) -> u8
-    requires { digit < 16 }
-    ensures { result ≡ hex_digit digit }
-{
-    if digit < 10 { 48 + digit } else { 55 + digit }
-}
 
 fn is_plain_byte(byte: u8) -> bool
     ensures { result ≡ is_plain byte }
@@ -85,45 +79,39 @@ pub fn put_print<K: Sink>(out: &mut Lines<K>, bytes: &[u8]) -> Result<(), Failed
     Ok(())
 }
 
-// The number of the bits of a part from index 4 * k on, of which it has some, and of which four are taken.
-fn number_at(bits: &Bits, span: Span, k: u32) -> u32
-    requires some { 4 * k < span.count }
-    requires inside { span.low + span.count ≤ length bits.now }
-    requires few { span.low + span.count + 3 < 2 ^ 32 }
-    ensures value { result ≡ number_of (taken (4 * k) 4 (taken span.low span.count bits.now)) }
-    ensures small { result < 16 }
-{
-    let left = span.count - 4 * k;
-    bits.to_int(span.low + 4 * k, left.min(4)).cast_unsigned()
-}
-
-// The digit that stands for those bits.
-fn digit_at(bits: &Bits, span: Span, k: u32) -> u8
-    requires some { 4 * k < span.count }
-    requires inside { span.low + span.count ≤ length bits.now }
-    requires few { span.low + span.count + 3 < 2 ^ 32 }
-    ensures { result ≡ hex_digit (number_of (taken (4 * k) 4 (taken span.low span.count bits.now))) }
-{
-    hex_byte(number_at(bits, span, k) as u8)
-}
-
-// Puts the lowest n digits of a part of a list of bits, the highest first.
-fn put_digits<K: Sink>(out: &mut Lines<K>, bits: &Bits, span: Span, n: u32) -> Result<(), Failed>
+// Puts all digits of the bits of a number, the highest first.
+fn put_number<K: Sink>(out: &mut Lines<K>, number: u64, len: u32) -> Result<(), Failed>
     requires whole { IsWhole out.old }
-    requires some { 4 * n < span.count + 4 }
+    requires most { len ≤ 64 }
+    requires fits { number < 2 ^ len }
+    ensures same_sink { IsOverSame out.old out.new }
+    ensures whole { OnOk result (IsWhole out.new) }
+    ensures ok { OnOk result (Puts K.written out.old (all_hex_digits (low_bits len number)) out.new) }
+    ensures front { OnErr result (PutsFront K.written out.old (all_hex_digits (low_bits len number)) out.new) }
+    ensures cause { HasSinkCause K.faults K.is_last out.old out.new result }
+{
+    let digits = word_digits(number);
+    let first = 16 - len.div_ceil(4) as usize;
+    out.put(&digits[first..])
+}
+
+// Puts all digits of a part of a list of bits, the highest first.
+fn put_digits<K: Sink>(out: &mut Lines<K>, bits: &Bits, span: Span) -> Result<(), Failed>
+    requires whole { IsWhole out.old }
     requires inside { span.low + span.count ≤ length bits.now }
     requires few { span.low + span.count + 3 < 2 ^ 32 }
     ensures same_sink { IsOverSame out.old out.new }
     ensures whole { OnOk result (IsWhole out.new) }
-    ensures ok { OnOk result (Puts K.written out.old (hex_digits n (taken span.low span.count bits.now)) out.new) }
+    ensures ok { OnOk result (Puts K.written out.old (all_hex_digits (taken span.low span.count bits.now)) out.new) }
     ensures front { OnErr result (PutsFront K.written out.old
-        (hex_digits n (taken span.low span.count bits.now)) out.new) }
+        (all_hex_digits (taken span.low span.count bits.now)) out.new) }
     ensures cause { HasSinkCause K.faults K.is_last out.old out.new result }
 {
-    let mut left = n;
+    let mut left = span.count;
     'down: while left > 0 {
-        left -= 1;
-        out.put(&[digit_at(bits, span, left)])?;
+        let low = (left - 1) / 64 * 64;
+        put_number(out, bits.word(span.low + low, left - low), left - low)?;
+        left = low;
     }
     Ok(())
 }
@@ -141,7 +129,7 @@ fn put_inside<K: Sink>(out: &mut Lines<K>, bits: &Bits, span: Span) -> Result<()
     ensures cause { HasSinkCause K.faults K.is_last out.old out.new result }
 {
     out.put(b"$")?;
-    put_digits(out, bits, span, (span.count + 3) / 4)?;
+    put_digits(out, bits, span)?;
     Ok(())
 }
 
@@ -254,30 +242,20 @@ fn put_variable<K: Sink>(out: &mut Lines<K>, variables: &[Held], part: Part) -> 
     }
 }
 
-// Digit k of a number, from the lowest.
-fn digit_of_number(number: u32, k: u32) -> u8
-    requires { k < 8 }
-    ensures { result ≡ hex_digit (number_of (taken (4 * k) 4 (low_bits 32 number))) }
+// Puts the text of the bits of a number.
+fn put_number_text<K: Sink>(out: &mut Lines<K>, number: u64, len: u32) -> Result<(), Failed>
+    requires whole { IsWhole out.old }
+    requires most { len ≤ 64 }
+    requires fits { number < 2 ^ len }
+    ensures same_sink { IsOverSame out.old out.new }
+    ensures whole { OnOk result (IsWhole out.new) }
+    ensures ok { OnOk result (Puts K.written out.old (hex_text (low_bits len number)) out.new) }
+    ensures front { OnErr result (PutsFront K.written out.old (hex_text (low_bits len number)) out.new) }
+    ensures cause { HasSinkCause K.faults K.is_last out.old out.new result }
 {
-    hex_byte(((number >> (4 * k)) % 16) as u8)
-}
-
-// The digits of an integer, the highest first, behind a dollar sign.
-fn digits_of(z: i32) -> [u8; 9]
-    ensures { result ≡ hex_text (bits_of_int z) }
-{
-    let n = z.cast_unsigned();
-    [
-        b'$',
-        digit_of_number(n, 7),
-        digit_of_number(n, 6),
-        digit_of_number(n, 5),
-        digit_of_number(n, 4),
-        digit_of_number(n, 3),
-        digit_of_number(n, 2),
-        digit_of_number(n, 1),
-        digit_of_number(n, 0),
-    ]
+    out.put(b"$")?;
+    put_number(out, number, len)?;
+    Ok(())
 }
 
 fn put_integer<K: Sink>(out: &mut Lines<K>, z: i32) -> Result<(), Failed>
@@ -288,8 +266,7 @@ fn put_integer<K: Sink>(out: &mut Lines<K>, z: i32) -> Result<(), Failed>
     ensures front { OnErr result (PutsFront K.written out.old (hex_text (bits_of_int z)) out.new) }
     ensures cause { HasSinkCause K.faults K.is_last out.old out.new result }
 {
-    let digits = digits_of(z);
-    out.put(&digits)
+    put_number_text(out, u64::from(z.cast_unsigned()), 32)
 }
 
 // Puts the text of the bits that lie somewhere.

@@ -1,6 +1,6 @@
 use Rattle.std.proofs.Common.{◌≤◌}
 use Rattle.bit_list.specs.Ranges.{taken}
-use Rattle.stapl_meaning.specs.Texts.{hex_digits}
+use Rattle.dev_card.specs.Hexadecimal.{all_hex_digits}
 use Rattle.tool_io.specs.Lines.{IsWhole, IsOverSame, SinkNeverFalls}
 use Rattle.stapl_machine.specs.Exports.{PutsDigits}
 use Rattle.stapl_machine.proofs.writing.put_digits.Given as goal
@@ -9,8 +9,8 @@ abbrev pub invariant-down : goal.invariant-down
 invariant-down g l = record {
   same_sink : IsOverSame l.fn.out l.out;
   whole : IsWhole l.out;
-  below : l.left ≤ l.n;
-  puts : PutsDigits g.K.Sink.written (taken l.span.low l.span.count l.bits) (hex_digits l.n (taken l.span.low l.span.count l.bits)) l.fn.out l.left l.out;
+  below : l.left ≤ l.span.count;
+  puts : PutsDigits g.K.Sink.written (taken l.span.low l.span.count l.bits) (all_hex_digits (taken l.span.low l.span.count l.bits)) l.fn.out l.left l.out;
   kept : SinkNeverFalls g.K.Sink.faults g.K.Sink.is_last l.fn.out l.out;
 }
 

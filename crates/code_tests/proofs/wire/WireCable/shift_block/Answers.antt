@@ -1,0 +1,11 @@
+use Rattle.std.proofs.Common.{◌≡◌, ◌+◌, ◌-◌, ◌<◌, ◌^◌, refl, sym, subst, arith}
+use Rattle.std.proofs.lemmas.Nat.{shr_below}
+use Rattle.scan_paths.proofs.Untold.{untold_block}
+use Rattle.code_tests.proofs.wire.WireCable.shift_block.Goals as goal
+
+pub returns-clause-shifted : goal.returns-clause-shifted
+returns-clause-shifted c =
+    let n = c.args.n in
+    let whole : n + (64 - n) ≡ 64 = omega (arith, c.requires.most) in
+    untold_block _ _ c.args.self.now _ refl refl (λ clocks. tt) c.args.tdi n _ c.args.last
+    (shr_below 18446744073709551615 n (64 - n) (subst (λ k. 18446744073709551615 < 2 ^ k) (sym whole) (omega arith)))
