@@ -1,19 +1,15 @@
 -- Numbers as shift registers: zero, one, and a shift.
-use Rattle.std.proofs.Common.{◌≡◌, ◌<◌, ◌≤◌, ◌+◌, ◌-◌, ◌*◌, ◌/◌, ◌%◌, ◌^◌, ℕ, suc, zero, nat_eq, Bool, true, false, [], ◌∷◌, ◌++◌, drop, replicate, refl, sym, ap, ◌∙◌, mod-eq_of_lt, arith}
+use Rattle.std.proofs.Common.{◌≡◌, ◌<◌, ◌≤◌, ◌+◌, ◌-◌, ◌*◌, ◌/◌, ◌%◌, ◌^◌, ℕ, suc, zero, nat_eq, Bool, true, false, [], ◌∷◌, ◌++◌, drop, replicate, sym, ap, ◌∙◌, mod-eq_of_lt, arith}
 use Rattle.std.proofs.Math.Nat.{pow-succ'}
-use Rattle.base.proofs.NumberBits.{number_of-low_bits}
+use Rattle.base.proofs.NumberBits.{number_of-low_bits, low_bits_of_zero}
 use Rattle.base.specs.Bits.{low_bits, number_of, bit_value}
 
 suc_less : (n : ℕ) → n ≡ suc n - 1
 suc_less n = omega arith
 
-pub low_bits_zero : (n : ℕ) → low_bits n 0 ≡ replicate n false
-low_bits_zero zero = refl
-low_bits_zero (suc n) = ap (λ bs. false ∷ bs) (low_bits_zero n)
-
 pub low_bits_one : (n : ℕ) → 1 ≤ n → low_bits n 1 ≡ true ∷ replicate (n - 1) false
 low_bits_one zero h = absurd (omega arith)
-low_bits_one (suc n) h = ap (λ bs. true ∷ bs) (low_bits_zero n ∙ ap (λ m. replicate m false) (suc_less n))
+low_bits_one (suc n) h = ap (λ bs. true ∷ bs) (low_bits_of_zero n ∙ ap (λ m. replicate m false) (suc_less n))
 
 -- a number that n bits hold is that of its lowest n bits
 pub number_of-low_bits_below : (n x : ℕ) → x < 2 ^ n → number_of (low_bits n x) ≡ x
