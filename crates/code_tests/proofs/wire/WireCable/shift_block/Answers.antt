@@ -7,5 +7,5 @@ pub returns-clause-shifted : goal.returns-clause-shifted
 returns-clause-shifted c =
     let n = c.args.n in
     let whole : n + (64 - n) ≡ 64 = omega (arith, c.requires.most) in
-    untold_block _ _ c.args.self.now _ refl refl (λ clocks. tt) c.args.tdi n _ c.args.last
+    untold_block _ _ c.args.self.now _ refl refl (λ clocks. tt) c.args._tdi n _ c.args._last
     (shr_below 18446744073709551615 n (64 - n) (subst (λ k. 18446744073709551615 < 2 ^ k) (sym whole) (omega arith)))
