@@ -46,7 +46,7 @@ fn by_clocks<D: Device>(device: &mut D, tdi: u64, n: u32, last: bool) -> u64
     seen
 }
 
-// Whether two devices answer the same from here on, and hold the same.
+// Whether two devices have the same instruction in force, and answer the same from here on.
 fn are_alike<D: Device>(device: &mut D, twin: &mut D) -> bool
     requires own { IsSome (card_in (D.fitted device.old)) }
     requires twin { IsSome (card_in (D.fitted twin.old)) }
@@ -74,8 +74,6 @@ fn is_block<D: Device>(
 ) -> bool
     requires own { IsSome (card_in (D.fitted device.old)) }
     requires twin { IsSome (card_in (D.fitted twin.old)) }
-    requires some { 1 ≤ n }
-    requires most { n ≤ 64 }
     ensures own { IsSome (card_in (D.fitted device.new)) }
     ensures twin { IsSome (card_in (D.fitted twin.new)) }
 {
@@ -86,6 +84,7 @@ fn is_block<D: Device>(
     clock_along(device, way);
     clock_along(twin, way);
     let tdi = 0x9E37_79B9_7F4A_7C15;
+    let n = n.max(1).min(64);
     let seen = device.shift_block(tdi, n, last);
     let other = by_clocks(twin, tdi, n, last);
     let alike = are_alike(device, twin);
