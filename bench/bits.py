@@ -3,9 +3,10 @@
 
 The first table has the shortest processor time of some runs of each command, less that of a program that does nothing,
 and the greatest peak memory, which bench/peak.c tells, a program that is small itself. With the folder of another
-checkout, whose program is built, both programs run one after the other. The second table has masked_equal of bit_lanes over 4 Mbit beside bench/words.c, which is compiled by the C
-compiler in the variable CC, or else by cc. There is no call of the built program that compares and does nothing else,
-so the script makes a small repository with a program of its own, and proves and builds that by rt.
+checkout, whose program is built, both programs run one after the other. The second table has masked_equal of bit_lanes
+over 4 Mbit beside bench/words.c. Both are compiled by the C compiler in the variable CC, or else by cc. There is no
+call of the built program that compares and does nothing else, so the script makes a small repository with a program of
+its own, and proves and builds that by rt.
 """
 import argparse
 import pathlib
@@ -144,7 +145,8 @@ def kernel_seconds(folder, runs):
     (repository / "crates.txt").write_text("\n".join([*listed, "timing: anyhow bit_lanes", ""]), encoding="utf-8")
     told = []
     for _ in range(runs):
-        done = subprocess.run(["rt", "run"], cwd=crate.parent, stdout=subprocess.PIPE, stderr=subprocess.DEVNULL, check=True)
+        quiet = {"stdout": subprocess.PIPE, "stderr": subprocess.DEVNULL}
+        done = subprocess.run(["rt", "run"], cwd=crate.parent, check=True, **quiet)
         told.append(int(re.search(rb"^(\d+) %d$" % COMPARISONS, done.stdout, re.M)[1]))
     return min(told) / 1e9
 

@@ -33,7 +33,8 @@ def main():
             turn = times[-1] / COPIES[-1] / TURNS_A_COPY
             speed = BITS / TURNS_A_COPY / turn
             plain = measure.switch_seconds(switch, number, TURNS_A_COPY * COPIES[-1], bench.runs)
-            told = f"{1e6 * turn:.0f} µs", f"{speed / 1e9:.0f} thousand million", f"{plain:.4f} s", f"{times[-1] / plain:.1f}"
+            told = f"{1e6 * turn:.0f} µs", f"{speed / 1e9:.0f} thousand million"
+            told += f"{plain:.4f} s", f"{times[-1] / plain:.1f}"
             measure.row(kind, times, *told)
 
 

@@ -18,7 +18,8 @@ int main(int argc, char **argv) {
         _exit(127);
     }
     if (wait4(child, &status, 0, &used) != child || !WIFEXITED(status)) return 1;
-    double seconds = used.ru_utime.tv_sec + used.ru_stime.tv_sec + (used.ru_utime.tv_usec + used.ru_stime.tv_usec) / 1e6;
+    double micros = used.ru_utime.tv_usec + used.ru_stime.tv_usec;
+    double seconds = used.ru_utime.tv_sec + used.ru_stime.tv_sec + micros / 1e6;
     printf("%d %f %ld\n", WEXITSTATUS(status), seconds, used.ru_maxrss);
     return 0;
 }
