@@ -1,7 +1,8 @@
 -- Laws of numbers and their lists of bits.
 use Rattle.std.proofs.Common.{◌≡◌, ◌<◌, ◌≤◌, ℕ, zero, suc, ◌+◌, ◌-◌, ◌*◌, ◌/◌, ◌%◌, ◌^◌, nat_eq, Bool, true, false, List, [], ◌∷◌, ◌++◌, length, take, drop, replicate, get_or, refl, sym, ap, ap₂, ◌∙◌, arith}
 use Rattle.std.specs.Int.{bit_at}
-use Rattle.std.proofs.Math.Nat.{pow-suc, div-div-eq-div-mul}
+use Rattle.std.proofs.Math.Nat.{pow-suc, div-div-eq-div-mul, mod-eq_of_lt, zero-div}
+use Rattle.std.proofs.Math.Pow.{pow_mono}
 use Rattle.std.proofs.Math.Arith.{mod-mul}
 use Rattle.std.proofs.lemmas.Nat.{pow_pos, shr_high, mod_low}
 use Rattle.std.proofs.lemmas.List.{take-append-drop}
@@ -38,7 +39,8 @@ number_of-low_bits (suc n) x =
 pub number_of-below : (bits : List Bool) → number_of bits < 2 ^ length bits
 number_of-below [] = omega arith
 number_of-below (true ∷ bits) = let h = number_of-below bits in let power : 2 ^ suc (length bits) ≡ 2 ^ length bits * 2 = pow-suc 2 (length bits) in omega arith
-number_of-below (false ∷ bits) = let h = number_of-below bits in let power : 2 ^ suc (length bits) ≡ 2 ^ length bits * 2 = pow-suc 2 (length bits) in omega arith
+number_of-below (false ∷ bits) = let h = number_of-below bits in
+    let power : 2 ^ suc (length bits) ≡ 2 ^ length bits * 2 = pow-suc 2 (length bits) in omega arith
 
 half_of_odd : (k : ℕ) → (1 + 2 * k) / 2 ≡ k
 half_of_odd k = omega arith
@@ -120,3 +122,45 @@ low_bits_of_ones (suc n) (suc k) h =
     let odd : (2 ^ suc k - 1) % 2 ≡ 1 = omega arith in
     let half : (2 ^ suc k - 1) / 2 ≡ 2 ^ k - 1 = omega arith in
     ap₂ (λ r x. nat_eq r 1 ∷ low_bits n x) odd half ∙ ap (λ z. true ∷ z) (low_bits_of_ones n k (omega arith))
+
+-- the numbers of parts of a list
+value_below : (b : Bool) → bit_value b < 2
+value_below true = omega arith
+value_below false = omega arith
+
+pub number_of-drop : (j : ℕ) (bits : List Bool) → number_of (drop j bits) ≡ number_of bits / 2 ^ j
+number_of-drop zero bits = omega arith
+number_of-drop (suc j) [] = sym (zero-div (2 ^ suc j))
+number_of-drop (suc j) (b ∷ bits) =
+    let whole : ℕ = bit_value b + 2 * number_of bits in
+    let half : whole / 2 ≡ number_of bits = omega (arith, value_below b) in
+    let power : 2 * 2 ^ j ≡ 2 ^ suc j = omega (arith, pow-suc 2 j) in
+    number_of-drop j bits ∙ ap (λ (n : ℕ). n / 2 ^ j) (sym half)
+    ∙ div-div-eq-div-mul whole 2 (2 ^ j) ∙ ap (λ (d : ℕ). whole / d) power
+
+pub number_of-take : (n : ℕ) (bits : List Bool) → number_of (take n bits) ≡ number_of bits % 2 ^ n
+number_of-take zero [] = omega arith
+number_of-take zero (b ∷ bits) = omega arith
+number_of-take (suc n) [] = sym (mod-eq_of_lt (pow_pos (suc n)))
+number_of-take (suc n) (b ∷ bits) =
+    let small = value_below b in
+    let rest = number_of-take n bits in
+    let split : (bit_value b + 2 * number_of bits) % (2 ^ n * 2)
+    ≡ ((bit_value b + 2 * number_of bits) / 2 % 2 ^ n) * 2 + (bit_value b + 2 * number_of bits) % 2 =
+    mod-mul (bit_value b + 2 * number_of bits) (pow_pos n) (omega arith) in
+    let half : (bit_value b + 2 * number_of bits) / 2 ≡ number_of bits = omega (arith, small) in
+    let odd : (bit_value b + 2 * number_of bits) % 2 ≡ bit_value b = omega (arith, small) in
+    let power : 2 ^ suc n ≡ 2 ^ n * 2 = pow-suc 2 n in
+    rw (power, split, half, odd, rest) (omega arith)
+
+-- the lowest bits of a word, as its remainder
+pub lowest_of : (n x : ℕ) → n < 64 → x % (1 * 2 ^ n % 18446744073709551616) ≡ number_of (low_bits n x)
+lowest_of n x h =
+    let k : n ≤ 63 = omega (arith, h) in
+    let p : 2 ^ n ≤ 2 ^ 63 = pow_mono k in
+    let small : 1 * 2 ^ n % 18446744073709551616 ≡ 2 ^ n = omega (arith, p) in
+    ap (λ m. x % m) small ∙ sym (number_of-low_bits n x)
+
+pub whole_of : (n x : ℕ) → n ≡ 64 → x < 2 ^ 64 → x ≡ number_of (low_bits n x)
+whole_of n x e h =
+    sym (mod-eq_of_lt h) ∙ sym (number_of-low_bits 64 x) ∙ ap (λ m. number_of (low_bits m x)) (sym e)

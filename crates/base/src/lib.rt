@@ -1,11 +1,13 @@
-//! Lists and stacks that contracts see as lists, numbers as lists of bits, and a count of steps.
+//! Lists and stacks that contracts see as lists, numbers as lists of bits and their lowest bits, and a count of steps.
 #![tactic(auto)]
 
 mod item_list;
 pub mod laws;
 mod stack;
 mod steps;
+mod words;
 
 pub use item_list::ItemList;
 pub use stack::Stack;
 pub use steps::Steps;
+pub use words::lowest;

@@ -21,8 +21,10 @@ part_copied at low n word from to new h e w =
     w ∙ ap (λ z. spliced at z (bits_of_words to)) (bits_of_part low n word (bits_of_words from) (omega (arith, length_bits_of_words from)) e)
 
 -- one more word is copied
-pub word_more : (low i word : ℕ) (to from : List ℕ) → i < length to → low + 64 * i + 64 ≤ 64 * length from → bits_of_words (take i to) ≡ taken low (64 * i) (bits_of_words from) →
-    word ≡ number_of (taken (low + 64 * i) 64 (bits_of_words from)) → bits_of_words (take (i + 1) (set to i word)) ≡ taken low (64 * (i + 1)) (bits_of_words from)
+pub word_more : (low i word : ℕ) (to from : List ℕ) → i < length to → low + 64 * i + 64 ≤ 64 * length from →
+    bits_of_words (take i to) ≡ taken low (64 * i) (bits_of_words from) →
+    word ≡ number_of (taken (low + 64 * i) 64 (bits_of_words from)) → bits_of_words (take (i + 1) (set to i word))
+    ≡ taken low (64 * (i + 1)) (bits_of_words from)
 word_more low i word to from h inside before e =
     let size : 64 * i + word_size ≡ 64 * (i + 1) = omega (arith, word_size_is) in
     let part : low_bits word_size word ≡ taken (low + 64 * i) word_size (bits_of_words from) =
@@ -34,7 +36,8 @@ word_more low i word to from h inside before e =
     ∙ ap (λ k. taken low k (bits_of_words from)) size
 
 -- whole words are copied
-pub words_copied : (low count : ℕ) (from to : List ℕ) → low % 64 ≡ 0 → low + 64 * count ≤ 64 * length from → to ≡ take (low / 64 + count - low / 64) (drop (low / 64) from) →
+pub words_copied : (low count : ℕ) (from to : List ℕ) → low % 64 ≡ 0 → low + 64 * count ≤ 64 * length from →
+    to ≡ take (low / 64 + count - low / 64) (drop (low / 64) from) →
     bits_of_words to ≡ taken low (64 * count) (bits_of_words from)
 words_copied low count from to aligned inside e =
     let amount : low / 64 + count - low / 64 ≡ count = omega arith in
@@ -65,7 +68,8 @@ middle_written at count to part bits aligned inside size e =
     ∙ sym (append_assoc (take at (bits_of_words to)) bits (drop (at + length bits) (bits_of_words to)))
 
 -- a range in three parts
-pub three_parts : (at low head middle n : ℕ) (from old : List Bool) (first second third : List Bool) → head + middle ≤ n → low + n ≤ length from → at + n ≤ length old →
+pub three_parts : (at low head middle n : ℕ) (from old : List Bool) (first second third : List Bool) →
+    head + middle ≤ n → low + n ≤ length from → at + n ≤ length old →
     first ≡ spliced at (taken low head from) old → second ≡ spliced (at + head) (taken (low + head) middle from) first →
     third ≡ spliced (at + (head + middle)) (taken (low + (head + middle)) (n - (head + middle)) from) second → third ≡ spliced at (taken low n from) old
 three_parts at low head middle n from old first second third h inside room a b c =
@@ -77,12 +81,14 @@ three_parts at low head middle n from old first second third h inside room a b c
     ∙ ap (λ z. spliced at z old) (taken_joined low head middle from) in
     let whole : head + middle + (n - (head + middle)) ≡ n = omega arith in
     c ∙ ap (spliced (at + (head + middle)) (taken (low + (head + middle)) (n - (head + middle)) from)) done
-    ∙ spliced_next at (at + (head + middle)) (taken low (head + middle) from) (taken (low + (head + middle)) (n - (head + middle)) from) old (omega arith) (omega arith)
+    ∙ spliced_next at (at + (head + middle)) (taken low (head + middle) from)
+    (taken (low + (head + middle)) (n - (head + middle)) from) old (omega arith) (omega arith)
     ∙ ap (λ z. spliced at z old) (taken_joined low (head + middle) (n - (head + middle)) from ∙ ap (λ k. taken low k from) whole)
 
 -- one more block is moved down
 pub moved_down : (at low done len word : ℕ) (start now new : List ℕ) → at ≤ low → low + done + len ≤ 64 * length start →
-    bits_of_words now ≡ spliced at (taken low done (bits_of_words start)) (bits_of_words start) → word ≡ number_of (taken (low + done) len (bits_of_words now)) →
+    bits_of_words now ≡ spliced at (taken low done (bits_of_words start)) (bits_of_words start) →
+    word ≡ number_of (taken (low + done) len (bits_of_words now)) →
     bits_of_words new ≡ spliced (at + done) (low_bits len word) (bits_of_words now) →
     bits_of_words new ≡ spliced at (taken low (done + len) (bits_of_words start)) (bits_of_words start)
 moved_down at low done len word start now new down inside before e w =
@@ -91,14 +97,17 @@ moved_down at low done len word start now new down inside before e w =
     let same : length (bits_of_words now) ≡ length (bits_of_words start) =
     ap length before ∙ length_spliced at (taken low done (bits_of_words start)) (bits_of_words start) (omega arith) in
     let read : taken (low + done) len (bits_of_words now) ≡ taken (low + done) len (bits_of_words start) =
-    ap (taken (low + done) len) before ∙ taken_above at (low + done) len (taken low done (bits_of_words start)) (bits_of_words start) (omega arith) (omega arith) in
+    ap (taken (low + done) len) before ∙ taken_above at (low + done) len (taken low done (bits_of_words start))
+    (bits_of_words start) (omega arith) (omega arith) in
     w ∙ ap₂ (spliced (at + done)) (bits_of_part (low + done) len word (bits_of_words now) (omega arith) e ∙ read) before
-    ∙ spliced_next at (at + done) (taken low done (bits_of_words start)) (taken (low + done) len (bits_of_words start)) (bits_of_words start) (omega arith) (omega arith)
+    ∙ spliced_next at (at + done) (taken low done (bits_of_words start)) (taken (low + done) len (bits_of_words start))
+    (bits_of_words start) (omega arith) (omega arith)
     ∙ ap (λ z. spliced at z (bits_of_words start)) (taken_joined low done len (bits_of_words start))
 
 -- one more block is moved up, where k of the n bits are left
 pub moved_up : (at low n k len word : ℕ) (start now new : List ℕ) → low ≤ at → at + n ≤ 64 * length start → k + len ≤ n →
-    bits_of_words now ≡ spliced (at + (k + len)) (taken (low + (k + len)) (n - (k + len)) (bits_of_words start)) (bits_of_words start) → word ≡ number_of (taken (low + k) len (bits_of_words now)) →
+    bits_of_words now ≡ spliced (at + (k + len)) (taken (low + (k + len)) (n - (k + len)) (bits_of_words start))
+    (bits_of_words start) → word ≡ number_of (taken (low + k) len (bits_of_words now)) →
     bits_of_words new ≡ spliced (at + k) (low_bits len word) (bits_of_words now) →
     bits_of_words new ≡ spliced (at + k) (taken (low + k) (n - k) (bits_of_words start)) (bits_of_words start)
 moved_up at low n k len word start now new up inside h before e w =
@@ -106,7 +115,8 @@ moved_up at low n k len word start now new up inside h before e w =
     let done : List Bool = taken (low + (k + len)) (n - (k + len)) (bits_of_words start) in
     let part : length done ≡ n - (k + len) = length_taken (low + (k + len)) (n - (k + len)) (bits_of_words start) (omega arith) in
     let next : length (taken (low + k) len (bits_of_words start)) ≡ len = length_taken (low + k) len (bits_of_words start) (omega arith) in
-    let same : length (bits_of_words now) ≡ length (bits_of_words start) = ap length before ∙ length_spliced (at + (k + len)) done (bits_of_words start) (omega arith) in
+    let same : length (bits_of_words now) ≡ length (bits_of_words start) = ap length before
+    ∙ length_spliced (at + (k + len)) done (bits_of_words start) (omega arith) in
     let read : taken (low + k) len (bits_of_words now) ≡ taken (low + k) len (bits_of_words start) =
     ap (taken (low + k) len) before ∙ taken_below (at + (k + len)) (low + k) len done (bits_of_words start) (omega arith) (omega arith) in
     let place : low + k + len ≡ low + (k + len) = omega arith in
@@ -124,11 +134,13 @@ pub filled_more : (b : Bool) (at done len word : ℕ) (start now new : List ℕ)
     bits_of_words new ≡ spliced at (replicate (done + len) b) (bits_of_words start)
 filled_more b at done len word start now new inside before e w =
     w ∙ ap₂ (spliced (at + done)) e before
-    ∙ spliced_next at (at + done) (replicate done b) (replicate len b) (bits_of_words start) (omega (arith, length-replicate done b)) (omega (arith, length_bits_of_words start))
+    ∙ spliced_next at (at + done) (replicate done b) (replicate len b) (bits_of_words start)
+    (omega (arith, length-replicate done b)) (omega (arith, length_bits_of_words start))
     ∙ ap (λ z. spliced at z (bits_of_words start)) (replicate-append-replicate done len b)
 
 -- a whole word is written
-pub word_stored : (at n word : ℕ) (ws : List ℕ) → n ≡ 64 → at % 64 ≡ 0 → at + n ≤ 64 * length ws → bits_of_words (set ws (at / 64) word) ≡ spliced at (low_bits n word) (bits_of_words ws)
+pub word_stored : (at n word : ℕ) (ws : List ℕ) → n ≡ 64 → at % 64 ≡ 0 → at + n ≤ 64 * length ws →
+    bits_of_words (set ws (at / 64) word) ≡ spliced at (low_bits n word) (bits_of_words ws)
 word_stored at n word ws whole aligned inside =
     let q : ℕ = at / 64 in
     let place : 64 * q ≡ at = omega arith in

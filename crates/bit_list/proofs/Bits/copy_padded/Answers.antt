@@ -4,4 +4,5 @@ use Rattle.bit_list.proofs.Bits.copy_padded.Goals as goal
 
 pub returns-clause-copied : goal.returns-clause-copied
 returns-clause-copied c =
-    padded_splice c.args.at c.args.n c.min-count.result c.args.from.now c.args.self.now c.copy_range.new.self c.fill_range.new.self (omega arith) c.requires.target c.copy_range.ensures.copied c.fill_range.ensures.bits
+    padded_splice c.args.at c.args.n c.min-count.result c.args.from.now c.args.self.now c.copy_range.new.self
+    c.fill_range.new.self (omega arith) c.requires.target c.copy_range.ensures.copied c.fill_range.ensures.bits
