@@ -1,11 +1,8 @@
 -- A block of the devices at some places, one after another, the last one first.
-use Rattle.std.proofs.Common.{◌≡◌, ◌≢◌, ◌<◌, ◌≤◌, ◌%◌, ◌*◌, ◌^◌, ℕ, Bool, false, List, [], ◌∷◌, map, length, get_or, Option, Some, None, IsSome, slice_get, refl, sym, ap, ◌∙◌, subst, arith}
+use Rattle.std.proofs.Common.{◌≡◌, ◌≢◌, ◌<◌, ℕ, Bool, false, List, [], ◌∷◌, map, length, get_or, Option, Some, None, IsSome, slice_get, refl, sym, ap, ◌∙◌, subst}
 use Rattle.std.specs.Option.{option_map}
 use Rattle.std.proofs.lemmas.Bool.{false≢true}
-use Rattle.std.proofs.Math.Nat.{mod-eq_of_lt}
-use Rattle.std.proofs.Math.Pow.{pow_mono}
 use Rattle.base.specs.Bits.{low_bits, number_of}
-use Rattle.base.proofs.NumberBits.{number_of-low_bits}
 use Rattle.dev_card.specs.declared.desc.Kind.{Kind}
 use Rattle.dev_card.specs.Card.{Card}
 use Rattle.dev_card.specs.Board.{Clock, Input, clock_with, after_input, clocks_of, board_after, tdos}
@@ -22,22 +19,12 @@ pub card_seen : {A T : Type 0} (f : A → Option SoundCard) (xs : List A) (i : �
     option_map see (card_in (f x)) ≡ Some t → option_map see (card_at (map f xs) i) ≡ Some t
 card_seen f xs i x see t h e s = ap (λ o. option_map see o) (card_read f xs i x h e) ∙ s
 
--- the lowest bits of a number, with zeros above
-pub lowest_of : (n x : ℕ) → n < 64 → x % (1 * 2 ^ n % 18446744073709551616) ≡ number_of (low_bits n x)
-lowest_of n x h =
-    let k : n ≤ 63 = omega (arith, h) in
-    let p : 2 ^ n ≤ 2 ^ 63 = pow_mono k in
-    let small : 1 * 2 ^ n % 18446744073709551616 ≡ 2 ^ n = omega (arith, p) in
-    ap (λ m. x % m) small ∙ sym (number_of-low_bits n x)
-
-pub whole_of : (n x : ℕ) → n ≡ 64 → x < 2 ^ 64 → x ≡ number_of (low_bits n x)
-whole_of n x e h = sym (mod-eq_of_lt h) ∙ sym (number_of-low_bits 64 x) ∙ ap (λ m. number_of (low_bits m x)) (sym e)
-
 -- no place
 pub no_places : (rack : List (Option SoundCard)) (places : List ℕ) (tdi n : ℕ) (last : Bool) → places ≡ [] →
     cards_at rack places ≡ option_map (λ cs. board_after_block cs tdi n last) (cards_at rack places)
 no_places rack places tdi n last e =
-    let at_none : cards_at rack [] ≡ option_map (λ cs. board_after_block cs tdi n last) (cards_at rack []) = ap Some (sym (nothing_after (block_inputs tdi n last))) in
+    let at_none : cards_at rack [] ≡ option_map (λ cs. board_after_block cs tdi n last) (cards_at rack []) =
+        ap Some (sym (nothing_after (block_inputs tdi n last))) in
     subst (λ ps. cards_at rack ps ≡ option_map (λ cs. board_after_block cs tdi n last) (cards_at rack ps)) (sym e) at_none
 
 pub no_places_seen : (rack : List (Option SoundCard)) (places : List ℕ) (tdi n r : ℕ) (last : Bool) → places ≡ [] → r ≡ number_of (low_bits n tdi) →
@@ -53,7 +40,8 @@ joined_block : (o : Option Card) (os : Option (List Card)) (tdi n behind : ℕ) 
 joined_block None os tdi n behind last h e = absurd (false≢true h)
 joined_block (Some c) None tdi n behind last h e = absurd (false≢true h)
 joined_block (Some c) (Some cs) tdi n behind last h e =
-    ap (λ x. Some (card_after_block c x n last ∷ board_after_block cs tdi n last)) (sym (some_same e)) ∙ ap Some (sym (shifts_card_by_card c cs tdi n last).board)
+    ap (λ x. Some (card_after_block c x n last ∷ board_after_block cs tdi n last)) (sym (some_same e))
+        ∙ ap Some (sym (shifts_card_by_card c cs tdi n last).board)
 
 joined_seen : (o : Option Card) (os : Option (List Card)) (tdi n behind r : ℕ) (last : Bool) → IsSome (joined o os) →
     option_map (λ cs. board_block cs tdi n last) os ≡ Some behind → option_map (λ c. card_block c behind n last) o ≡ Some r →
@@ -71,10 +59,12 @@ module _ {A : Type 0} (f : A → Option SoundCard) (rack next : List A) (places 
       (rest_is_some (card_at (map f rack) p) (cards_at (map f rack) ps) g, (subst AreApart e a).1)
 
   -- the first is as it was while the others were shifted
-  pub first_stays : places ≡ p ∷ ps → AreApart places → ((k : ℕ) → IsAbsent k ps → slice_get next k ≡ slice_get rack k) → card_at (map f next) p ≡ card_at (map f rack) p
+  pub first_stays : places ≡ p ∷ ps → AreApart places →
+      ((k : ℕ) → IsAbsent k ps → slice_get next k ≡ slice_get rack k) → card_at (map f next) p ≡ card_at (map f rack) p
   first_stays e a stay = card_kept f rack next p (stay p (subst AreApart e a).0)
 
-  pub first_fitted : places ≡ p ∷ ps → AreApart places → IsSome (cards_at (map f rack) places) → ((k : ℕ) → IsAbsent k ps → slice_get next k ≡ slice_get rack k) →
+  pub first_fitted : places ≡ p ∷ ps → AreApart places → IsSome (cards_at (map f rack) places) →
+      ((k : ℕ) → IsAbsent k ps → slice_get next k ≡ slice_get rack k) →
       IsSome (card_at (map f next) p)
   first_fitted e a s stay =
       let g : IsSome (cards_at (map f rack) (p ∷ ps)) = subst (λ z. IsSome (cards_at (map f rack) z)) e s in
@@ -82,7 +72,8 @@ module _ {A : Type 0} (f : A → Option SoundCard) (rack next : List A) (places 
 
   module _ (tdi n behind : ℕ) (last : Bool) where
     -- the others were shifted, and then the first
-    pub all_shifted : (end : List A) → places ≡ p ∷ ps → AreApart places → IsSome (cards_at (map f rack) places) → ((k : ℕ) → IsAbsent k ps → slice_get next k ≡ slice_get rack k) →
+    pub all_shifted : (end : List A) → places ≡ p ∷ ps → AreApart places → IsSome (cards_at (map f rack) places) →
+        ((k : ℕ) → IsAbsent k ps → slice_get next k ≡ slice_get rack k) →
         cards_at (map f next) ps ≡ option_map (λ cs. board_after_block cs tdi n last) (cards_at (map f rack) ps) →
         option_map (λ cs. board_block cs tdi n last) (cards_at (map f rack) ps) ≡ Some behind →
         card_at (map f end) p ≡ option_map (λ c. card_after_block c behind n last) (card_at (map f next) p) →
@@ -100,7 +91,8 @@ module _ {A : Type 0} (f : A → Option SoundCard) (rack next : List A) (places 
         ∙ joined_block (card_at (map f rack) p) (cards_at (map f rack) ps) tdi n behind last g seen in
         subst (λ z. cards_at (map f end) z ≡ option_map (λ cs. board_after_block cs tdi n last) (cards_at (map f rack) z)) (sym e) both
 
-    pub all_seen : (r : ℕ) → places ≡ p ∷ ps → AreApart places → IsSome (cards_at (map f rack) places) → ((k : ℕ) → IsAbsent k ps → slice_get next k ≡ slice_get rack k) →
+    pub all_seen : (r : ℕ) → places ≡ p ∷ ps → AreApart places → IsSome (cards_at (map f rack) places) →
+        ((k : ℕ) → IsAbsent k ps → slice_get next k ≡ slice_get rack k) →
         option_map (λ cs. board_block cs tdi n last) (cards_at (map f rack) ps) ≡ Some behind →
         option_map (λ c. card_block c behind n last) (card_at (map f next) p) ≡ Some r →
         option_map (λ cs. board_block cs tdi n last) (cards_at (map f rack) places) ≡ Some r
@@ -111,7 +103,8 @@ module _ {A : Type 0} (f : A → Option SoundCard) (rack next : List A) (places 
         (ap (λ o. option_map (λ c. card_block c behind n last) o) (sym (first_stays e a stay)) ∙ first)
 
   -- places absent from all are kept
-  pub rest_stays : (end : List A) → places ≡ p ∷ ps → ((k : ℕ) → IsAbsent k ps → slice_get next k ≡ slice_get rack k) → ((k : ℕ) → k ≢ p → slice_get end k ≡ slice_get next k) →
+  pub rest_stays : (end : List A) → places ≡ p ∷ ps → ((k : ℕ) → IsAbsent k ps → slice_get next k ≡ slice_get rack k) →
+      ((k : ℕ) → k ≢ p → slice_get end k ≡ slice_get next k) →
       (k : ℕ) → IsAbsent k places → slice_get end k ≡ slice_get rack k
   rest_stays end e stay others k h = let b : IsAbsent k (p ∷ ps) = subst (IsAbsent k) e h in others k (λ q. b.0 (sym q)) ∙ stay k b.1
 
@@ -139,7 +132,8 @@ told_seen : (o : Option (List Card)) (is : List Input) (cs : List Card) → o �
 unfolding told_clocks
 told_seen o is cs e = ap (λ z. told_clocks z is) e
 
-told_bits : (o : Option (List Card)) (is : List Input) (r : ℕ) → option_map (λ cs. number_of (tdos (clocks_of cs is))) o ≡ Some r → r ≡ number_of (tdos (told_clocks o is))
+told_bits : (o : Option (List Card)) (is : List Input) (r : ℕ) → option_map (λ cs. number_of (tdos (clocks_of cs is))) o
+    ≡ Some r → r ≡ number_of (tdos (told_clocks o is))
 unfolding told_clocks
 told_bits None is r e = absurd (let x : None ≡ Some r = e in cc)
 told_bits (Some cs) is r e = sym (some_same e)

@@ -34,7 +34,8 @@ report_in None = []
 report_in (Some cs) = report_of cs
 
 -- A text was put, and with this rest it is the whole.
-pub record PutsBut {K : Type 0} (written : K → Option (List ℕ)) (whole : List ℕ) (old : Lines K) (rest : List ℕ) (new : Lines K) : Type 0 where
+pub record PutsBut {K : Type 0} (written : K → Option (List ℕ)) (whole : List ℕ) (old : Lines K) (rest : List ℕ)
+    (new : Lines K) : Type 0 where
   pub front : List ℕ
   pub put : Puts written old front new
   pub all : front ++ rest ≡ whole

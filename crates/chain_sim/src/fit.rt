@@ -40,7 +40,8 @@ fn fit_at<D: Device>(
     ensures kinds { map D.kind_of rack.new.items ≡ map D.kind_of rack.old.items }
     ensures card { OnOk result (card_at (map D.fitted rack.new.items) place ≡ Some (fresh desc.now)) }
     ensures others { (k : ℕ) → k ≢ place → slice_get rack.new.items k ≡ slice_get rack.old.items k }
-    ensures wrong_kind { IsErrOf result FitRefused.WrongKind → slice_get (map D.kind_of rack.old.items) place ≢ Some desc.now.kind }
+    ensures wrong_kind { IsErrOf result FitRefused.WrongKind →
+        slice_get (map D.kind_of rack.old.items) place ≢ Some desc.now.kind }
 {
     rack[place].fit(alloc, desc)
 }
@@ -56,8 +57,10 @@ fn fit_all<D: Device>(
     requires good { All IsGood descs.now }
     ensures kinds { map D.kind_of rack.new.items ≡ map D.kind_of rack.old.items }
     ensures places { IfOk result (λ v. v.items ≡ places_of descs.now) }
-    ensures cards { OnOk result (cards_at (map D.fitted rack.new.items) (places_of descs.now) ≡ Some (map fresh descs.now)) }
-    ensures others { (k : ℕ) → IsAbsent k (places_of descs.now) → slice_get rack.new.items k ≡ slice_get rack.old.items k }
+    ensures cards { OnOk result (cards_at (map D.fitted rack.new.items) (places_of descs.now)
+        ≡ Some (map fresh descs.now)) }
+    ensures others { (k : ℕ) → IsAbsent k (places_of descs.now) →
+        slice_get rack.new.items k ≡ slice_get rack.old.items k }
 {
     let mut places = Vec::new(alloc);
     for i in 0..descs.len() {
@@ -93,8 +96,10 @@ pub fn fit_board(
     requires good { All IsGood descs.now }
     ensures kinds { map kind_of rack.new.items ≡ map kind_of rack.old.items }
     ensures places { IfOk result (λ v. v.items ≡ places_of descs.now) }
-    ensures cards { OnOk result (cards_at (map fitted rack.new.items) (places_of descs.now) ≡ Some (map fresh descs.now)) }
-    ensures others { (k : ℕ) → IsAbsent k (places_of descs.now) → slice_get rack.new.items k ≡ slice_get rack.old.items k }
+    ensures cards { OnOk result
+        (cards_at (map fitted rack.new.items) (places_of descs.now) ≡ Some (map fresh descs.now)) }
+    ensures others { (k : ℕ) → IsAbsent k (places_of descs.now) →
+        slice_get rack.new.items k ≡ slice_get rack.old.items k }
     ensures chain { OnOk result (IsTrue (is_chain (map fitted rack.new.items) (places_of descs.now))) }
 {
     fit_all(alloc, rack, descs)

@@ -1,4 +1,4 @@
-// One clock of the devices at some places of a rack.
+// One clock of the devices at some places of a rack, and one block of clocks.
 ghost use Rattle.std.specs.Prelude.{◌≡◌, ◌≢◌, ◌<◌, ◌≤◌, ℕ, map, Some, IsSome, slice_get, vec_len};
 ghost use Rattle.std.specs.Option.{option_map};
 ghost use Rattle.dev_card.specs.Card.{tdo_of, step};
@@ -7,6 +7,7 @@ ghost use Rattle.dev_card.specs.Blocks.{card_after_block, card_block, board_afte
 ghost use Rattle.base.specs.Bits.{low_bits, number_of};
 ghost use Rattle.chain_sim.specs.Places.{card_at, cards_at, IsAbsent, AreApart};
 
+use base::lowest;
 use dev_card::Device;
 
 // The TDO of the device at a place.
@@ -30,7 +31,8 @@ fn clock_at<D: Device>(rack: &mut Vec<D>, place: usize, tms: bool, tdi: bool)
     rack[place].clock(tms, tdi);
 }
 
-// The TDO of the device at the first place, or what comes in where there is none.
+/// TDO of the devices at some places of a rack, without a clock: of the device at the first place, which is nearest TDO,
+/// as it is before the next clock, or what comes in if there is no place.
 pub fn first_tdo<D: Device>(rack: &Vec<D>, places: &[u32], tdi: bool) -> bool
     requires fitted { IsSome (cards_at (map D.fitted rack.now.items) places.now) }
     ensures { option_map (λ cs. board_tdo cs tdi) (cards_at (map D.fitted rack.now.items) places.now) ≡ Some result }
@@ -41,7 +43,9 @@ pub fn first_tdo<D: Device>(rack: &Vec<D>, places: &[u32], tdi: bool) -> bool
     }
 }
 
-// One clock of the devices at all places: each but the last gets the TDO that the one behind it has before the clock.
+/// One clock of the devices at some places of a rack, which differ and have fitted devices (IEEE 1149.1, serial
+/// connection). Each gets the TDO that the one behind it has before the clock, and the last one what comes in. No other
+/// device changes.
 pub fn clock_all<D: Device>(rack: &mut Vec<D>, places: &[u32], tms: bool, tdi: bool)
     requires fitted { IsSome (cards_at (map D.fitted rack.old.items) places.now) }
     requires apart { AreApart places.now }
@@ -66,18 +70,11 @@ fn shift_at<D: Device>(rack: &mut Vec<D>, place: usize, tdi: u64, n: u32, last: 
     ensures kinds { map D.kind_of rack.new.items ≡ map D.kind_of rack.old.items }
     ensures card { card_at (map D.fitted rack.new.items) place
         ≡ option_map (λ c. card_after_block c tdi n last) (card_at (map D.fitted rack.old.items) place) }
-    ensures tdo { option_map (λ c. card_block c tdi n last) (card_at (map D.fitted rack.old.items) place) ≡ Some result }
+    ensures tdo { option_map (λ c. card_block c tdi n last) (card_at (map D.fitted rack.old.items) place)
+        ≡ Some result }
     ensures others { (k : ℕ) → k ≢ place → slice_get rack.new.items k ≡ slice_get rack.old.items k }
 {
     rack[place].shift_block(tdi, n, last)
-}
-
-// The lowest n bits of a number.
-fn lowest(number: u64, n: u32) -> u64
-    requires { n ≤ 64 }
-    ensures { result ≡ number_of (low_bits n number) }
-{
-    if n < 64 { number % (1u64 << n) } else { number }
 }
 
 // A block of the devices at all places, one call of each, from the last place to the first: each gets what the one

@@ -34,10 +34,13 @@ left_length list bits = omega (arith, length-drop (length bits) (list ++ bits), 
 out_length : (list bits : List Bool) → length (shifted_out list bits) ≡ length bits
 out_length list bits = length-take-le (length bits) (list ++ bits) (omega (arith, length-append list bits))
 
-cut_one : (ir : Bool) (c : Card) (bits : List Bool) → cut_back ir (c ∷ []) (left_in (line_of ir (c ∷ [])) bits) ≡ with_list ir c (left_in (list_of ir c) bits) ∷ []
+cut_one : (ir : Bool) (c : Card) (bits : List Bool) → cut_back ir (c ∷ []) (left_in (line_of ir (c ∷ [])) bits)
+    ≡ with_list ir c (left_in (list_of ir c) bits) ∷ []
 cut_one ir c bits =
     ap (λ l. cut_back ir (c ∷ []) (left_in l bits)) (append-nil (list_of ir c))
-    ∙ ap (λ l. with_list ir c l ∷ []) (take_all (length (list_of ir c)) (left_in (list_of ir c) bits) (let e = left_length (list_of ir c) bits in omega (arith, e)))
+    ∙ ap (λ l. with_list ir c l ∷ [])
+        (take_all (length (list_of ir c)) (left_in (list_of ir c) bits) (let e = left_length (list_of ir c) bits in
+        omega (arith, e)))
 
 own_state : (ir : Bool) (c : Card) (bits : List Bool) → c.tap ≡ shift_state ir → with_list ir c bits ≡ in_state (shift_state ir) (with_list ir c bits)
 own_state true c bits e = ap (λ t. record c { tap = t; ir_list = bits }) e
@@ -52,11 +55,16 @@ module _ (ir : Bool) (c : Card) (tdi n : ℕ) (shifting : IsShifting ir c) where
       let bits : List Bool = low_bits n tdi in
       let s : StaysShifting ir (c ∷ []) bits = stays_shifting ir (c ∷ []) bits all_shift in
       let is : still_inputs bits ≡ part_inputs false bits = still_part bits in
-      let count : length (still_inputs bits) ≡ length (shifted_out (line_of ir (c ∷ [])) bits) = length-map bits _ ∙ sym (out_length (line_of ir (c ∷ [])) bits) in
+      let count : length (still_inputs bits) ≡ length (shifted_out (line_of ir (c ∷ [])) bits) = length-map bits _
+          ∙ sym (out_length (line_of ir (c ∷ [])) bits) in
       record {
-        tdo = ap (λ z. number_of (card_tdos c z)) (sym is) ∙ ap number_of (sym (one_tdos (still_inputs bits) c) ∙ ap tdos s.clocks ∙ tdos_of_with (still_inputs bits) (shifted_out (line_of ir (c ∷ [])) bits) count
+        tdo = ap (λ z. number_of (card_tdos c z)) (sym is)
+            ∙ ap number_of (sym (one_tdos (still_inputs bits) c) ∙ ap tdos s.clocks
+            ∙ tdos_of_with (still_inputs bits) (shifted_out (line_of ir (c ∷ [])) bits) count
             ∙ ap (λ l. shifted_out l bits) (append-nil (list_of ir c)));
-        card = ap (card_after c) (sym is) ∙ first_card _ _ (sym (one_after (still_inputs bits) c) ∙ s.board ∙ cut_one ir c bits) ∙ own_state ir c (left_in (list_of ir c) bits) shifting.state;
+        card = ap (card_after c) (sym is)
+            ∙ first_card _ _ (sym (one_after (still_inputs bits) c) ∙ s.board ∙ cut_one ir c bits)
+            ∙ own_state ir c (left_in (list_of ir c) bits) shifting.state;
       }
 
   last_block : 1 ≤ n → ShiftsBlock ir c tdi n true
@@ -65,11 +73,16 @@ module _ (ir : Bool) (c : Card) (tdi n : ℕ) (shifting : IsShifting ir c) where
       let some : 0 < length bits = omega (arith, h, length-low_bits n tdi) in
       let s : ShiftsAsLine ir (c ∷ []) bits = shifts_as_line ir (c ∷ []) bits some all_shift in
       let is : shift_inputs bits ≡ part_inputs true bits = inputs_of_whole bits in
-      let count : length (shift_inputs bits) ≡ length (shifted_out (line_of ir (c ∷ [])) bits) = length_of_shift bits ∙ sym (out_length (line_of ir (c ∷ [])) bits) in
+      let count : length (shift_inputs bits) ≡ length (shifted_out (line_of ir (c ∷ [])) bits) = length_of_shift bits
+          ∙ sym (out_length (line_of ir (c ∷ [])) bits) in
       record {
-        tdo = ap (λ z. number_of (card_tdos c z)) (sym is) ∙ ap number_of (sym (one_tdos (shift_inputs bits) c) ∙ ap tdos s.clocks ∙ tdos_of_with (shift_inputs bits) (shifted_out (line_of ir (c ∷ [])) bits) count
+        tdo = ap (λ z. number_of (card_tdos c z)) (sym is)
+            ∙ ap number_of (sym (one_tdos (shift_inputs bits) c) ∙ ap tdos s.clocks
+            ∙ tdos_of_with (shift_inputs bits) (shifted_out (line_of ir (c ∷ [])) bits) count
             ∙ ap (λ l. shifted_out l bits) (append-nil (list_of ir c)));
-        card = ap (card_after c) (sym is) ∙ first_card _ _ (sym (one_after (shift_inputs bits) c) ∙ s.board ∙ ap (map (in_state (exit_state ir))) (cut_one ir c bits));
+        card = ap (card_after c) (sym is)
+            ∙ first_card _ _ (sym (one_after (shift_inputs bits) c) ∙ s.board
+            ∙ ap (map (in_state (exit_state ir))) (cut_one ir c bits));
       }
 
 pub shifts_block : (ir : Bool) (c : Card) (tdi n : ℕ) (last : Bool) → 1 ≤ n → IsShifting ir c → ShiftsBlock ir c tdi n last

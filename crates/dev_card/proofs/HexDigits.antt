@@ -1,45 +1,17 @@
 -- Hexadecimal digits: those of a word, and those of a list of bits in parts.
-use Rattle.std.proofs.Common.{◌≡◌, ◌≤◌, ◌<◌, ℕ, zero, suc, ◌+◌, ◌-◌, ◌*◌, ◌/◌, ◌%◌, ◌^◌, Bool, true, false, List, [], ◌∷◌, ◌++◌, length, take, drop, get_or, refl, sym, ap, ap₂, ◌∙◌, subst, arith}
+use Rattle.std.proofs.Common.{◌≡◌, ◌≤◌, ◌<◌, ℕ, zero, suc, ◌+◌, ◌-◌, ◌*◌, ◌/◌, ◌%◌, ◌^◌, Bool, List, [], ◌∷◌, ◌++◌, length, take, drop, get_or, refl, sym, ap, ap₂, ◌∙◌, subst, arith}
 use Rattle.std.proofs.lemmas.List.{drop-drop, drop_all, length-drop, length-take-le, drop-take, take_all}
-use Rattle.std.proofs.lemmas.Nat.{pow_pos, pow-add}
-use Rattle.std.proofs.Math.Nat.{pow-suc, div-div-eq-div-mul, mod-eq_of_lt, zero-div}
-use Rattle.std.proofs.Math.Arith.{mod-mul}
+use Rattle.std.proofs.lemmas.Nat.{pow-add}
+use Rattle.std.proofs.Math.Nat.{pow-suc, mod-eq_of_lt}
 use Rattle.std.proofs.Math.Seq.{drop-cons}
-use Rattle.base.specs.Bits.{low_bits, bit_value, number_of}
-use Rattle.base.proofs.NumberBits.{length-low_bits, number_of-low_bits, number_of-below}
+use Rattle.base.specs.Bits.{low_bits, number_of}
+use Rattle.base.proofs.NumberBits.{length-low_bits, number_of-low_bits, number_of-below, number_of-drop, number_of-take}
 use Rattle.bit_list.specs.Ranges.{taken}
 use Rattle.bit_list.proofs.Splices.{taken_of_first, length_taken}
 use Rattle.bit_list.proofs.WordMoves.{bits_of_part}
 use Rattle.dev_card.specs.Hexadecimal.{hex_digit, digits_needed, hex_digits, all_hex_digits}
 
--- ---- numbers of parts of a list
-
-value_below : (b : Bool) → bit_value b < 2
-value_below true = omega arith
-value_below false = omega arith
-
-number_of-drop : (j : ℕ) (bits : List Bool) → number_of (drop j bits) ≡ number_of bits / 2 ^ j
-number_of-drop zero bits = omega arith
-number_of-drop (suc j) [] = sym (zero-div (2 ^ suc j))
-number_of-drop (suc j) (b ∷ bits) =
-    let half : (bit_value b + 2 * number_of bits) / 2 ≡ number_of bits = omega (arith, value_below b) in
-    let power : 2 * 2 ^ j ≡ 2 ^ suc j = omega (arith, pow-suc 2 j) in
-    number_of-drop j bits ∙ ap (λ (n : ℕ). n / 2 ^ j) (sym half)
-    ∙ div-div-eq-div-mul (bit_value b + 2 * number_of bits) 2 (2 ^ j) ∙ ap (λ (d : ℕ). (bit_value b + 2 * number_of bits) / d) power
-
-number_of-take : (n : ℕ) (bits : List Bool) → number_of (take n bits) ≡ number_of bits % 2 ^ n
-number_of-take zero [] = omega arith
-number_of-take zero (b ∷ bits) = omega arith
-number_of-take (suc n) [] = sym (mod-eq_of_lt (pow_pos (suc n)))
-number_of-take (suc n) (b ∷ bits) =
-    let small = value_below b in
-    let rest = number_of-take n bits in
-    let split : (bit_value b + 2 * number_of bits) % (2 ^ n * 2) ≡ ((bit_value b + 2 * number_of bits) / 2 % 2 ^ n) * 2 + (bit_value b + 2 * number_of bits) % 2 =
-    mod-mul (bit_value b + 2 * number_of bits) (pow_pos n) (omega arith) in
-    let half : (bit_value b + 2 * number_of bits) / 2 ≡ number_of bits = omega (arith, small) in
-    let odd : (bit_value b + 2 * number_of bits) % 2 ≡ bit_value b = omega (arith, small) in
-    let power : 2 ^ suc n ≡ 2 ^ n * 2 = pow-suc 2 n in
-    rw (power, split, half, odd, rest) (omega arith)
+-- ---- the digits of a number
 
 power_of_16 : (k : ℕ) → 2 ^ (4 * k) ≡ 16 ^ k
 power_of_16 zero = refl
@@ -112,7 +84,8 @@ digits_parted left low bits below inside whole =
     let a : ℕ = low / 4 in
     let place : 4 * a ≡ low = omega (arith, whole) in
     let size : length (take left bits) ≡ left = length-take-le left bits inside in
-    let rest : length (taken low (left - low) bits) ≡ left - low = length-take-le (left - low) (drop low bits) (omega (arith, below, inside, length-drop low bits)) in
+    let rest : length (taken low (left - low) bits) ≡ left - low =
+        length-take-le (left - low) (drop low bits) (omega (arith, below, inside, length-drop low bits)) in
     let front : length (take low bits) ≡ low = length-take-le low bits (omega (arith, below, inside)) in
     let digits : digits_needed (length (take left bits)) ≡ a + digits_needed (length (taken low (left - low) bits)) = omega arith in
     let lowest : digits_needed (length (take low bits)) ≡ a = omega arith in
@@ -121,7 +94,8 @@ digits_parted left low bits below inside whole =
     ap (λ (n : ℕ). hex_digits n (take left bits)) digits
     ∙ digits_from a (digits_needed (length (taken low (left - low) bits))) (take left bits)
     ∙ ap₂ (λ (h : List ℕ) (l : List ℕ). h ++ l) (ap (hex_digits (digits_needed (length (taken low (left - low) bits)))) high)
-    (digits_below a left bits (omega (arith, place, below)) ∙ sym (digits_below a low bits (omega (arith, place))) ∙ ap (λ (n : ℕ). hex_digits n (take low bits)) (sym lowest))
+    (digits_below a left bits (omega (arith, place, below)) ∙ sym (digits_below a low bits (omega (arith, place)))
+        ∙ ap (λ (n : ℕ). hex_digits n (take low bits)) (sym lowest))
 
 -- a word of a part fits
 pub word_fits : (at n word : ℕ) (bits : List Bool) → at + n ≤ length bits → word ≡ number_of (taken at n bits) → word < 2 ^ n
@@ -135,7 +109,8 @@ pub digits_down : (left low word : ℕ) (bits : List Bool) → low ≤ left → 
     all_hex_digits (take left bits) ≡ all_hex_digits (low_bits (left - low) word) ++ all_hex_digits (take low bits)
 digits_down left low word bits below inside whole e =
     digits_parted left low bits below inside whole
-    ∙ ap (λ (l : List Bool). all_hex_digits l ++ all_hex_digits (take low bits)) (sym (bits_of_part low (left - low) word bits (omega (arith, below, inside)) e))
+    ∙ ap (λ (l : List Bool). all_hex_digits l ++ all_hex_digits (take low bits))
+        (sym (bits_of_part low (left - low) word bits (omega (arith, below, inside)) e))
 
 -- no bit is left, and all bits are
 pub none_left : (left : ℕ) (bits : List Bool) → left ≤ 0 → all_hex_digits (take left bits) ≡ []

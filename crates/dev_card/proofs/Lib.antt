@@ -9,6 +9,7 @@ pub mod PaddedLines
 pub mod OneScan
 pub mod Resetting
 pub mod Scanning
+pub mod RunsOfNeighbours
 pub mod BlockSteps
 pub mod BlockShifts
 pub mod HexDigits

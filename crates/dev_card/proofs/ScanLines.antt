@@ -2,7 +2,7 @@
 use Rattle.std.proofs.Common.{◌≡◌, ◌<◌, Bool, true, false, List, [], ◌∷◌, ◌++◌, length, map, refl, ap, subst, ◌∙◌}
 use Rattle.tap_states.specs.declared.Tap.{Tap}
 use Rattle.tap_states.specs.Tap.{next_of, is_stable_state}
-use Rattle.tap_states.specs.PathTable.{path_of}
+use Rattle.tap_states.specs.Path.{path_of}
 use Rattle.tap_states.proofs.Shortest.{is_path, path_leads}
 use Rattle.dev_card.specs.Card.{Card, in_state}
 use Rattle.dev_card.specs.Board.{Input, clock_at, clocks_of, board_after, after_input, AllIn}

@@ -1,17 +1,16 @@
 -- What a scan captures, by its clocks and by the line of its board, and the parts of its shift clocks.
-use Rattle.std.proofs.Common.{◌≡◌, ◌≤◌, ◌+◌, ◌-◌, ◌&&◌, ℕ, suc, Bool, true, false, List, [], ◌∷◌, ◌++◌, take, drop, replicate, length, Some, slice_get, refl, sym, ap, ◌∙◌, arith}
-use Rattle.std.proofs.lemmas.List.{append-nil, length-append, length-map, length-take, length-drop, length-replicate, map-append, take-append-le, drop-append-le, take-append-drop, take-map, drop-map}
-use Rattle.std.proofs.lemmas.Option.{get_or_from_slice_get, slice_get_within}
-use Rattle.std.proofs.Math.Seq.{drop-append_seam, drop-cons}
+use Rattle.std.proofs.Common.{◌≡◌, ◌≤◌, ◌+◌, ◌-◌, ◌&&◌, ℕ, Bool, true, false, List, [], ◌∷◌, ◌++◌, take, drop, replicate, length, refl, sym, ap, ◌∙◌, arith}
+use Rattle.std.proofs.lemmas.List.{append-nil, length-append, length-map, length-take, length-drop, length-replicate, map-append, take-append-le, drop-append-le}
+use Rattle.std.proofs.Math.Seq.{drop-append_seam}
 use Rattle.tap_states.specs.declared.Tap.{Tap}
 use Rattle.tap_states.specs.Tap.{is_stable_state}
 use Rattle.dev_card.specs.Card.{Card}
 use Rattle.dev_card.specs.Board.{Clock, Input, clocks_of, after_input, AllIn, tdos}
 use Rattle.dev_card.specs.Line.{line_of, shifted_out}
-use Rattle.dev_card.specs.Padding.{Paddings, program_bits, padded, at_data, base_lengths, base_around}
+use Rattle.dev_card.specs.Padding.{Paddings, program_bits, padded, at_data}
 use Rattle.dev_card.specs.Clocks.{entry_tms, entry_inputs, is_nil, shift_inputs, part_inputs, pause_inputs, stop_inputs, clocks_with, at_shift, at_pause, shift_clocks, board_shifted}
 use Rattle.dev_card.specs.Sound.{AllSound}
-use Rattle.dev_card.specs.PaddedScan.{IsOneScan, without_base, descriptions_of, base_of_cards}
+use Rattle.dev_card.specs.PaddedScan.{IsOneScan, without_base}
 use Rattle.dev_card.specs.Scans.{BoardScan, scan_bits, inputs_of_scan, clocks_of_scan, captured_bits, captured_from, HasBaseAround, IsScanOfRun}
 use Rattle.dev_card.proofs.OneScan.{one_scan}
 
@@ -64,7 +63,8 @@ length_of_padded p bits =
     let ones : List Bool = replicate p.base_pre true in
     let last : List Bool = replicate p.base_post true in
     let program : List Bool = p.pre ++ (bits ++ p.post) in
-    omega (arith, length-append ones (program ++ last), length-append program last, length-append p.pre (bits ++ p.post), length-append bits p.post, length-replicate p.base_pre true)
+    omega (arith, length-append ones (program ++ last), length-append program last, length-append p.pre
+        (bits ++ p.post), length-append bits p.post, length-replicate p.base_pre true)
 
 -- what the clocks of a scan show at the data's places is what comes out of the line there
 pub captured_is_seen : (at : Tap) (s : BoardScan) (cs : List Card) → captured_from at s (clocks_of_scan at s cs) ≡ captured_bits at s cs
@@ -80,13 +80,15 @@ captured_is_seen at s cs =
     let k : length out ≡ length M = omega (arith, length-take (length M) (line_of s.ir there ++ M), length-append (line_of s.ir there) M) in
     let same : tdos shift ≡ out = tdos_of_with (shift_inputs M) out (length_of_shift M ∙ sym k) in
     let entry : e ≡ length (tdos first) = sym (length_of_tdos (entry_inputs at s.ir) cs ∙ length-map (entry_tms at s.ir) _) in
-    ap (λ z. at_data s.paddings n (drop e z)) (tdos_of_both first (shift ++ rest) ∙ ap (λ z. tdos first ++ z) (tdos_of_both shift rest ∙ ap (λ z. z ++ tdos rest) same))
+    ap (λ z. at_data s.paddings n (drop e z)) (tdos_of_both first (shift ++ rest)
+        ∙ ap (λ z. tdos first ++ z) (tdos_of_both shift rest ∙ ap (λ z. z ++ tdos rest) same))
     ∙ ap (λ j. at_data s.paddings n (drop j (tdos first ++ (out ++ tdos rest)))) entry
     ∙ ap (at_data s.paddings n) (drop-append_seam (tdos first) (out ++ tdos rest))
     ∙ data_of_front s.paddings n out (tdos rest) (omega (arith, k, length_of_padded s.paddings s.bits))
 
 -- as many bits as the data has, of any clocks
-pub length_of_captured : (at : Tap) (s : BoardScan) (clocks : List Clock) → length clocks ≡ length (inputs_of_scan at s) → length (captured_from at s clocks) ≡ length s.bits
+pub length_of_captured : (at : Tap) (s : BoardScan) (clocks : List Clock) →
+    length clocks ≡ length (inputs_of_scan at s) → length (captured_from at s clocks) ≡ length s.bits
 length_of_captured at s clocks h =
     let e : ℕ = length (entry_tms at s.ir) in
     let a : ℕ = s.paddings.base_pre + length s.paddings.pre in
@@ -117,18 +119,6 @@ scan_of_run at before run after s st a h base =
       one = one;
       same_captured = λ b short.
           ap (λ z. at_data s.paddings n (shifted_out (line_of s.ir z) (scan_bits s))) one.whole ∙ (one.same b).captured_same short
-          ∙ ap (λ z. at_data (without_base s.paddings) n (shifted_out (line_of s.ir (at_shift at s.ir run)) z)) (sym (append-nil (program_bits s.paddings s.bits)));
+          ∙ ap (λ z. at_data (without_base s.paddings) n (shifted_out (line_of s.ir (at_shift at s.ir run)) z))
+              (sym (append-nil (program_bits s.paddings s.bits)));
     }
-
--- base padding for a place is that around the card there
-pub base_of_place : (cs : List Card) (place : ℕ) → base_lengths (descriptions_of cs) (Some place) ≡ base_of_cards (take (place - 1) cs) (drop place cs)
-base_of_place cs place =
-    ap (λ z. base_around z (drop place (descriptions_of cs))) (take-map (λ (c : Card). c.desc) (place - 1) cs)
-    ∙ ap (λ z. base_around (descriptions_of (take (place - 1) cs)) z) (drop-map (λ (c : Card). c.desc) place cs)
-
-pub board_at_place : (cs : List Card) (place : ℕ) (c : Card) → 1 ≤ place → slice_get cs (place - 1) ≡ Some c → cs ≡ take (place - 1) cs ++ ((c ∷ []) ++ drop place cs)
-board_at_place cs place c h e =
-    let n : suc (place - 1) ≡ place = omega (arith, h) in
-    sym (take-append-drop (place - 1) cs)
-    ∙ ap (λ z. take (place - 1) cs ++ z) (drop-cons cs (place - 1) c (slice_get_within cs (place - 1) c e)
-    ∙ ap (λ x. x ∷ drop (suc (place - 1)) cs) (get_or_from_slice_get cs (place - 1) c c e) ∙ ap (λ k. c ∷ drop k cs) n)

@@ -47,12 +47,14 @@ with_tdis (i ∷ is) (b ∷ bits) = record { tms = i.tms; tdi = b } ∷ with_tdi
 -- clock, whatever goes on at the same time.
 pub record RunsCardByCard (c : Card) (cs : List Card) (inputs : List Input) : Type 0 where
   pub tdo : tdos (clocks_of (c ∷ cs) inputs) ≡ card_tdos c (with_tdis inputs (tdos (clocks_of cs inputs)))
-  pub board : board_after (c ∷ cs) inputs ≡ card_after c (with_tdis inputs (tdos (clocks_of cs inputs))) ∷ board_after cs inputs
+  pub board : board_after (c ∷ cs) inputs
+      ≡ card_after c (with_tdis inputs (tdos (clocks_of cs inputs))) ∷ board_after cs inputs
 
 -- So a block of a board is that of its first card, which gets the block of the board behind it.
 pub record ShiftsCardByCard (c : Card) (cs : List Card) (tdi n : ℕ) (last : Bool) : Type 0 where
   pub tdo : board_block (c ∷ cs) tdi n last ≡ card_block c (board_block cs tdi n last) n last
-  pub board : board_after_block (c ∷ cs) tdi n last ≡ card_after_block c (board_block cs tdi n last) n last ∷ board_after_block cs tdi n last
+  pub board : board_after_block (c ∷ cs) tdi n last
+      ≡ card_after_block c (board_block cs tdi n last) n last ∷ board_after_block cs tdi n last
 
 -- A block of a card that shifts is one equation of lists: what comes out are the first bits of its list with the new
 -- ones behind it, and the rest of these stays in. Its controller leaves the shift if the last TMS is 1.
@@ -62,4 +64,5 @@ state_after_block ir false = shift_state ir
 
 pub record ShiftsBlock (ir : Bool) (c : Card) (tdi n : ℕ) (last : Bool) : Type 0 where
   pub tdo : card_block c tdi n last ≡ number_of (shifted_out (list_of ir c) (low_bits n tdi))
-  pub card : card_after_block c tdi n last ≡ in_state (state_after_block ir last) (with_list ir c (left_in (list_of ir c) (low_bits n tdi)))
+  pub card : card_after_block c tdi n last
+      ≡ in_state (state_after_block ir last) (with_list ir c (left_in (list_of ir c) (low_bits n tdi)))

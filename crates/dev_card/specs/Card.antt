@@ -45,7 +45,11 @@ register_with (r ∷ rs) op k = if r.op == op then held_register k r else regist
 abbrev pub flash_register_with : Option FlashDesc → ℕ → Selected
 flash_register_with None op = bypass
 flash_register_with (Some f) op =
-    if f.addr == op then flash_address f else if f.erase == op then flash_erase f else if f.prog == op then flash_program f else if f.read == op then flash_read f else bypass
+    if f.addr == op then flash_address f
+    else if f.erase == op then flash_erase f
+    else if f.prog == op then flash_program f
+    else if f.read == op then flash_read f
+    else bypass
 
 -- the registers of each kind
 abbrev pub kind_selects : Kind → Desc → ℕ → Selected
@@ -136,9 +140,11 @@ updated_cells c bypass bits = c.cells
 updated_cells c (identity_code value) bits = c.cells
 updated_cells c (held_register k r) bits = slice_set c.cells k bits
 updated_cells c (flash_address f) bits = bits ∷ words_of c
-updated_cells c (flash_erase f) bits = if erases c bits then cell_of c 0 ∷ replicate f.words (replicate f.width true) else c.cells
+updated_cells c (flash_erase f) bits =
+    if erases c bits then cell_of c 0 ∷ replicate f.words (replicate f.width true) else c.cells
 updated_cells c (flash_program f) bits =
-    if is_busy c then c.cells else next_address c ∷ slice_set (words_of c) (address_of c) (and_bits (addressed_word f c) bits)
+    if is_busy c then c.cells
+    else next_address c ∷ slice_set (words_of c) (address_of c) (and_bits (addressed_word f c) bits)
 updated_cells c (flash_read f) bits = next_address c ∷ words_of c
 
 -- and the busy count after it

@@ -3,7 +3,7 @@
 use Rattle.std.specs.Prelude.{◌≡◌, ◌&&◌, ℕ, Bool, true, false, List, [], ◌∷◌, ◌++◌, map, replicate}
 use Rattle.tap_states.specs.declared.Tap.{Tap}
 use Rattle.tap_states.specs.declared.Tap.TheVariants.{Reset, Idle}
-use Rattle.tap_states.specs.PathTable.{path_of}
+use Rattle.tap_states.specs.Path.{path_of}
 use Rattle.dev_card.specs.Card.{Card, in_state}
 use Rattle.dev_card.specs.Board.{Input, Clock, clock_with, clocks_of, board_after}
 use Rattle.dev_card.specs.Line.{exit_state, pause_state, line_of, cut_back, shifted_out, left_in}

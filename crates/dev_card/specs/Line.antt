@@ -38,7 +38,8 @@ line_of ir (c ∷ cs) = list_of ir c ++ line_of ir cs
 -- a line cut back into the cards, by the lengths of their old lists
 abbrev pub cut_back : Bool → List Card → List Bool → List Card
 cut_back ir [] line = []
-cut_back ir (c ∷ cs) line = with_list ir c (take (length (list_of ir c)) line) ∷ cut_back ir cs (drop (length (list_of ir c)) line)
+cut_back ir (c ∷ cs) line =
+    with_list ir c (take (length (list_of ir c)) line) ∷ cut_back ir cs (drop (length (list_of ir c)) line)
 
 -- what comes out of a line when bits are shifted in, as many as there are bits, and what stays in it
 abbrev pub shifted_out : List Bool → List Bool → List Bool

@@ -31,7 +31,8 @@ pub record IsSameScan (ir : Bool) (before run after : List Card) (p : Paddings) 
       AreCardsFrom (length before) (cut_back ir run (left_in (line_of ir run) (program_bits p bits)))
       (cut_back ir (before ++ (run ++ after)) (left_in (line_of ir (before ++ (run ++ after))) (padded p bits)))
   pub last : length (line_of ir run) ≤ length (program_bits p bits) →
-      left_in (line_of ir run) (program_bits p bits) ≡ drop (length (program_bits p bits) - length (line_of ir run)) (program_bits p bits)
+      left_in (line_of ir run) (program_bits p bits)
+      ≡ drop (length (program_bits p bits) - length (line_of ir run)) (program_bits p bits)
   -- short enough: the program captures what it captures alone
   pub captured_same : length (program_bits p bits) ≤ length (line_of ir run) →
       at_data p (length bits) (shifted_out (line_of ir (before ++ (run ++ after))) (padded p bits))
@@ -39,12 +40,14 @@ pub record IsSameScan (ir : Bool) (before run after : List Card) (p : Paddings) 
   -- exactly as long as the run's line: the lists of all neighbours are ones
   pub exact : length (program_bits p bits) ≡ length (line_of ir run) →
       cut_back ir (before ++ (run ++ after)) (left_in (line_of ir (before ++ (run ++ after))) (padded p bits))
-      ≡ cut_back ir before (replicate p.base_pre true) ++ (cut_back ir run (program_bits p bits) ++ cut_back ir after (replicate p.base_post true))
+      ≡ cut_back ir before (replicate p.base_pre true)
+      ++ (cut_back ir run (program_bits p bits) ++ cut_back ir after (replicate p.base_post true))
 
 -- One scan of a board, from a stable state in which all its controllers are to the end of the shift clocks. At the
 -- shift the run's cards are as alone, between those of the devices before and after it. If these have BYPASS selected,
 -- or the scan is one of the instruction registers, it is the scan of the run alone.
-pub record IsOneScan (at : Tap) (ir : Bool) (before run after : List Card) (p : Paddings) (bits : List Bool) : Type 0 where
+pub record IsOneScan (at : Tap) (ir : Bool) (before run after : List Card) (p : Paddings) (bits : List Bool)
+    : Type 0 where
   pub front : List Card
   pub back : List Card
   pub whole : at_shift at ir (before ++ (run ++ after)) ≡ front ++ (at_shift at ir run ++ back)

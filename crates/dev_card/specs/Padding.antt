@@ -1,6 +1,6 @@
 -- The bits of a scan (JESD71, PRE and POST padding): program paddings around the data, and base paddings around both.
 -- Base padding is this profile's: all ones, which brings the neighbours of a device into BYPASS and passes them there.
-use Rattle.std.specs.Prelude.{◌+◌, ◌-◌, ℕ, Bool, true, false, List, ◌++◌, length, take, drop, replicate, map, sum, Option, Some, None}
+use Rattle.std.specs.Prelude.{◌+◌, ◌-◌, ℕ, suc, Bool, true, false, List, ◌++◌, length, take, drop, replicate, map, sum, Option, Some, None}
 use Rattle.dev_card.specs.declared.desc.Desc.{Desc}
 
 -- the paddings of a scan: the lengths of base PRE and base POST, and the bits of program PRE and program POST
@@ -47,9 +47,28 @@ base_around before after = record {
   dr_post = length after;
 }
 
--- base padding for a place of a board, counted from 1, and none without a place
-abbrev pub base_lengths : List Desc → Option ℕ → BaseLengths
-base_lengths ds (Some place) = base_around (take (place - 1) ds) (drop place ds)
+-- a run of neighbours of a board, by the places of its first and its last device, which are counted from 1
+pub record Neighbours : Type 0 where
+  pub first : ℕ
+  pub last : ℕ
+
+-- the run of a single place
+abbrev pub only : ℕ → Neighbours
+only place = record { first = place; last = place }
+
+-- what stands in a run, before it, and after it
+abbrev pub in_run : {A : Type 0} → Neighbours → List A → List A
+in_run run xs = take (suc run.last - run.first) (drop (run.first - 1) xs)
+
+abbrev pub before_run : {A : Type 0} → Neighbours → List A → List A
+before_run run xs = take (run.first - 1) xs
+
+abbrev pub after_run : {A : Type 0} → Neighbours → List A → List A
+after_run run xs = drop run.last xs
+
+-- base padding for a run of neighbours of a board, and none where no run is meant
+abbrev pub base_lengths : List Desc → Option Neighbours → BaseLengths
+base_lengths ds (Some run) = base_around (before_run run ds) (after_run run ds)
 base_lengths ds None = record { ir_pre = 0; ir_post = 0; dr_pre = 0; dr_post = 0 }
 
 -- base PRE and base POST of one scan, true for the instruction registers

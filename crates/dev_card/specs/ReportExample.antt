@@ -19,7 +19,8 @@ example_card d op cells = record {
 }
 
 abbrev pub example_plain : Card
-example_plain = example_card (record { name = codes "U1"; kind = Plain; ir_len = 4; id = None; registers = []; flash = None }) 15 []
+example_plain = example_card
+    (record { name = codes "U1"; kind = Plain; ir_len = 4; id = None; registers = []; flash = None }) 15 []
 
 -- registers of ten and of five bits, of which the second has a constant, and holds another value
 abbrev pub example_registers : Card
@@ -28,7 +29,8 @@ example_registers = example_card (record {
   kind = Regs;
   ir_len = 8;
   id = None;
-  registers = record { name = codes "STATUS"; op = 16; len = 10; constant = None } ∷ record { name = codes "VERSION"; op = 17; len = 5; constant = Some (low_bits 5 26) } ∷ [];
+  registers = record { name = codes "STATUS"; op = 16; len = 10; constant = None }
+      ∷ record { name = codes "VERSION"; op = 17; len = 5; constant = Some (low_bits 5 26) } ∷ [];
   flash = None;
 }) 2 (low_bits 10 1023 ∷ low_bits 5 11 ∷ [])
 

@@ -34,7 +34,8 @@ board_after_scan at s cs = board_scanned at s.ir s.stop cs (scan_bits s)
 
 -- What it captures, as many bits as its data: of what comes out of the board's line the part at the data's places.
 abbrev pub captured_bits : Tap → BoardScan → List Card → List Bool
-captured_bits at s cs = at_data s.paddings (length s.bits) (shifted_out (line_of s.ir (at_shift at s.ir cs)) (scan_bits s))
+captured_bits at s cs =
+    at_data s.paddings (length s.bits) (shifted_out (line_of s.ir (at_shift at s.ir cs)) (scan_bits s))
 
 -- The same by the clocks of the scan, whatever answered them: TDO at those shift clocks at which the data went in.
 abbrev pub captured_from : Tap → BoardScan → List Clock → List Bool
@@ -55,9 +56,11 @@ pub record HasBaseAround (before after : List Card) (s : BoardScan) : Type 0 whe
 pub record IsScanOfRun (at : Tap) (before run after : List Card) (s : BoardScan) (captured : List Bool) : Type 0 where
   pub one : IsOneScan at s.ir before run after s.paddings s.bits
   pub same_captured : (s.ir ≡ false → AllBypass one.front × AllBypass one.back) →
-      length (program_bits s.paddings s.bits) ≤ length (line_of s.ir (at_shift at s.ir run)) → captured ≡ captured_bits at (scan_alone s) run
+      length (program_bits s.paddings s.bits) ≤ length (line_of s.ir (at_shift at s.ir run)) →
+          captured ≡ captured_bits at (scan_alone s) run
 
 -- the same of each run of a board around which this is the base padding
 abbrev pub IsScanOfEachRun : Tap → BoardScan → List Bool → List Card → Type 0
 IsScanOfEachRun at s captured cs =
-    (before run after : List Card) → cs ≡ before ++ (run ++ after) → HasBaseAround before after s → IsScanOfRun at before run after s captured
+    (before run after : List Card) → cs ≡ before ++ (run ++ after) → HasBaseAround before after s →
+        IsScanOfRun at before run after s captured

@@ -95,7 +95,8 @@ pub trait Device: Drop {
 
     /// A bit of a cell; bits are counted from 0, the bit of lowest value.
     fn cell_bit(&self, cell: u32, bit: u32) -> bool
-        requires { IsSomeAnd (card_in (fitted self.now)) (λ c. (cell < length c.cells) × (bit < length (cell_of c cell))) }
+        requires { IsSomeAnd (card_in (fitted self.now))
+            (λ c. (cell < length c.cells) × (bit < length (cell_of c cell))) }
         ensures { option_map (λ c. bit_of c cell bit) (card_in (fitted self.now)) ≡ Some result };
 
     /// The n bits of a cell from bit `at` on, of which there are at most 64, as a number.

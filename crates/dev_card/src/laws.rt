@@ -9,7 +9,7 @@ ghost use Rattle.dev_card.specs.Descriptions.{IsGood, opcodes_of};
 ghost use Rattle.dev_card.specs.Card.{Card, bypass, fresh, selected_by, step};
 ghost use Rattle.dev_card.specs.Board.{Input, Clock, board_after, AllIn};
 ghost use Rattle.dev_card.specs.Line.{shift_state, line_of, IsShifting, AllShift};
-ghost use Rattle.dev_card.specs.Padding.{Paddings, base_pre_of, base_post_of, base_lengths};
+ghost use Rattle.dev_card.specs.Padding.{Paddings, Neighbours, only, in_run, before_run, after_run, base_pre_of, base_post_of, base_lengths};
 ghost use Rattle.dev_card.specs.PaddedScan.{IsSameScan, IsOneScan, base_of_cards, descriptions_of};
 ghost use Rattle.dev_card.specs.Clocks.{with_zero, move_inputs, is_nil, shift_inputs, part_inputs, at_shift, board_scanned, StaysShifting, ShiftsAsLine, ScansAsLine};
 ghost use Rattle.dev_card.specs.Scans.{BoardScan, inputs_of_scan, clocks_of_scan, captured_bits, captured_from, HasBaseAround, IsScanOfRun};
@@ -55,19 +55,22 @@ pub fn clocks_with_tms_0_shift_the_line()
 
 /// A board that shifts, clocked with TMS 0 and at the last bit with TMS 1, shifts its line.
 pub fn shift_clocks_shift_the_line()
-    ensures { (ir : Bool) (cs : List Card) (bits : List Bool) → 0 < length bits → AllShift ir cs → ShiftsAsLine ir cs bits }
+    ensures { (ir : Bool) (cs : List Card) (bits : List Bool) → 0 < length bits → AllShift ir cs →
+        ShiftsAsLine ir cs bits }
 {}
 
 /// The clocks of a scan, made one after another on a board of sound cards in one stable state, are those of the scan of
 /// its line.
 pub fn a_scan_is_the_scan_of_the_line()
-    ensures { (at : Tap) (ir : Bool) (stop : Tap) (cs : List Card) (bits : List Bool) → is_stable_state at ≡ true → 0 < length bits → AllIn at cs →
+    ensures { (at : Tap) (ir : Bool) (stop : Tap) (cs : List Card) (bits : List Bool) → is_stable_state at ≡ true →
+        0 < length bits → AllIn at cs →
         AllSound cs → ScansAsLine at ir stop cs bits }
 {}
 
 /// Sound cards in one stable state come through the entry list of a scan to the shift, each with a list to shift.
 pub fn a_scan_comes_to_the_shift()
-    ensures { (at : Tap) (ir : Bool) (cs : List Card) → is_stable_state at ≡ true → AllIn at cs → AllSound cs → AllShift ir (at_shift at ir cs) }
+    ensures { (at : Tap) (ir : Bool) (cs : List Card) → is_stable_state at ≡ true → AllIn at cs → AllSound cs →
+        AllShift ir (at_shift at ir cs) }
 {}
 
 /// A move brings all controllers from one state to another.
@@ -77,32 +80,36 @@ pub fn a_move_leads_there()
 
 /// A scan leaves all controllers in its stop state.
 pub fn a_scan_leads_to_its_stop()
-    ensures { (at : Tap) (ir : Bool) (stop : Tap) (cs : List Card) (bits : List Bool) → AllIn stop (board_scanned at ir stop cs bits) }
+    ensures { (at : Tap) (ir : Bool) (stop : Tap) (cs : List Card) (bits : List Bool) →
+        AllIn stop (board_scanned at ir stop cs bits) }
 {}
 
 /// A scan with base padding around a run of neighbours, as long as the lines of the other devices, is the scan of the
 /// run alone, as far as its length allows.
 pub fn a_padded_scan_is_the_scan_alone()
-    ensures { (ir : Bool) (before run after : List Card) (p : Paddings) (bits : List Bool) → p.base_pre ≡ length (line_of ir before) →
-        p.base_post ≡ length (line_of ir after) → IsSameScan ir before run after p bits }
+    ensures { (ir : Bool) (before run after : List Card) (p : Paddings) (bits : List Bool) →
+        p.base_pre ≡ length (line_of ir before) → p.base_post ≡ length (line_of ir after) →
+        IsSameScan ir before run after p bits }
 {}
 
 /// One scan of a board of sound cards in one stable state, with base padding around a run of neighbours, is the scan of
 /// the run alone, where the other devices have BYPASS selected or it is a scan of the instruction registers.
 pub fn one_padded_scan_is_the_scan_alone()
-    ensures { (at : Tap) (ir : Bool) (before run after : List Card) (p : Paddings) (bits : List Bool) → is_stable_state at ≡ true →
-        AllIn at (before ++ (run ++ after)) → AllSound (before ++ (run ++ after)) →
-        p.base_pre ≡ base_pre_of ir (base_of_cards before after) → p.base_post ≡ base_post_of ir (base_of_cards before after) →
+    ensures { (at : Tap) (ir : Bool) (before run after : List Card) (p : Paddings) (bits : List Bool) →
+        is_stable_state at ≡ true → AllIn at (before ++ (run ++ after)) → AllSound (before ++ (run ++ after)) →
+        p.base_pre ≡ base_pre_of ir (base_of_cards before after) →
+        p.base_post ≡ base_post_of ir (base_of_cards before after) →
         IsOneScan at ir before run after p bits }
 {}
 
-/// Clocks of a board can be taken card by card, from the last to the first: TDO of each card before a clock does not hang
-/// on its TDI at that clock.
+/// Clocks of a board can be taken card by card, from the last to the first: TDO of each card before a clock does not
+/// hang on its TDI at that clock.
 pub fn a_board_runs_card_by_card()
     ensures { (c : Card) (cs : List Card) (inputs : List Input) → RunsCardByCard c cs inputs }
 {}
 
-/// A block of a board is a block of each card, from the last to the first, and each gets what the one behind it answers.
+/// A block of a board is a block of each card, from the last to the first, and each gets what the one behind it
+/// answers.
 pub fn a_board_shifts_card_by_card()
     ensures { (c : Card) (cs : List Card) (tdi n : ℕ) (last : Bool) → ShiftsCardByCard c cs tdi n last }
 {}
@@ -144,18 +151,25 @@ pub fn a_padded_scan_captures_what_the_run_gives()
         IsScanOfRun at before run after s (captured_bits at s (before ++ (run ++ after))) }
 {}
 
-/// The card at a place of a board, counted from 1, is a run between the cards before and after it, and base padding for
-/// the place is that around this run.
+/// A board has the cards before a run of neighbours, those of the run, and those after it, and base padding for the run
+/// is that around its cards.
+pub fn a_run_stands_between_the_cards_around_it()
+    ensures board { (cs : List Card) (run : Neighbours) → 1 ≤ run.first → run.first ≤ run.last →
+        cs ≡ before_run run cs ++ (in_run run cs ++ after_run run cs) }
+    ensures base { (cs : List Card) (run : Neighbours) →
+        base_lengths (descriptions_of cs) (Some run) ≡ base_of_cards (before_run run cs) (after_run run cs) }
+{}
+
+/// A single place of a board is a run of the card there.
 pub fn a_place_is_a_run_of_one_card()
-    ensures board { (cs : List Card) (place : ℕ) (c : Card) → 1 ≤ place → slice_get cs (place - 1) ≡ Some c →
-        cs ≡ take (place - 1) cs ++ ((c ∷ []) ++ drop place cs) }
-    ensures base { (cs : List Card) (place : ℕ) →
-        base_lengths (descriptions_of cs) (Some place) ≡ base_of_cards (take (place - 1) cs) (drop place cs) }
+    ensures { (cs : List Card) (place : ℕ) (c : Card) → 1 ≤ place → slice_get cs (place - 1) ≡ Some c →
+        in_run (only place) cs ≡ c ∷ [] }
 {}
 
 /// The line of sound cards that shift is as long as their registers together.
 pub fn length_of_the_line()
-    ensures { (ir : Bool) (cs : List Card) → AllIn (shift_state ir) cs → AllSound cs → length (line_of ir cs) ≡ register_lengths ir cs }
+    ensures { (ir : Bool) (cs : List Card) → AllIn (shift_state ir) cs → AllSound cs →
+        length (line_of ir cs) ≡ register_lengths ir cs }
 {}
 
 /// The line of cards with BYPASS selected has one bit for each card.

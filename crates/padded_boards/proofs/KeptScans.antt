@@ -6,7 +6,7 @@ use Rattle.tap_states.specs.declared.Tap.{Tap}
 use Rattle.tap_states.specs.declared.Tap.TheVariants.{Reset, Idle, DrCapture, DrShift, DrPause, IrSelect, IrCapture, IrPause}
 use Rattle.tap_states.specs.Tap.{next_of, is_stable_state}
 use Rattle.tap_states.specs.Path.{walk}
-use Rattle.tap_states.specs.PathTable.{path_of}
+use Rattle.tap_states.specs.Path.{path_of}
 use Rattle.dev_card.specs.declared.desc.Desc.{Desc}
 use Rattle.dev_card.specs.Card.{Card, step, during, entered, selected_by, in_state}
 use Rattle.dev_card.specs.Board.{board_tdo, board_step, board_after, EachCard, AllIn}

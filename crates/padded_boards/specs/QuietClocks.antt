@@ -4,7 +4,7 @@ use Rattle.std.specs.Prelude.{◌≡◌, ◌||◌, Bool, true, false, List, [], 
 use Rattle.tap_states.specs.declared.Tap.{Tap}
 use Rattle.tap_states.specs.declared.Tap.TheVariants.{Reset, DrShift, IrCapture, IrShift}
 use Rattle.tap_states.specs.Tap.{next_of}
-use Rattle.tap_states.specs.PathTable.{path_of}
+use Rattle.tap_states.specs.Path.{path_of}
 use Rattle.dev_card.specs.Card.{Card}
 use Rattle.dev_card.specs.Line.{pause_state}
 use Rattle.dev_card.specs.Padding.{program_bits}

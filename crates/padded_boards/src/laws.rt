@@ -4,7 +4,7 @@ ghost use Rattle.tap_states.specs.declared.Tap.{Tap};
 ghost use Rattle.tap_states.specs.declared.Tap.TheVariants.{Reset};
 ghost use Rattle.tap_states.specs.Tap.{is_stable_state};
 ghost use Rattle.tap_states.specs.Path.{walk, five_ones};
-ghost use Rattle.tap_states.specs.PathTable.{path_of};
+ghost use Rattle.tap_states.specs.Path.{path_of};
 ghost use Rattle.dev_card.specs.declared.desc.Desc.{Desc};
 ghost use Rattle.dev_card.specs.Descriptions.{IsGood};
 ghost use Rattle.dev_card.specs.Card.{Card};

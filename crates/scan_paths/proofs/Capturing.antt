@@ -14,7 +14,8 @@ use Rattle.scan_paths.proofs.Way.{way_block_failed}
 use Rattle.scan_paths.proofs.Shifting.{length_of_inputs}
 
 -- Of all inputs a front was clocked, these are the rest, and these TDO bits were seen.
-pub record IsSeen {C : Type 0} (board : C → Option (List Card)) (makes : C → List Clock → C → Type 0) (start now : C) (rest all : List Input) (captured : List Bool) : Type 0 where
+pub record IsSeen {C : Type 0} (board : C → Option (List Card)) (makes : C → List Clock → C → Type 0) (start now : C)
+    (rest all : List Input) (captured : List Bool) : Type 0 where
   pub front : List Input
   pub clocks : List Clock
   pub parts : all ≡ front ++ rest
@@ -27,7 +28,8 @@ module _ {C : Type 0} (board : C → Option (List Card)) (makes : C → List Clo
   seen_none start rest all e m = record { front = []; clocks = []; parts = e; made = m; bits = refl }
 
   -- after the last one
-  pub seen_all : (start now : C) (all : List Input) (captured : List Bool) → IsSeen board makes start now [] all captured → HasSeen board makes start now all 0 captured
+  pub seen_all : (start now : C) (all : List Input) (captured : List Bool) →
+      IsSeen board makes start now [] all captured → HasSeen board makes start now all 0 captured
   seen_all start now all captured s = record {
     clocks = s.clocks;
     made = subst (λ z. HasMadeClocks board makes start now z s.clocks) (sym (s.parts ∙ append-nil s.front)) s.made;
@@ -55,7 +57,8 @@ module _ {C : Type 0} (board : C → Option (List Card)) (makes : C → List Clo
     seen_block start now next tdi n last rest all captured tdo k s =
         let is : List Input = block_inputs tdi n last in
         let count : length (tdos k.clocks) ≡ n = length_of_seen now next is k.clocks k.made ∙ length_of_inputs last (low_bits n tdi) ∙ length-low_bits n tdi in
-        let bits : low_bits n tdo ≡ tdos k.clocks = ap (low_bits n) k.bits ∙ ap (λ m. low_bits m (number_of (tdos k.clocks))) (sym count) ∙ low_bits-number_of (tdos k.clocks) in
+        let bits : low_bits n tdo ≡ tdos k.clocks = ap (low_bits n) k.bits
+            ∙ ap (λ m. low_bits m (number_of (tdos k.clocks))) (sym count) ∙ low_bits-number_of (tdos k.clocks) in
         record {
           front = s.front ++ is;
           clocks = s.clocks ++ k.clocks;

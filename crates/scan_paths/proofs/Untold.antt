@@ -23,7 +23,8 @@ came_out [] (b ∷ bits) e = absurd (omega (arith, e))
 came_out (i ∷ is) [] e = absurd (omega (arith, e))
 came_out (i ∷ is) (b ∷ bits) e = ap (λ z. b ∷ z) (came_out is bits (omega (arith, e)))
 
-module _ {C : Type 0} (board : C → Option (List Card)) (makes : C → List Clock → C → Type 0) (old new : C) (before : board old ≡ None) (after : board new ≡ None)
+module _ {C : Type 0} (board : C → Option (List Card)) (makes : C → List Clock → C → Type 0) (old new : C)
+    (before : board old ≡ None) (after : board new ≡ None)
     (made : (clocks : List Clock) → makes old clocks new) where
   pub untold_block : (tdi n tdo : ℕ) (last : Bool) → tdo < 2 ^ n → HasShifted board makes old new (block_inputs tdi n last) tdo
   untold_block tdi n tdo last h =

@@ -48,7 +48,8 @@ module _ {C : Type 0} (board : C → Option (List Card)) (makes : C → List Clo
   }
 
   -- a block that failed after some of the inputs
-  pub way_block_failed : (start now next : C) (is rest all : List Input) → HasMadeFront board makes now next is → IsUnderWay board makes start now (is ++ rest) all →
+  pub way_block_failed : (start now next : C) (is rest all : List Input) → HasMadeFront board makes now next is →
+      IsUnderWay board makes start now (is ++ rest) all →
       HasMadeFront board makes start next all
   way_block_failed start now next is rest all f w =
       subst (λ z. HasMadeFront board makes start next z) (sym w.parts)

@@ -20,13 +20,15 @@ whole_if true = whole
 whole_if false = line
 
 -- the count of one part was kept, and where this part is broken now, the count rose or stands at its last value
-pub record PartCause (part : Breakage) (before now : ℕ) (last_before last_now : Type 0) (broken_now : Breakage) : Type 0 where
+pub record PartCause (part : Breakage) (before now : ℕ) (last_before last_now : Type 0)
+    (broken_now : Breakage) : Type 0 where
   pub kept : CountKept before now last_before last_now
   pub broke : broken_now ≡ part → CountRose before now last_now
 
 -- the same of a cable before and after a call
 abbrev pub HasPartCause : {C : Type 0} → Breakage → (C → ℕ) → (C → Type 0) → (C → Breakage) → C → C → Type 0
-HasPartCause part faults is_last breakage before now = PartCause part (faults before) (faults now) (is_last before) (is_last now) (breakage now)
+HasPartCause part faults is_last breakage before now =
+    PartCause part (faults before) (faults now) (is_last before) (is_last now) (breakage now)
 
 -- the count of a cable without more is the sum of its two, which stands at its last value where one of them does
 abbrev pub cable_faults : {C : Type 0} → (C → ℕ) → (C → ℕ) → C → ℕ
@@ -41,20 +43,23 @@ input_of k = record { tms = k.tms; tdi = k.tdi }
 
 -- One clock was made, with this TDO: where the board is told, it is the board's TDO before the clock, and the board is
 -- stepped.
-pub record IsClocked {C : Type 0} (board : C → Option (List Card)) (makes : C → List Clock → C → Type 0) (old new : C) (tms tdi tdo : Bool) : Type 0 where
+pub record IsClocked {C : Type 0} (board : C → Option (List Card)) (makes : C → List Clock → C → Type 0) (old new : C)
+    (tms tdi tdo : Bool) : Type 0 where
   pub made : makes old (record { tms = tms; tdi = tdi; tdo = tdo } ∷ []) new
   pub seen : (cs : List Card) → board old ≡ Some cs → tdo ≡ board_tdo cs tdi
   pub cards : board new ≡ option_map (λ cs. board_step cs tms tdi) (board old)
 
 -- No clock was made, and the board is as it was.
-pub record IsUnclocked {C : Type 0} (board : C → Option (List Card)) (makes : C → List Clock → C → Type 0) (old new : C) : Type 0 where
+pub record IsUnclocked {C : Type 0} (board : C → Option (List Card)) (makes : C → List Clock → C → Type 0)
+    (old new : C) : Type 0 where
   pub made : makes old [] new
   pub cards : board new ≡ board old
 
 -- A call that failed made clocks with these inputs. If the board was told, they are its clocks; if it is told still, it
 -- is the one after them. After a failure a cable need not tell its board any more, but one that told nothing tells
 -- nothing.
-pub record HasBrokenOff {C : Type 0} (board : C → Option (List Card)) (makes : C → List Clock → C → Type 0) (old new : C) (inputs : List Input) : Type 0 where
+pub record HasBrokenOff {C : Type 0} (board : C → Option (List Card)) (makes : C → List Clock → C → Type 0)
+    (old new : C) (inputs : List Input) : Type 0 where
   pub clocks : List Clock
   pub made : makes old clocks new
   pub went_in : map input_of clocks ≡ inputs
@@ -63,30 +68,37 @@ pub record HasBrokenOff {C : Type 0} (board : C → Option (List Card)) (makes :
   pub untold : board old ≡ None → board new ≡ None
 
 -- No clock was made, or this one.
-abbrev pub IsClockedOrNot : {C : Type 0} → (C → Option (List Card)) → (C → List Clock → C → Type 0) → C → C → Bool → Bool → Type 0
-IsClockedOrNot board makes old new tms tdi = HasBrokenOff board makes old new [] ⊎ HasBrokenOff board makes old new (record { tms = tms; tdi = tdi } ∷ [])
+abbrev pub IsClockedOrNot : {C : Type 0} → (C → Option (List Card)) → (C → List Clock → C → Type 0) → C → C →
+    Bool → Bool → Type 0
+IsClockedOrNot board makes old new tms tdi =
+    HasBrokenOff board makes old new []
+    ⊎ HasBrokenOff board makes old new (record { tms = tms; tdi = tdi } ∷ [])
 
 -- These clocks were made, with exactly these inputs. Where the board is told, they are the board's clocks, and the
 -- board is the one after them.
-pub record HasMadeClocks {C : Type 0} (board : C → Option (List Card)) (makes : C → List Clock → C → Type 0) (old new : C) (inputs : List Input) (clocks : List Clock) : Type 0 where
+pub record HasMadeClocks {C : Type 0} (board : C → Option (List Card)) (makes : C → List Clock → C → Type 0)
+    (old new : C) (inputs : List Input) (clocks : List Clock) : Type 0 where
   pub made : makes old clocks new
   pub went_in : map input_of clocks ≡ inputs
   pub seen : (cs : List Card) → board old ≡ Some cs → clocks ≡ clocks_of cs inputs
   pub cards : board new ≡ option_map (λ cs. board_after cs inputs) (board old)
 
 -- Some clocks were made, with exactly these inputs.
-pub record HasMade {C : Type 0} (board : C → Option (List Card)) (makes : C → List Clock → C → Type 0) (old new : C) (inputs : List Input) : Type 0 where
+pub record HasMade {C : Type 0} (board : C → Option (List Card)) (makes : C → List Clock → C → Type 0) (old new : C)
+    (inputs : List Input) : Type 0 where
   pub clocks : List Clock
   pub made : HasMadeClocks board makes old new inputs clocks
 
 -- Clocks were made with exactly these inputs, and this is the number of the TDO bits before them.
-pub record HasShifted {C : Type 0} (board : C → Option (List Card)) (makes : C → List Clock → C → Type 0) (old new : C) (inputs : List Input) (tdo : ℕ) : Type 0 where
+pub record HasShifted {C : Type 0} (board : C → Option (List Card)) (makes : C → List Clock → C → Type 0) (old new : C)
+    (inputs : List Input) (tdo : ℕ) : Type 0 where
   pub clocks : List Clock
   pub made : HasMadeClocks board makes old new inputs clocks
   pub bits : tdo ≡ number_of (tdos clocks)
 
 -- Clocks were made with exactly a front of these inputs, and then a call failed.
-pub record HasMadeFront {C : Type 0} (board : C → Option (List Card)) (makes : C → List Clock → C → Type 0) (old new : C) (inputs : List Input) : Type 0 where
+pub record HasMadeFront {C : Type 0} (board : C → Option (List Card)) (makes : C → List Clock → C → Type 0)
+    (old new : C) (inputs : List Input) : Type 0 where
   pub front : List Input
   pub rest : List Input
   pub parts : inputs ≡ front ++ rest

@@ -29,14 +29,21 @@ planned_post plan = base_post_of plan.ir (lengths_of plan.base)
 
 -- the paddings of a planned scan, of which these are the program's
 abbrev pub paddings_of : ScanPlan → Pads → Paddings
-paddings_of plan p = record { base_pre = planned_pre plan; pre = take p.pre p.pre_bits; post = take p.post p.post_bits; base_post = planned_post plan }
+paddings_of plan p = record {
+  base_pre = planned_pre plan;
+  pre = take p.pre p.pre_bits;
+  post = take p.post p.post_bits;
+  base_post = planned_post plan;
+}
 
 -- the scan that is asked of a board: by its plan, the list with its data, and the program's paddings
 abbrev pub scan_of : ScanPlan → List Bool → Pads → BoardScan
-scan_of plan bits pads = record { ir = plan.ir; paddings = paddings_of plan pads; bits = take plan.len bits; stop = plan.stop }
+scan_of plan bits pads =
+    record { ir = plan.ir; paddings = paddings_of plan pads; bits = take plan.len bits; stop = plan.stop }
 
 -- Clocks were made with exactly these inputs, and these are the TDO bits that were seen from this place on.
-pub record HasSeen {C : Type 0} (board : C → Option (List Card)) (makes : C → List Clock → C → Type 0) (old new : C) (inputs : List Input) (place : ℕ) (captured : List Bool) : Type 0 where
+pub record HasSeen {C : Type 0} (board : C → Option (List Card)) (makes : C → List Clock → C → Type 0) (old new : C)
+    (inputs : List Input) (place : ℕ) (captured : List Bool) : Type 0 where
   pub clocks : List Clock
   pub made : HasMadeClocks board makes old new inputs clocks
   pub front : List Bool
@@ -46,7 +53,8 @@ pub record HasSeen {C : Type 0} (board : C → Option (List Card)) (makes : C �
 
 -- The clocks of a scan were made, and these bits were captured from them. If the board is told, they are the clocks of
 -- the scan of its line, and the board is the one after it.
-pub record HasScanned {C : Type 0} (board : C → Option (List Card)) (makes : C → List Clock → C → Type 0) (old new : C) (at : Tap) (s : BoardScan) (captured : List Bool) : Type 0 where
+pub record HasScanned {C : Type 0} (board : C → Option (List Card)) (makes : C → List Clock → C → Type 0) (old new : C)
+    (at : Tap) (s : BoardScan) (captured : List Bool) : Type 0 where
   pub clocks : List Clock
   pub made : HasMadeClocks board makes old new (inputs_of_scan at s) clocks
   pub captured_is : captured ≡ captured_from at s clocks
@@ -60,6 +68,7 @@ pub record AreFirst (clocks all : List Clock) : Type 0 where
 
 -- Clocks were made with exactly a front of the inputs of a scan, and then a call failed. If the board was told, they
 -- are the first clocks of the scan of its line.
-pub record HasScannedFront {C : Type 0} (board : C → Option (List Card)) (makes : C → List Clock → C → Type 0) (old new : C) (at : Tap) (s : BoardScan) : Type 0 where
+pub record HasScannedFront {C : Type 0} (board : C → Option (List Card)) (makes : C → List Clock → C → Type 0)
+    (old new : C) (at : Tap) (s : BoardScan) : Type 0 where
   pub front : HasMadeFront board makes old new (inputs_of_scan at s)
   pub seen : (cs : List Card) → board old ≡ Some cs → AreFirst front.made.clocks (clocks_of_scan at s cs)

@@ -50,9 +50,9 @@ pub trait Cable {
         ensures line { HasPartCause line line_faults is_line_last breakage self.old self.new }
         ensures pins { HasPartCause pins pin_faults is_pin_last breakage self.old self.new };
 
-    /// n clocks as one call: with the lowest n bits of `tdi`, the lowest first, and with TMS 0, but TMS 1 at the last of
-    /// them where `last` is true. It answers the TDO bits before these clocks, the first one as the lowest, with zeros
-    /// above.
+    /// n clocks as one call: with the lowest n bits of `tdi`, the lowest first, and with TMS 0, but TMS 1 at the last
+    /// of them where `last` is true. It answers the TDO bits before these clocks, the first one as the lowest, with
+    /// zeros above.
     ///
     /// `Failed` has the cause that it has at `clock`. Then the clocks that were made are the first of these, perhaps
     /// none, perhaps all.
@@ -94,5 +94,6 @@ pub trait Cable {
     ghost none_made: { (c : Self) → made c [] c };
 
     /// Clocks that lead on, joined.
-    ghost both_made: { (a b c : Self) (front back : List Clock) → made a front b → made b back c → made a (front ++ back) c };
+    ghost both_made: { (a b c : Self) (front back : List Clock) → made a front b → made b back c →
+        made a (front ++ back) c };
 }

@@ -37,6 +37,16 @@ not_behind-refl [] = refl
 not_behind-refl (false ∷ p) = not_behind-refl p
 not_behind-refl (true ∷ p) = not_behind-refl p
 
+-- two lists of which none comes before the other are one list
+pub same_from_tests : (p q : List Bool) → not_behind p q ≡ true → not_behind q p ≡ true → p ≡ q
+same_from_tests [] [] h k = refl
+same_from_tests [] (y ∷ q) h k = cc
+same_from_tests (x ∷ p) [] h k = cc
+same_from_tests (false ∷ p) (false ∷ q) h k = ap (λ z. false ∷ z) (same_from_tests p q h k)
+same_from_tests (false ∷ p) (true ∷ q) h k = cc
+same_from_tests (true ∷ p) (false ∷ q) h k = cc
+same_from_tests (true ∷ p) (true ∷ q) h k = ap (λ z. true ∷ z) (same_from_tests p q h k)
+
 not_behind-cons : (b : Bool) (p q : List Bool) → not_behind p q ≡ true → not_behind (b ∷ p) (b ∷ q) ≡ true
 not_behind-cons false p q h = h
 not_behind-cons true p q h = h

@@ -8,24 +8,24 @@ use Rattle.tap_states.specs.declared.Tap.{Tap}
 use Rattle.tap_states.specs.declared.Tap.TheVariants.{Reset}
 use Rattle.tap_states.specs.Tap.{next_of}
 use Rattle.base.specs.Bits.{low_bits}
-use Rattle.tap_states.specs.Path.{walk, Leads, IsShortestPath, IsPath, five_ones}
-use Rattle.tap_states.specs.PathTable.{path_of, path_row}
+use Rattle.tap_states.specs.Path.{walk, Leads, IsShortestPath, IsPath, five_ones, path_of}
+use Rattle.tap_states.specs.PathTable.{path_in_table, path_row}
 use Rattle.tap_states.proofs.States.{taps, each, tap_eq, tap_eq-same}
-use Rattle.tap_states.proofs.ListOrder.{not_behind, better, Better, Better-trans, Better-cons, Better-from_test, no_longer, no_later, no_other_before, same_from_order}
+use Rattle.tap_states.proofs.ListOrder.{not_behind, same_from_tests, better, Better, Better-trans, Better-cons, Better-from_test, no_longer, no_later, no_other_before, same_from_order}
 
 abbrev is_reset : Tap → Bool
 is_reset t = tap_eq t Reset
 
 -- what the table is tested for at a pair of states
 abbrev leads_there : Tap → Tap → Bool
-leads_there t s = tap_eq (walk s (path_of s t)) t
+leads_there t s = tap_eq (walk s (path_in_table s t)) t
 
 abbrev no_better_start : Tap → Tap → Bool
 no_better_start t s =
-    better (path_of s t) (false ∷ path_of (next_of s false) t) && better (path_of s t) (true ∷ path_of (next_of s true) t)
+    better (path_in_table s t) (false ∷ path_in_table (next_of s false) t) && better (path_in_table s t) (true ∷ path_in_table (next_of s true) t)
 
 abbrev is_table_right : Tap → Bool
-is_table_right t = is_reset t || (eqb (length (path_of t t)) 0 && (list_all (leads_there t) taps && list_all (no_better_start t) taps))
+is_table_right t = is_reset t || (eqb (length (path_in_table t t)) 0 && (list_all (leads_there t) taps && list_all (no_better_start t) taps))
 
 table_right : list_all is_table_right taps ≡ true
 table_right = refl
@@ -60,26 +60,26 @@ no_bits [] h = refl
 no_bits (b ∷ p) h = absurd (omega arith)
 
 module _ (t : Tap) (not_reset : is_reset t ≡ false) where
-  tested : (eqb (length (path_of t t)) 0 && (list_all (leads_there t) taps && list_all (no_better_start t) taps)) ≡ true
+  tested : (eqb (length (path_in_table t t)) 0 && (list_all (leads_there t) taps && list_all (no_better_start t) taps)) ≡ true
   tested = either_second (is_reset t) _ (each is_table_right table_right t) not_reset
 
-  stay : path_of t t ≡ []
+  stay : path_in_table t t ≡ []
   stay =
-      let e : eqb (length (path_of t t)) 0 ≡ true = both_first _ _ tested in
-      no_bits (path_of t t) (grind (arith, nat_tests))
+      let e : eqb (length (path_in_table t t)) 0 ≡ true = both_first _ _ tested in
+      no_bits (path_in_table t t) (grind (arith, nat_tests))
 
-  leads : (s : Tap) → walk s (path_of s t) ≡ t
+  leads : (s : Tap) → walk s (path_in_table s t) ≡ t
   leads s = tap_eq-same _ _ (each (leads_there t) (both_first _ (list_all (no_better_start t) taps) (both_second _ _ tested)) s)
 
-  step : (s : Tap) (b : Bool) → Better (path_of s t) (b ∷ path_of (next_of s b) t)
+  step : (s : Tap) (b : Bool) → Better (path_in_table s t) (b ∷ path_in_table (next_of s b) t)
   step s false = Better-from_test _ _ (both_first _ _ (each (no_better_start t) (both_second _ _ (both_second _ _ tested)) s))
   step s true = Better-from_test _ _ (both_second _ _ (each (no_better_start t) (both_second _ _ (both_second _ _ tested)) s))
 
-  best : (q : List Bool) (s : Tap) → walk s q ≡ t → Better (path_of s t) q
-  best [] s h = let e : path_of s t ≡ [] = ap (λ x. path_of x t) h ∙ stay in inr (ap length e, ap (λ p. not_behind p []) e)
+  best : (q : List Bool) (s : Tap) → walk s q ≡ t → Better (path_in_table s t) q
+  best [] s h = let e : path_in_table s t ≡ [] = ap (λ x. path_in_table x t) h ∙ stay in inr (ap length e, ap (λ p. not_behind p []) e)
   best (b ∷ q) s h = Better-trans _ _ _ (step s b) (Better-cons b _ _ (best q (next_of s b) h))
 
-  shortest_path : (s : Tap) → IsShortestPath s t (path_of s t)
+  shortest_path : (s : Tap) → IsShortestPath s t (path_in_table s t)
   shortest_path s = record {
     leads = leads s;
     shortest = λ q h. no_longer _ q (best q s h);
@@ -90,7 +90,7 @@ module _ (t : Tap) (not_reset : is_reset t ≡ false) where
 abbrev is_reset_row : Tap → Bool
 is_reset_row s = eqb (path_row s Reset).len 5 && eqb (path_row s Reset).bits 31
 
-to_reset : (s : Tap) → path_of s Reset ≡ five_ones
+to_reset : (s : Tap) → path_in_table s Reset ≡ five_ones
 to_reset s =
     let test : is_reset_row s ≡ true = each is_reset_row refl s in
     let first : eqb (path_row s Reset).len 5 ≡ true = both_first (eqb (path_row s Reset).len 5) (eqb (path_row s Reset).bits 31) test in
@@ -119,11 +119,27 @@ not_reset_from t h (inr e) = e
 not_reset_test : (t : Tap) → ¬ (t ≡ Reset) → is_reset t ≡ false
 not_reset_test t h = not_reset_from t h (reset_or_not t)
 
-pub is_path : (s t : Tap) → IsPath s t (path_of s t)
-is_path s t = record {
-  to_reset = λ e. ap (λ x. path_of s x) e ∙ to_reset s;
+pub table_is_path : (s t : Tap) → IsPath s t (path_in_table s t)
+table_is_path s t = record {
+  to_reset = λ e. ap (λ x. path_in_table s x) e ∙ to_reset s;
   elsewhere = λ h. shortest_path t (not_reset_test t h) s;
 }
+
+-- the path by its definition is the one of the table
+abbrev is_in_table : Tap → Tap → Bool
+is_in_table s t = not_behind (path_in_table s t) (path_of s t) && not_behind (path_of s t) (path_in_table s t)
+
+all_in_table : list_all (λ s. list_all (is_in_table s) taps) taps ≡ true
+all_in_table = refl
+
+pub path_is_in_table : (s t : Tap) → path_in_table s t ≡ path_of s t
+path_is_in_table s t =
+    let test : is_in_table s t ≡ true = each (is_in_table s) (each (λ x. list_all (is_in_table x) taps) all_in_table s) t in
+    let first : not_behind (path_in_table s t) (path_of s t) ≡ true = both_first _ _ test in
+    same_from_tests (path_in_table s t) (path_of s t) first (both_second _ _ test)
+
+pub is_path : (s t : Tap) → IsPath s t (path_of s t)
+is_path s t = subst (λ p. IsPath s t p) (path_is_in_table s t) (table_is_path s t)
 
 leads_to : (s t : Tap) (bits : List Bool) → IsPath s t bits → (t ≡ Reset) ⊎ (is_reset t ≡ false) → Leads s bits t
 leads_to s t bits p (inl e) = ap (λ z. walk s z) (p.to_reset e) ∙ five_ones_lead s ∙ sym e
@@ -145,7 +161,7 @@ pub at_most_one_path : (s t : Tap) (p q : List Bool) → IsPath s t p → IsPath
 at_most_one_path s t p q h k = one_path s t p q h k (reset_or_not t)
 
 pub path_to_itself : (s : Tap) → ¬ (s ≡ Reset) → IsPath s s []
-path_to_itself s h = subst (λ z. IsPath s s z) (stay s (not_reset_test s h)) (is_path s s)
+path_to_itself s h = subst (λ z. IsPath s s z) (stay s (not_reset_test s h)) (table_is_path s s)
 
 fits_of : (s t : Tap) → (has_short_len s t && has_no_more_bits s t) ≡ true
 fits_of s t = each (λ t. has_short_len s t && has_no_more_bits s t) (each is_short all_short s) t

@@ -1,5 +1,5 @@
--- The code's table of paths, for the crates above to compute with at states that they know. No definition of the path
--- stands on it: that what it holds are the paths is a law, and the contract of `Tap::path`.
+-- The code's table of paths. No definition of the path stands on it: that what it holds are the paths is a law, and the
+-- contract of `Tap::path`.
 use Rattle.std.specs.Prelude.{◌+◌, ◌*◌, Bool, List, slice_index_or}
 use Rattle.tap_states.specs.declared.Tap.{Tap}
 use Rattle.tap_states.specs.declared.Path.{Path}
@@ -12,5 +12,5 @@ abbrev pub path_row : Tap → Tap → Path
 path_row from to = slice_index_or PATHS (tap_number from * 16 + tap_number to) (record { len = 0; bits = 0 })
 
 -- the TMS values of that row
-abbrev pub path_of : Tap → Tap → List Bool
-path_of from to = path_bits (path_row from to)
+abbrev pub path_in_table : Tap → Tap → List Bool
+path_in_table from to = path_bits (path_row from to)

@@ -3,8 +3,8 @@ ghost use Rattle.std.specs.Prelude.{◌≡◌, Bool, List, []};
 ghost use Rattle.tap_states.specs.declared.Tap.{Tap};
 ghost use Rattle.tap_states.specs.declared.Tap.TheVariants.{Reset};
 ghost use Rattle.tap_states.specs.Tap.{tap_number};
-ghost use Rattle.tap_states.specs.Path.{five_ones, IsPath, Leads};
-ghost use Rattle.tap_states.specs.PathTable.{path_of};
+ghost use Rattle.tap_states.specs.Path.{five_ones, path_of, IsPath, Leads};
+ghost use Rattle.tap_states.specs.PathTable.{path_in_table};
 
 /// Five clocks with TMS 1 lead to reset from each of the sixteen states (IEEE 1149.1, TAP controller).
 pub fn five_ones_lead_to_reset()
@@ -26,9 +26,14 @@ pub fn the_path_to_itself_is_empty()
     ensures { (state : Tap) → ¬ (state ≡ Reset) → IsPath state state [] }
 {}
 
+/// The path from one state to another, by the state diagram alone, is the path.
+pub fn the_definition_gives_the_path()
+    ensures { (from to : Tap) → IsPath from to (path_of from to) }
+{}
+
 /// The table of the code holds the paths.
 pub fn the_table_holds_the_paths()
-    ensures { (from to : Tap) → IsPath from to (path_of from to) }
+    ensures { (from to : Tap) → path_in_table from to ≡ path_of from to }
 {}
 
 /// Two states with one number are one state.

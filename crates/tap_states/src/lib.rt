@@ -3,8 +3,8 @@
 
 ghost use Rattle.std.specs.Prelude.{◌≡◌, ◌<◌, ◌≤◌, ◌^◌};
 ghost use Rattle.tap_states.specs.Tap.{next_of, tap_number, is_stable_state};
-ghost use Rattle.tap_states.specs.Path.{path_bits, IsPath, Leads};
-ghost use Rattle.tap_states.specs.PathTable.{path_of, path_row};
+ghost use Rattle.tap_states.specs.Path.{path_bits, path_of, IsPath, Leads};
+ghost use Rattle.tap_states.specs.PathTable.{path_row};
 
 pub mod laws;
 mod paths;
@@ -154,9 +154,7 @@ impl Tap {
         ensures leads { Leads from (path_bits result) to }
         ensures short { result.len ≤ 8 }
         ensures no_more_bits { result.bits < 2 ^ result.len }
-
-        // For the crates above, which compute with the table at states that they know.
-        ensures in_table { path_bits result ≡ path_of from to }
+        ensures is { path_bits result ≡ path_of from to }
     {
         Tap::row(from, to)
     }

@@ -12,7 +12,8 @@ invariant-loop-at g l =
       line : HasPartCause line c.line_faults c.is_line_last c.breakage l.fn.cable l.cable;
       pins : HasPartCause pins c.pin_faults c.is_pin_last c.breakage l.fn.cable l.cable;
       inside : l.at ≤ l.n;
-      way : IsSeen c.board c.made l.fn.cable l.cable (part_inputs l.last (drop l.at (take l.n l.bits))) (part_inputs l.last (take l.n l.bits)) (take l.at l.captured);
+      way : IsSeen c.board c.made l.fn.cable l.cable (part_inputs l.last (drop l.at (take l.n l.bits)))
+          (part_inputs l.last (take l.n l.bits)) (take l.at l.captured);
       rest : drop l.n l.captured ≡ drop l.n l.fn.captured;
       length : length l.captured ≡ length l.fn.captured;
     }
