@@ -29,7 +29,9 @@ low_bits_above (suc n) y b h =
     let odd : (y + 2 * v) % 2 ≡ y % 2 = omega arith in
     let half : (y + 2 * v) / 2 ≡ y / 2 + v = omega arith in
     let below : y / 2 < 2 ^ n = omega arith in
-    ap (λ z. low_bits (suc (suc n)) z) whole ∙ ap (λ z. nat_eq z 1 ∷ low_bits (suc n) ((y + 2 * v) / 2)) odd ∙ ap (λ z. nat_eq (y % 2) 1 ∷ low_bits (suc n) z) half ∙ ap (λ bs. nat_eq (y % 2) 1 ∷ bs) (low_bits_above n (y / 2) b below)
+    ap (λ z. low_bits (suc (suc n)) z) whole ∙ ap (λ z. nat_eq z 1 ∷ low_bits (suc n) ((y + 2 * v) / 2)) odd
+    ∙ ap (λ z. nat_eq (y % 2) 1 ∷ low_bits (suc n) z) half
+    ∙ ap (λ bs. nat_eq (y % 2) 1 ∷ bs) (low_bits_above n (y / 2) b below)
 
 pub low_bits_shifted : (n x : ℕ) (b : Bool) → 1 ≤ n → x < 2 ^ n → low_bits n (x / 2 + bit_value b * 2 ^ (n - 1)) ≡ drop 1 (low_bits n x) ++ b ∷ []
 low_bits_shifted zero x b h f = absurd (omega arith)

@@ -27,7 +27,8 @@ next_number s v i r =
     let p : 2 ^ (i + 1) ≡ 2 * 2 ^ i = ap (λ m. 2 ^ m) (add-one i) ∙ pow-succ' 2 i in
     ap (λ q. s + v * 2 ^ i + q * r) p ∙ regrouped s v (2 ^ i) r
 
-pub tdo_at_next : (c next : Card) (n i x s t : ℕ) (last b : Bool) → i < n → next ≡ step c (last && nat_eq (i + 1) n) (nat_eq (x % 2) 1) → b ≡ tdo_of c → t ≡ s + bit_value b * 2 ^ i →
+pub tdo_at_next : (c next : Card) (n i x s t : ℕ) (last b : Bool) → i < n → next ≡ step c (last && nat_eq (i + 1) n)
+    (nat_eq (x % 2) 1) → b ≡ tdo_of c → t ≡ s + bit_value b * 2 ^ i →
     t + 2 ^ (i + 1) * card_block next (x / 2) (n - (i + 1)) last ≡ s + 2 ^ i * card_block c x (n - i) last
 tdo_at_next c next n i x s t last b h e seen v =
     let rest : Card → ℕ = λ k. card_block k (x / 2) (n - (i + 1)) last in

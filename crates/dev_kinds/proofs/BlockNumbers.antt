@@ -3,18 +3,22 @@ use Rattle.std.proofs.Common.{◌≡◌, ◌<◌, ◌≤◌, ℕ, suc, ◌+◌, 
 use Rattle.std.proofs.lemmas.Nat.{pow_pos, pow-add}
 use Rattle.std.proofs.Math.Nat.{mod-eq_of_lt, mul-le-mul_right, div-lt_iff_lt-mul}
 use Rattle.std.proofs.Math.Pow.{pow_mono}
-use Rattle.base.specs.Bits.{low_bits}
-use Rattle.base.proofs.NumberBits.{low_bits_cut, low_bits_mod, low_bits_joined}
+use Rattle.base.specs.Bits.{low_bits, number_of}
+use Rattle.base.proofs.NumberBits.{length-low_bits, number_of-below, low_bits-number_of, low_bits_cut, low_bits_mod, low_bits_joined}
 
--- a power of 2 that a number of 128 bits holds, and one of 64 bits
+-- a power of 2 that a number of 128 bits holds
 power_fits : (n : ℕ) → n ≤ 64 → 1 * 2 ^ n % 340282366920938463463374607431768211456 ≡ 2 ^ n
 power_fits n h = let p : 2 ^ n ≤ 2 ^ 64 = pow_mono h in omega (arith, p)
 
-power_fits_word : (n : ℕ) → n < 64 → 1 * 2 ^ n % 18446744073709551616 ≡ 2 ^ n
-power_fits_word n h = let k : n ≤ 63 = omega (arith, h) in let p : 2 ^ n ≤ 2 ^ 63 = pow_mono k in omega (arith, p)
+-- the lowest bits of a number, as a number
+pub lowest_same : (n x r : ℕ) → r ≡ number_of (low_bits n x) → low_bits n r ≡ low_bits n x
+lowest_same n x r e =
+    ap (low_bits n) e ∙ ap (λ k. low_bits k (number_of (low_bits n x))) (sym (length-low_bits n x))
+    ∙ low_bits-number_of (low_bits n x)
 
-pub lowest_part : (n x : ℕ) → n < 64 → low_bits n (x % (1 * 2 ^ n % 18446744073709551616)) ≡ low_bits n x
-lowest_part n x h = ap (λ p. low_bits n (x % p)) (power_fits_word n h) ∙ low_bits_mod n x
+pub lowest_below : (n x r : ℕ) → r ≡ number_of (low_bits n x) → r < 2 ^ n
+lowest_below n x r e =
+    rw e (subst (λ k. number_of (low_bits n x) < 2 ^ k) (length-low_bits n x) (number_of-below (low_bits n x)))
 
 -- two numbers in a row
 pub joined_below : (low len high n : ℕ) → low < 2 ^ len → high < 2 ^ n → low + high * 2 ^ len < 2 ^ (len + n)
@@ -64,13 +68,3 @@ cut_fits number n len h k b =
     let d : len - n ≤ 64 = omega (arith, h, k) in
     let p : 2 ^ (len - n) ≤ 2 ^ 64 = pow_mono d in
     omega (arith, c, p)
-
--- n bits come into a list of len bits, and n go out
-pub gone_through : (len n old low x joined out rest : ℕ) → low_bits n low ≡ low_bits n x → low_bits (len + n) joined ≡ low_bits len old ++ low_bits n low →
-    low_bits (len + n) joined ≡ low_bits n out ++ low_bits (len + n - n) rest → low_bits len old ++ low_bits n x ≡ low_bits n out ++ low_bits len rest
-gone_through len n old low x joined out rest e f g =
-    let k : len + n - n ≡ len = omega arith in
-    ap (λ l. low_bits len old ++ l) (sym e) ∙ sym f ∙ g ∙ ap (λ m. low_bits n out ++ low_bits m rest) k
-
-pub rest_below : (len n rest : ℕ) → rest < 2 ^ (len + n - n) → rest < 2 ^ len
-rest_below len n rest h = let k : len + n - n ≡ len = omega arith in subst (λ m. rest < 2 ^ m) k h

@@ -4,16 +4,11 @@ use lib.Bits.{bit_and}
 use Rattle.std.proofs.Math.Seq.{take-add}
 use Rattle.std.proofs.lemmas.Nat.{and_shr}
 use Rattle.std.proofs.lemmas.Nat.Bits.{bit_at_lowest, bit_at_and}
-use Rattle.std.proofs.lemmas.List.{append-nil, drop_all, take_all, length-take-le}
+use Rattle.std.proofs.lemmas.List.{take_all, length-take-le}
 use Rattle.base.specs.Bits.{low_bits}
 use Rattle.bit_list.specs.Ranges.{taken, spliced}
-use Rattle.bit_list.proofs.Splices.{spliced_next, taken_above}
+use Rattle.bit_list.proofs.Splices.{spliced_next, taken_above, spliced_whole}
 use Rattle.dev_card.specs.Card.{and_bits}
-
--- a part as long as the list
-pub spliced_whole : (part xs : List Bool) → length part ≡ length xs → spliced 0 part xs ≡ part
-spliced_whole part xs e =
-    ap (λ z. part ++ z) (drop_all (0 + length part) xs (omega (arith, e))) ∙ append-nil part
 
 -- the bits that two lists have in common, in two parts
 pub length-and_bits : (xs ys : List Bool) → length ys ≡ length xs → length (and_bits xs ys) ≡ length xs
@@ -50,7 +45,8 @@ abbrev pub common_below : ℕ → List Bool → List Bool → List Bool
 common_below done old other = spliced 0 (and_bits (take done old) (take done other)) old
 
 pub common_more : (old other now new : List Bool) (done n x y : ℕ) → length other ≡ length old → done + n ≤ length old → now ≡ common_below done old other →
-    low_bits n x ≡ taken done n now → low_bits n y ≡ taken done n other → new ≡ spliced done (low_bits n (bit_and x y)) now → new ≡ common_below (done + n) old other
+    low_bits n x ≡ taken done n now → low_bits n y ≡ taken done n other →
+    new ≡ spliced done (low_bits n (bit_and x y)) now → new ≡ common_below (done + n) old other
 common_more old other now new done n x y e h inv a b p =
     let front : List Bool = and_bits (take done old) (take done other) in
     let next : List Bool = and_bits (taken done n old) (taken done n other) in
@@ -60,9 +56,12 @@ common_more old other now new done n x y e h inv a b p =
     let kept : taken done n now ≡ taken done n old = ap (taken done n) inv ∙ taken_above 0 done n front old (omega arith) (omega arith) in
     let part : low_bits n (bit_and x y) ≡ next = low_bits_and n x y ∙ ap₂ and_bits (a ∙ kept) b in
     let joined : front ++ next ≡ and_bits (take (done + n) old) (take (done + n) other) =
-    sym (ap₂ and_bits (take-add done n old) (take-add done n other) ∙ and_bits-append (take done old) (take done other) (taken done n old) (taken done n other) same) in
+    sym (ap₂ and_bits (take-add done n old) (take-add done n other)
+    ∙ and_bits-append (take done old) (take done other) (taken done n old) (taken done n other) same) in
     p ∙ ap₂ (spliced done) part inv ∙ spliced_next 0 done front next old (omega arith) (omega arith) ∙ ap (λ z. spliced 0 z old) joined
 
-pub common_end : (old other now : List Bool) (done : ℕ) → length other ≡ length old → length old ≤ done → now ≡ common_below done old other → now ≡ and_bits old other
+pub common_end : (old other now : List Bool) (done : ℕ) → length other ≡ length old → length old ≤ done →
+    now ≡ common_below done old other → now ≡ and_bits old other
 common_end old other now done e h inv =
-    inv ∙ ap (λ z. spliced 0 z old) (ap₂ and_bits (take_all done old h) (take_all done other (omega (arith, e)))) ∙ spliced_whole (and_bits old other) old (length-and_bits old other e)
+    inv ∙ ap (λ z. spliced 0 z old) (ap₂ and_bits (take_all done old h) (take_all done other (omega (arith, e))))
+    ∙ spliced_whole (and_bits old other) old (length-and_bits old other e)

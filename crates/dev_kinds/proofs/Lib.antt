@@ -1,10 +1,8 @@
 pub mod BitNumbers
 pub mod Rings
-pub mod PlainCards
 pub mod Searching
-pub mod RegsCards
-pub mod FlashCards
-pub mod SoundCards
+pub mod RegsContents
+pub mod Fitting
 pub mod CommonBits
 pub mod MemoryLemmas
 pub mod BlockClocks

@@ -44,7 +44,9 @@ module _ (k : Logic) (tdi n out : ℕ) (last : Bool) (rest : List Bool) (some : 
   pub ir_block : (new : Logic) → k.tap ≡ IrShift → 0 < length k.ir_list → k.ir_list ++ low_bits n tdi ≡ low_bits n out ++ rest →
       new ≡ record k { tap = next_of IrShift last; ir_list = rest } → IsBlockShifted k new tdi n last out
   ir_block new t h e w = record {
-    tdo = λ cells busy. sym ((shifts_block true (card_of k cells busy) tdi n last some (record { state = t; some = h })).tdo ∙ out_is k.ir_list rest tdi n out e below);
+    tdo = λ cells busy. sym
+        ((shifts_block true (card_of k cells busy) tdi n last some (record { state = t; some = h })).tdo
+        ∙ out_is k.ir_list rest tdi n out e below);
     card = λ cells busy.
         (let c : Card = card_of k cells busy in
         ap (λ (x : Logic). card_of x cells busy) w ∙ ap (λ s. in_state s (with_list true c rest)) (state_is true last)
@@ -55,7 +57,9 @@ module _ (k : Logic) (tdi n out : ℕ) (last : Bool) (rest : List Bool) (some : 
   pub dr_block : (new : Logic) → k.tap ≡ DrShift → 0 < length k.dr_list → k.dr_list ++ low_bits n tdi ≡ low_bits n out ++ rest →
       new ≡ record k { tap = next_of DrShift last; dr_list = rest } → IsBlockShifted k new tdi n last out
   dr_block new t h e w = record {
-    tdo = λ cells busy. sym ((shifts_block false (card_of k cells busy) tdi n last some (record { state = t; some = h })).tdo ∙ out_is k.dr_list rest tdi n out e below);
+    tdo = λ cells busy. sym
+        ((shifts_block false (card_of k cells busy) tdi n last some (record { state = t; some = h })).tdo
+        ∙ out_is k.dr_list rest tdi n out e below);
     card = λ cells busy.
         (let c : Card = card_of k cells busy in
         ap (λ (x : Logic). card_of x cells busy) w ∙ ap (λ s. in_state s (with_list false c rest)) (state_is false last)

@@ -2,17 +2,12 @@
 use Rattle.std.proofs.Common.{◌≡◌, ◌<◌, ◌≤◌, ℕ, inl, inr, ◌+◌, ◌-◌, ◌^◌, Bool, List, [], ◌++◌, length, take, drop, sym, ap, ap₂, ◌∙◌, subst, append_assoc, arith}
 use Rattle.std.specs.Prelude.{min}
 use Rattle.std.proofs.lemmas.Bool.{cases_lt}
-use Rattle.std.proofs.lemmas.List.{append-nil, length-append, length-take-le, take-append-drop, take_at, drop_at, take_all, drop_all, drop-drop, drop-take, take-take}
+use Rattle.std.proofs.lemmas.List.{append-nil, length-append, length-take-le, take-append-drop, take_at, drop_at, drop_all, drop-drop, drop-take, take-take}
 use Rattle.base.specs.Bits.{low_bits, number_of}
 use Rattle.base.proofs.NumberBits.{length-low_bits, number_of-below}
 use Rattle.bit_list.specs.Ranges.{taken, spliced}
 use Rattle.bit_list.proofs.Splices.{length_taken, taken_of_first, take_spliced, spliced_next}
 use Rattle.dev_kinds.specs.ShiftRegister.{rotated}
-use Rattle.dev_kinds.proofs.Rings.{rotated-length}
-
--- a ring that begins at its end begins at its front
-pub begins_anew : (place len : ℕ) (ring : List Bool) → place ≡ len → length ring ≡ len → rotated 0 ring ≡ rotated place ring
-begins_anew place len ring p e = sym (rotated-length ring) ∙ ap (λ n. rotated n ring) (e ∙ sym p)
 
 -- the number of a part
 pub part_below : (at n : ℕ) (bits : List Bool) → at + n ≤ length bits → number_of (taken at n bits) < 2 ^ n
@@ -26,7 +21,8 @@ block_moved head n xs part h e =
     let front : length (take head xs ++ part) ≡ head + n = length-append (take head xs) part ∙ omega (arith, length-take-le head xs (omega arith), e) in
     let ring : spliced head part xs ≡ (take head xs ++ part) ++ rest = ap (λ k. (take head xs ++ part) ++ drop (head + k) xs) e in
     let turned : rotated (head + n) (spliced head part xs) ≡ rest ++ (take head xs ++ part) =
-    ap (rotated (head + n)) ring ∙ ap₂ (λ u v. u ++ v) (drop_at (take head xs ++ part) rest (head + n) front) (take_at (take head xs ++ part) rest (head + n) front) in
+    ap (rotated (head + n)) ring ∙ ap₂ (λ u v. u ++ v) (drop_at (take head xs ++ part) rest (head + n) front)
+    (take_at (take head xs ++ part) rest (head + n) front) in
     let parted : drop head xs ≡ taken head n xs ++ rest = sym (take-append-drop n (drop head xs)) ∙ ap (λ z. taken head n xs ++ z) (drop-drop n head xs) in
     ap (λ z. (z ++ take head xs) ++ part) parted
     ∙ ap (λ z. z ++ part) (append_assoc (taken head n xs) rest (take head xs))
@@ -43,14 +39,16 @@ exchanged len head n out number old new h w e f =
     (sym (take_spliced len head (low_bits n number) old (omega arith) w) ∙ ap (take len) (sym f))
 
 -- what is left of n places after the end of the ring stands at its front
-pub front_has_room : (n len head first place : ℕ) → first ≡ min n (len - head) → head < len → n ≤ len → place < len → (head + first ≡ len → place ≡ 0) → place + (n - first) ≤ len
+pub front_has_room : (n len head first place : ℕ) → first ≡ min n (len - head) → head < len → n ≤ len → place < len →
+    (head + first ≡ len → place ≡ 0) → place + (n - first) ≤ len
 front_has_room n len head first place e h l p z = elim (cases_lt (len - head) n) [
   | inl more ↦ let start : place ≡ 0 = z (omega (arith, e, more, h)) in omega (arith, start, e, l)
   | inr fits ↦ omega (arith, e, fits, p)
 ]
 
 -- what goes through in two steps
-pub in_two_steps : (first second third all near far low high out : List Bool) → all ≡ near ++ far → first ++ near ≡ low ++ second → second ++ far ≡ high ++ third →
+pub in_two_steps : (first second third all near far low high out : List Bool) → all ≡ near ++ far →
+    first ++ near ≡ low ++ second → second ++ far ≡ high ++ third →
     out ≡ low ++ high → first ++ all ≡ out ++ third
 in_two_steps first second third all near far low high out a e f o =
     ap (λ z. first ++ z) a ∙ sym (append_assoc first near far) ∙ ap (λ z. z ++ far) e ∙ append_assoc low second far
@@ -70,11 +68,6 @@ ring_parts len head first ring e =
 -- the front of a list is written whole, and a ring begins there
 pub front_loaded : (n : ℕ) (part old : List Bool) → length part ≡ n → rotated 0 (take n (spliced 0 part old)) ≡ part
 front_loaded n part old e = append-nil (take n (spliced 0 part old)) ∙ take_at part (drop (0 + length part) old) n e
-
-pub all_loaded : (n : ℕ) (bits old : List Bool) → n ≡ length bits → rotated 0 (take n (spliced 0 (taken 0 n bits) old)) ≡ bits
-all_loaded n bits old e =
-    let whole : taken 0 n bits ≡ bits = take_all n bits (omega (arith, e)) in
-    front_loaded n (taken 0 n bits) old (ap length whole ∙ sym e) ∙ whole
 
 -- a ring is copied in two parts
 pub ring_given : (len head first : ℕ) (ring old one two : List Bool) → head + first ≡ len → len ≤ length ring → length old ≡ len →

@@ -31,4 +31,6 @@ pub ring_shifted : (head len : ℕ) (buf : List Bool) (b : Bool) → head < len 
 ring_shifted head len buf b h w =
     let size : length (take len buf) ≡ len = length-take-le len buf w in
     let inside : head < length (take len buf) = omega arith in
-    ap (λ z. rotated (next_in_ring head len) z) (take-set-lt len buf head b h) ∙ ap (λ n. rotated (next_in_ring head n) (set (take len buf) head b)) (sym size) ∙ ring_moved head (take len buf) b (head + 1 == length (take len buf)) refl inside
+    ap (λ z. rotated (next_in_ring head len) z) (take-set-lt len buf head b h)
+    ∙ ap (λ n. rotated (next_in_ring head n) (set (take len buf) head b)) (sym size)
+    ∙ ring_moved head (take len buf) b (head + 1 == length (take len buf)) refl inside

@@ -1,12 +1,13 @@
 -- The memory of a device of kind Flash, and what an update of one of its registers does to it. All of it is this
 -- profile's.
-use Rattle.std.specs.Prelude.{◌≡◌, ℕ, Bool, false, List, ◌∷◌, length, replicate, All}
+use Rattle.std.specs.Prelude.{◌≡◌, ℕ, Bool, false, List, ◌∷◌, Some, length, replicate, All}
 use Rattle.dev_card.specs.declared.desc.FlashDesc.{FlashDesc}
 use Rattle.dev_card.specs.Descriptions.{IsGoodFlash}
 use Rattle.dev_card.specs.Card.{Card, Selected, bypass, identity_code, flash_address, flash_erase, flash_program, flash_read, address_bits, updated_cells, updated_busy}
 use Rattle.dev_kinds.specs.declared.memory.FlashRegister.{FlashRegister}
 use Rattle.dev_kinds.specs.declared.memory.FlashRegister.TheVariants.{Bypass, Identity, Address, Erase, Program, Read}
 use Rattle.dev_kinds.specs.Logic.{Logic, card_of}
+use Rattle.dev_kinds.specs.DataRegisters.{Contents}
 
 -- the memory: its description, its address, its words and its busy count
 pub record Store : Type 0 where
@@ -27,6 +28,10 @@ fresh_store f = record {
 -- the card of a Flash with this test logic and this memory
 abbrev pub flash_card : Logic → Store → Card
 flash_card k m = card_of k (m.address ∷ m.words) m.busy
+
+-- the address and the words as cells
+abbrev pub store_contents : Store → Contents
+store_contents m = record { flash = Some m.shape; cells = m.address ∷ m.words; busy = m.busy }
 
 -- what a memory keeps: each of its lists has the length that its description gives, and so has its buffer for a word
 pub record IsStore (shape : FlashDesc) (address : List Bool) (words : List (List Bool)) (buffer : List Bool)

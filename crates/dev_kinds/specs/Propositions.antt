@@ -1,6 +1,6 @@
--- A card is sound in one way, so a struct may keep the fact that its card is. Each part is an equation or a bound of
+-- A card is sound in one way, and a device is fitted in one way. Each part of these facts is an equation or a bound of
 -- numbers or of lists, or such a fact for each item of a list.
-use Rattle.std.specs.Prelude.{◌≡◌, ◌≢◌, ℕ, Bool, List, [], Option, None, Some, All, AllPairs, refl}
+use Rattle.std.specs.Prelude.{◌≡◌, ◌≢◌, ℕ, zero, suc, Bool, List, [], Option, None, All, AllPairs, refl}
 use Rattle.std.specs.Option.{ForSome, IsSomeAnd-prop}
 use Rattle.std.specs.Coded.{Coded, Coded-set, coded_ℕ, coded_bool, coded_list, coded_option, coded×, code_by, le_prop, ×_prop, Π_prop, →_prop}
 use Rattle.stapl_lexer.specs.Names.{IsUpperName}
@@ -13,6 +13,8 @@ use Rattle.dev_card.specs.declared.desc.Desc.{Desc}
 use Rattle.dev_card.specs.Descriptions.{IsOpcode, IsIdentity, IsGoodRegister, AreGoodRegisters, IsGoodFlash, HasPartsOf, IsGood}
 use Rattle.dev_card.specs.Card.{Card}
 use Rattle.dev_card.specs.Sound.{IsSound}
+use Rattle.dev_kinds.specs.Logic.{Logic}
+use Rattle.dev_kinds.specs.DataRegisters.{Contents, IsFitted, card_with}
 
 -- registers and memories are coded as tuples of their fields, so equations of them are propositions
 coded_register : Coded RegDesc
@@ -109,7 +111,7 @@ IsGood-prop d x y = λ i. record {
   parts = HasPartsOf-prop d.kind d x.parts y.parts i;
 }
 
-pub IsSound-prop : (c : Card) → IsProp (IsSound c)
+IsSound-prop : (c : Card) → IsProp (IsSound c)
 IsSound-prop c x y = λ i. record {
   good = IsGood-prop c.desc x.good y.good i;
   instruction_width = le_prop x.instruction_width y.instruction_width i;
@@ -120,6 +122,30 @@ IsSound-prop c x y = λ i. record {
   busy_limit = le_prop x.busy_limit y.busy_limit i;
 }
 
--- a description has one memory, so a struct may keep the fact which one
-pub same_flash-prop : (d : Desc) (f : FlashDesc) → IsProp (d.flash ≡ Some f)
-same_flash-prop d f = Coded-set (coded_option coded_memory) d.flash (Some f)
+-- kinds are coded as their places, so that equations of them are propositions
+abbrev kind_place : Kind → ℕ
+kind_place Plain = 0
+kind_place Regs = 1
+kind_place Flash = 2
+
+abbrev kind_at : ℕ → Kind
+kind_at zero = Plain
+kind_at (suc zero) = Regs
+kind_at (suc (suc n)) = Flash
+
+same_kind : (k : Kind) → kind_at (kind_place k) ≡ k
+same_kind Plain = refl
+same_kind Regs = refl
+same_kind Flash = refl
+
+coded_kind : Coded Kind
+coded_kind = code_by ℕ coded_ℕ kind_place kind_at same_kind
+
+-- a device is fitted in one way, so a struct may keep the fact that it is
+pub IsFitted-prop : (own : Kind) (longest : ℕ) (k : Logic) (r : Contents) → IsProp (IsFitted own longest k r)
+IsFitted-prop own longest k r x y = λ i. record {
+  kind = Coded-set coded_kind _ _ x.kind y.kind i;
+  flash = Coded-set (coded_option coded_memory) _ _ x.flash y.flash i;
+  room = le_prop x.room y.room i;
+  sound = IsSound-prop (card_with k r) x.sound y.sound i;
+}

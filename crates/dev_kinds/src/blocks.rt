@@ -2,8 +2,7 @@
 ghost use Rattle.std.specs.Prelude.{◌≡◌, ◌<◌, ◌≤◌, ◌+◌, ◌-◌, ◌^◌, ◌++◌};
 ghost use Rattle.base.specs.Bits.{low_bits};
 
-// How many bits a word has.
-const WORD: u32 = 64;
+use base::lowest;
 
 // n bits come into a list of so many, behind its own, and the first n go out: what goes out, and the list.
 pub fn through(list: u64, len: u32, number: u64, n: u32) -> (u64, u64)
@@ -15,19 +14,6 @@ pub fn through(list: u64, len: u32, number: u64, n: u32) -> (u64, u64)
     ensures list { result.1 < 2 ^ len }
 {
     cut(join(list, len, lowest(number, n), n), n, len + n)
-}
-
-// The lowest n bits of a number.
-pub fn lowest(number: u64, n: u32) -> u64
-    requires { n ≤ 64 }
-    ensures bits { low_bits n result ≡ low_bits n number }
-    ensures below { result < 2 ^ n }
-{
-    if n < WORD {
-        number % (1u64 << n)
-    } else {
-        number
-    }
 }
 
 // The bits of two numbers in a row.

@@ -3,7 +3,9 @@
 
 mod bit_copies;
 mod blocks;
-mod clocks;
+mod component;
+mod data_registers;
+mod fitted;
 mod flash;
 mod memory;
 mod plain;

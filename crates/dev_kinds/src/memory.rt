@@ -1,8 +1,7 @@
 //! The memory of a device of kind `Flash`.
-ghost use Rattle.std.specs.Prelude.{◌≡◌, ◌<◌, ◌≤◌, ◌+◌, ◌-◌, ◌==◌, not, false, [], ◌∷◌, length, map, replicate, Some, IfOk};
-ghost use Rattle.std.specs.Prelude.{slice_get, slice_index_or, List, Bool};
+ghost use Rattle.std.specs.Prelude.{◌≡◌, ◌<◌, ◌≤◌, ◌+◌, ◌-◌, ◌==◌, not, false, ◌∷◌, length, map, replicate, Some, IfOk};
+ghost use Rattle.std.specs.Prelude.{slice_get, List, Bool};
 ghost use Rattle.base.specs.Bits.{low_bits, number_of};
-ghost use Rattle.bit_list.specs.Ranges.{taken};
 ghost use Rattle.dev_card.specs.Descriptions.{IsGoodFlash};
 ghost use Rattle.dev_card.specs.Card.{captured, flash_register_with, flash_address, flash_erase, flash_program, flash_read};
 ghost use Rattle.dev_kinds.specs.Memories.{fresh_store, flash_card, register_of, IsUpdated};
@@ -52,7 +51,7 @@ impl Model for Memory {
 
 impl Memory {
     // The memory after power-up. No other call takes memory.
-    pub fn new(alloc: Global, shape: FlashDesc) -> Result<Memory, AllocError>
+    pub fn fresh(alloc: Global, shape: FlashDesc) -> Result<Memory, AllocError>
         requires { IsGoodFlash shape }
         ensures { IfOk result (λ m. m ≡ fresh_store shape) }
     {
@@ -69,7 +68,7 @@ impl Memory {
     }
 
     // The memory is as after power-up.
-    pub fn blank(&mut self)
+    pub fn clear(&mut self)
         ensures { self.new ≡ fresh_store self.old.shape }
     {
         fill_bits(&mut self.address, false);
@@ -101,7 +100,7 @@ impl Memory {
     }
 
     // A clock in the idle state.
-    pub fn rest(&mut self)
+    pub fn count_down(&mut self)
         ensures { self.new ≡ record self.old { busy = self.old.busy - 1 } }
     {
         self.busy = self.busy.saturating_sub(1);
@@ -202,39 +201,14 @@ impl Memory {
         self.words.len() as u32 + 1
     }
 
-    pub fn cell_len(&self, cell: u32) -> u32
+    pub fn list(&self, cell: u32) -> &Bits
         requires { cell < length (self.now.address ∷ self.now.words) }
-        ensures { result ≡ length (slice_index_or (self.now.address ∷ self.now.words) cell []) }
+        ensures { slice_get (self.now.address ∷ self.now.words) cell ≡ Some result.now }
     {
         if cell == 0 {
-            ADDRESS_BITS
+            &self.address
         } else {
-            self.shape.width
-        }
-    }
-
-    pub fn cell_bit(&self, cell: u32, bit: u32) -> bool
-        requires cell { cell < length (self.now.address ∷ self.now.words) }
-        requires bit { bit < length (slice_index_or (self.now.address ∷ self.now.words) cell []) }
-        ensures { slice_get (slice_index_or (self.now.address ∷ self.now.words) cell []) bit ≡ Some result }
-    {
-        if cell == 0 {
-            self.address.get(bit)
-        } else {
-            self.words[cell as usize - 1].get(bit)
-        }
-    }
-
-    pub fn cell_word(&self, cell: u32, at: u32, n: u32) -> u64
-        requires most { n ≤ 64 }
-        requires cell { cell < length (self.now.address ∷ self.now.words) }
-        requires inside { at + n ≤ length (slice_index_or (self.now.address ∷ self.now.words) cell []) }
-        ensures { result ≡ number_of (taken at n (slice_index_or (self.now.address ∷ self.now.words) cell [])) }
-    {
-        if cell == 0 {
-            self.address.word(at, n)
-        } else {
-            self.words[cell as usize - 1].word(at, n)
+            &self.words[cell as usize - 1]
         }
     }
 }

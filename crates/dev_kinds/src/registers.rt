@@ -1,8 +1,8 @@
 //! The data registers of a device of kind `Regs`.
 ghost use Rattle.std.specs.Prelude.{◌≡◌, ◌<◌, ◌≤◌, false, Bool, List, length, map, replicate, Some, IfOk, MatchOption};
-ghost use Rattle.std.specs.Prelude.{slice_get, slice_set, All};
+ghost use Rattle.std.specs.Prelude.{slice_get, slice_set};
 ghost use Rattle.dev_card.specs.declared.desc.RegDesc.{RegDesc};
-ghost use Rattle.dev_card.specs.Descriptions.{IsGoodRegister};
+ghost use Rattle.dev_card.specs.Descriptions.{AreGoodRegisters};
 ghost use Rattle.dev_card.specs.Card.{register_with, bypass, held_register};
 
 use crate::bit_copies::fill_bits;
@@ -19,17 +19,19 @@ pub struct HeldList {
 }
 
 impl Model for HeldList {
-    ghost use Rattle.std.specs.Prelude.{List, Bool};
+    ghost use Rattle.std.specs.Prelude.{List, Bool, length, ◌≤◌};
 
     ghost Value = { List (List Bool) };
 
     ghost view = { λ h. h.list.items };
+
+    ghost invariant = { λ h. length h.list.items ≤ 64 };
 }
 
 impl HeldList {
     // Zeros, as many as each register has bits.
     pub fn zeros(alloc: Global, registers: &[RegDesc]) -> Result<HeldList, AllocError>
-        requires { All IsGoodRegister registers.now }
+        requires { AreGoodRegisters registers.now }
         ensures { IfOk result (λ h. h ≡ map (λ (r : RegDesc). replicate r.len false) registers.now) }
     {
         let mut list = Vec::new(alloc);
@@ -48,10 +50,10 @@ impl HeldList {
         }
     }
 
-    pub fn len(&self) -> usize
+    pub fn len(&self) -> u32
         ensures { result ≡ length self.now }
     {
-        self.list.len()
+        self.list.len() as u32
     }
 
     pub fn get(&self, k: u32) -> &Bits

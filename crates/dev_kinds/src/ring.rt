@@ -3,7 +3,8 @@ ghost use Rattle.std.specs.Prelude.{◌≡◌, ◌<◌, ◌≤◌, ◌+◌, ◌+
 ghost use Rattle.base.specs.Bits.{low_bits};
 ghost use Rattle.dev_kinds.specs.ShiftRegister.{next_in_ring, rotated};
 
-use crate::blocks::{cut, join, lowest, through};
+use crate::blocks::{cut, join, through};
+use base::lowest;
 use bit_list::Bits;
 
 // The place after this one in a ring.

@@ -1,7 +1,7 @@
 use Rattle.std.proofs.Common.{length, replicate, ap, ◌∙◌}
 use Rattle.std.proofs.lemmas.List.{length-replicate}
 use Rattle.bit_list.specs.Ranges.{spliced}
-use Rattle.dev_kinds.proofs.CommonBits.{spliced_whole}
+use Rattle.bit_list.proofs.Splices.{spliced_whole}
 use Rattle.dev_kinds.proofs.bit_copies.fill_bits.Goals as goal
 
 pub returns : goal.returns

@@ -5,7 +5,8 @@ use Rattle.dev_kinds.proofs.bit_copies.keep_common.Goals as goal
 pub loop-done-preserved : goal.loop-done-preserved
 loop-done-preserved c = record {
   within = omega arith;
-  way = common_more c.args.bits.now c.args.other.now c.loop-done.bits c.set_word.new.self c.loop-done.done c.min-n.result c.word.result c.word-in-loop-done.result c.requires (omega arith)
+  way = common_more c.args.bits.now c.args.other.now c.loop-done.bits c.set_word.new.self c.loop-done.done
+      c.min-n.result c.word.result c.word-in-loop-done.result c.requires (omega arith)
       c.loop-done.invariant.way c.word.ensures.bits c.word-in-loop-done.ensures.bits c.set_word.ensures.bits;
   length = c.set_word.ensures.length ∙ c.loop-done.invariant.length;
 }

@@ -12,5 +12,7 @@ returns-clause-bits c =
 pub returns-clause-below : goal.returns-clause-below
 returns-clause-below c =
     let a = c.args in
-    subst (λ x. x < 2 ^ (a.len + a.n)) (sym (shifted_fits a.low a.len a.high a.n _ _ c.requires.short c.requires.most c.requires.high c.from.ensures c.from-2.ensures))
+    subst (λ x. x < 2 ^ (a.len + a.n))
+    (sym (shifted_fits a.low a.len a.high a.n _ _ c.requires.short c.requires.most c.requires.high c.from.ensures
+    c.from-2.ensures))
     (joined_below a.low a.len a.high a.n c.requires.low c.requires.high)

@@ -4,7 +4,10 @@ use Rattle.dev_kinds.proofs.RingBlocks.{part_below, all_of_it, ring_parts}
 use Rattle.dev_kinds.proofs.ring.number_of_ring.Goals as goal
 
 pub join-both-requires-clause-low : goal.join-both-requires-clause-low
-join-both-requires-clause-low c = rw c.word.ensures.value (part_below c.args.head (c.args.len - c.args.head) c.args.ring.now (omega (arith, c.requires.inside, c.requires.within)))
+join-both-requires-clause-low c =
+    rw c.word.ensures.value
+    (part_below c.args.head (c.args.len - c.args.head) c.args.ring.now
+    (omega (arith, c.requires.inside, c.requires.within)))
 
 pub join-both-requires-clause-high : goal.join-both-requires-clause-high
 join-both-requires-clause-high c = rw c.word-2.ensures.value (part_below 0 c.args.head c.args.ring.now (omega (arith, c.requires.inside, c.requires.within)))

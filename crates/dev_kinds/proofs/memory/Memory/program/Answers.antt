@@ -14,7 +14,11 @@ invariant_of-self c =
     let address : length c.raise.new.address ≡ 16 = ap length c.raise.ensures ∙ length-low_bits 16 (number_of c.if-place-len.self-inside.address + 1) in
     let buffer : length c.give_bits.new.bits ≡ f.width = ap length c.give_bits.ensures ∙ c.requires ∙ sym (ap (λ (s : Store). s.shape.width) c.self.view_is) in
     elim c.if-place-len.branch [
-      | then-place-len w ↦ rw w.self-inside-is (written_store f m.address c.raise.new.address m.buffer c.give_bits.new.bits m.words.items c.number_at-place.result w.keep_common.new.bits h address buffer
-          (programmed_width f m.address m.buffer m.words.items c.number_at-place.result w.index_mut.result.now c.give_bits.new.bits w.keep_common.new.bits h (omega arith) w.index_mut.ensures.value buffer w.keep_common.ensures))
+      | then-place-len w ↦ rw w.self-inside-is
+          (written_store f m.address c.raise.new.address m.buffer c.give_bits.new.bits m.words.items
+          c.number_at-place.result w.keep_common.new.bits h address buffer
+          (programmed_width f m.address m.buffer m.words.items c.number_at-place.result w.index_mut.result.now
+          c.give_bits.new.bits w.keep_common.new.bits h
+          (omega arith) w.index_mut.ensures.value buffer w.keep_common.ensures))
       | else-place-len w ↦ rw w.self-inside-is (kept_store f m.address c.raise.new.address m.buffer c.give_bits.new.bits m.words.items h address buffer)
     ]

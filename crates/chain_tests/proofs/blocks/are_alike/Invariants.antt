@@ -1,0 +1,6 @@
+use Rattle.std.proofs.Common.{◌≡◌}
+use Rattle.scan_paths.specs.Cables.{whole}
+use Rattle.chain_tests.proofs.blocks.are_alike.Given as goal
+
+abbrev pub invariant-loop-digit : goal.invariant-loop-digit
+invariant-loop-digit g l = (g.C.Cable.breakage l.cable ≡ whole) × (g.C.Cable.breakage l.twin ≡ whole)
