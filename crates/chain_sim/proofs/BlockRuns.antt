@@ -24,7 +24,7 @@ pub no_places : (rack : List (Option SoundCard)) (places : List ℕ) (tdi n : �
     cards_at rack places ≡ option_map (λ cs. board_after_block cs tdi n last) (cards_at rack places)
 no_places rack places tdi n last e =
     let at_none : cards_at rack [] ≡ option_map (λ cs. board_after_block cs tdi n last) (cards_at rack []) =
-        ap Some (sym (nothing_after (block_inputs tdi n last))) in
+    ap Some (sym (nothing_after (block_inputs tdi n last))) in
     subst (λ ps. cards_at rack ps ≡ option_map (λ cs. board_after_block cs tdi n last) (cards_at rack ps)) (sym e) at_none
 
 pub no_places_seen : (rack : List (Option SoundCard)) (places : List ℕ) (tdi n r : ℕ) (last : Bool) → places ≡ [] → r ≡ number_of (low_bits n tdi) →
@@ -41,7 +41,7 @@ joined_block None os tdi n behind last h e = absurd (false≢true h)
 joined_block (Some c) None tdi n behind last h e = absurd (false≢true h)
 joined_block (Some c) (Some cs) tdi n behind last h e =
     ap (λ x. Some (card_after_block c x n last ∷ board_after_block cs tdi n last)) (sym (some_same e))
-        ∙ ap Some (sym (shifts_card_by_card c cs tdi n last).board)
+    ∙ ap Some (sym (shifts_card_by_card c cs tdi n last).board)
 
 joined_seen : (o : Option Card) (os : Option (List Card)) (tdi n behind r : ℕ) (last : Bool) → IsSome (joined o os) →
     option_map (λ cs. board_block cs tdi n last) os ≡ Some behind → option_map (λ c. card_block c behind n last) o ≡ Some r →

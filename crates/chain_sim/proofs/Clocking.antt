@@ -101,9 +101,9 @@ rest_fitted f rack next places p ps e a s others =
 pub all_clocked : {A : Type 0} (f : A → Option SoundCard) (rack next last : List A) (places : List ℕ) (p : ℕ) (ps : List ℕ) (tms tdi bit : Bool) →
     places ≡ p ∷ ps → AreApart places → IsSome (cards_at (map f rack) places) → ((k : ℕ) → k ≢ p → slice_get next k ≡ slice_get rack k) →
     card_at (map f next) p ≡ option_map (λ c. step c tms bit) (card_at (map f rack) p) →
-        option_map (λ cs. board_tdo cs tdi) (cards_at (map f rack) ps) ≡ Some bit →
+    option_map (λ cs. board_tdo cs tdi) (cards_at (map f rack) ps) ≡ Some bit →
     cards_at (map f last) ps ≡ option_map (λ cs. board_step cs tms tdi) (cards_at (map f next) ps) →
-        ((k : ℕ) → IsAbsent k ps → slice_get last k ≡ slice_get next k) →
+    ((k : ℕ) → IsAbsent k ps → slice_get last k ≡ slice_get next k) →
     cards_at (map f last) places ≡ option_map (λ cs. board_step cs tms tdi) (cards_at (map f rack) places)
 all_clocked f rack next last places p ps tms tdi bit e a s others n d l stay =
     let b : AreApart (p ∷ ps) = subst AreApart e a in

@@ -46,14 +46,14 @@ run_none fitted kind_of rack places = record {
 
 after_both : (o : Option (List Card)) (xs ys : List Input) →
     option_map (λ cs. board_after cs ys) (option_map (λ cs. board_after cs xs) o)
-        ≡ option_map (λ cs. board_after cs (xs ++ ys)) o
+    ≡ option_map (λ cs. board_after cs (xs ++ ys)) o
 after_both None xs ys = refl
 after_both (Some cs) xs ys = ap Some (sym (after-append xs ys cs))
 
 joined_runs : {X : Type 0} (fitted : X → Option SoundCard) (kind_of : X → Kind) (a b c : List X)
     (places mid_places new_places : List ℕ) (xs ys : List Clock) →
     HasRun fitted kind_of a b places mid_places xs → HasRun fitted kind_of b c places new_places ys →
-        HasRun fitted kind_of a c places new_places (xs ++ ys)
+    HasRun fitted kind_of a c places new_places (xs ++ ys)
 joined_runs fitted kind_of a b c places mid_places new_places xs ys p q =
     let both : map input_of (xs ++ ys) ≡ map input_of xs ++ map input_of ys = map-append input_of xs ys in
     record {
@@ -67,14 +67,14 @@ joined_runs fitted kind_of a b c places mid_places new_places xs ys p q =
           (let mid : cards_at (map fitted b) places ≡ Some (board_after cs (map input_of xs)) =
           p.cards ∙ ap (λ o. option_map (λ ks. board_after ks (map input_of xs)) o) e in
           ap (λ zs. zs ++ ys) (p.seen cs e)
-              ∙ ap (λ zs. clocks_of cs (map input_of xs) ++ zs) (q.seen (board_after cs (map input_of xs)) mid)
+          ∙ ap (λ zs. clocks_of cs (map input_of xs) ++ zs) (q.seen (board_after cs (map input_of xs)) mid)
           ∙ sym (clocks-append (map input_of xs) (map input_of ys) cs) ∙ ap (clocks_of cs) (sym both));
     }
 
 pub run_both : {X : Type 0} (fitted : X → Option SoundCard) (kind_of : X → Kind) (a b c : List X)
     (places mid_places new_places : List ℕ) (xs ys : List Clock) →
     HasRun fitted kind_of a b places mid_places xs → HasRun fitted kind_of b c mid_places new_places ys →
-        HasRun fitted kind_of a c places new_places (xs ++ ys)
+    HasRun fitted kind_of a c places new_places (xs ++ ys)
 run_both fitted kind_of a b c places mid_places new_places xs ys p q =
     joined_runs fitted kind_of a b c places mid_places new_places xs ys p
-        (subst (λ ps. HasRun fitted kind_of b c ps new_places ys) p.same_places q)
+    (subst (λ ps. HasRun fitted kind_of b c ps new_places ys) p.same_places q)

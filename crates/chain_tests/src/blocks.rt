@@ -25,7 +25,8 @@ const WAYS: [&str; 16] = [
 
 /// What goes in and comes out to tell two chains apart: through the data registers, and through the instruction
 /// registers.
-const BEYOND: &str = "444440400020202020202020202020202020202020202020202020202044044002020202020202020";
+const BEYOND: &str =
+    "444440400020202020202020202020202020202020202020202020202044044002020202020202020";
 
 // Makes the clocks of these digits.
 fn clock_along<C: Cable>(cable: &mut C, digits: &str) -> Result<(), Failed>

@@ -39,8 +39,8 @@ cut_one : (ir : Bool) (c : Card) (bits : List Bool) → cut_back ir (c ∷ []) (
 cut_one ir c bits =
     ap (λ l. cut_back ir (c ∷ []) (left_in l bits)) (append-nil (list_of ir c))
     ∙ ap (λ l. with_list ir c l ∷ [])
-        (take_all (length (list_of ir c)) (left_in (list_of ir c) bits) (let e = left_length (list_of ir c) bits in
-        omega (arith, e)))
+    (take_all (length (list_of ir c)) (left_in (list_of ir c) bits) (let e = left_length (list_of ir c) bits in
+    omega (arith, e)))
 
 own_state : (ir : Bool) (c : Card) (bits : List Bool) → c.tap ≡ shift_state ir → with_list ir c bits ≡ in_state (shift_state ir) (with_list ir c bits)
 own_state true c bits e = ap (λ t. record c { tap = t; ir_list = bits }) e
@@ -56,7 +56,7 @@ module _ (ir : Bool) (c : Card) (tdi n : ℕ) (shifting : IsShifting ir c) where
       let s : StaysShifting ir (c ∷ []) bits = stays_shifting ir (c ∷ []) bits all_shift in
       let is : still_inputs bits ≡ part_inputs false bits = still_part bits in
       let count : length (still_inputs bits) ≡ length (shifted_out (line_of ir (c ∷ [])) bits) = length-map bits _
-          ∙ sym (out_length (line_of ir (c ∷ [])) bits) in
+      ∙ sym (out_length (line_of ir (c ∷ [])) bits) in
       record {
         tdo = ap (λ z. number_of (card_tdos c z)) (sym is)
             ∙ ap number_of (sym (one_tdos (still_inputs bits) c) ∙ ap tdos s.clocks
@@ -74,7 +74,7 @@ module _ (ir : Bool) (c : Card) (tdi n : ℕ) (shifting : IsShifting ir c) where
       let s : ShiftsAsLine ir (c ∷ []) bits = shifts_as_line ir (c ∷ []) bits some all_shift in
       let is : shift_inputs bits ≡ part_inputs true bits = inputs_of_whole bits in
       let count : length (shift_inputs bits) ≡ length (shifted_out (line_of ir (c ∷ [])) bits) = length_of_shift bits
-          ∙ sym (out_length (line_of ir (c ∷ [])) bits) in
+      ∙ sym (out_length (line_of ir (c ∷ [])) bits) in
       record {
         tdo = ap (λ z. number_of (card_tdos c z)) (sym is)
             ∙ ap number_of (sym (one_tdos (shift_inputs bits) c) ∙ ap tdos s.clocks

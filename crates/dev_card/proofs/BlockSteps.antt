@@ -78,7 +78,7 @@ next_of_block last n i x h =
     let e : n - i ≡ suc (n - (i + 1)) = omega arith in
     ap (λ m. block_inputs x m last) e
     ∙ ap (λ t. record { tms = last && t; tdi = nat_eq (x % 2) 1 } ∷ block_inputs (x / 2) (n - (i + 1)) last)
-        (nil_of_low (n - (i + 1)) (x / 2) ∙ last_of_left n i h)
+    (nil_of_low (n - (i + 1)) (x / 2) ∙ last_of_left n i h)
 
 -- a board of no card: what comes in comes out
 nothing_seen : (last : Bool) (bits : List Bool) → tdos (clocks_of [] (part_inputs last bits)) ≡ bits

@@ -85,7 +85,7 @@ digits_parted left low bits below inside whole =
     let place : 4 * a ≡ low = omega (arith, whole) in
     let size : length (take left bits) ≡ left = length-take-le left bits inside in
     let rest : length (taken low (left - low) bits) ≡ left - low =
-        length-take-le (left - low) (drop low bits) (omega (arith, below, inside, length-drop low bits)) in
+    length-take-le (left - low) (drop low bits) (omega (arith, below, inside, length-drop low bits)) in
     let front : length (take low bits) ≡ low = length-take-le low bits (omega (arith, below, inside)) in
     let digits : digits_needed (length (take left bits)) ≡ a + digits_needed (length (taken low (left - low) bits)) = omega arith in
     let lowest : digits_needed (length (take low bits)) ≡ a = omega arith in
@@ -95,7 +95,7 @@ digits_parted left low bits below inside whole =
     ∙ digits_from a (digits_needed (length (taken low (left - low) bits))) (take left bits)
     ∙ ap₂ (λ (h : List ℕ) (l : List ℕ). h ++ l) (ap (hex_digits (digits_needed (length (taken low (left - low) bits)))) high)
     (digits_below a left bits (omega (arith, place, below)) ∙ sym (digits_below a low bits (omega (arith, place)))
-        ∙ ap (λ (n : ℕ). hex_digits n (take low bits)) (sym lowest))
+    ∙ ap (λ (n : ℕ). hex_digits n (take low bits)) (sym lowest))
 
 -- a word of a part fits
 pub word_fits : (at n word : ℕ) (bits : List Bool) → at + n ≤ length bits → word ≡ number_of (taken at n bits) → word < 2 ^ n
@@ -110,7 +110,7 @@ pub digits_down : (left low word : ℕ) (bits : List Bool) → low ≤ left → 
 digits_down left low word bits below inside whole e =
     digits_parted left low bits below inside whole
     ∙ ap (λ (l : List Bool). all_hex_digits l ++ all_hex_digits (take low bits))
-        (sym (bits_of_part low (left - low) word bits (omega (arith, below, inside)) e))
+    (sym (bits_of_part low (left - low) word bits (omega (arith, below, inside)) e))
 
 -- no bit is left, and all bits are
 pub none_left : (left : ℕ) (bits : List Bool) → left ≤ 0 → all_hex_digits (take left bits) ≡ []

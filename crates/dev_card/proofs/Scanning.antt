@@ -1,5 +1,5 @@
 -- What a scan captures, by its clocks and by the line of its board, and the parts of its shift clocks.
-use Rattle.std.proofs.Common.{◌≡◌, ◌≤◌, ◌+◌, ◌-◌, ◌&&◌, ℕ, Bool, true, false, List, [], ◌∷◌, ◌++◌, take, drop, replicate, length, refl, sym, ap, ◌∙◌, arith}
+use Rattle.std.proofs.Common.{◌≡◌, ◌≤◌, ◌+◌, ◌&&◌, ℕ, Bool, true, false, List, [], ◌∷◌, ◌++◌, take, drop, replicate, length, refl, sym, ap, ◌∙◌, arith}
 use Rattle.std.proofs.lemmas.List.{append-nil, length-append, length-map, length-take, length-drop, length-replicate, map-append, take-append-le, drop-append-le}
 use Rattle.std.proofs.Math.Seq.{drop-append_seam}
 use Rattle.tap_states.specs.declared.Tap.{Tap}
@@ -63,8 +63,15 @@ length_of_padded p bits =
     let ones : List Bool = replicate p.base_pre true in
     let last : List Bool = replicate p.base_post true in
     let program : List Bool = p.pre ++ (bits ++ p.post) in
-    omega (arith, length-append ones (program ++ last), length-append program last, length-append p.pre
-        (bits ++ p.post), length-append bits p.post, length-replicate p.base_pre true)
+    omega (
+      arith,
+      length-append ones (program ++ last),
+      length-append program last,
+      length-append p.pre
+          (bits ++ p.post),
+      length-append bits p.post,
+      length-replicate p.base_pre true,
+    )
 
 -- what the clocks of a scan show at the data's places is what comes out of the line there
 pub captured_is_seen : (at : Tap) (s : BoardScan) (cs : List Card) → captured_from at s (clocks_of_scan at s cs) ≡ captured_bits at s cs
@@ -81,7 +88,7 @@ captured_is_seen at s cs =
     let same : tdos shift ≡ out = tdos_of_with (shift_inputs M) out (length_of_shift M ∙ sym k) in
     let entry : e ≡ length (tdos first) = sym (length_of_tdos (entry_inputs at s.ir) cs ∙ length-map (entry_tms at s.ir) _) in
     ap (λ z. at_data s.paddings n (drop e z)) (tdos_of_both first (shift ++ rest)
-        ∙ ap (λ z. tdos first ++ z) (tdos_of_both shift rest ∙ ap (λ z. z ++ tdos rest) same))
+    ∙ ap (λ z. tdos first ++ z) (tdos_of_both shift rest ∙ ap (λ z. z ++ tdos rest) same))
     ∙ ap (λ j. at_data s.paddings n (drop j (tdos first ++ (out ++ tdos rest)))) entry
     ∙ ap (at_data s.paddings n) (drop-append_seam (tdos first) (out ++ tdos rest))
     ∙ data_of_front s.paddings n out (tdos rest) (omega (arith, k, length_of_padded s.paddings s.bits))
@@ -120,5 +127,5 @@ scan_of_run at before run after s st a h base =
       same_captured = λ b short.
           ap (λ z. at_data s.paddings n (shifted_out (line_of s.ir z) (scan_bits s))) one.whole ∙ (one.same b).captured_same short
           ∙ ap (λ z. at_data (without_base s.paddings) n (shifted_out (line_of s.ir (at_shift at s.ir run)) z))
-              (sym (append-nil (program_bits s.paddings s.bits)));
+          (sym (append-nil (program_bits s.paddings s.bits)));
     }

@@ -57,10 +57,10 @@ pub record IsScanOfRun (at : Tap) (before run after : List Card) (s : BoardScan)
   pub one : IsOneScan at s.ir before run after s.paddings s.bits
   pub same_captured : (s.ir ≡ false → AllBypass one.front × AllBypass one.back) →
       length (program_bits s.paddings s.bits) ≤ length (line_of s.ir (at_shift at s.ir run)) →
-          captured ≡ captured_bits at (scan_alone s) run
+      captured ≡ captured_bits at (scan_alone s) run
 
 -- the same of each run of a board around which this is the base padding
 abbrev pub IsScanOfEachRun : Tap → BoardScan → List Bool → List Card → Type 0
 IsScanOfEachRun at s captured cs =
     (before run after : List Card) → cs ≡ before ++ (run ++ after) → HasBaseAround before after s →
-        IsScanOfRun at before run after s captured
+    IsScanOfRun at before run after s captured

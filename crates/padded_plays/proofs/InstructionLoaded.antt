@@ -6,7 +6,7 @@ use Rattle.std.proofs.lemmas.Bool.{false≢true}
 use Rattle.tap_states.specs.declared.Tap.{Tap}
 use Rattle.tap_states.specs.declared.Tap.TheVariants.{Reset, Idle, DrPause, IrPause}
 use Rattle.tap_states.specs.Tap.{next_of, is_stable_state}
-use Rattle.tap_states.specs.PathTable.{path_of}
+use Rattle.tap_states.specs.Path.{path_of}
 use Rattle.dev_card.specs.Board.{Input}
 use Rattle.dev_card.specs.Line.{shift_state, exit_state, pause_state}
 use Rattle.dev_card.specs.Padding.{program_bits}

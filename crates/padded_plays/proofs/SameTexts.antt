@@ -1,13 +1,14 @@
 -- Plays that are the same have the same text, ending and report.
-use Rattle.std.proofs.Common.{◌≡◌, ◌<◌, ◌≤◌, ◌-◌, ℕ, suc, false, All, List, [], ◌∷◌, ◌++◌, length, take, drop, Some, slice_get, refl, sym, ap, subst, ◌∙◌, arith}
-use Rattle.std.proofs.lemmas.List.{length-map, length-take, take-append-drop}
-use Rattle.std.proofs.lemmas.Option.{get_or_from_slice_get, slice_get_within}
-use Rattle.std.proofs.Math.Seq.{drop-append_seam, take-append_seam, drop-cons}
+use Rattle.std.proofs.Common.{◌≡◌, ◌<◌, ◌≤◌, ◌-◌, ℕ, false, All, List, [], ◌∷◌, ◌++◌, length, take, drop, Some, slice_get, refl, sym, ap, subst, ◌∙◌, arith}
+use Rattle.std.proofs.lemmas.List.{length-map, length-take}
+use Rattle.std.proofs.lemmas.Option.{slice_get_within}
+use Rattle.std.proofs.Math.Seq.{drop-append_seam, take-append_seam}
 use Rattle.dev_card.specs.declared.desc.Desc.{Desc}
 use Rattle.dev_card.specs.Descriptions.{IsGood}
 use Rattle.dev_card.specs.Card.{Card}
 use Rattle.dev_card.specs.FarEnds.{FarEnd, Told, Heard}
-use Rattle.dev_card.specs.Padding.{base_lengths}
+use Rattle.dev_card.specs.Padding.{base_lengths, only}
+use Rattle.dev_card.proofs.RunsOfNeighbours.{around_place}
 use Rattle.dev_card.specs.PaddedScan.{descriptions_of}
 use Rattle.dev_card.specs.Reports.{report_of}
 use Rattle.padded_boards.specs.PaddedRuns.{fresh_board}
@@ -72,24 +73,17 @@ pub text_of_same : (program : Played) (chosen : List ℕ) (before run after : Li
     → IsSameText (length before) (length run) (padded_play program chosen k before run after) (play_alone program chosen k run)
 text_of_same program chosen before run after k h = text_of before run after (padded_play program chosen k before run after) (play_alone program chosen k run) h
 
-devices_at_place : (ds : List Desc) (place : ℕ) (d : Desc) → 1 ≤ place → slice_get ds (place - 1) ≡ Some d → ds ≡ take (place - 1) ds ++ ((d ∷ []) ++ drop place ds)
-devices_at_place ds place d h e =
-    let n : suc (place - 1) ≡ place = omega (arith, h) in
-    sym (take-append-drop (place - 1) ds)
-    ∙ ap (λ z. take (place - 1) ds ++ z) (drop-cons ds (place - 1) d (slice_get_within ds (place - 1) d e)
-    ∙ ap (λ x. x ∷ drop (suc (place - 1)) ds) (get_or_from_slice_get ds (place - 1) d d e) ∙ ap (λ k. d ∷ drop k ds) n)
-
 pub text_of_place : (program : Played) (chosen : List ℕ) (devices : List Desc) (place : ℕ) (device : Desc) (n k : ℕ) → All IsGood devices → 1 ≤ place
     → slice_get devices (place - 1) ≡ Some device → IsQuietPlay program chosen n (device ∷ []) → k ≤ n
-    → IsSameText (place - 1) 1 (play program chosen k (base_lengths devices (Some place)) (Told (fresh_board devices))) (play_alone program chosen k (device ∷ []))
+    → IsSameText (place - 1) 1 (play program chosen k (base_lengths devices (Some (only place))) (Told (fresh_board devices))) (play_alone program chosen k (device ∷ []))
 text_of_place program chosen devices place device n k good one e q le =
     let before : List Desc = take (place - 1) devices in
     let after : List Desc = drop place devices in
-    let whole : devices ≡ before ++ ((device ∷ []) ++ after) = devices_at_place devices place device one e in
+    let whole : devices ≡ before ++ ((device ∷ []) ++ after) = around_place devices place device one e in
     let within : place - 1 < length devices = slice_get_within devices (place - 1) device e in
     let count : length before ≡ place - 1 = omega (arith, length-take (place - 1) devices, within) in
     let same = plays_are_same program chosen before (device ∷ []) after n k (subst (λ ds. All IsGood ds) whole good) (omega arith) q le in
     let text : IsSameText (length before) 1 (padded_play program chosen k before (device ∷ []) after) (play_alone program chosen k (device ∷ [])) =
     text_of_same program chosen before (device ∷ []) after k same in
-    subst (λ m. IsSameText m 1 (play program chosen k (base_lengths devices (Some place)) (Told (fresh_board devices))) (play_alone program chosen k (device ∷ []))) count
-    (subst (λ ds. IsSameText (length before) 1 (play program chosen k (base_lengths devices (Some place)) (Told (fresh_board ds))) (play_alone program chosen k (device ∷ []))) (sym whole) text)
+    subst (λ m. IsSameText m 1 (play program chosen k (base_lengths devices (Some (only place))) (Told (fresh_board devices))) (play_alone program chosen k (device ∷ []))) count
+    (subst (λ ds. IsSameText (length before) 1 (play program chosen k (base_lengths devices (Some (only place))) (Told (fresh_board ds))) (play_alone program chosen k (device ∷ []))) (sym whole) text)

@@ -5,7 +5,7 @@ use Rattle.tap_states.specs.declared.Tap.{Tap}
 use Rattle.tap_states.specs.declared.Tap.TheVariants.{Reset}
 use Rattle.tap_states.specs.Tap.{next_of, is_stable_state}
 use Rattle.dev_card.specs.Board.{Input}
-use Rattle.tap_states.specs.PathTable.{path_of}
+use Rattle.tap_states.specs.Path.{path_of}
 use Rattle.dev_card.specs.Line.{exit_state, pause_state}
 use Rattle.dev_card.specs.Padding.{program_bits}
 use Rattle.dev_card.specs.Sound.{register_lengths}

@@ -2,7 +2,7 @@
 -- they are, wherever the run stands in a board. Which plays are quiet is this profile's.
 use Rattle.std.specs.Prelude.{ℕ, zero, suc, Bool, false, if◌then◌else◌, List, [], ◌∷◌, ◌++◌, replicate}
 use Rattle.tap_states.specs.Tap.{is_stable_state}
-use Rattle.tap_states.specs.PathTable.{path_of}
+use Rattle.tap_states.specs.Path.{path_of}
 use Rattle.dev_card.specs.declared.desc.Desc.{Desc}
 use Rattle.dev_card.specs.Card.{Card}
 use Rattle.dev_card.specs.Padding.{BaseLengths, base_around}

@@ -7,7 +7,7 @@ ghost use Rattle.dev_card.specs.declared.desc.Desc.{Desc};
 ghost use Rattle.dev_card.specs.Descriptions.{IsGood};
 ghost use Rattle.dev_card.specs.Clocks.{entry_inputs};
 ghost use Rattle.dev_card.specs.FarEnds.{FarEnd, Told};
-ghost use Rattle.dev_card.specs.Padding.{BaseLengths, base_lengths};
+ghost use Rattle.dev_card.specs.Padding.{BaseLengths, base_lengths, only};
 ghost use Rattle.padded_boards.specs.PaddedRuns.{fresh_board};
 ghost use Rattle.stapl_meaning.specs.Deeds.{Deed, Chain, deeds_events};
 ghost use Rattle.stapl_meaning.specs.Scopes.{Played};
@@ -44,7 +44,7 @@ pub fn a_quiet_play_of_a_place_has_the_text_of_its_device()
         All IsGood devices → 1 ≤ place → slice_get devices (place - 1) ≡ Some device →
         IsQuietPlay program chosen n (device ∷ []) → k ≤ n →
         IsSameText (place - 1) 1
-        (play program chosen k (base_lengths devices (Some place)) (Told (fresh_board devices)))
+        (play program chosen k (base_lengths devices (Some (only place))) (Told (fresh_board devices)))
         (play_alone program chosen k (device ∷ [])) }
 {}
 

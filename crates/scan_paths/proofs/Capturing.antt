@@ -58,7 +58,7 @@ module _ {C : Type 0} (board : C → Option (List Card)) (makes : C → List Clo
         let is : List Input = block_inputs tdi n last in
         let count : length (tdos k.clocks) ≡ n = length_of_seen now next is k.clocks k.made ∙ length_of_inputs last (low_bits n tdi) ∙ length-low_bits n tdi in
         let bits : low_bits n tdo ≡ tdos k.clocks = ap (low_bits n) k.bits
-            ∙ ap (λ m. low_bits m (number_of (tdos k.clocks))) (sym count) ∙ low_bits-number_of (tdos k.clocks) in
+        ∙ ap (λ m. low_bits m (number_of (tdos k.clocks))) (sym count) ∙ low_bits-number_of (tdos k.clocks) in
         record {
           front = s.front ++ is;
           clocks = s.clocks ++ k.clocks;

@@ -52,13 +52,13 @@ ones_in_word len h = let e : len + (64 - len) ≡ 64 = omega (arith, h) in sym (
 
 pub next_ones : (n at len : ℕ) (last : Bool) → len ≤ 64 → at + len ≤ n →
     part_inputs last (replicate (n - at) true) ≡ block_inputs 18446744073709551615 len (last && nat_eq (at + len) n)
-        ++ part_inputs last (replicate (n - (at + len)) true)
+    ++ part_inputs last (replicate (n - (at + len)) true)
 next_ones n at len last w h =
     let rest : List Bool = replicate (n - (at + len)) true in
     let e : n - at ≡ len + (n - (at + len)) = omega (arith, h) in
     ap (λ k. part_inputs last (replicate k true)) e
-        ∙ ap (part_inputs last) (sym (replicate-append-replicate len (n - (at + len)) true))
-        ∙ inputs_of_both last (replicate len true) rest
+    ∙ ap (part_inputs last) (sym (replicate-append-replicate len (n - (at + len)) true))
+    ∙ inputs_of_both last (replicate len true) rest
     ∙ ap (λ t. part_inputs (last && t) (replicate len true) ++ part_inputs last rest) (nil_from rest (at + len) n h (length-replicate (n - (at + len)) true))
     ∙ ap (λ z. part_inputs (last && nat_eq (at + len) n) z ++ part_inputs last rest) (sym (ones_in_word len w))
 
@@ -78,14 +78,14 @@ next_block bits n at len word last h k w =
     let own : List Bool = take n bits in
     let size : length (take n bits) ≡ n = length-take-le n bits k in
     let parts : drop at own ≡ take len (drop at own) ++ drop (at + len) own = sym (take-append-drop len (drop at own))
-        ∙ ap (λ z. take len (drop at own) ++ z) (drop-drop len at own) in
+    ∙ ap (λ z. take len (drop at own) ++ z) (drop-drop len at own) in
     let count : length (taken at len bits) ≡ len = length-take-le len (drop at bits) (omega (arith, h, k, length-drop at bits)) in
     let same : take len (drop at own) ≡ low_bits len word =
     taken_of_front bits n at len h ∙ sym (low_bits-number_of (taken at len bits))
-        ∙ ap (λ m. low_bits m (number_of (taken at len bits))) count ∙ ap (low_bits len) (sym w) in
+    ∙ ap (λ m. low_bits m (number_of (taken at len bits))) count ∙ ap (low_bits len) (sym w) in
     ap (part_inputs last) parts ∙ inputs_of_both last (take len (drop at own)) (drop (at + len) own)
     ∙ ap (λ t. part_inputs (last && t) (take len (drop at own)) ++ part_inputs last (drop (at + len) own))
-        (nil_from (drop (at + len) own) (at + len) n h (omega (arith, length-drop (at + len) own, size)))
+    (nil_from (drop (at + len) own) (at + len) n h (omega (arith, length-drop (at + len) own, size)))
     ∙ ap (λ z. part_inputs (last && nat_eq (at + len) n) z ++ part_inputs last (drop (at + len) own)) same
 
 pub none_in_list : (bits : List Bool) (n i : ℕ) (last : Bool) → n ≤ i → n ≤ length bits → part_inputs last (drop i (take n bits)) ≡ []
@@ -108,12 +108,20 @@ behind_spliced at len n w c e h k =
     ap (λ j. drop j ((take at c ++ w) ++ drop (at + length w) c)) (sym size)
     ∙ drop-append_seam (take at c ++ w) (drop (at + length w) c) ∙ ap (λ j. drop (at + j) c) e in
     ap (λ j. drop j (spliced at w c)) f ∙ sym (drop-drop m (at + len) (spliced at w c)) ∙ ap (drop m) one
-        ∙ drop-drop m (at + len) c ∙ ap (λ j. drop j c) (sym f)
+    ∙ drop-drop m (at + len) c ∙ ap (λ j. drop j c) (sym f)
 
 length_of_spliced : (at len : ℕ) (w c : List Bool) → length w ≡ len → at + len ≤ length c → length (spliced at w c) ≡ length c
 length_of_spliced at len w c e h =
-    omega (arith, length-append (take at c ++ w) (drop (at + length w) c), length-append
-        (take at c) w, length-take-le at c, length-drop (at + length w) c, e, h)
+    omega (
+      arith,
+      length-append (take at c ++ w) (drop (at + length w) c),
+      length-append
+          (take at c) w,
+      length-take-le at c,
+      length-drop (at + length w) c,
+      e,
+      h,
+    )
 
 pub front_of_word : (at len word : ℕ) (new c : List Bool) → new ≡ spliced at (low_bits len word) c →
     at + len ≤ length c → take (at + len) new ≡ take at c ++ low_bits len word
@@ -150,8 +158,8 @@ some_behind (x ∷ xs) ys h = refl
 inputs_of_padded : (p : Paddings) (bits : List Bool) (no_post no_base : Bool) → 0 < length bits →
     no_post ≡ is_nil (p.post ++ replicate p.base_post true) → no_base ≡ is_nil (replicate p.base_post true) →
     part_inputs true (padded p bits) ≡ part_inputs false (replicate p.base_pre true) ++
-        (part_inputs false p.pre ++
-        (part_inputs no_post bits ++ (part_inputs no_base p.post ++ part_inputs true (replicate p.base_post true))))
+    (part_inputs false p.pre ++
+    (part_inputs no_post bits ++ (part_inputs no_base p.post ++ part_inputs true (replicate p.base_post true))))
 inputs_of_padded p bits no_post no_base h a b =
     let ones : List Bool = replicate p.base_pre true in
     let last : List Bool = replicate p.base_post true in

@@ -10,14 +10,14 @@ returns-clause-kinds g c = kinds_same _ _ _ _ _ c.index_mut.ensures.value c.shif
 pub returns-clause-card : goal.returns-clause-card
 returns-clause-card g c =
     card_changed g.D.Device.fitted c.args.rack.now.items c.args.place c.index_mut.result.now c.shift_block.new.self
-        (λ k. card_after_block k c.args.tdi c.args.n c.args.last) (omega arith) c.index_mut.ensures.value
+    (λ k. card_after_block k c.args.tdi c.args.n c.args.last) (omega arith) c.index_mut.ensures.value
     c.shift_block.ensures.card
 
 pub returns-clause-tdo : goal.returns-clause-tdo
 returns-clause-tdo g c =
     card_seen g.D.Device.fitted c.args.rack.now.items c.args.place c.index_mut.result.now
-        (λ k. card_block k c.args.tdi c.args.n c.args.last) _
-        (omega arith) c.index_mut.ensures.value c.shift_block.ensures.tdo
+    (λ k. card_block k c.args.tdi c.args.n c.args.last) _
+    (omega arith) c.index_mut.ensures.value c.shift_block.ensures.tdo
 
 pub returns-clause-others : goal.returns-clause-others
 returns-clause-others g c = λ k n. others_same _ _ _ k n

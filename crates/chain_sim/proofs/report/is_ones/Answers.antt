@@ -9,7 +9,7 @@ returns-then-word_of-ones g c =
     let bits = cell_in (card_in (g.D.Device.fitted c.args.device.now)) c.args.cell in
     let end = c.up.invariant.end in
     ones_end c.up.at c.min-n.result c.word_of.result c.ones.result bits
-        (omega arith) c.word_of.ensures c.ones.ensures c.up.invariant.rest c.if-word_of-ones.true
+    (omega arith) c.word_of.ensures c.ones.ensures c.up.invariant.rest c.if-word_of-ones.true
 
 pub up-preserved : goal.up-preserved
 up-preserved g c =

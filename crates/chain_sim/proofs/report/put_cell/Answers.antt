@@ -51,9 +51,9 @@ returns-in_err-put_number-clause-front g c =
     let low : ℕ = (left - 1) / 64 * 64 in
     on_err c.from_residual.result
     (part_failed (all_hex_digits bits) (all_hex_digits (take left bits))
-        (all_hex_digits (low_bits (left - low) c.word_of.result)) (all_hex_digits (take low bits))
+    (all_hex_digits (low_bits (left - low) c.word_of.result)) (all_hex_digits (take low bits))
     (digits_down left low c.word_of.result bits (omega arith) c.down.invariant.inside
-        (omega arith) c.word_of.ensures) c.down.invariant.puts c.in_err-put_number.ensures.front)
+    (omega arith) c.word_of.ensures) c.down.invariant.puts c.in_err-put_number.ensures.front)
 
 pub returns-clause-ok : goal.returns-clause-ok
 returns-clause-ok g c =

@@ -12,7 +12,8 @@ loop-k-preserved c =
     let n = c.min-n.result in
     let left = length packed - 8 * k in
     let size : n ≡ min 64 (len - 64 * k) = c.min-n.ensures ∙ min_is 64 (len - 64 * k) in
-    let room : n ≤ 8 * length (take left (drop (8 * k) packed)) = omega (arith, c.requires.size, length-take left (drop (8 * k) packed), length-drop (8 * k) packed) in
+    let room : n ≤ 8 * length (take left (drop (8 * k) packed)) =
+        omega (arith, c.requires.size, length-take left (drop (8 * k) packed), length-drop (8 * k) packed) in
     record {
       end = c.loop-k.invariant.end;
       long = c.set_word.ensures.length ∙ c.loop-k.invariant.long;
@@ -21,5 +22,7 @@ loop-k-preserved c =
     }
 
 pub returns : goal.returns
-returns c = words_read c.args.packed.now (replicate c.args.len false) c.loop-k.bits c.args.len c.loop-k.k c.requires.size (length-replicate c.args.len false) (omega arith)
+returns c = words_read c.args.packed.now
+    (replicate c.args.len false) c.loop-k.bits c.args.len c.loop-k.k c.requires.size (length-replicate c.args.len false)
+    (omega arith)
     c.loop-k.invariant.bits

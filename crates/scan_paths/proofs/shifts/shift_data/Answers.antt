@@ -24,8 +24,11 @@ pub returns-in_err-tdo-clause-front : goal.returns-in_err-tdo-clause-front
 returns-in_err-tdo-clause-front g c =
     let m = g.C.Cable in
     let h : c.loop-at.at + c.min-len.result ≤ c.args.n = omega arith in
-    let s = rw (next_block c.args.bits.now c.args.n c.loop-at.at c.min-len.result c.word.result c.args.last h
-        c.requires.inside c.word.ensures.value, ← c.ends_at.ensures) at c.loop-at.invariant.way in
+    let s = rw (
+      next_block c.args.bits.now c.args.n c.loop-at.at c.min-len.result c.word.result c.args.last h
+          c.requires.inside c.word.ensures.value,
+      ← c.ends_at.ensures,
+    ) at c.loop-at.invariant.way in
     on_err _ (seen_failed m.board m.made g.met.C.Cable.both_made c.args.cable.now c.loop-at.cable c.shift_block.new.self _ _ _ _ c.in_err-tdo.ensures.failed s)
 
 pub returns-in_err-tdo-clause-line : goal.returns-in_err-tdo-clause-line
@@ -39,10 +42,13 @@ loop-at-preserved g c =
     let m = g.C.Cable in
     let h : c.loop-at.at + c.min-len.result ≤ c.args.n = omega arith in
     let room : c.loop-at.at + c.min-len.result ≤ length c.loop-at.captured = omega (arith, h, c.requires.room, c.loop-at.invariant.length) in
-    let s = rw (next_block c.args.bits.now c.args.n c.loop-at.at c.min-len.result c.word.result c.args.last h
-        c.requires.inside c.word.ensures.value, ← c.ends_at.ensures) at c.loop-at.invariant.way in
+    let s = rw (
+      next_block c.args.bits.now c.args.n c.loop-at.at c.min-len.result c.word.result c.args.last h
+          c.requires.inside c.word.ensures.value,
+      ← c.ends_at.ensures,
+    ) at c.loop-at.invariant.way in
     let t = seen_block m.board m.made g.met.C.Cable.both_made c.args.cable.now c.loop-at.cable c.shift_block.new.self _
-        _ _ _ _ _ _ c.in_ok-tdo.ensures.shifted s in
+    _ _ _ _ _ _ c.in_ok-tdo.ensures.shifted s in
     record {
       whole = c.in_ok-tdo.ensures.unbroken;
       line = part_then c.loop-at.invariant.line c.shift_block.ensures.line;

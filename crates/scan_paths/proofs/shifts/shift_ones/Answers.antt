@@ -22,7 +22,7 @@ returns-in_err-shift_block-clause-front g c =
     let m = g.C.Cable in
     let w = rw (next_ones c.args.n c.loop-at.at c.min-len.result c.args.last (omega arith) (omega arith), ← c.ends_at.ensures) at c.loop-at.invariant.way in
     on_err _ (way_block_failed m.board m.made g.met.C.Cable.both_made c.args.cable.now c.loop-at.cable
-        c.shift_block.new.self _ _ _ c.in_err-shift_block.ensures.failed w)
+    c.shift_block.new.self _ _ _ c.in_err-shift_block.ensures.failed w)
 
 pub returns-in_err-shift_block-clause-line : goal.returns-in_err-shift_block-clause-line
 returns-in_err-shift_block-clause-line g c = part_then c.loop-at.invariant.line c.shift_block.ensures.line
@@ -48,4 +48,4 @@ pub returns-clause-made : goal.returns-clause-made
 returns-clause-made g c =
     let m = g.C.Cable in
     way_end m.board m.made g.met.C.Cable.both_made c.args.cable.now c.loop-at.cable _
-        (rw (no_ones c.args.n c.loop-at.at c.args.last (omega arith)) at c.loop-at.invariant.way)
+    (rw (no_ones c.args.n c.loop-at.at c.args.last (omega arith)) at c.loop-at.invariant.way)

@@ -21,10 +21,13 @@ pub returns-in_err-shift_block-clause-front : goal.returns-in_err-shift_block-cl
 returns-in_err-shift_block-clause-front g c =
     let m = g.C.Cable in
     let h : c.loop-at.at + c.min-len.result ≤ c.args.n = omega arith in
-    let w = rw (next_block c.args.padding.now c.args.n c.loop-at.at c.min-len.result c.word.result c.args.last h
-        c.requires.inside c.word.ensures.value, ← c.ends_at.ensures) at c.loop-at.invariant.way in
+    let w = rw (
+      next_block c.args.padding.now c.args.n c.loop-at.at c.min-len.result c.word.result c.args.last h
+          c.requires.inside c.word.ensures.value,
+      ← c.ends_at.ensures,
+    ) at c.loop-at.invariant.way in
     on_err _ (way_block_failed m.board m.made g.met.C.Cable.both_made c.args.cable.now c.loop-at.cable
-        c.shift_block.new.self _ _ _ c.in_err-shift_block.ensures.failed w)
+    c.shift_block.new.self _ _ _ c.in_err-shift_block.ensures.failed w)
 
 pub returns-in_err-shift_block-clause-line : goal.returns-in_err-shift_block-clause-line
 returns-in_err-shift_block-clause-line g c = part_then c.loop-at.invariant.line c.shift_block.ensures.line
@@ -36,8 +39,11 @@ pub loop-at-preserved : goal.loop-at-preserved
 loop-at-preserved g c =
     let m = g.C.Cable in
     let h : c.loop-at.at + c.min-len.result ≤ c.args.n = omega arith in
-    let w = rw (next_block c.args.padding.now c.args.n c.loop-at.at c.min-len.result c.word.result c.args.last h
-        c.requires.inside c.word.ensures.value, ← c.ends_at.ensures) at c.loop-at.invariant.way in
+    let w = rw (
+      next_block c.args.padding.now c.args.n c.loop-at.at c.min-len.result c.word.result c.args.last h
+          c.requires.inside c.word.ensures.value,
+      ← c.ends_at.ensures,
+    ) at c.loop-at.invariant.way in
     record {
       whole = c.in_ok-shift_block.ensures.unbroken;
       line = part_then c.loop-at.invariant.line c.shift_block.ensures.line;
@@ -51,5 +57,5 @@ pub returns-clause-made : goal.returns-clause-made
 returns-clause-made g c =
     let m = g.C.Cable in
     way_end m.board m.made g.met.C.Cable.both_made c.args.cable.now c.loop-at.cable _
-        (rw (none_in_list c.args.padding.now c.args.n c.loop-at.at c.args.last
-        (omega arith) c.requires.inside) at c.loop-at.invariant.way)
+    (rw (none_in_list c.args.padding.now c.args.n c.loop-at.at c.args.last
+    (omega arith) c.requires.inside) at c.loop-at.invariant.way)

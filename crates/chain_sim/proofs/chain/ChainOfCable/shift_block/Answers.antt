@@ -13,7 +13,9 @@ returns-clause-shifted g c =
     let d = g.D.Device in
     let is = block_inputs c.args.tdi c.args.n c.args.last in
     let old = c.args.self.now in
-    chain_shifted _ _ old _ is _
-    (refl, chain_run d.fitted d.kind_of (devices_of old) c.shift_all.new.rack.items
-        (chain_places old) is c.shift_all.ensures.kinds c.shift_all.ensures.others c.shift_all.ensures.cards)
+    chain_shifted _ _ old _ is _ (
+      refl,
+      chain_run d.fitted d.kind_of (devices_of old) c.shift_all.new.rack.items
+          (chain_places old) is c.shift_all.ensures.kinds c.shift_all.ensures.others c.shift_all.ensures.cards,
+    )
     c.shift_all.ensures.cards c.shift_all.ensures.tdo
