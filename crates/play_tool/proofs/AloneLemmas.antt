@@ -14,7 +14,6 @@ use Rattle.stapl_meaning.specs.Plays.{Run, play}
 use Rattle.stapl_meaning.specs.Texts.{events_text, ending_line, far_report, asked_report, text_of}
 use Rattle.dev_card.specs.declared.desc.Desc.{Desc}
 use Rattle.dev_card.specs.Card.{fresh}
-use Rattle.dev_card.specs.Padding.{base_lengths}
 use Rattle.dev_card.specs.Descriptions.{IsGood}
 use Rattle.dev_card.specs.FarEnds.{FarEnd, Told, Heard}
 use Rattle.dev_card.specs.Reports.{report_of}
@@ -30,7 +29,7 @@ use Rattle.play_tool.specs.declared.mode.Mode.TheVariants.{Play}
 use Rattle.play_tool.specs.declared.status.Status.{Status}
 use Rattle.play_tool.specs.declared.words.Request.{Request}
 use Rattle.play_tool.specs.Words.{reads_text, soaks}
-use Rattle.play_tool.specs.Answers.{done_with, has_place, reported_far, asked_text, Plays, no_action, bad_choice, bad_place, played, play_on, PlaysAction, PlaysAsked, Work, TextAnswer, FileAnswer, Contents, WordsAnswer}
+use Rattle.play_tool.specs.Answers.{done_with, has_place, reported_far, asked_text, Plays, no_action, bad_choice, bad_place, played, play_on, PlaysAction, PlaysAsked, Work, TextAnswer, FileAnswer, Contents, WordsAnswer, base_at}
 use Rattle.play_tool.specs.Boards.{HasBoard}
 use Rattle.play_tool.specs.Alone.{alone_request, IsQuietAlone, PlaysAlone}
 use Rattle.play_tool.proofs.AnswerLemmas.{answers_work, asked_plays, source_to_text}
@@ -101,7 +100,7 @@ module _ (request : Request) (place : ℕ) (devices : List Desc) (device : Desc)
   same_run : (chosen_now : List ℕ) → chosen_now ≡ procedures →
       IsSameText (place - 1) 1 (play_on program request devices chosen_now) (play_on program (alone_request request) (device ∷ []) chosen_now)
   same_run chosen_now e =
-      subst (λ (p : Option ℕ). IsSameText (place - 1) 1 (play program chosen_now request.turns (base_lengths devices p) (Told (map fresh devices))) (play_on program (alone_request request) (device ∷ []) chosen_now)) (sym for_one)
+      subst (λ (p : Option ℕ). IsSameText (place - 1) 1 (play program chosen_now request.turns (base_at devices p) (Told (map fresh devices))) (play_on program (alone_request request) (device ∷ []) chosen_now)) (sym for_one)
       (text_of_place program chosen_now devices place device request.turns request.turns good (is_counted place (length devices) placed) at_place
       (subst (λ (ps : List ℕ). IsQuietPlay program ps request.turns (device ∷ [])) (sym e) quiet) (omega arith))
 

@@ -24,7 +24,6 @@ use Rattle.stapl_player.proofs.ChoiceLemmas.{found_below}
 use Rattle.dev_card.specs.declared.desc.Desc.{Desc}
 use Rattle.dev_card.specs.Card.{fresh}
 use Rattle.dev_card.specs.FarEnds.{Told}
-use Rattle.dev_card.specs.Padding.{base_lengths}
 use Rattle.board_text.specs.declared.reason.BoardReason.{BoardReason}
 use Rattle.board_text.specs.Boards.{IsBoard, IsFirstFault}
 use Rattle.play_tool.specs.declared.mode.Mode.{Mode}
@@ -34,7 +33,7 @@ use Rattle.play_tool.specs.declared.status.Status.TheVariants as statuses
 use Rattle.play_tool.specs.declared.words.Request.{Request}
 use Rattle.play_tool.specs.Texts.{refusal_line, board_refusal_line}
 use Rattle.play_tool.specs.CodePlays.{HasEnding}
-use Rattle.play_tool.specs.Answers.{done_with, has_place, asked_text, Plays, played, bad_place, code_play_on, PlaysCodeAction, PlaysAction, PlaysAsked, Work, TextAnswer, refused, accepted, RequestAnswer}
+use Rattle.play_tool.specs.Answers.{done_with, has_place, asked_text, Plays, played, bad_place, code_play_on, PlaysCodeAction, PlaysAction, PlaysAsked, Work, TextAnswer, refused, accepted, RequestAnswer, base_at}
 use Rattle.play_tool.specs.Answers as answers
 use Rattle.play_tool.proofs.CodeLemmas.{zeros_of_code_fit}
 use Rattle.play_tool.proofs.PlayLemmas.{has_ending}
@@ -65,7 +64,7 @@ module _ (never : NeverStuck) (code : CodeLists) (ranges : IsInRange code) (vali
       (never code ranges valid procedures
       (chosen_below code.procedures request.todo request.skip (length code.procedures) (find (λ (a : ActionDef). bytes_eq action a.name) code.actions) procedures
       (λ found is. found_below (λ (a : ActionDef). bytes_eq action a.name) code.procedures request.todo request.skip (length code.procedures) code.actions found ranges.actions.each is) e)
-      (zeros_of_code code) (zeros_of_code_fit code ranges) request.turns (chain_reset (base_lengths devices request.place) (Told (map fresh devices))) refl)
+      (zeros_of_code code) (zeros_of_code_fit code ranges) request.turns (chain_reset (base_at devices request.place) (Told (map fresh devices))) refl)
 
   play_answered : (choice : Choice) (placed : Bool) → ((procedures : List ℕ) → choice ≡ chosen procedures → HasEnding (code_play_on code request devices procedures)) →
       HasAnswer (Plays choice placed (code_play_on code request devices) request)

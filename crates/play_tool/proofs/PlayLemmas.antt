@@ -29,7 +29,6 @@ use Rattle.stapl_machine.specs.Zeros.{zero_of, zeros_of_code}
 use Rattle.stapl_machine.specs.Machines.{play_of}
 use Rattle.dev_card.specs.declared.desc.Desc.{Desc}
 use Rattle.dev_card.specs.declared.desc.Kind.{Kind}
-use Rattle.dev_card.specs.Padding.{base_lengths}
 use Rattle.dev_card.specs.Card.{Card, fresh}
 use Rattle.dev_card.specs.Board.{Clock, board_after}
 use Rattle.dev_card.specs.FarEnds.{FarEnd, Told, far_end}
@@ -48,7 +47,7 @@ use Rattle.play_tool.specs.declared.status.Status.{Status}
 use Rattle.play_tool.specs.declared.status.Status.TheVariants.{NoAction, BadChoice, BadPlace}
 use Rattle.play_tool.specs.Written.{Wrote, WroteFront, IsPrefixOf}
 use Rattle.play_tool.specs.declared.words.Request.{Request}
-use Rattle.play_tool.specs.Answers.{done_with, reported_far, asked_text, Plays, no_action, bad_choice, bad_place, played, play_on, code_play_on}
+use Rattle.play_tool.specs.Answers.{done_with, reported_far, asked_text, Plays, no_action, bad_choice, bad_place, played, play_on, code_play_on, base_at}
 use Rattle.play_tool.specs.CodePlays.{NeverRises, HasEnding, run_text, RunWritten, RunFront, PutsRunFront, IsPlayOf}
 use Rattle.play_tool.specs.Finals.{far_at, AreLeft}
 
@@ -80,7 +79,7 @@ ending_placed place Stopped = refl
 pub code_run : {program : Played} {choice : Choice} (request : Request) (devices : List Desc) (code : CodeLists) (procedures : List ℕ) → IsCodeOf program code → choice ≡ chosen procedures →
     IsPlayOf choice true (play_on program request devices) (code_play_on code request devices procedures)
 code_run {program = program} request devices code procedures is e =
-    let base = base_lengths devices request.place in let turns = request.turns in
+    let base = base_at devices request.place in let turns = request.turns in
     let k = chain_reset base (Told (map fresh devices)) in let source = procedures_run program procedures turns k in
     let same : play_of code procedures turns k ≡ placed_run (start_of program) source = rw (same_zeros program code is) (is.stands procedures turns k) in
     record {

@@ -1,5 +1,6 @@
 -- What the tool answers: a text and a status, by the words and the files. It is defined where the files are held that
 -- are read before the answer is found: the board first, and the program after a board that is right.
+use Rattle.std.specs.Option.{option_map}
 use Rattle.std.specs.Prelude.{◌≡◌, ◌&&◌, ◌-◌, ◌==◌, ℕ, pos, Bool, true, false, nat_le, List, [], ◌++◌, length, take, drop, map, count_by, codes, Option, None, Some}
 use Rattle.stapl_lexer.specs.declared.reason.Reason.{Reason}
 use Rattle.stapl_syntax.specs.Trees.{StmtTree}
@@ -23,7 +24,7 @@ use Rattle.soak_texts.specs.Soak.{soak_program}
 use Rattle.dev_card.specs.declared.desc.Desc.{Desc}
 use Rattle.dev_card.specs.Card.{fresh}
 use Rattle.dev_card.specs.FarEnds.{FarEnd, Told, Heard}
-use Rattle.dev_card.specs.Padding.{base_lengths}
+use Rattle.dev_card.specs.Padding.{BaseLengths, base_lengths, only}
 use Rattle.board_text.specs.declared.reason.BoardReason.{BoardReason}
 use Rattle.play_tool.specs.declared.mode.Mode.{Mode}
 use Rattle.play_tool.specs.declared.mode.Mode.TheVariants as modes
@@ -46,6 +47,10 @@ done_with endings.Spent = Spent
 abbrev pub has_place : Option ℕ → List Desc → Bool
 has_place None devices = true
 has_place (Some place) devices = nat_le 1 place && nat_le place (length devices)
+
+-- base padding around the device at the place if one is named, and none else
+abbrev pub base_at : List Desc → Option ℕ → BaseLengths
+base_at devices place = base_lengths devices (option_map only place)
 
 -- what of a far end is reported: the device at the place if one is named, else all devices
 abbrev pub reported_far : Option ℕ → FarEnd → FarEnd
@@ -71,7 +76,7 @@ pub data Plays (choice : Choice) (placed : Bool) (plays : List ℕ → Run) (req
 -- The play of chosen procedures that a request asks for, on a board of these devices after power-up: for at most its
 -- turns, and with base padding around the device at its place, if it names one.
 abbrev pub play_on : Played → Request → List Desc → List ℕ → Run
-play_on program request devices chosen = play program chosen request.turns (base_lengths devices request.place) (Told (map fresh devices))
+play_on program request devices chosen = play program chosen request.turns (base_at devices request.place) (Told (map fresh devices))
 
 -- The play of the action of this name on a board of these devices, if the request asks for these names and leaves these
 -- out.
@@ -112,7 +117,7 @@ pub data TextAnswer (request : Request) (devices : List Desc) (bytes : List ℕ)
 
 -- The play of chosen procedures of a code that a request asks for, on a board of these devices after power-up.
 abbrev pub code_play_on : CodeLists → Request → List Desc → List ℕ → Run
-code_play_on code request devices chosen = whole_play code chosen request.turns (base_lengths devices request.place) (Told (map fresh devices))
+code_play_on code request devices chosen = whole_play code chosen request.turns (base_at devices request.place) (Told (map fresh devices))
 
 -- the play of the action of this name in a code
 abbrev pub PlaysCodeAction : CodeLists → List ℕ → Request → List Desc → (List ℕ → Status → Type 0)

@@ -6,7 +6,7 @@ use Rattle.tool_io.specs.declared.lines.Lines.{Lines}
 use Rattle.tool_io.specs.Lines.{PutsFront}
 use Rattle.dev_card.specs.Card.{fresh}
 use Rattle.dev_card.specs.Board.{Clock}
-use Rattle.dev_card.specs.Padding.{BaseLengths, base_lengths}
+use Rattle.dev_card.specs.Padding.{BaseLengths}
 use Rattle.dev_card.specs.FarEnds.{FarEnd, Told}
 use Rattle.stapl_meaning.specs.declared.events.Ending.{Ending}
 use Rattle.stapl_meaning.specs.Choices.{Choice, chosen}
@@ -15,11 +15,11 @@ use Rattle.stapl_code.specs.declared.raw.CodeLists.{CodeLists}
 use Rattle.stapl_player.specs.Plays.{whole_play}
 use Rattle.play_tool.specs.declared.playing.Task.{Task}
 use Rattle.play_tool.specs.declared.words.Request.{Request}
-use Rattle.play_tool.specs.Answers.{asked_text}
+use Rattle.play_tool.specs.Answers.{asked_text, base_at}
 
 -- the base padding that a task asks for
 abbrev pub task_base : Task → BaseLengths
-task_base task = base_lengths task.devices.now task.request.now.place
+task_base task = base_at task.devices.now task.request.now.place
 
 -- the play of a code that a task asks for, at a far end
 abbrev pub far_play : CodeLists → List ℕ → Task → FarEnd → Run

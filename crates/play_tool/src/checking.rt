@@ -15,8 +15,8 @@ ghost use Rattle.play_tool.specs.Checks.{has_kind, count_of, block_counts, count
 use crate::Status;
 use crate::status::NoAnswer;
 use crate::writing::put_labelled;
+use dev_card::hex_byte;
 use stapl_lexer::{LexRefused, Token, crc_of, cut, tokens};
-use stapl_machine::hex_byte;
 use stapl_syntax::{Body, Stmt};
 use std::alloc::{AllocError, Global};
 use tool_io::{Failed, Lines, Sink};

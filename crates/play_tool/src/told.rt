@@ -47,7 +47,7 @@ fn base_of(task: &Task) -> BasePads
     ensures { lengths_of result ≡ task_base task.now }
 {
     match task.request.place {
-        Some(place) => base_pads(task.devices, place),
+        Some(place) => base_pads(task.devices, place, place),
         None => BasePads::none(),
     }
 }

@@ -115,7 +115,8 @@ all_of (Some (held.Bits bs)) = ap (λ (l : List Bool). let g : Got (List Bool) =
 
 -- the bits of a source
 pub whole_bits : (variables : List Held) (n : ℕ) →
-    source_bits variables (Whole n) [] ≡ then_get (part_held (slice_get variables n) whole_span) (λ span. Known (taken span.low span.count (bits_in (slice_get variables n))))
+    source_bits variables (Whole n) [] ≡ then_get (part_held (slice_get variables n) whole_span)
+    (λ span. Known (taken span.low span.count (bits_in (slice_get variables n))))
 whole_bits variables n = all_of (slice_get variables n)
 
 pub range_bits : (variables : List Held) (n : ℕ) (high low : Value) →
@@ -133,7 +134,8 @@ asked_taken : (n low count : ℕ) (bits : List Bool) → low + count ≤ length 
 asked_taken n low count bits h =
     let len : length (taken low count bits) ≡ count = length-take-le count (drop low bits) (omega (arith, length-drop low bits)) in
     ap (λ m. passed (nat_le n m) LengthMismatch (take n (taken low count bits))) len
-    ∙ passed_same (nat_le n count) LengthMismatch (take n (taken low count bits)) (taken low n bits) (λ e. take-take n count (drop low bits) (leb-true n count e))
+    ∙ passed_same (nat_le n count) LengthMismatch (take n (taken low count bits)) (taken low n bits)
+    (λ e. take-take n count (drop low bits) (leb-true n count e))
 
 asked_integer : (n : ℕ) (z : ℤ) → asked OfInt n (bits_of_int z) ≡ passed (nat_le n 32) LengthMismatch (take n (bits_of_int z))
 asked_integer n z = ap (λ m. passed (nat_le n m) LengthMismatch (take n (bits_of_int z))) (length-low_bits 32 (cast_unsigned w32 z))
@@ -143,11 +145,14 @@ part_inside None span h = absurd h
 part_inside (Some array) span h = h.inside
 
 -- what an instruction that copies does
-module _ (dest : Dest) (vs : List Value) (part : Part) (chosen : List ℕ) (records : List Record) (ir dr : ScanSettings) (variables : List Held) (found : IsFound variables (array_of dest) (dest_span dest vs) part) where
+module _ (dest : Dest) (vs : List Value) (part : Part) (chosen : List ℕ) (records : List Record) (ir dr : ScanSettings)
+    (variables : List Held) (found : IsFound variables (array_of dest) (dest_span dest vs) part) where
   pub copied_integer : (v : Value) → behind_dest dest vs ≡ v ∷ [] →
-      copied (target_of dest) OfInt vs (state_with chosen records ir dr variables) ≡ bits_put variables part (state_with chosen records ir dr variables) (integer_asked part v)
+      copied (target_of dest) OfInt vs (state_with chosen records ir dr variables) ≡ bits_put variables part
+      (state_with chosen records ir dr variables) (integer_asked part v)
   copied_integer (Int z) e =
-      copied_at dest OfInt vs (Int z ∷ []) part (state_with chosen records ir dr variables) found e ∙ ap (bits_put variables part (state_with chosen records ir dr variables)) (asked_integer part.span.count z)
+      copied_at dest OfInt vs (Int z ∷ []) part (state_with chosen records ir dr variables) found e
+      ∙ ap (bits_put variables part (state_with chosen records ir dr variables)) (asked_integer part.span.count z)
   copied_integer (Bit b) e = copied_at dest OfInt vs (Bit b ∷ []) part (state_with chosen records ir dr variables) found e
 
   -- the bits of a part of an array
@@ -155,7 +160,8 @@ module _ (dest : Dest) (vs : List Value) (part : Part) (chosen : List ℕ) (reco
     abbrev bits_there : List Bool
     bits_there = taken from.span.low from.span.count (bits_in (slice_get variables from.array))
 
-    known_bits : then_get (part_held (slice_get variables n) spans) (λ span. Known (taken span.low span.count (bits_in (slice_get variables n)))) ≡ Known bits_there
+    known_bits : then_get (part_held (slice_get variables n) spans)
+        (λ span. Known (taken span.low span.count (bits_in (slice_get variables n)))) ≡ Known bits_there
     known_bits =
         ap (λ g. then_get g (λ span. Known (taken span.low span.count (bits_in (slice_get variables n))))) is.span
         ∙ ap (λ (m : ℕ). let g : Got (List Bool) = Known (taken from.span.low from.span.count (bits_in (slice_get variables m))) in g) (sym is.array)
@@ -166,14 +172,18 @@ module _ (dest : Dest) (vs : List Value) (part : Part) (chosen : List ℕ) (reco
         (part_inside (slice_get variables from.array) from.span is.is_part.has)
 
   pub copied_whole : (n : ℕ) (from : Part) → IsFound variables n whole_span from → behind_dest dest vs ≡ [] →
-      copied (target_of dest) (Whole n) vs (state_with chosen records ir dr variables) ≡ bits_put variables part (state_with chosen records ir dr variables) (part_asked variables part from)
+      copied (target_of dest) (Whole n) vs (state_with chosen records ir dr variables) ≡ bits_put variables part
+      (state_with chosen records ir dr variables) (part_asked variables part from)
   copied_whole n from is e =
       copied_at dest (Whole n) vs [] part (state_with chosen records ir dr variables) found e
-      ∙ ap (λ g. then_get g (λ bits. bits_put variables part (state_with chosen records ir dr variables) (asked (Whole n) part.span.count bits))) (whole_bits variables n ∙ known_bits n whole_span from is)
+      ∙ ap (λ g. then_get g
+      (λ bits. bits_put variables part (state_with chosen records ir dr variables)
+      (asked (Whole n) part.span.count bits))) (whole_bits variables n ∙ known_bits n whole_span from is)
       ∙ ap (bits_put variables part (state_with chosen records ir dr variables)) (asked_there n whole_span from is)
 
   pub copied_range : (n : ℕ) (high low : Value) (from : Part) → IsFound variables n (range_span high low) from → behind_dest dest vs ≡ high ∷ low ∷ [] →
-      copied (target_of dest) (Range n) vs (state_with chosen records ir dr variables) ≡ bits_put variables part (state_with chosen records ir dr variables) (part_asked variables part from)
+      copied (target_of dest) (Range n) vs (state_with chosen records ir dr variables) ≡ bits_put variables part
+      (state_with chosen records ir dr variables) (part_asked variables part from)
   copied_range n high low from is e =
       copied_at dest (Range n) vs (high ∷ low ∷ []) part (state_with chosen records ir dr variables) found e
       ∙ ap (λ g. then_get g (λ bits. bits_put variables part (state_with chosen records ir dr variables) (asked (Range n) part.span.count bits)))
@@ -181,7 +191,8 @@ module _ (dest : Dest) (vs : List Value) (part : Part) (chosen : List ℕ) (reco
       ∙ ap (bits_put variables part (state_with chosen records ir dr variables)) (asked_there n (range_span high low) from is)
 
 -- bits go into a part of a variable where it lies
-pub part_put : (variables : List Held) (part : Part) (bits : List Bool) (old new : Held) → part.array < length variables → old ≡ get_or variables part.array old →
+pub part_put : (variables : List Held) (part : Part) (bits : List Bool) (old new : Held) →
+    part.array < length variables → old ≡ get_or variables part.array old →
     new ≡ with_bits old part.span bits → slice_set variables part.array new ≡ with_part variables part bits
 part_put variables part bits old new inside old_is e =
     let at = item_at variables part.array old inside old_is in
@@ -189,19 +200,23 @@ part_put variables part bits old new inside old_is e =
     (e ∙ ap (λ (b : List Bool). let h : Held = held.Bits (spliced part.span.low bits b) in h) (sym (ap bits_in at)))
 
 -- bits of the same array go into a part of it
-pub moved_put : (variables : List Held) (part : Part) (from low : ℕ) (old new : Held) → part.array < length variables → part.array ≡ from → old ≡ get_or variables part.array old →
+pub moved_put : (variables : List Held) (part : Part) (from low : ℕ) (old new : Held) → part.array < length variables →
+    part.array ≡ from → old ≡ get_or variables part.array old →
     new ≡ with_bits old part.span (taken low part.span.count (bits_of old)) →
     slice_set variables part.array new ≡ with_part variables part (taken low part.span.count (bits_in (slice_get variables from)))
 moved_put variables part from low old new inside same old_is e =
     let at = item_at variables part.array old inside old_is in
     part_put variables part (taken low part.span.count (bits_of old)) old new inside old_is e
-    ∙ ap (λ (b : List Bool). with_part variables part (taken low part.span.count b)) (sym (ap bits_in at) ∙ ap (λ (n : ℕ). bits_in (slice_get variables n)) same)
+    ∙ ap (λ (b : List Bool). with_part variables part (taken low part.span.count b)) (sym (ap bits_in at)
+    ∙ ap (λ (n : ℕ). bits_in (slice_get variables n)) same)
 
 -- a variable that was taken out is put back, with bits of another one
-pub other_put : (variables : List Held) (part : Part) (from low : ℕ) (taken_out old new there : Held) → part.array < length variables → from < length variables → part.array ≢ from →
+pub other_put : (variables : List Held) (part : Part) (from low : ℕ) (taken_out old new there : Held) →
+    part.array < length variables → from < length variables → part.array ≢ from →
     old ≡ get_or variables part.array old → there ≡ get_or (slice_set variables part.array taken_out) from there →
     new ≡ with_bits old part.span (taken low part.span.count (bits_of there)) →
-    slice_set (slice_set variables part.array taken_out) part.array new ≡ with_part variables part (taken low part.span.count (bits_in (slice_get variables from)))
+    slice_set (slice_set variables part.array taken_out) part.array new ≡ with_part variables part
+    (taken low part.span.count (bits_in (slice_get variables from)))
 other_put variables part from low taken_out old new there inside within other old_is there_is e =
     let at_part = item_at variables part.array old inside old_is in
     let at_from = item_at variables from there within (there_is ∙ get_or-set_other variables part.array from taken_out there (λ q. other (sym q))) in
@@ -209,15 +224,21 @@ other_put variables part from low taken_out old new there inside within other ol
     ∙ ap (λ (h : Held). slice_set variables part.array h)
     (e
     ∙ ap (λ (b : List Bool). let h : Held = held.Bits (spliced part.span.low (taken low part.span.count b) (bits_of old)) in h) (sym (ap bits_in at_from))
-    ∙ ap (λ (b : List Bool). let h : Held = held.Bits (spliced part.span.low (taken low part.span.count (bits_in (slice_get variables from))) b) in h) (sym (ap bits_in at_part)))
+    ∙ ap (λ (b : List Bool). let h : Held =
+    held.Bits (spliced part.span.low (taken low part.span.count (bits_in (slice_get variables from))) b) in h)
+    (sym (ap bits_in at_part)))
 
 -- the bits of an integer went into a part of an array
-pub integer_put : (part : Part) (v : Value) (z w : ℤ) (variables new : List Held) (chosen : List ℕ) (records : List Record) (ir dr : ScanSettings) → v ≡ Int z → w ≡ z → part.span.count ≤ 32 →
+pub integer_put : (part : Part) (v : Value) (z w : ℤ) (variables new : List Held) (chosen : List ℕ)
+    (records : List Record) (ir dr : ScanSettings) → v ≡ Int z → w ≡ z → part.span.count ≤ 32 →
     new ≡ with_part variables part (take part.span.count (bits_of_int w)) →
-    does (bits_put variables part (state_with chosen records ir dr variables) (integer_asked part v)) ≡ Known (Does (Falls [] (state_with chosen records ir dr new)))
+    does (bits_put variables part (state_with chosen records ir dr variables) (integer_asked part v))
+    ≡ Known (Does (Falls [] (state_with chosen records ir dr new)))
 integer_put part v z w variables new chosen records ir dr is same few put =
     let fits : nat_le part.span.count 32 ≡ true = grind (arith, nat_tests, few) in
     ap (λ x. does (bits_put variables part (state_with chosen records ir dr variables) (integer_asked part x))) is
-    ∙ ap (λ (b : Bool). does (bits_put variables part (state_with chosen records ir dr variables) (passed b LengthMismatch (take part.span.count (bits_of_int z))))) fits
+    ∙ ap (λ (b : Bool). does
+    (bits_put variables part (state_with chosen records ir dr variables)
+    (passed b LengthMismatch (take part.span.count (bits_of_int z))))) fits
     ∙ ap (λ l. let g : Got Made = Known (Does (Falls [] (state_with chosen records ir dr l))) in g)
     (sym (put ∙ ap (λ (x : ℤ). with_part variables part (take part.span.count (bits_of_int x))) same))

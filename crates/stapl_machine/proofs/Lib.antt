@@ -18,3 +18,4 @@ pub mod DeedLemmas
 pub mod ResetLemmas
 pub mod PlayLemmas
 pub mod BlockLemmas
+pub mod RoomLemmas

@@ -107,17 +107,6 @@ module _ {C O : Type 0} (breakage : PinCable C O → Breakage) (board : C → Op
     ticked = λ more. n (port_chain board a more);
   }
 
-  -- what is left, by another name
-  pub runs_same : (a b : PinCable C O) (all rest other : Chain → Run) (count left counted : Chain → ℕ) (steps now : ℕ) → ((k : Chain) → rest k ≡ other k) → ((k : Chain) → left k ≡ counted k) →
-      Runs breakage board makes shown all count a steps rest left b now → Runs breakage board makes shown all count a steps other counted b now
-  runs_same a b all rest other count left counted steps now e n r = record {
-    events = r.events;
-    clocks = r.clocks;
-    passed = r.passed;
-    runs = λ more. r.runs more ∙ ap (after r.events) (e (port_chain board b more));
-    ticked = λ more. ap (λ (m : ℕ). now + m) (sym (n (port_chain board b more))) ∙ r.ticked more;
-  }
-
   -- the whole, by another name
   pub to_same : (a b : PinCable C O) (all other : Chain → Run) (count counted : Chain → ℕ) (steps now : ℕ) (ending : Option Ending) (u : State) → ((k : Chain) → all k ≡ other k) → ((k : Chain) → count k ≡ counted k) →
       RunsTo breakage board makes shown all count a steps ending u b now → RunsTo breakage board makes shown other counted a steps ending u b now

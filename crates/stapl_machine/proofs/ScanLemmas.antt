@@ -24,15 +24,6 @@ use Rattle.stapl_machine.specs.declared.operate.Stop.{Stop}
 use Rattle.stapl_machine.specs.Exports.{literal_in}
 use Rattle.stapl_machine.specs.Jobs.{is_known, is_given_known, is_compare_known, is_scan_known, resolved, compare_resolved, scan_resolved, asked_at, IsOf}
 
--- a list of which all was replaced
-pub all_spliced : (n : ℕ) (part : List Bool) → length part ≡ n → spliced 0 part (replicate n false) ≡ part
-all_spliced n part e =
-    let none : drop (0 + length part) (replicate n false) ≡ [] = drop_all (0 + length part) (replicate n false) (omega (arith, e, length-replicate n false)) in
-    ap (λ l. take 0 (replicate n false) ++ part ++ l) none ∙ by part
-  where
-    by : (part : List Bool) → take 0 (replicate n false) ++ part ++ [] ≡ part
-    by part = append-nil part
-
 pub all_of_it : (bits : List Bool) → taken 0 (length bits) bits ≡ bits
 all_of_it bits = take_all (length bits) bits (omega arith)
 
@@ -55,14 +46,16 @@ agree_is : (mask expected bits : List Bool) → length expected ≡ length bits 
     (agree mask expected bits ≡ true) ↔ AgreeUnderMask mask (length bits) bits expected
 agree_is mask expected bits same_expected same_mask = (to mask expected bits same_expected same_mask, from mask expected bits same_expected same_mask)
   where
-    to : (mask expected bits : List Bool) → length expected ≡ length bits → length mask ≡ length bits → agree mask expected bits ≡ true → AgreeUnderMask mask (length bits) bits expected
+    to : (mask expected bits : List Bool) → length expected ≡ length bits → length mask ≡ length bits →
+        agree mask expected bits ≡ true → AgreeUnderMask mask (length bits) bits expected
     to [] [] [] p q e = λ i less. absurd (omega (arith, less))
     to (m ∷ mask) (x ∷ expected) (b ∷ bits) p q e =
         let both = and_parts (not m || beq b x) (agree mask expected bits) e in
         let more = to mask expected bits (omega (arith, p)) (omega (arith, q)) both.1 in
         by more both.0
       where
-        by : AgreeUnderMask mask (length bits) bits expected → (not m || beq b x) ≡ true → AgreeUnderMask (m ∷ mask) (suc (length bits)) (b ∷ bits) (x ∷ expected)
+        by : AgreeUnderMask mask (length bits) bits expected → (not m || beq b x) ≡ true →
+            AgreeUnderMask (m ∷ mask) (suc (length bits)) (b ∷ bits) (x ∷ expected)
         by more head zero less masked = alike_head m b x head masked
         by more head (suc i) less masked = more i (omega (arith, less)) masked
     to [] (x ∷ expected) bits p q e = absurd (omega (arith, p, q))
@@ -70,7 +63,8 @@ agree_is mask expected bits same_expected same_mask = (to mask expected bits sam
     to [] [] (b ∷ bits) p q e = absurd (omega (arith, p))
     to (m ∷ mask) (x ∷ expected) [] p q e = absurd (omega (arith, p))
 
-    from : (mask expected bits : List Bool) → length expected ≡ length bits → length mask ≡ length bits → AgreeUnderMask mask (length bits) bits expected → agree mask expected bits ≡ true
+    from : (mask expected bits : List Bool) → length expected ≡ length bits → length mask ≡ length bits →
+        AgreeUnderMask mask (length bits) bits expected → agree mask expected bits ≡ true
     from [] [] [] p q h = refl
     from (m ∷ mask) (x ∷ expected) (b ∷ bits) p q h =
         let more = from mask expected bits (omega (arith, p)) (omega (arith, q)) (λ i less masked. h (suc i) (omega (arith, less)) masked) in
@@ -138,7 +132,8 @@ compare_as literals (Some c) b e = by (is_known literals c.expected) refl (is_kn
     make : values.Source → values.Source → Got (Option CompareParts)
     make expected mask = Known (Some (record { expected = expected; mask = mask; cell = cell_part c.cell }))
 
-    by : (x : Bool) → is_known literals c.expected ≡ x → (y : Bool) → is_known literals c.mask ≡ y → (b : Bool) → (is_known literals c.expected && is_known literals c.mask) ≡ b →
+    by : (x : Bool) → is_known literals c.expected ≡ x → (y : Bool) → is_known literals c.mask ≡ y → (b : Bool) →
+        (is_known literals c.expected && is_known literals c.mask) ≡ b →
         then_get (known_source literals c.expected) (λ expected. then_get (known_source literals c.mask) (λ mask. make expected mask))
         ≡ (if b then Known (Some (compare_resolved literals c)) else Stuck)
     by true p true q b e =
@@ -156,7 +151,8 @@ compare_as literals (Some c) b e = by (is_known literals c.expected) refl (is_kn
         ap (λ g. then_get g (λ expected. then_get (known_source literals c.mask) (λ mask. make expected mask))) (known_as literals c.expected false p)
         ∙ ap (λ (x : Bool). if x then Known (Some (compare_resolved literals c)) else Stuck) both
 
-scan_as : (literals : List (List Bool)) (scan : Scan) (x y b : Bool) → is_known literals scan.source ≡ x → is_compare_known literals scan.compare ≡ y → (x && y) ≡ b →
+scan_as : (literals : List (List Bool)) (scan : Scan) (x y b : Bool) → is_known literals scan.source ≡ x →
+    is_compare_known literals scan.compare ≡ y → (x && y) ≡ b →
     known_scan literals scan ≡ (if b then Known (scan_resolved literals scan) else Stuck)
 scan_as literals scan x y b p q e =
     ap (λ g. then_get g (λ source. then_get (known_compare literals scan.compare) (λ compare. Known (made source compare)))) (known_as literals scan.source x p)
@@ -165,8 +161,10 @@ scan_as literals scan x y b p q e =
     made : values.Source → Option CompareParts → ScanParts
     made source compare = record { register = scan.register; source = source; target = option_map target_of scan.target; compare = compare }
 
-    by : (x y b : Bool) → (x && y) ≡ b → known_compare literals scan.compare ≡ (if y then Known (option_map (compare_resolved literals) scan.compare) else Stuck) →
-        then_get (if x then Known (resolved literals scan.source) else Stuck) (λ source. then_get (known_compare literals scan.compare) (λ compare. Known (made source compare)))
+    by : (x y b : Bool) → (x && y) ≡ b → known_compare literals scan.compare
+        ≡ (if y then Known (option_map (compare_resolved literals) scan.compare) else Stuck) →
+        then_get (if x then Known (resolved literals scan.source) else Stuck)
+        (λ source. then_get (known_compare literals scan.compare) (λ compare. Known (made source compare)))
         ≡ (if b then Known (scan_resolved literals scan) else Stuck)
     by true true true e r = ap (λ g. then_get g (λ compare. Known (made (resolved literals scan.source) compare))) r
     by true true false e r = absurd (true≢false e)
@@ -175,7 +173,8 @@ scan_as literals scan x y b p q e =
     by false y false e r = refl
     by false y true e r = absurd (true≢false (sym e))
 
-pub scan_known : (literals : List (List Bool)) (scan : Scan) → is_scan_known literals scan ≡ true → known_scan literals scan ≡ Known (scan_resolved literals scan)
+pub scan_known : (literals : List (List Bool)) (scan : Scan) → is_scan_known literals scan ≡ true →
+    known_scan literals scan ≡ Known (scan_resolved literals scan)
 scan_known literals scan e = scan_as literals scan (is_known literals scan.source) (is_compare_known literals scan.compare) true refl refl e
 
 pub scan_unknown : (literals : List (List Bool)) (scan : Scan) → is_scan_known literals scan ≡ false → known_scan literals scan ≡ Stuck
@@ -187,19 +186,14 @@ given_as literals None true e = refl
 given_as literals None false e = absurd (true≢false e)
 given_as literals (Some source) b e = ap (λ g. then_get g (λ from. Known (Some from))) (known_as literals source b e) ∙ by b
   where
-    by : (b : Bool) → then_get (if b then Known (resolved literals source) else Stuck) (λ from. Known (Some from)) ≡ (if b then Known (Some (resolved literals source)) else Stuck)
+    by : (b : Bool) → then_get (if b then Known (resolved literals source) else Stuck) (λ from. Known (Some from))
+        ≡ (if b then Known (Some (resolved literals source)) else Stuck)
     by true = refl
     by false = refl
 
-pub given_known : (literals : List (List Bool)) (source : Option Source) → is_given_known literals source ≡ true → known_given literals source ≡ Known (option_map (resolved literals) source)
+pub given_known : (literals : List (List Bool)) (source : Option Source) → is_given_known literals source ≡ true →
+    known_given literals source ≡ Known (option_map (resolved literals) source)
 given_known literals source e = given_as literals source true e
 
 pub given_unknown : (literals : List (List Bool)) (source : Option Source) → is_given_known literals source ≡ false → known_given literals source ≡ Stuck
 given_unknown literals source e = given_as literals source false e
-
--- all bits of a list of zeros were set to those of an integer
-pub integer_set : (n : ℕ) (z w : ℤ) (old new : List Bool) → w ≡ z → n ≤ 32 → old ≡ replicate n false → new ≡ spliced 0 (take n (bits_of_int w)) old →
-    new ≡ take n (bits_of_int z)
-integer_set n z w old new same few zeros is =
-    let enough : n ≤ length (bits_of_int z) = omega (arith, few, length-low_bits 32 (cast_unsigned w32 z)) in
-    is ∙ ap (λ (x : ℤ). spliced 0 (take n (bits_of_int x)) old) same ∙ ap (spliced 0 (take n (bits_of_int z))) zeros ∙ all_spliced n (take n (bits_of_int z)) (length-take-le n (bits_of_int z) enough)

@@ -1,6 +1,5 @@
--- A padding is all of its list.
-use Rattle.std.proofs.Common.{◌≡◌, ℕ, Bool, List, length, take, arith, ap, ◌∙◌}
-use Rattle.std.proofs.lemmas.List.{take_all}
+-- A scan by its plan.
+use Rattle.std.proofs.Common.{◌≡◌, ℕ, Bool, List, take, ap, ◌∙◌}
 use Rattle.stapl_lexer.specs.declared.terminal.Register.{Register}
 use Rattle.tap_states.specs.declared.Tap.{Tap}
 use Rattle.dev_card.specs.Scans.{BoardScan}
@@ -13,17 +12,15 @@ use Rattle.stapl_meaning.specs.States.{ScanSettings}
 use Rattle.stapl_meaning.specs.Scans.{is_instruction, scan_of}
 use Rattle.stapl_machine.specs.PadSettings.{settings_seen}
 
-pub all_taken : (n : ℕ) (bits : List Bool) → n ≡ length bits → take n bits ≡ bits
-all_taken n bits e = take_all n bits (omega (arith, e))
-
--- a scan by its plan is the scan by its settings, with the base padding of the plan
-pub same_scan : (base : BasePads) (register : Register) (settings : ScanSettings) (data_bits : List Bool) (ir : Bool) (n : ℕ) (stop : Tap) (pads : Pads) →
-    ir ≡ is_instruction register → n ≡ length data_bits → stop ≡ settings.stop → settings_seen pads settings.stop ≡ settings →
-    paths.scan_of (record { ir = ir; len = n; stop = stop; base = base }) data_bits pads ≡ based (lengths_of base) (scan_of register settings data_bits)
-same_scan base register settings data_bits ir n stop pads is_ir is_n is_stop is_pads =
+-- A scan by its plan is the scan by its settings, with the base padding of the plan. Its bits are the lowest ones of a
+-- longer list.
+pub same_scan : (base : BasePads) (register : Register) (settings : ScanSettings) (all data_bits : List Bool) (ir : Bool) (n : ℕ) (stop : Tap) (pads : Pads) →
+    ir ≡ is_instruction register → take n all ≡ data_bits → stop ≡ settings.stop → settings_seen pads settings.stop ≡ settings →
+    paths.scan_of (record { ir = ir; len = n; stop = stop; base = base }) all pads ≡ based (lengths_of base) (scan_of register settings data_bits)
+same_scan base register settings all data_bits ir n stop pads is_ir own is_stop is_pads =
     let made : Bool → ScanSettings → List Bool → BoardScan =
     λ ir s list. based (lengths_of base) (record { ir = ir; paddings = record { base_pre = 0; pre = s.pre; post = s.post; base_post = 0 }; bits = list; stop = s.stop }) in
-    ap (λ x. made x (settings_seen pads stop) (take n data_bits)) is_ir
-    ∙ ap (λ x. made (is_instruction register) (settings_seen pads x) (take n data_bits)) is_stop
-    ∙ ap (λ x. made (is_instruction register) x (take n data_bits)) is_pads
-    ∙ ap (λ x. made (is_instruction register) settings x) (all_taken n data_bits is_n)
+    ap (λ x. made x (settings_seen pads stop) (take n all)) is_ir
+    ∙ ap (λ x. made (is_instruction register) (settings_seen pads x) (take n all)) is_stop
+    ∙ ap (λ x. made (is_instruction register) x (take n all)) is_pads
+    ∙ ap (λ x. made (is_instruction register) settings x) own

@@ -20,3 +20,4 @@ pub mod Zeros
 pub mod Runs
 pub mod Machines
 pub mod Blocks
+pub mod Rooms

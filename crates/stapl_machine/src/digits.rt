@@ -1,5 +1,5 @@
 //! Digits that wait for their line.
-ghost use Rattle.std.specs.Prelude.{◌≡◌, ◌==◌, ◌<◌, ◌≤◌, ◌∷◌, ◌++◌, [], length};
+ghost use Rattle.std.specs.Prelude.{◌≡◌, ◌==◌, ◌+◌, ◌<◌, ◌≤◌, ◌∷◌, ◌++◌, [], length};
 ghost use Rattle.stapl_meaning.specs.Texts.{pin_limit};
 
 use std::marker::Model;
@@ -64,6 +64,23 @@ impl Digits {
     {
         let end = self.filled + 1;
         self.bytes[self.filled..end].copy_from_slice(&[digit]);
+        self.filled = end;
+    }
+
+    /// How many more digits fit.
+    pub fn room(&self) -> usize
+        ensures { length self.now + result ≡ pin_limit }
+    {
+        64 - self.filled
+    }
+
+    /// Adds digits, the first one first.
+    pub fn append(&mut self, line: &[u8])
+        requires { length self.old + length line.now ≤ pin_limit }
+        ensures { self.new ≡ self.old ++ line.now }
+    {
+        let end = self.filled + line.len();
+        self.bytes[self.filled..end].copy_from_slice(line);
         self.filled = end;
     }
 

@@ -12,14 +12,15 @@ use crate::effects::{Made, store};
 use crate::memory::Memory;
 use crate::operate::{Stop, sum};
 use crate::parts::held_at;
-use crate::records::{is_full, put};
+use crate::records::is_full;
 use stapl_meaning::{Held, Loop, Record, RunFault, Value};
 
 // A loop is put on top of the records, and its variable is set.
 fn begin(memory: &mut Memory, for_loop: Loop, first: i32) -> Result<Made, Stop>
-    ensures { (told : Told) (chosen : List ℕ) →
+    ensures made { (told : Told) (chosen : List ℕ) →
         IsMade result told (state_in chosen memory.old) (state_in chosen memory.new)
         (does (begun_loop for_loop first (state_in chosen memory.old))) }
+    ensures sure { IfErr result (λ stop. stop ≢ Stop.Memory) }
 {
     if for_loop.step == 0 {
         return Err(Stop::Fault(RunFault::ZeroStep));
@@ -30,15 +31,16 @@ fn begin(memory: &mut Memory, for_loop: Loop, first: i32) -> Result<Made, Stop>
     if !store(&mut memory.variables, for_loop.variable, Value::Int(first)) {
         return Err(Stop::Wrong);
     }
-    put(&mut memory.records, Record::Looped(for_loop))?;
+    memory.records.push(Record::Looped(for_loop));
     Ok(Made::On)
 }
 
 /// The loop of the variable of number n begins, from a first value, a limit and a step.
 pub fn begin_loop(memory: &mut Memory, n: u32, body: u32, values: &[Value]) -> Result<Made, Stop>
-    ensures { (told : Told) (chosen : List ℕ) →
+    ensures made { (told : Told) (chosen : List ℕ) →
         IsMade result told (state_in chosen memory.old) (state_in chosen memory.new)
         (does (looped n body values.now (state_in chosen memory.old))) }
+    ensures sure { IfErr result (λ stop. stop ≢ Stop.Memory) }
 {
     match values {
         [Value::Int(first), Value::Int(limit), Value::Int(step)] => {
@@ -121,7 +123,7 @@ fn go_round(memory: &mut Memory, found: Nearest, z: i32) -> Result<Made, Stop>
     ) {
         return Err(Stop::Wrong);
     }
-    memory.records.truncate(found.at + 1);
+    memory.records.keep_through(found.at);
     Ok(Made::Resume(found.for_loop.place))
 }
 
@@ -132,7 +134,7 @@ fn repeat_nearest(memory: &mut Memory, n: u32) -> Result<Made, Stop>
         (does (repeated n [] (state_in chosen memory.old))) }
     ensures sure { IfErr result (λ stop. stop ≢ Stop.Memory) }
 {
-    match find_loop(&memory.records, n) {
+    match find_loop(memory.records.as_slice(), n) {
         Some(found) => {
             let z = integer_held(&memory.variables, n)?;
             go_round(memory, found, z)

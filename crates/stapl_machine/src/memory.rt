@@ -5,32 +5,33 @@ ghost use Rattle.stapl_meaning.specs.Plays.{first_settings};
 ghost use Rattle.stapl_machine.specs.Acts.{IsUnused};
 ghost use Rattle.stapl_machine.specs.Zeros.{zero_of};
 
-use crate::records::RECORD_LIMIT;
+use crate::record_stack::RecordStack;
+use crate::scan_bits::ScanBits;
 use crate::settings::Settings;
 use crate::zeros::zeros;
-use bit_list::Bits;
 use stapl_code::VarDef;
-use stapl_meaning::{Held, Record};
+use stapl_meaning::Held;
 use std::alloc::{AllocError, Global};
 
 /// The bits of a scan: its data, those that it captures, as many, and if it compares, as many expected ones and as many
-/// of the mask. They are taken before the scan begins.
+/// of the mask. Each list has room for the longest scan from the beginning. The bits of a padding are data too until it
+/// is set.
 #[derive(Drop)]
 pub struct Shifted {
-    pub data: Bits,
-    pub captured: Bits,
-    pub expected: Bits,
-    pub mask: Bits,
+    pub data: ScanBits,
+    pub captured: ScanBits,
+    pub expected: ScanBits,
+    pub mask: ScanBits,
 }
 
 impl Shifted {
-    /// No bits.
+    /// No bits, and the memory for four of the longest scans.
     pub fn none(alloc: Global) -> Result<Shifted, AllocError> {
         Ok(Shifted {
-            data: Bits::zeros(alloc, 0)?,
-            captured: Bits::zeros(alloc, 0)?,
-            expected: Bits::zeros(alloc, 0)?,
-            mask: Bits::zeros(alloc, 0)?,
+            data: ScanBits::new(alloc)?,
+            captured: ScanBits::new(alloc)?,
+            expected: ScanBits::new(alloc)?,
+            mask: ScanBits::new(alloc)?,
         })
     }
 }
@@ -39,9 +40,8 @@ impl Shifted {
 /// of the data registers go, and the bits of the last scan.
 #[derive(Drop)]
 pub struct Memory {
-    pub alloc: Global,
     pub variables: Vec<Held>,
-    pub records: Vec<Record>,
+    pub records: RecordStack,
     pub text: Vec<u8>,
     pub ir: Settings,
     pub dr: Settings,
@@ -75,7 +75,7 @@ impl Memory {
         ensures unused { IfOk result IsUnused }
     {
         let scan = first_scan(alloc)?;
-        let Ok(records) = Vec::with_capacity(alloc, RECORD_LIMIT) else {
+        let Ok(records) = RecordStack::new(alloc) else {
             drop(scan);
             return Err(AllocError);
         };
@@ -86,7 +86,6 @@ impl Memory {
         };
         let (ir, dr, shifted) = scan;
         Ok(Memory {
-            alloc,
             variables,
             records,
             text: Vec::new(alloc),

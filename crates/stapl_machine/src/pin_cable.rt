@@ -1,26 +1,28 @@
 //! A cable whose clocks are written, and what a turn does over it.
-ghost use Rattle.std.specs.Prelude.{◌≡◌, ◌≢◌, ◌≤◌, ◌<◌, ◌+◌, ◌&&◌, ◌==◌, ◌∷◌, ◌++◌, [], true, false, length, List, OnOk, OnErr, IsTrue};
+ghost use Rattle.std.specs.Prelude.{◌≡◌, ◌≢◌, ◌≤◌, ◌<◌, ◌+◌, ◌&&◌, ◌==◌, ◌∷◌, ◌++◌, [], true, false, length, ℕ, List, OnOk, OnErr, IsTrue};
+ghost use Rattle.std.specs.Int.{bit_at};
 ghost use Rattle.base.specs.Bits.{bit_value};
 ghost use Rattle.tool_io.specs.Causes.{HasCause};
 ghost use Rattle.tap_states.specs.declared.Tap.TheVariants as taps;
 ghost use Rattle.tap_states.specs.Tap.{is_stable_state};
 ghost use Rattle.scan_paths.specs.Cables.{whole, line, pins, HasPartCause};
 ghost use Rattle.stapl_meaning.specs.declared.events.Event.TheVariants.{Print, Usec, Hertz};
-ghost use Rattle.stapl_meaning.specs.Texts.{pin_digit, pin_line, full_line, with_digit, event_line, bytes_of, waiting};
+ghost use Rattle.stapl_meaning.specs.Texts.{pin_digit, pin_line, full_line, with_digit, event_line, bytes_of, waiting, pin_limit};
 ghost use Rattle.scan_paths.specs.Scans.{lengths_of};
 ghost use Rattle.stapl_meaning.specs.Deeds.{Deed, Says, Goes, Stays, Scans, pulses};
 ghost use Rattle.stapl_meaning.specs.Scans.{is_instruction, scan_of};
 ghost use Rattle.stapl_code.specs.Safe.{constants_of};
 ghost use Rattle.stapl_machine.specs.Exports.{export_event};
 ghost use Rattle.stapl_machine.specs.Papers.{IsOverSame, Puts, PutsFront};
-ghost use Rattle.stapl_machine.specs.Blocks.{block_clocks};
+ghost use Rattle.stapl_machine.specs.Blocks.{block_clocks, lines_of_digits, with_digits};
 ghost use Rattle.stapl_machine.specs.Ports.{IsInStep, IsKept, Did, DidFront, DidScan};
 
 use crate::digits::Digits;
 use crate::effects::Export;
 use crate::paper::Paper;
+use crate::scan_bits::ScanBits;
 use crate::settings::Settings;
-use bit_list::Bits;
+use bit_lanes::pin_digits;
 use scan_paths::{BasePads, Cable, ScanPlan, move_to, scan, stay};
 use stapl_code::CodeLists;
 use stapl_lexer::Register;
@@ -84,15 +86,39 @@ fn note<O: Paper>(out: &mut O, digits: &mut Digits, digit: u8) -> Result<(), Fai
     Ok(())
 }
 
-// TMS at clock i of n: 1 at the last one, where the block is so marked.
-fn ends_at(last: bool, i: u32, n: u32) -> bool
-    requires { i < n }
-    ensures { result ≡ (last && (i + 1 == n)) }
+// TMS of a block of n clocks: 1 at the last one, if the block is so marked.
+fn block_tms(n: u32, last: bool) -> u64
+    requires some { 1 ≤ n }
+    requires most { n ≤ 64 }
+    ensures { (i : ℕ) → i < n → bit_at result i ≡ bit_value (last && (i + 1 == n)) }
 {
-    last && i + 1 == n
+    if last { 1u64 << (n - 1) } else { 0 }
 }
 
-// Notes the clocks of a block, one after another.
+// Adds digits, of which there are at most 64, and puts the line that becomes full before the last of them.
+fn note_line<O: Paper>(out: &mut O, digits: &mut Digits, line: &[u8]) -> Result<(), Failed>
+    requires whole { O.failed out.old ≡ false }
+    requires most { length line.now ≤ pin_limit }
+    ensures same { IsOverSame O.shown out.old out.new }
+    ensures whole { OnOk result (O.failed out.new ≡ false) }
+    ensures ok { OnOk result (Puts O.shown out.old (lines_of_digits digits.old line.now) out.new) }
+    ensures digits { OnOk result (digits.new ≡ with_digits digits.old line.now) }
+    ensures front { OnErr result (PutsFront O.shown out.old (lines_of_digits digits.old line.now) out.new) }
+    ensures cause { HasCause O.faults O.is_last out.old out.new result }
+{
+    let room = digits.room();
+    if line.len() <= room {
+        digits.append(line);
+        return Ok(());
+    }
+    digits.append(&line[..room]);
+    out.put_pins(digits.bytes())?;
+    digits.clear();
+    digits.append(&line[room..]);
+    Ok(())
+}
+
+// Notes the clocks of a block.
 fn note_block<O: Paper>(
     out: &mut O,
     digits: &mut Digits,
@@ -102,6 +128,8 @@ fn note_block<O: Paper>(
     last: bool,
 ) -> Result<(), Failed>
     requires whole { O.failed out.old ≡ false }
+    requires some { 1 ≤ n }
+    requires most { n ≤ 64 }
     ensures same { IsOverSame O.shown out.old out.new }
     ensures whole { OnOk result (O.failed out.new ≡ false) }
     ensures ok { OnOk result (Puts O.shown out.old
@@ -111,18 +139,9 @@ fn note_block<O: Paper>(
         (bytes_of true digits.old (pulses (block_clocks tdi tdo n last))) out.new) }
     ensures cause { HasCause O.faults O.is_last out.old out.new result }
 {
-    let mut rest = tdi;
-    let mut seen = tdo;
-    for i in 0..n {
-        note(
-            out,
-            digits,
-            digit(ends_at(last, i, n), rest % 2 == 1, seen % 2 == 1),
-        )?;
-        rest /= 2;
-        seen /= 2;
-    }
-    Ok(())
+    let mut line = [0u8; 64];
+    pin_digits(block_tms(n, last), tdi, tdo, n, &mut line);
+    note_line(out, digits, &line[..n as usize])
 }
 
 impl<'a, C: Cable, O: Paper> PinCable<'a, C, O> {
@@ -314,8 +333,8 @@ impl<C: Cable, O: Paper> PinCable<'_, C, O> {
         &mut self,
         register: Register,
         settings: &Settings,
-        bits: &Bits,
-        captured: &mut Bits,
+        bits: &ScanBits,
+        captured: &mut ScanBits,
     ) -> Result<(), Failed>
         requires whole { port_breakage C.breakage O.failed self.old ≡ whole }
         requires in_step { IsInStep C.board self.old }
@@ -340,7 +359,14 @@ impl<C: Cable, O: Paper> PinCable<'_, C, O> {
             base: self.base,
         };
         let at = self.tap;
-        let _state = scan(self, at, plan, bits, captured, settings.pads())?;
+        let _state = scan(
+            self,
+            at,
+            plan,
+            bits.as_bits(),
+            &mut captured.room,
+            settings.pads(),
+        )?;
         self.tap = plan.stop;
         Ok(())
     }

@@ -1,5 +1,5 @@
 //! What instructions make of the record stack: values, calls and loops.
-ghost use Rattle.std.specs.Prelude.{◌≡◌, ◌≢◌, ◌∷◌, IfErr, OnOk, List, ℕ, length, reverse, nat_lt, not};
+ghost use Rattle.std.specs.Prelude.{◌≡◌, ◌≢◌, IfErr, List, ℕ, length, reverse, nat_lt, not};
 ghost use Rattle.stapl_meaning.specs.declared.records.Record.{Record};
 ghost use Rattle.stapl_meaning.specs.declared.values.Held.{Held};
 ghost use Rattle.stapl_meaning.specs.Effects.{record_limit, with_records, number_of, value_as, pushed, topmost, called, returned_from, returned};
@@ -10,27 +10,14 @@ ghost use Rattle.stapl_machine.specs.Records.{returns_to};
 
 use crate::effects::Made;
 use crate::operate::Stop;
+use crate::record_stack::{RECORD_LIMIT, RecordStack};
 use stapl_meaning::{Record, RunFault, Value, ValueKind};
 
-/// How many records the stack may hold.
-pub const RECORD_LIMIT: usize = 16_384;
-
 /// Whether there is no room for one more record.
-pub fn is_full(records: &Vec<Record>) -> bool
+pub fn is_full(records: &RecordStack) -> bool
     ensures { nat_lt (length (reverse records.now.items)) record_limit ≡ not result }
 {
     records.len() >= RECORD_LIMIT
-}
-
-/// Puts a record on top.
-pub fn put(records: &mut Vec<Record>, top: Record) -> Result<(), Stop>
-    ensures put { OnOk result (reverse records.new.items ≡ top ∷ reverse records.old.items) }
-    ensures memory { IfErr result (λ e. e ≡ Stop.Memory) }
-{
-    match records.push(top) {
-        Ok(()) => Ok(()),
-        Err(_) => Err(Stop::Memory),
-    }
 }
 
 // A value as a number.
@@ -44,18 +31,19 @@ fn number_of(value: Value) -> i32
 }
 
 /// A value is put on top of the records.
-pub fn push_value(records: &mut Vec<Record>, values: &[Value]) -> Result<Made, Stop>
-    ensures { (told : Told) (chosen : List ℕ) (ir dr : ScanSettings) (variables : List Held) →
+pub fn push_value(records: &mut RecordStack, values: &[Value]) -> Result<Made, Stop>
+    ensures made { (told : Told) (chosen : List ℕ) (ir dr : ScanSettings) (variables : List Held) →
         IsMade result told (state_with chosen (reverse records.old.items) ir dr variables)
         (state_with chosen (reverse records.new.items) ir dr variables)
         (does (pushed values.now (state_with chosen (reverse records.old.items) ir dr variables))) }
+    ensures sure { IfErr result (λ stop. stop ≢ Stop.Memory) }
 {
     match values {
         [value] => {
             if is_full(records) {
                 return Err(Stop::Fault(RunFault::RecordsFull));
             }
-            put(records, Record::Pushed(number_of(*value)))?;
+            records.push(Record::Pushed(number_of(*value)));
             Ok(Made::On)
         }
         _ => Err(Stop::Wrong),
@@ -73,7 +61,7 @@ fn value_as(kind: ValueKind, z: i32) -> Value
 }
 
 /// The topmost record is taken off, if it is a value.
-pub fn pop_value(records: &mut Vec<Record>, kind: ValueKind) -> Result<Made, Stop>
+pub fn pop_value(records: &mut RecordStack, kind: ValueKind) -> Result<Made, Stop>
     ensures made { (told : Told) (chosen : List ℕ) (ir dr : ScanSettings) (variables : List Held) →
         IsMade result told (state_with chosen (reverse records.old.items) ir dr variables)
         (state_with chosen (reverse records.new.items) ir dr variables)
@@ -92,18 +80,19 @@ pub fn pop_value(records: &mut Vec<Record>, kind: ValueKind) -> Result<Made, Sto
 }
 
 /// A procedure is called. A record keeps the place behind.
-pub fn call(records: &mut Vec<Record>, behind: u32, values: &[Value]) -> Result<Made, Stop>
-    ensures { (told : Told) (chosen : List ℕ) (ir dr : ScanSettings) (variables : List Held) →
+pub fn call(records: &mut RecordStack, behind: u32, values: &[Value]) -> Result<Made, Stop>
+    ensures made { (told : Told) (chosen : List ℕ) (ir dr : ScanSettings) (variables : List Held) →
         IsMade result told (state_with chosen (reverse records.old.items) ir dr variables)
         (state_with chosen (reverse records.new.items) ir dr variables)
         (does (called behind values.now (state_with chosen (reverse records.old.items) ir dr variables))) }
+    ensures sure { IfErr result (λ stop. stop ≢ Stop.Memory) }
 {
     match values {
         [] => {
             if is_full(records) {
                 return Err(Stop::Fault(RunFault::RecordsFull));
             }
-            put(records, Record::Called(behind))?;
+            records.push(Record::Called(behind));
             Ok(Made::Jump)
         }
         _ => Err(Stop::Wrong),
@@ -111,7 +100,7 @@ pub fn call(records: &mut Vec<Record>, behind: u32, values: &[Value]) -> Result<
 }
 
 // Drops the records down to and with the nearest call, and answers where it returns to; if there is none, drops all.
-fn drop_to_call(records: &mut Vec<Record>) -> Option<u32>
+fn drop_to_call(records: &mut RecordStack) -> Option<u32>
     ensures { (s : State) → returned_from (reverse records.old.items) s
         ≡ returns_to result (with_records s (reverse records.new.items)) }
 {
@@ -124,7 +113,7 @@ fn drop_to_call(records: &mut Vec<Record>) -> Option<u32>
 }
 
 /// The procedure is over: the play goes on behind the nearest call, if there is one.
-pub fn end_procedure(records: &mut Vec<Record>, values: &[Value]) -> Result<Made, Stop>
+pub fn end_procedure(records: &mut RecordStack, values: &[Value]) -> Result<Made, Stop>
     ensures made { (told : Told) (chosen : List ℕ) (ir dr : ScanSettings) (variables : List Held) →
         IsMade result told (state_with chosen (reverse records.old.items) ir dr variables)
         (state_with chosen (reverse records.new.items) ir dr variables)

@@ -1,5 +1,5 @@
 //! The parts of scans and paddings: where they lie, and the bits that are taken of them.
-ghost use Rattle.std.specs.Prelude.{◌≡◌, ◌≤◌, ◌+◌, ℕ, Bool, List, length, take, drop, slice_get, IfOk, true, false, Some, Option};
+ghost use Rattle.std.specs.Prelude.{◌≡◌, ◌≢◌, ◌≤◌, ◌+◌, ℕ, Bool, List, length, take, drop, slice_get, IfOk, IfErr, OnOk, true, false, Some, Option};
 ghost use Rattle.std.specs.Option.{option_map};
 ghost use Rattle.bit_list.specs.Integers.{bits_of_int};
 ghost use Rattle.bit_list.specs.Ranges.{taken};
@@ -16,10 +16,11 @@ use crate::effects::{BitsAt, CellAt};
 use crate::exporting::find_bits;
 use crate::operate::Stop;
 use crate::parts::{Part, holder, is_index, range, whole};
+use crate::scan_bits::{SCAN_LIMIT, ScanBits};
+use crate::settings::PADDING_LIMIT;
 use bit_list::Bits;
 use stapl_code::{Cell, Compare, Dest, Scan, Source};
 use stapl_meaning::{Held, RunFault, Value};
-use std::alloc::{AllocError, Global};
 
 /// What a scan compares with, by where it lies.
 #[derive(Clone, Copy)]
@@ -230,7 +231,7 @@ pub fn scan_length(length: i32) -> Result<u32, Stop>
     ensures some { IfOk result (λ n. 1 ≤ n) }
     ensures most { IfOk result (λ n. n ≤ scan_limit) }
 {
-    if length < 1 || length > 4_194_304 {
+    if length < 1 || length > SCAN_LIMIT as i32 {
         return Err(Stop::Fault(RunFault::BadLength));
     }
     Ok(length.cast_unsigned())
@@ -241,94 +242,57 @@ pub fn padding_length(length: i32) -> Result<u32, Stop>
     ensures is { IsSure (λ (n : ℕ) g. g ≡ Known n) result (length_between 0 padding_limit length) }
     ensures most { IfOk result (λ n. n ≤ padding_limit) }
 {
-    if length < 0 || length > 65_536 {
+    if length < 0 || length > PADDING_LIMIT as i32 {
         return Err(Stop::Fault(RunFault::BadLength));
     }
     Ok(length.cast_unsigned())
 }
 
-// So many bits of a literal, and 0 where it has none.
-#[tactic(auto, using(crate::proofs::ScanLemmas::all_spliced))]
-fn take_literal(alloc: Global, literal: &Bits, n: u32) -> Result<Bits, AllocError>
-    requires { n ≤ scan_limit }
-    ensures { IfOk result (λ bits. bits ≡ padded false n literal.now) }
-{
-    let mut bits = Bits::zeros(alloc, n)?;
-    bits.copy_padded(0, literal, n);
-    Ok(bits)
-}
-
-// So many bits of a list, from an index on.
-#[tactic(auto, using(crate::proofs::ScanLemmas::all_spliced))]
-fn take_range(alloc: Global, from: &Bits, low: u32, n: u32) -> Result<Bits, AllocError>
-    requires few { n ≤ scan_limit }
-    requires inside { low + n ≤ length from.now }
-    ensures { IfOk result (λ bits. bits ≡ taken low n from.now) }
-{
-    let mut bits = Bits::zeros(alloc, n)?;
-    bits.copy_range(0, from, low, n);
-    Ok(bits)
-}
-
-// So many bits of a part of an array.
-fn take_part(alloc: Global, held: &Held, low: u32, n: u32) -> Result<Bits, AllocError>
+// Becomes so many bits of a part of an array.
+fn fill_part(target: &mut ScanBits, held: &Held, low: u32, n: u32)
     requires few { n ≤ scan_limit }
     requires is_array { held.now ≡ arrays.Bits (bits_of held.now) }
     requires inside { low + n ≤ length (bits_of held.now) }
-    ensures { IfOk result (λ bits. bits ≡ taken low n (bits_of held.now)) }
+    ensures { target.new ≡ taken low n (bits_of held.now) }
 {
     match held {
-        Held::Bits(from) => take_range(alloc, from, low, n),
+        Held::Bits(from) => target.take_range(from, low, n),
         _ => unreachable!(),
     }
 }
 
-// So many bits of an integer.
-#[tactic(auto, using(crate::proofs::ScanLemmas::all_spliced))]
-fn take_integer(alloc: Global, value: i32, n: u32) -> Result<Bits, AllocError>
-    requires { n ≤ 32 }
-    ensures { IfOk result (λ bits. bits ≡ take n (bits_of_int value)) }
-{
-    let mut bits = Bits::zeros(alloc, n)?;
-    bits.set_low_bits(0, value, n);
-    Ok(bits)
-}
-
-/// So many of the bits that lie somewhere.
-pub fn take_bits(
-    alloc: Global,
+/// Becomes so many of the bits that lie somewhere. It takes no memory.
+pub fn fill_bits(
+    target: &mut ScanBits,
     literals: &[Bits],
     variables: &[Held],
     at: BitsAt,
     n: u32,
-) -> Result<Bits, Stop>
+) -> Result<(), Stop>
     requires few { n ≤ scan_limit }
     requires there { IsThere literals.now variables.now at }
-    ensures is { IsGot (λ bits g. g ≡ Known bits) result (asked_at at n (bits_at literals.now variables.now at)) }
-    ensures count { IfOk result (λ bits. length bits ≡ n) }
+    ensures is { IsGot (λ done g. g ≡ Known target.new) result (asked_at at n (bits_at literals.now variables.now at)) }
+    ensures count { OnOk result (length target.new ≡ n) }
+    ensures sure { IfErr result (λ stop. stop ≢ Stop.Memory) }
 {
     match at {
-        BitsAt::Literal(k) => match take_literal(alloc, &literals[k as usize], n) {
-            Ok(bits) => Ok(bits),
-            Err(_) => Err(Stop::Memory),
-        },
+        BitsAt::Literal(k) => {
+            target.take_padded(&literals[k as usize], n);
+            Ok(())
+        }
         BitsAt::Part(part) => {
             if n > part.span.count {
                 return Err(Stop::Fault(RunFault::LengthMismatch));
             }
-            match take_part(alloc, holder(variables, part), part.span.low, n) {
-                Ok(bits) => Ok(bits),
-                Err(_) => Err(Stop::Memory),
-            }
+            fill_part(target, holder(variables, part), part.span.low, n);
+            Ok(())
         }
         BitsAt::Integer(value) => {
             if n > 32 {
                 return Err(Stop::Fault(RunFault::LengthMismatch));
             }
-            match take_integer(alloc, value, n) {
-                Ok(bits) => Ok(bits),
-                Err(_) => Err(Stop::Memory),
-            }
+            target.take_integer(value, n);
+            Ok(())
         }
     }
 }

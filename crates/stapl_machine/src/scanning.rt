@@ -1,5 +1,5 @@
 //! Scans, paddings, and the states in which scans end.
-ghost use Rattle.std.specs.Prelude.{◌≡◌, ◌≤◌, ◌+◌, ◌∷◌, ℕ, List, Bool, length, replicate, IfOk, IfErr, true, None, Some};
+ghost use Rattle.std.specs.Prelude.{◌≡◌, ◌≢◌, ◌≤◌, ◌+◌, ◌∷◌, ℕ, List, Bool, length, IfOk, IfErr, OnOk, true, None, Some};
 ghost use Rattle.std.specs.Option.{option_map};
 ghost use Rattle.bit_list.specs.Ranges.{spliced};
 ghost use Rattle.stapl_meaning.specs.declared.values.Held.TheVariants as arrays;
@@ -16,15 +16,15 @@ use crate::effects::{CellAt, Made, ScanJob, store};
 use crate::memory::{Memory, Shifted};
 use crate::operate::Stop;
 use crate::parts::Part;
+use crate::scan_bits::ScanBits;
 use crate::scan_parts::{
-    ComparedAt, PartsAt, find_known, find_parts, is_given_known, is_scan_known, padding_length,
-    scan_length, take_bits,
+    ComparedAt, PartsAt, fill_bits, find_known, find_parts, is_given_known, is_scan_known,
+    padding_length, scan_length,
 };
 use bit_list::Bits;
 use stapl_code::{Compare, Scan, Source};
 use stapl_lexer::{Padding, Register};
 use stapl_meaning::{Held, RunFault, Value};
-use std::alloc::{AllocError, Global};
 use tap_states::Tap;
 
 // Whether a target has room for so many bits.
@@ -43,65 +43,49 @@ fn test_room(target: Option<Part>, n: u32) -> Result<(), Stop>
     }
 }
 
-fn zeros(alloc: Global, n: u32) -> Result<Bits, Stop>
-    requires { n ≤ scan_limit }
-    ensures count { IfOk result (λ bits. length bits ≡ n) }
-    ensures sure { IfErr result (λ stop. stop ≡ Stop.Memory) }
-{
-    match Bits::zeros(alloc, n) {
-        Ok(bits) => Ok(bits),
-        Err(_) => Err(Stop::Memory),
-    }
-}
-
-// The bits that a scan compares with.
-#[derive(Drop)]
-struct ComparedBits {
-    expected: Bits,
-    mask: Bits,
-}
-
+// Takes the bits that a scan compares with.
 fn take_both(
-    alloc: Global,
+    expected: &mut ScanBits,
+    mask: &mut ScanBits,
     literals: &[Bits],
     variables: &[Held],
     at: ComparedAt,
     n: u32,
-) -> Result<ComparedBits, Stop>
+) -> Result<(), Stop>
     requires few { n ≤ scan_limit }
     requires there { AreCompared literals.now variables.now at }
-    ensures is { IsGot (λ both g. g ≡ Known (compared_by both.expected both.mask at.cell)) result
+    ensures is { IsGot (λ done g. g ≡ Known (compared_by expected.new mask.new at.cell)) result
         (both_asked n at (compared_at literals.now variables.now at)) }
-    ensures expected { IfOk result (λ both. length both.expected ≡ n) }
-    ensures mask { IfOk result (λ both. length both.mask ≡ n) }
+    ensures expected { OnOk result (length expected.new ≡ n) }
+    ensures mask { OnOk result (length mask.new ≡ n) }
+    ensures sure { IfErr result (λ stop. stop ≢ Stop.Memory) }
 {
-    let expected = take_bits(alloc, literals, variables, at.expected, n)?;
-    let mask = take_bits(alloc, literals, variables, at.mask, n)?;
-    Ok(ComparedBits { expected, mask })
+    fill_bits(expected, literals, variables, at.expected, n)?;
+    fill_bits(mask, literals, variables, at.mask, n)?;
+    Ok(())
 }
 
-// The bits that a scan compares with, if it compares.
+// The same, if the scan compares.
 fn take_compared(
-    alloc: Global,
+    expected: &mut ScanBits,
+    mask: &mut ScanBits,
     literals: &[Bits],
     variables: &[Held],
     compare: Option<Compare>,
     at: Option<ComparedAt>,
     n: u32,
-) -> Result<ComparedBits, Stop>
+) -> Result<(), Stop>
     requires few { n ≤ scan_limit }
     requires found { IsCompareFound literals.now variables.now compare at }
-    ensures is { IsGot (λ both g. g ≡ Known (job_compare both.expected both.mask (cell_at at))) result
+    ensures is { IsGot (λ done g. g ≡ Known (job_compare expected.new mask.new (cell_at at))) result
         (compare_asked n (option_map (compare_resolved literals.now) compare) (compare_at literals.now variables.now at)) }
-    ensures expected { IfOk result (λ both. IsAsLong (cell_at at) n both.expected) }
-    ensures mask { IfOk result (λ both. IsAsLong (cell_at at) n both.mask) }
+    ensures expected { OnOk result (IsAsLong (cell_at at) n expected.new) }
+    ensures mask { OnOk result (IsAsLong (cell_at at) n mask.new) }
+    ensures sure { IfErr result (λ stop. stop ≢ Stop.Memory) }
 {
     match at {
-        Some(at) => take_both(alloc, literals, variables, at, n),
-        None => Ok(ComparedBits {
-            expected: zeros(alloc, 0)?,
-            mask: zeros(alloc, 0)?,
-        }),
+        Some(at) => take_both(expected, mask, literals, variables, at, n),
+        None => Ok(()),
     }
 }
 
@@ -125,26 +109,31 @@ fn take_scan(
     requires found { AreFound literals.now memory.old.variables.items scan.now found }
     requires some { 1 ≤ n }
     requires few { n ≤ scan_limit }
-    ensures { (text : List ℕ) (constants : Constants) (states : List Tap) (chosen : List ℕ) →
+    ensures made { (text : List ℕ) (constants : Constants) (states : List Tap) (chosen : List ℕ) →
         IsMade result (record { text = text; constants = constants; states = states; shifted = memory.new.shifted })
         (state_in chosen memory.old) (state_in chosen memory.new)
         (does (scan_asked (scan_resolved literals.now scan.now) (found_at literals.now memory.old.variables.items found)
         (state_in chosen memory.old) n)) }
+    ensures sure { IfErr result (λ stop. stop ≢ Stop.Memory) }
 {
-    let alloc = memory.alloc;
-    memory.shifted.captured = zeros(alloc, n)?;
-    memory.shifted.data = take_bits(alloc, literals, &memory.variables, found.source, n)?;
+    memory.shifted.captured.resize(n);
+    fill_bits(
+        &mut memory.shifted.data,
+        literals,
+        &memory.variables,
+        found.source,
+        n,
+    )?;
     test_room(found.target, n)?;
-    let both = take_compared(
-        alloc,
+    take_compared(
+        &mut memory.shifted.expected,
+        &mut memory.shifted.mask,
         literals,
         &memory.variables,
         scan.compare,
         found.compare,
         n,
     )?;
-    memory.shifted.expected = both.expected;
-    memory.shifted.mask = both.mask;
     Ok(Made::Scans(ScanJob {
         register: scan.register,
         target: found.target,
@@ -161,10 +150,11 @@ fn scan_first(
     memory: &mut Memory,
 ) -> Result<Made, Stop>
     requires { is_scan_known literals.now scan.now ≡ true }
-    ensures { (text : List ℕ) (constants : Constants) (states : List Tap) (chosen : List ℕ) →
+    ensures made { (text : List ℕ) (constants : Constants) (states : List Tap) (chosen : List ℕ) →
         IsMade result (record { text = text; constants = constants; states = states; shifted = memory.new.shifted })
         (state_in chosen memory.old) (state_in chosen memory.new)
         (does (scanned (scan_resolved literals.now scan.now) (first ∷ values.now) (state_in chosen memory.old))) }
+    ensures sure { IfErr result (λ stop. stop ≢ Stop.Memory) }
 {
     match first {
         Value::Int(length) => {
@@ -183,10 +173,11 @@ fn scan_known(
     memory: &mut Memory,
 ) -> Result<Made, Stop>
     requires { is_scan_known literals.now scan.now ≡ true }
-    ensures { (text : List ℕ) (constants : Constants) (states : List Tap) (chosen : List ℕ) →
+    ensures made { (text : List ℕ) (constants : Constants) (states : List Tap) (chosen : List ℕ) →
         IsMade result (record { text = text; constants = constants; states = states; shifted = memory.new.shifted })
         (state_in chosen memory.old) (state_in chosen memory.new)
         (does (scanned (scan_resolved literals.now scan.now) values.now (state_in chosen memory.old))) }
+    ensures sure { IfErr result (λ stop. stop ≢ Stop.Memory) }
 {
     match values.split_first() {
         Some((first, rest)) => scan_first(literals, scan, *first, rest, memory),
@@ -202,10 +193,11 @@ pub fn scan(
     values: &[Value],
     memory: &mut Memory,
 ) -> Result<Made, Stop>
-    ensures { (text : List ℕ) (constants : Constants) (states : List Tap) (chosen : List ℕ) →
+    ensures made { (text : List ℕ) (constants : Constants) (states : List Tap) (chosen : List ℕ) →
         IsMade result (record { text = text; constants = constants; states = states; shifted = memory.new.shifted })
         (state_in chosen memory.old) (state_in chosen memory.new)
         (does (then_get (known_scan literals.now scan.now) (λ parts. scanned parts values.now (state_in chosen memory.old)))) }
+    ensures sure { IfErr result (λ stop. stop ≢ Stop.Memory) }
 {
     if !is_scan_known(literals, scan) {
         return Err(Stop::Wrong);
@@ -213,82 +205,73 @@ pub fn scan(
     scan_known(literals, scan, values, memory)
 }
 
-// So many ones.
-fn ones(alloc: Global, n: u32) -> Result<Bits, AllocError>
-    requires { n ≤ padding_limit }
-    ensures { IfOk result (λ bits. bits ≡ replicate n true) }
-{
-    let mut bits = Bits::zeros(alloc, n)?;
-    bits.fill_range(0, n, true);
-    Ok(bits)
-}
-
-fn ones_of(alloc: Global, values: &[Value], length: i32) -> Result<Bits, Stop>
-    ensures { (variables : List Held) →
-        IsGot (λ bits g. g ≡ Known bits) result (padding_bits variables None values.now length) }
+// Takes so many ones.
+fn ones_of(target: &mut ScanBits, values: &[Value], asked: i32) -> Result<(), Stop>
+    ensures is { (variables : List Held) →
+        IsGot (λ done g. g ≡ Known target.new) result (padding_bits variables None values.now asked) }
+    ensures few { OnOk result (length target.new ≤ padding_limit) }
+    ensures sure { IfErr result (λ stop. stop ≢ Stop.Memory) }
 {
     match values {
         [] => {
-            let n = padding_length(length)?;
-            match ones(alloc, n) {
-                Ok(bits) => Ok(bits),
-                Err(_) => Err(Stop::Memory),
-            }
+            let n = padding_length(asked)?;
+            target.take_ones(n);
+            Ok(())
         }
         _ => Err(Stop::Wrong),
     }
 }
 
 fn padding_of(
-    alloc: Global,
+    target: &mut ScanBits,
     literals: &[Bits],
     source: Source,
     values: &[Value],
-    length: i32,
+    asked: i32,
     variables: &[Held],
-) -> Result<Bits, Stop>
+) -> Result<(), Stop>
     requires { is_known literals.now source ≡ true }
-    ensures { IsGot (λ bits g. g ≡ Known bits) result
-        (padding_bits variables.now (Some (resolved literals.now source)) values.now length) }
+    ensures is { IsGot (λ done g. g ≡ Known target.new) result
+        (padding_bits variables.now (Some (resolved literals.now source)) values.now asked) }
+    ensures few { OnOk result (length target.new ≤ padding_limit) }
+    ensures sure { IfErr result (λ stop. stop ≢ Stop.Memory) }
 {
     let at = find_known(literals, source, values, variables)?;
-    let n = padding_length(length)?;
-    take_bits(alloc, literals, variables, at, n)
+    let n = padding_length(asked)?;
+    fill_bits(target, literals, variables, at, n)
 }
 
-fn set_padding(memory: &mut Memory, which: Padding, bits: Bits)
+// Sets a padding to the bits that were taken.
+fn set_padding(memory: &mut Memory, which: Padding)
+    requires { length memory.old.shifted.data ≤ padding_limit }
     ensures { (chosen : List ℕ) →
-        state_in chosen memory.new ≡ with_padding which bits (state_in chosen memory.old) }
+        state_in chosen memory.new ≡ with_padding which memory.old.shifted.data (state_in chosen memory.old) }
 {
     match which {
-        Padding::PreData => memory.dr.set_pre(bits),
-        Padding::PostData => memory.dr.set_post(bits),
-        Padding::PreInstruction => memory.ir.set_pre(bits),
-        Padding::PostInstruction => memory.ir.set_post(bits),
+        Padding::PreData => memory.dr.set_pre(&memory.shifted.data),
+        Padding::PostData => memory.dr.set_post(&memory.shifted.data),
+        Padding::PreInstruction => memory.ir.set_pre(&memory.shifted.data),
+        Padding::PostInstruction => memory.ir.set_post(&memory.shifted.data),
     }
 }
 
-fn padding_bits(
+fn take_padding(
+    target: &mut ScanBits,
     literals: &[Bits],
     source: Option<Source>,
     values: &[Value],
-    length: i32,
-    memory: &Memory,
-) -> Result<Bits, Stop>
+    asked: i32,
+    variables: &[Held],
+) -> Result<(), Stop>
     requires { is_given_known literals.now source ≡ true }
-    ensures { IsGot (λ bits g. g ≡ Known bits) result
-        (padding_bits memory.now.variables.items (option_map (resolved literals.now) source) values.now length) }
+    ensures is { IsGot (λ done g. g ≡ Known target.new) result
+        (padding_bits variables.now (option_map (resolved literals.now) source) values.now asked) }
+    ensures few { OnOk result (length target.new ≤ padding_limit) }
+    ensures sure { IfErr result (λ stop. stop ≢ Stop.Memory) }
 {
     match source {
-        None => ones_of(memory.alloc, values, length),
-        Some(source) => padding_of(
-            memory.alloc,
-            literals,
-            source,
-            values,
-            length,
-            &memory.variables,
-        ),
+        None => ones_of(target, values, asked),
+        Some(source) => padding_of(target, literals, source, values, asked, variables),
     }
 }
 
@@ -302,15 +285,23 @@ fn pad_first(
     memory: &mut Memory,
 ) -> Result<Made, Stop>
     requires { is_given_known literals.now source ≡ true }
-    ensures { (told : Told) (chosen : List ℕ) →
+    ensures made { (told : Told) (chosen : List ℕ) →
         IsMade result told (state_in chosen memory.old) (state_in chosen memory.new)
         (does (surrounded which (option_map (resolved literals.now) source) (first ∷ values.now)
         (state_in chosen memory.old))) }
+    ensures sure { IfErr result (λ stop. stop ≢ Stop.Memory) }
 {
     match first {
         Value::Int(length) => {
-            let bits = padding_bits(literals, source, values, length, memory)?;
-            set_padding(memory, which, bits);
+            take_padding(
+                &mut memory.shifted.data,
+                literals,
+                source,
+                values,
+                length,
+                &memory.variables,
+            )?;
+            set_padding(memory, which);
             Ok(Made::On)
         }
         Value::Bit(_) => Err(Stop::Wrong),
@@ -325,9 +316,10 @@ fn pad_known(
     memory: &mut Memory,
 ) -> Result<Made, Stop>
     requires { is_given_known literals.now source ≡ true }
-    ensures { (told : Told) (chosen : List ℕ) →
+    ensures made { (told : Told) (chosen : List ℕ) →
         IsMade result told (state_in chosen memory.old) (state_in chosen memory.new)
         (does (surrounded which (option_map (resolved literals.now) source) values.now (state_in chosen memory.old))) }
+    ensures sure { IfErr result (λ stop. stop ≢ Stop.Memory) }
 {
     match values.split_first() {
         Some((first, rest)) => pad_first(literals, which, source, *first, rest, memory),
@@ -344,10 +336,11 @@ pub fn pad(
     values: &[Value],
     memory: &mut Memory,
 ) -> Result<Made, Stop>
-    ensures { (told : Told) (chosen : List ℕ) →
+    ensures made { (told : Told) (chosen : List ℕ) →
         IsMade result told (state_in chosen memory.old) (state_in chosen memory.new)
         (does (then_get (known_given literals.now source)
         (λ from. surrounded which from values.now (state_in chosen memory.old)))) }
+    ensures sure { IfErr result (λ stop. stop ≢ Stop.Memory) }
 {
     if !is_given_known(literals, source) {
         return Err(Stop::Wrong);
@@ -390,17 +383,17 @@ pub fn stop(
 
 // Captured bits go to the lowest ones of a part of an array.
 #[tactic(auto, using(crate::proofs::ScanLemmas::all_of_it))]
-fn put_captured(held: &mut Held, low: u32, bits: &Bits)
+fn put_captured(held: &mut Held, low: u32, bits: &ScanBits)
     requires is_array { held.old ≡ arrays.Bits (bits_of held.old) }
     requires inside { low + length bits.now ≤ length (bits_of held.old) }
     ensures { held.new ≡ arrays.Bits (spliced low bits.now (bits_of held.old)) }
 {
     if let Held::Bits(own) = held {
-        own.copy_range(low, bits, 0, bits.len());
+        own.copy_range(low, bits.as_bits(), 0, bits.len());
     }
 }
 
-fn catch(variables: &mut Vec<Held>, target: Option<Part>, bits: &Bits)
+fn catch(variables: &mut Vec<Held>, target: Option<Part>, bits: &ScanBits)
     requires there { IsPartIf variables.old.items target }
     requires room { HasRoom target (length bits.now) }
     ensures { variables.new.items ≡ caught (places_of target) bits.now variables.old.items }
@@ -411,12 +404,12 @@ fn catch(variables: &mut Vec<Held>, target: Option<Part>, bits: &Bits)
 }
 
 // Whether each captured bit whose mask bit is 1 is the expected one.
-fn agree(mask: &Bits, expected: &Bits, captured: &Bits) -> bool
+fn agree(mask: &ScanBits, expected: &ScanBits, captured: &ScanBits) -> bool
     requires expected { length expected.now ≡ length captured.now }
     requires mask { length mask.now ≡ length captured.now }
     ensures { result ≡ agree mask.now expected.now captured.now }
 {
-    captured.masked_equal(expected, mask, captured.len())
+    captured.agrees_under(mask, expected)
 }
 
 fn put_result(variables: &mut Vec<Held>, cell: CellAt, same: bool)

@@ -1,14 +1,19 @@
 //! How scans go.
-ghost use Rattle.std.specs.Prelude.{◌≡◌, IfOk};
+ghost use Rattle.std.specs.Prelude.{◌≡◌, ◌≤◌, IfOk, length};
 ghost use Rattle.scan_paths.specs.Scans.{AreInside};
 ghost use Rattle.stapl_meaning.specs.Plays.{first_settings};
+ghost use Rattle.stapl_meaning.specs.Scans.{padding_limit};
 ghost use Rattle.stapl_machine.specs.PadSettings.{settings_seen};
 
+use crate::scan_bits::ScanBits;
 use bit_list::Bits;
 use scan_paths::Pads;
 use std::alloc::{AllocError, Global};
 use std::marker::Model;
 use tap_states::Tap;
+
+/// The most bits of a padding.
+pub const PADDING_LIMIT: u32 = 65_536;
 
 /// How scans through some registers go: the paddings of the program, and the state in which scans end. Contracts see it
 /// as that.
@@ -23,25 +28,24 @@ impl Model for Settings {
 
     ghost Value = { ScanSettings };
 
-    ghost use Rattle.scan_paths.specs.Scans.{AreInside};
-    ghost use Rattle.stapl_machine.specs.PadSettings.{settings_seen};
+    ghost use Rattle.stapl_machine.specs.PadSettings.{settings_seen, HasPadRoom};
 
     ghost view = { λ s. settings_seen s.pads s.stop };
 
-    ghost invariant = { λ s. AreInside s.pads };
+    ghost invariant = { λ s. HasPadRoom s.pads };
 }
 
 impl Settings {
-    /// No padding, and scans end in Run-Test/Idle.
+    /// No padding, and scans end in Run-Test/Idle. It takes the memory of the longest paddings.
     pub fn first(alloc: Global) -> Result<Settings, AllocError>
         ensures { IfOk result (λ s. s ≡ first_settings) }
     {
         Ok(Settings {
             pads: Pads {
                 pre: 0,
-                pre_bits: Bits::zeros(alloc, 0)?,
+                pre_bits: Bits::zeros(alloc, PADDING_LIMIT)?,
                 post: 0,
-                post_bits: Bits::zeros(alloc, 0)?,
+                post_bits: Bits::zeros(alloc, PADDING_LIMIT)?,
             },
             stop: Tap::Idle,
         })
@@ -70,20 +74,22 @@ impl Settings {
     }
 
     /// Sets the bits before the data.
-    #[tactic(auto, using(crate::proofs::SettingLemmas::all_taken))]
-    pub fn set_pre(&mut self, bits: Bits)
-        ensures { self.new ≡ record self.old { pre = bits } }
+    pub fn set_pre(&mut self, bits: &ScanBits)
+        requires { length bits.now ≤ padding_limit }
+        ensures { self.new ≡ record self.old { pre = bits.now } }
     {
-        self.pads.pre = bits.len();
-        self.pads.pre_bits = bits;
+        let n = bits.len();
+        self.pads.pre_bits.copy_range(0, bits.as_bits(), 0, n);
+        self.pads.pre = n;
     }
 
     /// Sets the bits after the data.
-    #[tactic(auto, using(crate::proofs::SettingLemmas::all_taken))]
-    pub fn set_post(&mut self, bits: Bits)
-        ensures { self.new ≡ record self.old { post = bits } }
+    pub fn set_post(&mut self, bits: &ScanBits)
+        requires { length bits.now ≤ padding_limit }
+        ensures { self.new ≡ record self.old { post = bits.now } }
     {
-        self.pads.post = bits.len();
-        self.pads.post_bits = bits;
+        let n = bits.len();
+        self.pads.post_bits.copy_range(0, bits.as_bits(), 0, n);
+        self.pads.post = n;
     }
 }

@@ -24,6 +24,7 @@ use crate::operate::{
     shift_right, sum,
 };
 use crate::parts::range;
+use crate::record_stack::RecordStack;
 use stapl_code::{Instr, Source};
 use stapl_meaning::{Held, Loop, Record, Value};
 
@@ -325,7 +326,7 @@ fn try_if(to: u32, work: &mut Workspace) -> Tried
 
 // The topmost record.
 #[inline(always)]
-fn top_record(records: &Vec<Record>) -> Option<Record>
+fn top_record(records: &RecordStack) -> Option<Record>
     ensures { IfSome result (λ top. reverse records.now.items ≡ top ∷ drop 1 (reverse records.now.items)) }
 {
     match records.as_slice() {

@@ -1,6 +1,6 @@
 use Rattle.std.proofs.Common.{Option, sym, ap, ◌∙◌, ℕ}
-use Rattle.dev_card.specs.Padding.{base_lengths}
+use Rattle.play_tool.specs.Answers.{base_at}
 use Rattle.play_tool.proofs.told.base_of.Goals as goal
 
 pub returns-in-None : goal.returns-in-None
-returns-in-None c = c.none.ensures c.args.task.now.devices.now ∙ ap (λ (p : Option ℕ). base_lengths c.args.task.now.devices.now p) (sym c.in-None.is)
+returns-in-None c = c.none.ensures c.args.task.now.devices.now ∙ ap (λ (p : Option ℕ). base_at c.args.task.now.devices.now p) (sym c.in-None.is)

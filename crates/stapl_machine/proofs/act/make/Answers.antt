@@ -51,7 +51,7 @@ returns-in-Scan c = λ entries chosen.
     (subst (λ (l : List (List Bool)). IsMade c.scan.result (record { text = new.text.items; constants = constants_of c.args.code.now; states = []; shifted = new.shifted })
     (state_in chosen old) (state_in chosen new)
     (does (then_get (known_scan l c.in-Scan.plan) (λ parts. scanned parts c.args.values.now (state_in chosen old)))))
-    c.as_slice-in-Scan.ensures (c.scan.ensures new.text.items (constants_of c.args.code.now) [] chosen))
+    c.as_slice-in-Scan.ensures (c.scan.ensures.made new.text.items (constants_of c.args.code.now) [] chosen))
 
 pub returns-in-Pad : goal.returns-in-Pad
 returns-in-Pad c = λ entries chosen.
@@ -60,4 +60,4 @@ returns-in-Pad c = λ entries chosen.
     rw c.in-Pad.is
     (subst (λ (l : List (List Bool)). IsMade c.pad.result told (state_in chosen old) (state_in chosen new)
     (does (then_get (known_given l c.in-Pad.source) (λ from. surrounded which from c.args.values.now (state_in chosen old)))))
-    c.as_slice-in-Pad.ensures (c.pad.ensures told chosen))
+    c.as_slice-in-Pad.ensures (c.pad.ensures.made told chosen))

@@ -9,8 +9,8 @@ use Rattle.stapl_machine.specs.Records.{begun_loop}
 use Rattle.stapl_machine.proofs.RecordLemmas.{three_items}
 use Rattle.stapl_machine.proofs.loops.begin_loop.Goals as goal
 
-pub returns-in-Int : goal.returns-in-Int
-returns-in-Int c = λ told chosen.
+pub returns-in-Int-clause-made : goal.returns-in-Int-clause-made
+returns-in-Int-clause-made c = λ told chosen.
     let vs = c.args.values.now in let first = c.in-Int.first in let limit = c.in-Int.limit in let step = c.in-Int.step in
     let old = c.args.memory.now in let new = c.begin.new.memory in
     let item_0 : get_or vs 0 (Int (pos 0)) ≡ Int first = search rules in
@@ -26,4 +26,4 @@ returns-in-Int c = λ told chosen.
     let round = λ (z : ℤ). cast_signed w32 (cast_unsigned w32 z) in
     rw all (subst (λ (f : ℤ). is limit step f) (to_z-of_z w32 first first_fits)
     (subst (λ (s : ℤ). is limit s (round first)) (to_z-of_z w32 step step_fits)
-    (subst (λ (l : ℤ). is l (round step) (round first)) (to_z-of_z w32 limit limit_fits) (c.begin.ensures told chosen))))
+    (subst (λ (l : ℤ). is l (round step) (round first)) (to_z-of_z w32 limit limit_fits) (c.begin.ensures.made told chosen))))

@@ -23,7 +23,7 @@ returns-clause-made c = λ told chosen.
     ∙ ap (λ (x : ℤ). int_wrap w32 (x +ℤ cast_signed w32 (cast_unsigned w32 l.step))) (to_z-of_z w32 z c.ranges.z)
     ∙ ap (λ (x : ℤ). int_wrap w32 (z +ℤ x)) (to_z-of_z w32 l.step step_fits) in
     let written : scalar_written old.variables.items l.variable (slice_get old.variables.items l.variable) (Int c.sum-next.result) ≡ Known c.store.new.variables.items = search rules in
-    let top : reverse c.truncate-2.new.self.items ≡ Looped l ∷ reverse (take c.args.found.at records) =
-    ap reverse c.truncate-2.ensures.items ∙ top_taken_at records c.args.found.at (Looped l) c.requires.there c.requires.is in
+    let top : reverse c.keep_through.new.self.items ≡ Looped l ∷ reverse (take c.args.found.at records) =
+    ap reverse c.keep_through.ensures.items ∙ top_taken_at records c.args.found.at (Looped l) c.requires.there c.requires.is in
     ap does (round_more l (reverse (take c.args.found.at records)) z c.sum-next.result (state_in chosen old) c.store.new.variables.items over next written)
     ∙ ap (λ (r : List Record). let g : Got Made = Known (Does (Resumes l.place (state_with chosen r old.ir old.dr c.store.new.variables.items))) in g) (sym top)

@@ -34,7 +34,8 @@ down-preserved g c =
       whole = search rules;
       below = omega (arith, c.down.invariant.below);
       puts = word_more (taken span.low span.count bits) left at (all_hex_digits (low_bits (left - at) c.word.result))
-          (digits_of_word left at c.word.result span.low span.count bits c.requires.inside (omega arith) c.down.invariant.below (omega arith) c.word.ensures.value)
+          (digits_of_word left at c.word.result span.low span.count bits c.requires.inside
+          (omega arith) c.down.invariant.below (omega arith) c.word.ensures.value)
           c.down.invariant.puts c.in_ok-put_number.ensures.ok;
       kept = kept_then c.down.invariant.kept c.in_ok-put_number.ensures.cause.kept;
     }

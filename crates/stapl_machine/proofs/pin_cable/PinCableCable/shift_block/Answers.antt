@@ -8,22 +8,45 @@ pub returns-in_err-tdo-clause-failed : goal.returns-in_err-tdo-clause-failed
 returns-in_err-tdo-clause-failed g c =
     let m = g.C.Cable in
     let b = port_breakage m.breakage g.O.Paper.failed in
-    on_err c.from_residual.result (front_by_line b g.O.Paper.shown m.board m.made c.args.self.now _ (record { cable = refl; out = refl; pins = refl; base = refl }) refl refl _ refl (search rules) c.in_err-tdo.ensures.failed)
+    on_err c.from_residual.result
+    (front_by_line b g.O.Paper.shown m.board m.made c.args.self.now _
+    (record { cable = refl; out = refl; pins = refl; base = refl }) refl refl _ refl
+    (search rules) c.in_err-tdo.ensures.failed)
 
 pub returns-then-not-self-clause-shifted : goal.returns-then-not-self-clause-shifted
 returns-then-not-self-clause-shifted g c =
     let m = g.C.Cable in
     let b = port_breakage m.breakage g.O.Paper.failed in
-    shifted_quietly b g.O.Paper.shown m.board m.made c.args.self.now _ (record { cable = refl; out = refl; pins = refl; base = refl }) refl refl _ _ (search rules) refl refl c.requires.whole (search rules) c.in_ok-tdo.ensures.shifted
+    shifted_quietly b g.O.Paper.shown m.board m.made c.args.self.now _
+    (record { cable = refl; out = refl; pins = refl; base = refl }) refl refl _ _
+    (search rules) refl refl c.requires.whole (search rules) c.in_ok-tdo.ensures.shifted
 
 pub returns-in_err-note_block-clause-failed : goal.returns-in_err-note_block-clause-failed
 returns-in_err-note_block-clause-failed g c =
     let m = g.C.Cable in
     let b = port_breakage m.breakage g.O.Paper.failed in
-    on_err c.from_residual-in_err-note_block.result (front_by_pins b g.O.Paper.shown m.board m.made c.args.self.now _ (record { cable = refl; out = refl; pins = refl; base = refl }) refl c.note_block.ensures.same c.args.tdi c.args.n c.in_ok-tdo.tdo c.args.last (search rules) c.requires.whole (search rules) c.in_ok-tdo.ensures.shifted c.in_err-note_block.ensures.front)
+    on_err c.from_residual-in_err-note_block.result
+    (front_by_pins b g.O.Paper.shown m.board m.made c.args.self.now _
+    (record {
+      cable = refl;
+      out = refl;
+      pins = refl;
+      base =
+          refl;
+    }) refl c.note_block.ensures.same c.args.tdi c.args.n c.in_ok-tdo.tdo c.args.last
+    (search rules) c.requires.whole (search rules) c.in_ok-tdo.ensures.shifted c.in_err-note_block.ensures.front)
 
 pub returns-clause-shifted : goal.returns-clause-shifted
 returns-clause-shifted g c =
     let m = g.C.Cable in
     let b = port_breakage m.breakage g.O.Paper.failed in
-    shifted_noted b g.O.Paper.shown m.board m.made c.args.self.now _ (record { cable = refl; out = refl; pins = refl; base = refl }) refl c.note_block.ensures.same c.args.tdi c.args.n c.in_ok-tdo.tdo c.args.last (search rules) c.requires.whole (search rules) c.in_ok-tdo.ensures.shifted c.in_ok-note_block.ensures.ok c.in_ok-note_block.ensures.digits
+    shifted_noted b g.O.Paper.shown m.board m.made c.args.self.now _
+    (record {
+      cable = refl;
+      out = refl;
+      pins = refl;
+      base =
+          refl;
+    }) refl c.note_block.ensures.same c.args.tdi c.args.n c.in_ok-tdo.tdo c.args.last
+    (search rules) c.requires.whole
+    (search rules) c.in_ok-tdo.ensures.shifted c.in_ok-note_block.ensures.ok c.in_ok-note_block.ensures.digits

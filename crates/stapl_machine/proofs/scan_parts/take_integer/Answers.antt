@@ -1,8 +1,0 @@
-use Rattle.std.proofs.Common.{w32}
-use Rattle.std.proofs.lemmas.Int.{to_z-of_z}
-use Rattle.stapl_machine.proofs.ScanLemmas.{integer_set}
-use Rattle.stapl_machine.proofs.scan_parts.take_integer.Goals as goal
-
-pub returns : goal.returns
-returns c =
-    integer_set c.args.n c.args.value _ _ _ (to_z-of_z w32 c.args.value c.ranges.value) c.requires c.in_ok-bits.ensures c.set_low_bits.ensures.bits
