@@ -13,7 +13,6 @@ import pathlib
 import re
 import shutil
 import subprocess
-import sys
 import tempfile
 
 import measure
@@ -93,22 +92,6 @@ PLAYS = (
 )
 
 
-def built(top):
-    """The built program of a checkout."""
-    return pathlib.Path(top).resolve() / "crates" / "zanutero" / "out" / "zanutero"
-
-
-def shortest(peak, words, code, runs):
-    """The shortest processor time of so many runs of a program, which end with this code, and the greatest peak."""
-    told = []
-    for _ in range(runs):
-        done = subprocess.run([peak, *map(str, words)], stdout=subprocess.PIPE, check=True).stdout.split()
-        if int(done[0]) != code:
-            sys.exit(f"exit code {int(done[0])} in place of {code}")
-        told.append((float(done[1]), 1024 * int(done[2])))
-    return min(seconds for seconds, _ in told), max(memory for _, memory in told)
-
-
 def print_plays(folder, programs, runs):
     """A row for each command: the time and the peak of each program, and the ratio of the times."""
     text, board = folder / "text.stp", folder / "board"
@@ -122,7 +105,7 @@ def print_plays(folder, programs, runs):
     for kind, mode, content, more, code in PLAYS:
         text.write_bytes(content)
         played = [f"board={board}", "action=A"] if mode == "play" else []
-        told = [shortest(peak, [it, mode, f"program={text}", *played, *more], code, runs) for it in programs]
+        told = [measure.weighed(peak, [it, mode, f"program={text}", *played, *more], code, runs) for it in programs]
         starts = starts or [seconds for seconds, _ in told]
         times = [seconds - start for (seconds, _), start in zip(told, starts)]
         cells = [f"{seconds:.4f} s" for seconds in times] + [f"{peak / (1 << 20):.1f} MiB" for _, peak in told]
@@ -168,7 +151,7 @@ def main():
     parser.add_argument("--runs", type=int, default=5, help="runs of each command (5)")
     words = parser.parse_args()
     subprocess.run([measure.TOP / "zanutero", "--version"], stdout=subprocess.DEVNULL, check=True)
-    programs = [built(top) for top in (words.before, measure.TOP) if top]
+    programs = [measure.built(top) for top in (words.before, measure.TOP) if top]
     with tempfile.TemporaryDirectory() as made:
         print_plays(pathlib.Path(made), programs, words.runs)
         print_kernel(pathlib.Path(made), words.runs)

@@ -10,7 +10,6 @@ import tempfile
 import time
 
 TOP = pathlib.Path(__file__).resolve().parent.parent
-PROGRAM = TOP / "crates" / "zanutero" / "out" / "zanutero"
 
 
 def processor_time():
@@ -44,6 +43,26 @@ def shortest(words, code, runs):
     return min(times), max(peaks)
 
 
+def built(top):
+    """The built program of a checkout."""
+    return pathlib.Path(top).resolve() / "crates" / "zanutero" / "out" / "zanutero"
+
+
+PROGRAM = built(TOP)
+
+
+def weighed(peak, words, code, runs):
+    """The shortest processor time of so many runs of a program, which end with this code, and the greatest peak memory
+    in bytes, as the compiled bench/peak.c tells them. That is small itself, so a small peak is seen, too."""
+    told = []
+    for _ in range(runs):
+        done = subprocess.run([peak, *map(str, words)], stdout=subprocess.PIPE, check=True).stdout.split()
+        if int(done[0]) != code:
+            sys.exit(f"exit code {int(done[0])} in place of {code}")
+        told.append((float(done[1]), 1024 * int(done[2])))
+    return min(seconds for seconds, _ in told), max(memory for _, memory in told)
+
+
 def compiled(name, folder):
     """A yardstick in C of this folder, compiled into that one by the compiler in the variable CC, or else by cc."""
     compiler = os.environ.get("CC", "cc")
@@ -58,6 +77,30 @@ def switch_seconds(switch, number, turns, runs):
     """The shortest time of the plain interpreter, bench/switch.c, for so many turns of its program of a number."""
     told = (subprocess.run([switch, str(number), str(turns)], stdout=subprocess.PIPE, check=True) for _ in range(runs))
     return min(float(it.stdout) for it in told)
+
+
+def into_file(words, path, runs):
+    """The shortest time of so many runs of a program that write into this file, and what they wrote."""
+    times = []
+    for _ in range(runs):
+        begun = time.perf_counter()
+        with open(path, "wb") as out:
+            if subprocess.run(words, stdout=out).returncode != 0:
+                sys.exit("the play did not end with code 0")
+        times.append(time.perf_counter() - begun)
+    return min(times), path.read_bytes()
+
+
+def copied(data, path, runs):
+    """The shortest time in which these bytes are written into this file, in blocks of 4,096."""
+    times = []
+    for _ in range(runs):
+        begun = time.perf_counter()
+        with open(path, "wb", buffering=0) as out:
+            for at in range(0, len(data), 4096):
+                out.write(data[at:at + 4096])
+        times.append(time.perf_counter() - begun)
+    return min(times)
 
 
 class Bench:

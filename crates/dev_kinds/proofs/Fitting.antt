@@ -11,7 +11,7 @@ use Rattle.dev_kinds.specs.Logic.{Logic, fresh_logic, IsBlockShifted}
 use Rattle.dev_kinds.specs.DataRegisters.{Contents, IsFitted, card_with, fresh_contents}
 use Rattle.dev_kinds.proofs.LogicBlocks.{sound_block}
 
-pub fresh_card : (d : Desc) (room : ℕ) (k : Logic) (r : Contents) → k ≡ fresh_logic d room → r ≡ fresh_contents d →
+fresh_card : (d : Desc) (room : ℕ) (k : Logic) (r : Contents) → k ≡ fresh_logic d room → r ≡ fresh_contents d →
     card_with k r ≡ fresh d
 fresh_card d room k r a b = ap (λ x. card_with x r) a ∙ ap (card_with (fresh_logic d room)) b
 

@@ -1,7 +1,8 @@
 -- The data registers of a Regs.
-use Rattle.std.proofs.Common.{◌≡◌, ℕ, replicate, Bool, false, List, [], ◌∷◌, length, map, slice_get, Some, None, refl, sym, ap, subst, ◌∙◌}
+use Rattle.std.proofs.Common.{◌≡◌, ℕ, replicate, Bool, false, List, length, map, slice_get, Some, None, sym, ap, subst, ◌∙◌}
 use Rattle.std.specs.Option.{option_map}
 use Rattle.std.proofs.lemmas.Option.{slice_get-map}
+use Rattle.std.proofs.lemmas.Simd.{map-map}
 use Rattle.dev_card.specs.declared.desc.Kind.TheVariants.{Regs}
 use Rattle.dev_card.specs.declared.desc.RegDesc.{RegDesc}
 use Rattle.dev_card.specs.declared.desc.Desc.{Desc}
@@ -30,32 +31,18 @@ module _ (k : Logic) (cells : List (List Bool)) (fits : IsFitted Regs 65536 k (w
       slice_get cells i ≡ Some held → length held ≡ r.len
   register_length i r held a b = held_length cells k.desc.registers i r held lengths_of_regs a b
 
-fresh_regs : (d : Desc) (cells : List (List Bool)) → d.kind ≡ Regs → d.flash ≡ None →
+pub fresh_regs : (d : Desc) (cells : List (List Bool)) → IsGood d → d.kind ≡ Regs →
     cells ≡ map (λ (r : RegDesc). replicate r.len false) d.registers → without_memory cells ≡ fresh_contents d
-fresh_regs d cells e f a =
+fresh_regs d cells g e a =
+    let none : d.flash ≡ None = (subst (λ k. HasPartsOf k d) e g.parts).1 in
     ap without_memory (a ∙ sym (ap (λ k. fresh_cells k d) e))
-    ∙ ap (λ o. record { flash = o; cells = fresh_cells d.kind d; busy = 0 }) (sym f)
+    ∙ ap (λ o. record { flash = o; cells = fresh_cells d.kind d; busy = 0 }) (sym none)
 
-pub new_regs : (d : Desc) (cells : List (List Bool)) → IsGood d → d.kind ≡ Regs →
-    cells ≡ map (λ (r : RegDesc). replicate r.len false) d.registers → without_memory cells ≡ fresh_contents d
-new_regs d cells g e a = fresh_regs d cells e (subst (λ k. HasPartsOf k d) e g.parts).1 a
-
--- zeros in place of what a list of cells holds
-abbrev pub zeros_like : List Bool → List Bool
-zeros_like bits = replicate (length bits) false
-
-zeros_by_length : (cells : List (List Bool)) → map zeros_like cells ≡ map (λ n. replicate n false) (map length cells)
-zeros_by_length [] = refl
-zeros_by_length (c ∷ cells) = ap (λ z. zeros_like c ∷ z) (zeros_by_length cells)
-
-zeros_of_registers : (rs : List RegDesc) →
-    map (λ n. replicate n false) (map (λ (r : RegDesc). r.len) rs) ≡ map (λ (r : RegDesc). replicate r.len false) rs
-zeros_of_registers [] = refl
-zeros_of_registers (r ∷ rs) = ap (λ z. replicate r.len false ∷ z) (zeros_of_registers rs)
-
+-- zeros in place of what the registers hold
 pub blank_regs : (k : Logic) (cells new : List (List Bool)) → IsFitted Regs 65536 k (without_memory cells) →
-    new ≡ map zeros_like cells → without_memory new ≡ fresh_contents k.desc
+    new ≡ map (λ (bits : List Bool). replicate (length bits) false) cells → without_memory new ≡ fresh_contents k.desc
 blank_regs k cells new h a =
-    fresh_regs k.desc new h.kind h.flash
-    (a ∙ zeros_by_length cells ∙ ap (map (λ n. replicate n false)) (lengths_of_regs k cells h)
-    ∙ zeros_of_registers k.desc.registers)
+    let zeros : ℕ → List Bool = λ n. replicate n false in
+    fresh_regs k.desc new h.sound.good h.kind
+    (a ∙ sym (map-map zeros length cells) ∙ ap (map zeros) (lengths_of_regs k cells h)
+    ∙ map-map zeros (λ (r : RegDesc). r.len) k.desc.registers)

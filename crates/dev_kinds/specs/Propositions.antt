@@ -1,6 +1,6 @@
 -- A card is sound in one way, and a device is fitted in one way. Each part of these facts is an equation or a bound of
 -- numbers or of lists, or such a fact for each item of a list.
-use Rattle.std.specs.Prelude.{◌≡◌, ◌≢◌, ℕ, zero, suc, Bool, List, [], Option, None, All, AllPairs, refl}
+use Rattle.std.specs.Prelude.{◌≡◌, ◌≢◌, ◌==◌, if◌then◌else◌, ℕ, Bool, List, [], Option, None, All, AllPairs, refl}
 use Rattle.std.specs.Option.{ForSome, IsSomeAnd-prop}
 use Rattle.std.specs.Coded.{Coded, Coded-set, coded_ℕ, coded_bool, coded_list, coded_option, coded×, code_by, le_prop, ×_prop, Π_prop, →_prop}
 use Rattle.stapl_lexer.specs.Names.{IsUpperName}
@@ -122,24 +122,12 @@ IsSound-prop c x y = λ i. record {
   busy_limit = le_prop x.busy_limit y.busy_limit i;
 }
 
--- kinds are coded as their places, so that equations of them are propositions
-abbrev kind_place : Kind → ℕ
-kind_place Plain = 0
-kind_place Regs = 1
-kind_place Flash = 2
-
-abbrev kind_at : ℕ → Kind
-kind_at zero = Plain
-kind_at (suc zero) = Regs
-kind_at (suc (suc n)) = Flash
-
-same_kind : (k : Kind) → kind_at (kind_place k) ≡ k
-same_kind Plain = refl
-same_kind Regs = refl
-same_kind Flash = refl
-
+-- kinds are coded as numbers, so equations of them are propositions
 coded_kind : Coded Kind
-coded_kind = code_by ℕ coded_ℕ kind_place kind_at same_kind
+coded_kind =
+    code_by ℕ coded_ℕ (elim [ Plain ↦ 0 | Regs ↦ 1 | Flash ↦ 2 ])
+    (λ n. if n == 0 then Plain else if n == 1 then Regs else Flash)
+    (elim [ Plain ↦ refl | Regs ↦ refl | Flash ↦ refl ])
 
 -- a device is fitted in one way, so a struct may keep the fact that it is
 pub IsFitted-prop : (own : Kind) (longest : ℕ) (k : Logic) (r : Contents) → IsProp (IsFitted own longest k r)

@@ -1,5 +1,5 @@
 //! A device of any kind.
-ghost use Rattle.std.specs.Prelude.{◌≡◌};
+ghost use Rattle.std.specs.Prelude.{◌≡◌, Some, IsSome};
 ghost use Rattle.std.specs.Option.{option_map};
 ghost use Rattle.dev_kinds.specs.DataRegisters.{card_with};
 
@@ -12,6 +12,19 @@ use std::alloc::Global;
 #[derive(Drop)]
 pub struct Component<R: DataRegisters> {
     pub(crate) state: Option<FittedDevice<R>>,
+}
+
+impl<R: DataRegisters> Component<R> {
+    // The device that was fitted.
+    fn fitted(&self) -> &FittedDevice<R>
+        requires { IsSome self.now.state }
+        ensures { self.now.state ≡ Some result.now }
+    {
+        match &self.state {
+            Some(s) => s,
+            None => unreachable!(),
+        }
+    }
 }
 
 impl<R: DataRegisters> Device for Component<R> {
@@ -46,10 +59,7 @@ impl<R: DataRegisters> Device for Component<R> {
     }
 
     fn tdo(&self) -> bool {
-        match &self.state {
-            Some(s) => s.logic.tdo(),
-            None => unreachable!(),
-        }
+        self.fitted().logic.tdo()
     }
 
     fn clock(&mut self, tms: bool, tdi: bool) {
@@ -67,37 +77,22 @@ impl<R: DataRegisters> Device for Component<R> {
     }
 
     fn instruction(&self) -> u64 {
-        match &self.state {
-            Some(s) => s.logic.instruction(),
-            None => unreachable!(),
-        }
+        self.fitted().logic.instruction()
     }
 
     fn cells(&self) -> u32 {
-        match &self.state {
-            Some(s) => s.registers.cell_count(),
-            None => unreachable!(),
-        }
+        self.fitted().registers.cell_count()
     }
 
     fn cell_len(&self, cell: u32) -> u32 {
-        match &self.state {
-            Some(s) => s.registers.cell(cell).len(),
-            None => unreachable!(),
-        }
+        self.fitted().registers.cell(cell).len()
     }
 
     fn cell_bit(&self, cell: u32, bit: u32) -> bool {
-        match &self.state {
-            Some(s) => s.registers.cell(cell).get(bit),
-            None => unreachable!(),
-        }
+        self.fitted().registers.cell(cell).get(bit)
     }
 
     fn cell_word(&self, cell: u32, at: u32, n: u32) -> u64 {
-        match &self.state {
-            Some(s) => s.registers.cell(cell).word(at, n),
-            None => unreachable!(),
-        }
+        self.fitted().registers.cell(cell).word(at, n)
     }
 }
