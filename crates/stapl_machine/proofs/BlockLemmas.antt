@@ -22,7 +22,7 @@ use Rattle.stapl_machine.specs.declared.pin_cable.PinCable.{PinCable}
 use Rattle.stapl_machine.specs.Blocks.{block_clocks, clock_digits, lines_of_digits, with_digits}
 use Rattle.stapl_machine.specs.Resets.{digit_of_clock}
 use Rattle.stapl_machine.specs.Papers.{Shown, Puts, PutsFront, IsOverSame}
-use Rattle.stapl_machine.specs.PaperLaws.{puts_nothing, put_then, put_then_front, front_with}
+use Rattle.stapl_machine.specs.PaperLaws.{puts_nothing}
 use Rattle.stapl_machine.specs.PinLaws.{front_nothing}
 use Rattle.stapl_machine.specs.Pins.{cable_of, lines_of, tap_of, digits_of, writes_pins, IsSamePort, PutsEvents, HasPut, HasMadePins}
 

@@ -1,15 +1,10 @@
 -- On the parts of scans.
-use Rattle.std.proofs.Common.{◌≡◌, ℕ, zero, suc, ◌+◌, ◌≤◌, Bool, true, false, List, [], ◌∷◌, ◌++◌, length, take, drop, Option, Some, None, arith, refl, sym, ap, ◌∙◌}
-use Rattle.std.specs.Prelude.{replicate, not, ◌&&◌, ◌||◌, IsTrue, ◌↔◌, is_some, slice_get, if◌then◌else◌, Result, Ok, Err, IfOk}
+use Rattle.std.proofs.Common.{◌≡◌, ℕ, zero, suc, Bool, true, false, List, [], ◌∷◌, length, Option, Some, None, arith, refl, sym, ap, ◌∙◌}
+use Rattle.std.specs.Prelude.{not, ◌&&◌, ◌||◌, IsTrue, ◌↔◌, is_some, slice_get, if◌then◌else◌, Result, Ok, Err, IfOk}
 use Rattle.std.specs.Option.{option_map}
 use Rattle.std.specs.Bool.{beq}
 use Rattle.std.proofs.lemmas.Bool.{and_parts, true≢false}
-use Rattle.std.proofs.lemmas.List.{append-nil, drop_all, take_all, length-replicate, length-take-le}
-use Rattle.std.specs.Prelude.{ℤ}
-use Rattle.std.specs.Int.{w32, cast_unsigned}
-use Rattle.base.proofs.NumberBits.{length-low_bits}
-use Rattle.bit_list.specs.Integers.{bits_of_int}
-use Rattle.bit_list.specs.Ranges.{taken, spliced, AgreeUnderMask}
+use Rattle.bit_list.specs.Ranges.{AgreeUnderMask}
 use Rattle.stapl_meaning.specs.Values.{Got, Known, Stuck, then_get, asked}
 use Rattle.stapl_meaning.specs.Values as values
 use Rattle.stapl_meaning.specs.Scans.{CompareParts, ScanParts, agree}
@@ -23,9 +18,6 @@ use Rattle.stapl_machine.specs.declared.effects.BitsAt.TheVariants as places
 use Rattle.stapl_machine.specs.declared.operate.Stop.{Stop}
 use Rattle.stapl_machine.specs.Exports.{literal_in}
 use Rattle.stapl_machine.specs.Jobs.{is_known, is_given_known, is_compare_known, is_scan_known, resolved, compare_resolved, scan_resolved, asked_at, IsOf}
-
-pub all_of_it : (bits : List Bool) → taken 0 (length bits) bits ≡ bits
-all_of_it bits = take_all (length bits) bits (omega arith)
 
 -- bits agree under a mask exactly if each one under a mask bit 1 is the expected one
 head_alike : (m b e : Bool) → (m ≡ true → b ≡ e) → (not m || beq b e) ≡ true

@@ -382,7 +382,6 @@ pub fn stop(
 }
 
 // Captured bits go to the lowest ones of a part of an array.
-#[tactic(auto, using(crate::proofs::ScanLemmas::all_of_it))]
 fn put_captured(held: &mut Held, low: u32, bits: &ScanBits)
     requires is_array { held.old ≡ arrays.Bits (bits_of held.old) }
     requires inside { low + length bits.now ≤ length (bits_of held.old) }

@@ -1,9 +1,4 @@
-use Rattle.std.proofs.Common.{◌≡◌, List, ℕ, take, sym, ap, subst, ◌∙◌, arith}
-use Rattle.std.specs.Prelude.{OnOk, OnErr}
-use Rattle.stapl_meaning.specs.Deeds.{pulses}
-use Rattle.stapl_meaning.specs.Texts.{bytes_of, waiting}
-use Rattle.stapl_machine.specs.Papers.{Puts, PutsFront}
-use Rattle.stapl_machine.specs.Blocks.{block_clocks, lines_of_digits, with_digits}
+use Rattle.std.proofs.Common.{arith}
 use Rattle.stapl_machine.proofs.BlockLemmas.{noted_lines, noted_digits}
 use Rattle.stapl_machine.proofs.pin_cable.note_block.Goals as goal
 
