@@ -85,14 +85,14 @@ impl<R: DataRegisters> Device for Component<R> {
     }
 
     fn cell_len(&self, cell: u32) -> u32 {
-        self.fitted().registers.cell(cell).len()
+        self.fitted().cell(cell).len()
     }
 
     fn cell_bit(&self, cell: u32, bit: u32) -> bool {
-        self.fitted().registers.cell(cell).get(bit)
+        self.fitted().cell(cell).get(bit)
     }
 
     fn cell_word(&self, cell: u32, at: u32, n: u32) -> u64 {
-        self.fitted().registers.cell(cell).word(at, n)
+        self.fitted().cell(cell).word(at, n)
     }
 }

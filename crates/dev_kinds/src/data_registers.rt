@@ -1,5 +1,6 @@
 //! What a kind of device adds to the test logic.
-ghost use Rattle.std.specs.Prelude.{◌≡◌, ◌<◌, ◌≤◌, ℕ, true, length, slice_get, Some, IfOk};
+ghost use Rattle.std.specs.Prelude.{◌≡◌, ◌≤◌, ℕ, true, length, slice_get, IfOk};
+ghost use Rattle.std.specs.Option.{option_map};
 ghost use Rattle.dev_card.specs.declared.desc.Kind.{Kind};
 ghost use Rattle.dev_card.specs.Descriptions.{IsGood};
 ghost use Rattle.dev_card.specs.Card.{captured, selected};
@@ -64,8 +65,7 @@ pub trait DataRegisters: Drop {
     fn cell_count(&self) -> u32
         ensures { result ≡ length (contents self.now).cells };
 
-    // A cell.
-    fn cell(&self, cell: u32) -> &Bits
-        requires { cell < length (contents self.now).cells }
-        ensures { slice_get (contents self.now).cells cell ≡ Some result.now };
+    // The cell of this number, counted from 0, if there is one.
+    fn cell(&self, cell: u32) -> Option<&Bits>
+        ensures { option_map (λ bits. bits.now) result ≡ slice_get (contents self.now).cells cell };
 }

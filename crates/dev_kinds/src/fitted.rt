@@ -1,5 +1,5 @@
 //! A device of any kind after `fit`.
-ghost use Rattle.std.specs.Prelude.{◌≡◌, ◌<◌, ◌≤◌, ◌+◌, ◌*◌, ◌^◌, ◌&&◌, ◌==◌, true, IfOk};
+ghost use Rattle.std.specs.Prelude.{◌≡◌, ◌<◌, ◌≤◌, ◌+◌, ◌*◌, ◌^◌, ◌&&◌, ◌==◌, true, length, slice_get, Some, IfOk};
 ghost use Rattle.base.specs.Bits.{bit_value};
 ghost use Rattle.tap_states.specs.declared.Tap.TheVariants as taps;
 ghost use Rattle.dev_card.specs.Descriptions.{IsGood};
@@ -11,6 +11,7 @@ ghost use Rattle.dev_kinds.specs.Propositions.{IsFitted-prop};
 
 use crate::data_registers::DataRegisters;
 use crate::test_logic::TestLogic;
+use bit_list::Bits;
 use dev_card::Desc;
 use std::alloc::{AllocError, Global};
 use tap_states::Tap;
@@ -99,6 +100,17 @@ impl<R: DataRegisters> FittedDevice<R> {
         match self.logic.shift_block(tdi, n, last) {
             Some(tdo) => tdo,
             None => self.shift_by_clocks(tdi, n, last),
+        }
+    }
+
+    // A cell; cells are counted from 0.
+    pub fn cell(&self, cell: u32) -> &Bits
+        requires { cell < length (R.contents self.now.registers).cells }
+        ensures { slice_get (R.contents self.now.registers).cells cell ≡ Some result.now }
+    {
+        match self.registers.cell(cell) {
+            Some(bits) => bits,
+            None => unreachable!(),
         }
     }
 

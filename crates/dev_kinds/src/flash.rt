@@ -106,7 +106,7 @@ impl DataRegisters for Memory {
         self.cells()
     }
 
-    fn cell(&self, cell: u32) -> &Bits {
-        self.list(cell)
+    fn cell(&self, cell: u32) -> Option<&Bits> {
+        if cell < self.cells() { Some(self.list(cell)) } else { None }
     }
 }

@@ -80,7 +80,7 @@ impl DataRegisters for HeldList {
         self.len()
     }
 
-    fn cell(&self, cell: u32) -> &Bits {
-        self.get(cell)
+    fn cell(&self, cell: u32) -> Option<&Bits> {
+        if cell < self.len() { Some(self.get(cell)) } else { None }
     }
 }
