@@ -86,10 +86,10 @@ short_word n word bytes copied few short small same value =
 -- a word more is read
 pub word_read : (packed : List ℕ) (start bits new : List Bool) (len k n word : ℕ) → length packed ≡ bytes_for len → length start ≡ len → 64 * k < len →
     n ≡ min 64 (len - 64 * k) →
-        low_bits n word ≡ take n (flat_map (low_bits 8) (take (length packed - 8 * k) (drop (8 * k) packed))) →
-        new ≡ spliced (64 * k) (low_bits n word) bits →
+    low_bits n word ≡ take n (flat_map (low_bits 8) (take (length packed - 8 * k) (drop (8 * k) packed))) →
+    new ≡ spliced (64 * k) (low_bits n word) bits →
     bits ≡ spliced 0 (take (64 * k) (take len (flat_map (low_bits 8) packed))) start →
-        new ≡ spliced 0 (take (64 * (k + 1)) (take len (flat_map (low_bits 8) packed))) start
+    new ≡ spliced 0 (take (64 * (k + 1)) (take len (flat_map (low_bits 8) packed))) start
 word_read packed start bits new len k n word size long lt is read made so_far =
     let all : List Bool = flat_map (low_bits 8) packed in
     let many : length (take len all) ≡ len = length-take-le len all (omega (arith, length-unpack packed)) in

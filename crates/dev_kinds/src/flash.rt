@@ -107,6 +107,10 @@ impl DataRegisters for Memory {
     }
 
     fn cell(&self, cell: u32) -> Option<&Bits> {
-        if cell < self.cells() { Some(self.list(cell)) } else { None }
+        if cell < self.cells() {
+            Some(self.list(cell))
+        } else {
+            None
+        }
     }
 }

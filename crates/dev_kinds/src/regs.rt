@@ -81,6 +81,10 @@ impl DataRegisters for HeldList {
     }
 
     fn cell(&self, cell: u32) -> Option<&Bits> {
-        if cell < self.len() { Some(self.get(cell)) } else { None }
+        if cell < self.len() {
+            Some(self.get(cell))
+        } else {
+            None
+        }
     }
 }

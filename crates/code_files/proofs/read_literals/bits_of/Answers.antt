@@ -13,7 +13,7 @@ loop-k-preserved c =
     let left = length packed - 8 * k in
     let size : n ≡ min 64 (len - 64 * k) = c.min-n.ensures ∙ min_is 64 (len - 64 * k) in
     let room : n ≤ 8 * length (take left (drop (8 * k) packed)) =
-        omega (arith, c.requires.size, length-take left (drop (8 * k) packed), length-drop (8 * k) packed) in
+    omega (arith, c.requires.size, length-take left (drop (8 * k) packed), length-drop (8 * k) packed) in
     record {
       end = c.loop-k.invariant.end;
       long = c.set_word.ensures.length ∙ c.loop-k.invariant.long;
