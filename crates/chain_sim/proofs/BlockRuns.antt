@@ -9,7 +9,8 @@ use Rattle.dev_card.specs.Board.{Clock, Input, clock_with, after_input, clocks_o
 use Rattle.dev_card.specs.Sound.{SoundCard, card_in}
 use Rattle.dev_card.specs.Blocks.{block_inputs, card_after_block, card_block, board_after_block, board_block}
 use Rattle.dev_card.proofs.BlockSteps.{shifts_card_by_card, nothing_after, block_of_nothing}
-use Rattle.scan_paths.specs.Cables.{input_of, HasShifted}
+use Rattle.scan_paths.specs.Cables.{Signal, pulsed, clocks_in, input_of, HasShifted}
+use Rattle.scan_paths.proofs.Signals.{clocks_in_pulsed}
 use Rattle.chain_sim.specs.Places.{card_at, joined, cards_at, IsAbsent, AreApart}
 use Rattle.chain_sim.specs.Runs.{HasRun}
 use Rattle.chain_sim.proofs.Clocking.{card_read, card_kept, cards_kept, first_is_some, rest_is_some, some_same}
@@ -141,11 +142,11 @@ told_bits (Some cs) is r e = sym (some_same e)
 pub chain_run : {X : Type 0} (fitted : X → Option SoundCard) (kind_of : X → Kind) (old new : List X) (places : List ℕ) (is : List Input) →
     map kind_of new ≡ map kind_of old → ((k : ℕ) → IsAbsent k places → slice_get new k ≡ slice_get old k) →
     cards_at (map fitted new) places ≡ option_map (λ cs. board_after cs is) (cards_at (map fitted old) places) →
-    HasRun fitted kind_of old new places places (told_clocks (cards_at (map fitted old) places) is)
+    HasRun fitted kind_of old new places places (clocks_in (pulsed (told_clocks (cards_at (map fitted old) places) is)))
 chain_run fitted kind_of old new places is kinds others cards =
     let o : Option (List Card) = cards_at (map fitted old) places in
     let w : map input_of (told_clocks o is) ≡ is = went_in o is in
-    record {
+    rw (clocks_in_pulsed (told_clocks o is)) record {
       same_places = refl;
       kinds = kinds;
       others = others;
@@ -153,8 +154,9 @@ chain_run fitted kind_of old new places is kinds others cards =
       seen = λ cs e. told_seen o is cs e ∙ ap (clocks_of cs) (sym w);
     }
 
-pub chain_shifted : {C : Type 0} (board : C → Option (List Card)) (makes : C → List Clock → C → Type 0) (old new : C) (is : List Input) (r : ℕ) →
-    makes old (told_clocks (board old) is) new → board new ≡ option_map (λ cs. board_after cs is) (board old) →
+pub chain_shifted : {C : Type 0} (board : C → Option (List Card)) (makes : C → List Signal → C → Type 0) (old new : C)
+    (is : List Input) (r : ℕ) →
+    makes old (pulsed (told_clocks (board old) is)) new → board new ≡ option_map (λ cs. board_after cs is) (board old) →
     option_map (λ cs. number_of (tdos (clocks_of cs is))) (board old) ≡ Some r → HasShifted board makes old new is r
 chain_shifted board makes old new is r made cards seen = record {
   clocks = told_clocks (board old) is;

@@ -7,7 +7,8 @@ use Rattle.dev_card.specs.Card.{Card}
 use Rattle.dev_card.specs.Board.{Clock, Input, clocks_of, board_after}
 use Rattle.dev_card.specs.Sound.{AllSound, SoundCard, card_in}
 use Rattle.dev_card.proofs.ScanLines.{after-append, clocks-append}
-use Rattle.scan_paths.specs.Cables.{input_of}
+use Rattle.scan_paths.specs.Cables.{Signal, clocks_in, input_of}
+use Rattle.scan_paths.proofs.Signals.{clocks_in_both}
 use Rattle.chain_sim.specs.Places.{inside_or_unfitted, joined, cards_at}
 use Rattle.chain_sim.specs.Runs.{HasRun}
 
@@ -78,3 +79,13 @@ pub run_both : {X : Type 0} (fitted : X → Option SoundCard) (kind_of : X → K
 run_both fitted kind_of a b c places mid_places new_places xs ys p q =
     joined_runs fitted kind_of a b c places mid_places new_places xs ys p
     (subst (λ ps. HasRun fitted kind_of b c ps new_places ys) p.same_places q)
+
+-- the same of signals, of which the clocks alone touch a rack
+pub signals_both : {X : Type 0} (fitted : X → Option SoundCard) (kind_of : X → Kind) (a b c : List X)
+    (places mid_places new_places : List ℕ) (xs ys : List Signal) →
+    HasRun fitted kind_of a b places mid_places (clocks_in xs) →
+    HasRun fitted kind_of b c mid_places new_places (clocks_in ys) →
+    HasRun fitted kind_of a c places new_places (clocks_in (xs ++ ys))
+signals_both fitted kind_of a b c places mid_places new_places xs ys p q =
+    rw (clocks_in_both xs ys)
+    (run_both fitted kind_of a b c places mid_places new_places (clocks_in xs) (clocks_in ys) p q)

@@ -2,9 +2,9 @@
 ghost use Rattle.std.specs.Prelude.{◌≡◌, map, refl, IsTrue};
 ghost use Rattle.chain_sim.specs.Places.{cards_at, is_chain};
 ghost use Rattle.chain_sim.specs.Runs.{HasRun};
-ghost use Rattle.chain_sim.specs.RunLaws.{told_sound, run_none, run_both};
+ghost use Rattle.chain_sim.specs.RunLaws.{told_sound, run_none, signals_both};
 ghost use Rattle.std.proofs.Common.{◌∙◌};
-ghost use Rattle.scan_paths.specs.Cables.{whole_if};
+ghost use Rattle.scan_paths.specs.Cables.{whole_if, clocks_in};
 
 use crate::rack::{clock_all, first_tdo, shift_all};
 use dev_card::Device;
@@ -46,8 +46,8 @@ impl<D: Device> Cable for ChainOf<'_, D> {
 
     ghost board = { λ c. cards_at (map D.fitted (devices_of c)) (chain_places c) };
 
-    ghost made = { λ a clocks b. IsOverSame a b
-        × HasRun D.fitted D.kind_of (devices_of a) (devices_of b) (chain_places a) (chain_places b) clocks };
+    ghost made = { λ a signals b. IsOverSame a b × HasRun D.fitted D.kind_of
+        (devices_of a) (devices_of b) (chain_places a) (chain_places b) (clocks_in signals) };
 
     ghost line_faults = { λ _. 0 };
 
@@ -83,7 +83,7 @@ impl<D: Device> Cable for ChainOf<'_, D> {
 
     ghost both_made = { λ a b c front back p q. (
       q.0 ∙ p.0,
-      run_both D.fitted D.kind_of (devices_of a) (devices_of b) (devices_of c)
+      signals_both D.fitted D.kind_of (devices_of a) (devices_of b) (devices_of c)
           (chain_places a) (chain_places b) (chain_places c) front back p.1 q.1,
     ) };
 }

@@ -6,7 +6,7 @@ use Rattle.std.specs.Option.{option_map}
 use Rattle.dev_card.specs.Card.{Card}
 use Rattle.dev_card.specs.Board.{Clock, Input, clock_with, clocks_of, board_after}
 use Rattle.dev_card.proofs.ScanLines.{after-append, clocks-append}
-use Rattle.scan_paths.specs.Cables.{input_of, IsClocked, IsUnclocked, HasBrokenOff, IsClockedOrNot, HasMadeClocks, HasMade, HasMadeFront}
+use Rattle.scan_paths.specs.Cables.{Signal, Pulses, pulsed, input_of, IsClocked, HasBrokenOff, IsClockedOrNot, HasMadeClocks, HasMade, HasMadeFront}
 
 after_none : (o : Option (List Card)) → o ≡ option_map (λ cs. board_after cs []) o
 after_none None = refl
@@ -20,11 +20,21 @@ after_both (Some cs) xs ys = ap Some (sym (after-append xs ys cs))
 inputs_both : (ks ls : List Clock) (xs ys : List Input) → map input_of ks ≡ xs → map input_of ls ≡ ys → map input_of (ks ++ ls) ≡ xs ++ ys
 inputs_both ks ls xs ys p q = map-append input_of ks ls ∙ ap (λ z. z ++ map input_of ls) p ∙ ap (λ z. xs ++ z) q
 
+made_both_ways : {C : Type 0} (makes : C → List Signal → C → Type 0) (a c : C) (ks ls : List Clock) →
+    makes a (pulsed ks ++ pulsed ls) c → makes a (pulsed (ks ++ ls)) c
+made_both_ways makes a c ks ls m = rw (map-append Pulses ks ls) m
+
 seen_both : (cs : List Card) (xs ys : List Input) (ks ls : List Clock) → ks ≡ clocks_of cs xs → ls ≡ clocks_of (board_after cs xs) ys →
     ks ++ ls ≡ clocks_of cs (xs ++ ys)
 seen_both cs xs ys ks ls p q = ap (λ z. z ++ ls) p ∙ ap (λ z. clocks_of cs xs ++ z) q ∙ sym (clocks-append xs ys cs)
 
-module _ {C : Type 0} (board : C → Option (List Card)) (makes : C → List Clock → C → Type 0) where
+-- No signal was made, and the board is as it was.
+pub record IsUnclocked {C : Type 0} (board : C → Option (List Card)) (makes : C → List Signal → C → Type 0)
+    (old new : C) : Type 0 where
+  pub made : makes old [] new
+  pub cards : board new ≡ board old
+
+module _ {C : Type 0} (board : C → Option (List Card)) (makes : C → List Signal → C → Type 0) where
   -- no clock was made
   pub clocks_nothing : (old new : C) → IsUnclocked board makes old new → HasMadeClocks board makes old new [] []
   clocks_nothing old new u = record { made = u.made; went_in = refl; seen = λ cs t. refl; cards = u.cards ∙ after_none (board old) }
@@ -63,12 +73,13 @@ module _ {C : Type 0} (board : C → Option (List Card)) (makes : C → List Clo
       board new ≡ Some (board_after cs xs)
   told_after old new xs ks p cs t = p.cards ∙ ap (λ o. option_map (λ ks. board_after ks xs) o) t
 
-  module _ (both : (a b c : C) (front back : List Clock) → makes a front b → makes b back c → makes a (front ++ back) c) where
+  module _ (both : (a b c : C) (front back : List Signal) → makes a front b → makes b back c →
+      makes a (front ++ back) c) where
     -- two calls in a row made their clocks, joined
     pub clocks_both : (a b c : C) (xs ys : List Input) (ks ls : List Clock) → HasMadeClocks board makes a b xs ks → HasMadeClocks board makes b c ys ls →
         HasMadeClocks board makes a c (xs ++ ys) (ks ++ ls)
     clocks_both a b c xs ys ks ls p q = record {
-      made = both a b c ks ls p.made q.made;
+      made = made_both_ways makes a c ks ls (both a b c (pulsed ks) (pulsed ls) p.made q.made);
       went_in = inputs_both ks ls xs ys p.went_in q.went_in;
       seen = λ cs t. seen_both cs xs ys ks ls (p.seen cs t) (q.seen (board_after cs xs) (told_after a b xs ks p cs t));
       cards = q.cards ∙ ap (λ o. option_map (λ ks. board_after ks ys) o) p.cards ∙ after_both (board a) xs ys;
@@ -84,7 +95,8 @@ module _ {C : Type 0} (board : C → Option (List Card)) (makes : C → List Clo
         let mid : (cs : List Card) → board a ≡ Some cs → board b ≡ Some (board_after cs xs) = told_after a b xs p.clocks p.made in
         record {
           clocks = p.clocks ++ q.clocks;
-          made = both a b c p.clocks q.clocks p.made.made q.made;
+          made = made_both_ways makes a c p.clocks q.clocks
+              (both a b c (pulsed p.clocks) (pulsed q.clocks) p.made.made q.made);
           went_in = inputs_both p.clocks q.clocks xs ys p.made.went_in q.went_in;
           seen = λ cs t. seen_both cs xs ys p.clocks q.clocks (p.made.seen cs t) (q.seen (board_after cs xs) (mid cs t));
           cards = λ cs ks t u. q.cards (board_after cs xs) ks (mid cs t) u ∙ sym (after-append xs ys cs);

@@ -7,14 +7,14 @@ use Rattle.base.proofs.NumberBits.{length-low_bits, low_bits-number_of}
 use Rattle.dev_card.specs.Board.{Clock, Input, tdos}
 use Rattle.dev_card.specs.Blocks.{block_inputs}
 use Rattle.dev_card.proofs.Scanning.{tdos_of_both}
-use Rattle.scan_paths.specs.Cables.{input_of, HasMadeClocks, HasMade, HasMadeFront, HasShifted}
+use Rattle.scan_paths.specs.Cables.{Signal, input_of, HasMadeClocks, HasMade, HasMadeFront, HasShifted}
 use Rattle.scan_paths.specs.Scans.{HasSeen}
 use Rattle.scan_paths.proofs.CallsInARow.{clocks_both}
 use Rattle.scan_paths.proofs.Way.{way_block_failed}
 use Rattle.scan_paths.proofs.Shifting.{length_of_inputs}
 
 -- Of all inputs a front was clocked, these are the rest, and these TDO bits were seen.
-pub record IsSeen {C : Type 0} (board : C → Option (List Card)) (makes : C → List Clock → C → Type 0) (start now : C)
+pub record IsSeen {C : Type 0} (board : C → Option (List Card)) (makes : C → List Signal → C → Type 0) (start now : C)
     (rest all : List Input) (captured : List Bool) : Type 0 where
   pub front : List Input
   pub clocks : List Clock
@@ -22,7 +22,7 @@ pub record IsSeen {C : Type 0} (board : C → Option (List Card)) (makes : C →
   pub made : HasMadeClocks board makes start now front clocks
   pub bits : captured ≡ tdos clocks
 
-module _ {C : Type 0} (board : C → Option (List Card)) (makes : C → List Clock → C → Type 0) where
+module _ {C : Type 0} (board : C → Option (List Card)) (makes : C → List Signal → C → Type 0) where
   -- before the first clock
   pub seen_none : (start : C) (rest all : List Input) → all ≡ rest → HasMadeClocks board makes start start [] [] → IsSeen board makes start start rest all []
   seen_none start rest all e m = record { front = []; clocks = []; parts = e; made = m; bits = refl }
@@ -49,7 +49,8 @@ module _ {C : Type 0} (board : C → Option (List Card)) (makes : C → List Clo
   length_of_seen : (a b : C) (xs : List Input) (ks : List Clock) → HasMadeClocks board makes a b xs ks → length (tdos ks) ≡ length xs
   length_of_seen a b xs ks p = length-map ks (λ (k : Clock). k.tdo) ∙ sym (length-map ks input_of) ∙ ap length p.went_in
 
-  module _ (both : (a b c : C) (front back : List Clock) → makes a front b → makes b back c → makes a (front ++ back) c) where
+  module _ (both : (a b c : C) (front back : List Signal) → makes a front b → makes b back c →
+      makes a (front ++ back) c) where
     -- one block more
     pub seen_block : (start now next : C) (tdi n : ℕ) (last : Bool) (rest all : List Input) (captured : List Bool) (tdo : ℕ) →
         HasShifted board makes now next (block_inputs tdi n last) tdo → IsSeen board makes start now (block_inputs tdi n last ++ rest) all captured →

@@ -6,3 +6,4 @@ pub mod Shifting
 pub mod Capturing
 pub mod Scanning
 pub mod Untold
+pub mod Signals

@@ -7,7 +7,7 @@ use Rattle.tap_states.specs.declared.Tap.{Tap}
 use Rattle.tap_states.specs.Tap.{next_of, is_stable_state}
 use Rattle.tap_states.specs.Path.{walk}
 use Rattle.dev_card.specs.Card.{Card}
-use Rattle.dev_card.specs.Board.{Clock, Input, clocks_of, board_after, after_input, AllIn}
+use Rattle.dev_card.specs.Board.{Input, clocks_of, board_after, after_input, AllIn}
 use Rattle.dev_card.specs.Line.{shift_state, exit_state, pause_state}
 use Rattle.dev_card.specs.Clocks.{with_zero, entry_tms, entry_inputs, shift_inputs, part_inputs, pause_inputs, stop_inputs, ScansAsLine}
 use Rattle.dev_card.specs.Sound.{AllSound}
@@ -15,14 +15,15 @@ use Rattle.dev_card.specs.Scans.{BoardScan, scan_bits, inputs_of_scan, board_aft
 use Rattle.dev_card.proofs.Reaching.{steps_in, entry_leads}
 use Rattle.dev_card.proofs.ScanLines.{scans_as_line, clocks-append}
 use Rattle.dev_card.proofs.Scanning.{inputs_of_whole, captured_is_seen, length_of_padded, scan_of_run}
-use Rattle.scan_paths.specs.Cables.{HasMade, HasMadeFront, WhereTold}
+use Rattle.scan_paths.specs.Cables.{Signal, HasMade, HasMadeFront, WhereTold}
 use Rattle.scan_paths.specs.Scans.{HasSeen, HasScanned, HasScannedFront}
 use Rattle.scan_paths.proofs.CallsInARow.{made_both, front_longer, front_after}
 use Rattle.scan_paths.proofs.Capturing.{seen_after, seen_before, made_of_seen}
 use Rattle.scan_paths.proofs.Arriving.{told_then}
 
 -- five calls in a row, of which the third captures
-module _ {C : Type 0} (board : C → Option (List Card)) (makes : C → List Clock → C → Type 0) (both : (a b c : C) (front back : List Clock) → makes a front b → makes b back c → makes a (front ++ back) c)
+module _ {C : Type 0} (board : C → Option (List Card)) (makes : C → List Signal → C → Type 0)
+    (both : (a b c : C) (front back : List Signal) → makes a front b → makes b back c → makes a (front ++ back) c)
     (all i1 i2 i3 i4 i5 : List Input) (e : all ≡ i1 ++ (i2 ++ (i3 ++ (i4 ++ i5)))) where
   pub five_made : (a b c d f h : C) (bits : List Bool) → HasMade board makes a b i1 → HasMade board makes b c i2 → HasSeen board makes c d i3 0 bits →
       HasMade board makes d f i4 → HasMade board makes f h i5 → HasSeen board makes a h all (length i1 + (length i2 + 0)) bits
@@ -113,7 +114,8 @@ told_same None f h e = refl
 told_same (Some cs) f h e = ap Some (e cs refl)
 
 -- the four calls of a scan
-module _ {C : Type 0} (board : C → Option (List Card)) (makes : C → List Clock → C → Type 0) (both : (a b c : C) (front back : List Clock) → makes a front b → makes b back c → makes a (front ++ back) c)
+module _ {C : Type 0} (board : C → Option (List Card)) (makes : C → List Signal → C → Type 0)
+    (both : (a b c : C) (front back : List Signal) → makes a front b → makes b back c → makes a (front ++ back) c)
     (at : Tap) (s : BoardScan) where
   abbrev Shift : List Input
   Shift = shift_inputs (scan_bits s)
@@ -169,7 +171,8 @@ module _ {C : Type 0} (board : C → Option (List Card)) (makes : C → List Clo
       (told_walked (board a) (board b) at (shift_state s.ir) (entry_inputs at s.ir) (entry_walks at s.ir st) p1.made.cards h))
 
 -- the scan of the line, where the board is told
-module _ {C : Type 0} (board : C → Option (List Card)) (makes : C → List Clock → C → Type 0) (old : C) (at : Tap) (s : BoardScan)
+module _ {C : Type 0} (board : C → Option (List Card)) (makes : C → List Signal → C → Type 0) (old : C) (at : Tap)
+    (s : BoardScan)
     (st : is_stable_state at ≡ true) (n : 0 < length s.bits) (a : WhereTold (board old) (AllIn at)) (h : (cs : List Card) → board old ≡ Some cs → AllSound cs) where
   as_line : (cs : List Card) → board old ≡ Some cs → ScansAsLine at s.ir s.stop cs (scan_bits s)
   as_line cs t = scans_as_line at s.ir s.stop cs (scan_bits s) st (some_bits s n) (a cs t) (h cs t)

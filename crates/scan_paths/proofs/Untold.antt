@@ -9,7 +9,7 @@ use Rattle.dev_card.specs.Card.{Card}
 use Rattle.dev_card.specs.Board.{Clock, Input, board_after, tdos}
 use Rattle.dev_card.specs.Clocks.{clocks_with}
 use Rattle.dev_card.specs.Blocks.{block_inputs}
-use Rattle.scan_paths.specs.Cables.{input_of, HasShifted, HasMadeFront}
+use Rattle.scan_paths.specs.Cables.{Signal, pulsed, input_of, HasShifted, HasMadeFront}
 use Rattle.scan_paths.proofs.Shifting.{length_of_inputs}
 
 went_in : (is : List Input) (bits : List Bool) → length bits ≡ length is → map input_of (clocks_with is bits) ≡ is
@@ -23,9 +23,9 @@ came_out [] (b ∷ bits) e = absurd (omega (arith, e))
 came_out (i ∷ is) [] e = absurd (omega (arith, e))
 came_out (i ∷ is) (b ∷ bits) e = ap (λ z. b ∷ z) (came_out is bits (omega (arith, e)))
 
-module _ {C : Type 0} (board : C → Option (List Card)) (makes : C → List Clock → C → Type 0) (old new : C)
+module _ {C : Type 0} (board : C → Option (List Card)) (makes : C → List Signal → C → Type 0) (old new : C)
     (before : board old ≡ None) (after : board new ≡ None)
-    (made : (clocks : List Clock) → makes old clocks new) where
+    (made : (signals : List Signal) → makes old signals new) where
   pub untold_block : (tdi n tdo : ℕ) (last : Bool) → tdo < 2 ^ n → HasShifted board makes old new (block_inputs tdi n last) tdo
   untold_block tdi n tdo last h =
       let is : List Input = block_inputs tdi n last in
@@ -34,7 +34,7 @@ module _ {C : Type 0} (board : C → Option (List Card)) (makes : C → List Clo
       record {
         clocks = clocks;
         made = record {
-          made = made clocks;
+          made = made (pulsed clocks);
           went_in = went_in is (low_bits n tdo) size;
           seen = λ cs t. absurd (none-some cs (sym before ∙ t));
           cards = after ∙ ap (option_map (λ cs. board_after cs is)) (sym before);

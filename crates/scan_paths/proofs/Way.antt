@@ -2,18 +2,19 @@
 use Rattle.std.proofs.Common.{◌≡◌, Bool, List, [], ◌∷◌, ◌++◌, Option, refl, sym, subst, ◌∙◌, append_assoc}
 use Rattle.std.proofs.lemmas.List.{append-nil}
 use Rattle.dev_card.specs.Card.{Card}
-use Rattle.dev_card.specs.Board.{Clock, Input}
-use Rattle.scan_paths.specs.Cables.{IsClocked, IsClockedOrNot, HasMade, HasMadeFront}
+use Rattle.dev_card.specs.Board.{Input}
+use Rattle.scan_paths.specs.Cables.{Signal, IsClocked, IsClockedOrNot, HasMade, HasMadeFront}
 use Rattle.scan_paths.proofs.CallsInARow.{made_nothing, made_one, made_both, front_clock, front_after, front_longer}
 
 -- Of all inputs a front was clocked, and these are the rest.
-pub record IsUnderWay {C : Type 0} (board : C → Option (List Card)) (makes : C → List Clock → C → Type 0) (start now : C) (rest all : List Input) : Type 0 where
+pub record IsUnderWay {C : Type 0} (board : C → Option (List Card)) (makes : C → List Signal → C → Type 0)
+    (start now : C) (rest all : List Input) : Type 0 where
   pub front : List Input
   pub parts : all ≡ front ++ rest
   pub made : HasMade board makes start now front
 
-module _ {C : Type 0} (board : C → Option (List Card)) (makes : C → List Clock → C → Type 0)
-    (both : (a b c : C) (front back : List Clock) → makes a front b → makes b back c → makes a (front ++ back) c) where
+module _ {C : Type 0} (board : C → Option (List Card)) (makes : C → List Signal → C → Type 0)
+    (both : (a b c : C) (front back : List Signal) → makes a front b → makes b back c → makes a (front ++ back) c) where
   -- before the first clock
   pub way_none : (start : C) (rest all : List Input) → all ≡ rest → makes start [] start → IsUnderWay board makes start start rest all
   way_none start rest all e m = record { front = []; parts = e; made = made_nothing board makes start start (record { made = m; cards = refl }) }

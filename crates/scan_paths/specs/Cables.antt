@@ -1,4 +1,4 @@
--- What a call does to a cable: the clocks that were made, the board that the cable tells, its counts of faults, and
+-- What a call does to a cable: the signals that were made, the board that the cable tells, its counts of faults, and
 -- what is broken of it. A cable that tells its board is clocked as the board is (IEEE 1149.1, test access port); counts
 -- and breakages are this profile's.
 use Rattle.std.specs.Prelude.{◌≡◌, ◌+◌, ◌++◌, ◌⊎◌, ℕ, Bool, true, false, List, [], ◌∷◌, map, Option, None, Some}
@@ -8,7 +8,7 @@ use Rattle.dev_card.specs.Card.{Card}
 use Rattle.base.specs.Bits.{number_of}
 use Rattle.dev_card.specs.Board.{board_tdo, board_step, board_after, clocks_of, tdos, Clock, Input}
 
--- what is broken of a cable: nothing, the line to the devices, or the lines in which its clocks are written
+-- what is broken of a cable: nothing, the line to the devices, or the lines in which its signals are written
 pub data Breakage : Type 0 where
   whole : Breakage
   line : Breakage
@@ -41,34 +41,57 @@ IsCableLast is_line_last is_pin_last cable = is_line_last cable ⊎ is_pin_last 
 abbrev pub input_of : Clock → Input
 input_of k = record { tms = k.tms; tdi = k.tdi }
 
+-- What goes over a cable: a clock, a wait of so many microseconds, or the frequency of the clocks that follow, in
+-- hertz, where 0 states none (this profile's rule).
+pub data Signal : Type 0 where
+  Pulses : (clock : Clock) → Signal
+  Waits : (usec : ℕ) → Signal
+  Tunes : (hertz : ℕ) → Signal
+
+-- clocks as signals, and the clocks among signals
+abbrev pub pulsed : List Clock → List Signal
+pulsed clocks = map Pulses clocks
+
+abbrev pub clocks_in : List Signal → List Clock
+clocks_in [] = []
+clocks_in (Pulses k ∷ signals) = k ∷ clocks_in signals
+clocks_in (Waits n ∷ signals) = clocks_in signals
+clocks_in (Tunes n ∷ signals) = clocks_in signals
+
 -- One clock was made, with this TDO: where the board is told, it is the board's TDO before the clock, and the board is
 -- stepped.
-pub record IsClocked {C : Type 0} (board : C → Option (List Card)) (makes : C → List Clock → C → Type 0) (old new : C)
+pub record IsClocked {C : Type 0} (board : C → Option (List Card)) (makes : C → List Signal → C → Type 0) (old new : C)
     (tms tdi tdo : Bool) : Type 0 where
-  pub made : makes old (record { tms = tms; tdi = tdi; tdo = tdo } ∷ []) new
+  pub made : makes old (Pulses (record { tms = tms; tdi = tdi; tdo = tdo }) ∷ []) new
   pub seen : (cs : List Card) → board old ≡ Some cs → tdo ≡ board_tdo cs tdi
   pub cards : board new ≡ option_map (λ cs. board_step cs tms tdi) (board old)
 
--- No clock was made, and the board is as it was.
-pub record IsUnclocked {C : Type 0} (board : C → Option (List Card)) (makes : C → List Clock → C → Type 0)
-    (old new : C) : Type 0 where
-  pub made : makes old [] new
+-- One signal that is no clock was made, and the board is as it was.
+pub record IsSignalled {C : Type 0} (board : C → Option (List Card)) (makes : C → List Signal → C → Type 0)
+    (old new : C) (signal : Signal) : Type 0 where
+  pub made : makes old (signal ∷ []) new
+  pub cards : board new ≡ board old
+
+-- It was made or not, and the board is as it was.
+pub record IsSignalledOrNot {C : Type 0} (board : C → Option (List Card)) (makes : C → List Signal → C → Type 0)
+    (old new : C) (signal : Signal) : Type 0 where
+  pub made : makes old [] new ⊎ makes old (signal ∷ []) new
   pub cards : board new ≡ board old
 
 -- A call that failed made clocks with these inputs. If the board was told, they are its clocks; if it is told still, it
 -- is the one after them. After a failure a cable need not tell its board any more, but one that told nothing tells
 -- nothing.
-pub record HasBrokenOff {C : Type 0} (board : C → Option (List Card)) (makes : C → List Clock → C → Type 0)
+pub record HasBrokenOff {C : Type 0} (board : C → Option (List Card)) (makes : C → List Signal → C → Type 0)
     (old new : C) (inputs : List Input) : Type 0 where
   pub clocks : List Clock
-  pub made : makes old clocks new
+  pub made : makes old (pulsed clocks) new
   pub went_in : map input_of clocks ≡ inputs
   pub seen : (cs : List Card) → board old ≡ Some cs → clocks ≡ clocks_of cs inputs
   pub cards : (cs after : List Card) → board old ≡ Some cs → board new ≡ Some after → after ≡ board_after cs inputs
   pub untold : board old ≡ None → board new ≡ None
 
 -- No clock was made, or this one.
-abbrev pub IsClockedOrNot : {C : Type 0} → (C → Option (List Card)) → (C → List Clock → C → Type 0) → C → C →
+abbrev pub IsClockedOrNot : {C : Type 0} → (C → Option (List Card)) → (C → List Signal → C → Type 0) → C → C →
     Bool → Bool → Type 0
 IsClockedOrNot board makes old new tms tdi =
     HasBrokenOff board makes old new []
@@ -76,28 +99,28 @@ IsClockedOrNot board makes old new tms tdi =
 
 -- These clocks were made, with exactly these inputs. Where the board is told, they are the board's clocks, and the
 -- board is the one after them.
-pub record HasMadeClocks {C : Type 0} (board : C → Option (List Card)) (makes : C → List Clock → C → Type 0)
+pub record HasMadeClocks {C : Type 0} (board : C → Option (List Card)) (makes : C → List Signal → C → Type 0)
     (old new : C) (inputs : List Input) (clocks : List Clock) : Type 0 where
-  pub made : makes old clocks new
+  pub made : makes old (pulsed clocks) new
   pub went_in : map input_of clocks ≡ inputs
   pub seen : (cs : List Card) → board old ≡ Some cs → clocks ≡ clocks_of cs inputs
   pub cards : board new ≡ option_map (λ cs. board_after cs inputs) (board old)
 
 -- Some clocks were made, with exactly these inputs.
-pub record HasMade {C : Type 0} (board : C → Option (List Card)) (makes : C → List Clock → C → Type 0) (old new : C)
+pub record HasMade {C : Type 0} (board : C → Option (List Card)) (makes : C → List Signal → C → Type 0) (old new : C)
     (inputs : List Input) : Type 0 where
   pub clocks : List Clock
   pub made : HasMadeClocks board makes old new inputs clocks
 
 -- Clocks were made with exactly these inputs, and this is the number of the TDO bits before them.
-pub record HasShifted {C : Type 0} (board : C → Option (List Card)) (makes : C → List Clock → C → Type 0) (old new : C)
+pub record HasShifted {C : Type 0} (board : C → Option (List Card)) (makes : C → List Signal → C → Type 0) (old new : C)
     (inputs : List Input) (tdo : ℕ) : Type 0 where
   pub clocks : List Clock
   pub made : HasMadeClocks board makes old new inputs clocks
   pub bits : tdo ≡ number_of (tdos clocks)
 
 -- Clocks were made with exactly a front of these inputs, and then a call failed.
-pub record HasMadeFront {C : Type 0} (board : C → Option (List Card)) (makes : C → List Clock → C → Type 0)
+pub record HasMadeFront {C : Type 0} (board : C → Option (List Card)) (makes : C → List Signal → C → Type 0)
     (old new : C) (inputs : List Input) : Type 0 where
   pub front : List Input
   pub rest : List Input

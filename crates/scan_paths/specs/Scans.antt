@@ -9,7 +9,7 @@ use Rattle.dev_card.specs.Scans.{BoardScan, inputs_of_scan, clocks_of_scan, boar
 use Rattle.scan_paths.specs.declared.pads.BasePads.{BasePads}
 use Rattle.scan_paths.specs.declared.pads.Pads.{Pads}
 use Rattle.scan_paths.specs.declared.scans.ScanPlan.{ScanPlan}
-use Rattle.scan_paths.specs.Cables.{HasMadeClocks, HasMadeFront}
+use Rattle.scan_paths.specs.Cables.{Signal, HasMadeClocks, HasMadeFront}
 
 -- each program padding lies inside its list
 pub record AreInside (p : Pads) : Type 0 where
@@ -42,7 +42,7 @@ scan_of plan bits pads =
     record { ir = plan.ir; paddings = paddings_of plan pads; bits = take plan.len bits; stop = plan.stop }
 
 -- Clocks were made with exactly these inputs, and these are the TDO bits that were seen from this place on.
-pub record HasSeen {C : Type 0} (board : C → Option (List Card)) (makes : C → List Clock → C → Type 0) (old new : C)
+pub record HasSeen {C : Type 0} (board : C → Option (List Card)) (makes : C → List Signal → C → Type 0) (old new : C)
     (inputs : List Input) (place : ℕ) (captured : List Bool) : Type 0 where
   pub clocks : List Clock
   pub made : HasMadeClocks board makes old new inputs clocks
@@ -53,7 +53,7 @@ pub record HasSeen {C : Type 0} (board : C → Option (List Card)) (makes : C �
 
 -- The clocks of a scan were made, and these bits were captured from them. If the board is told, they are the clocks of
 -- the scan of its line, and the board is the one after it.
-pub record HasScanned {C : Type 0} (board : C → Option (List Card)) (makes : C → List Clock → C → Type 0) (old new : C)
+pub record HasScanned {C : Type 0} (board : C → Option (List Card)) (makes : C → List Signal → C → Type 0) (old new : C)
     (at : Tap) (s : BoardScan) (captured : List Bool) : Type 0 where
   pub clocks : List Clock
   pub made : HasMadeClocks board makes old new (inputs_of_scan at s) clocks
@@ -68,7 +68,7 @@ pub record AreFirst (clocks all : List Clock) : Type 0 where
 
 -- Clocks were made with exactly a front of the inputs of a scan, and then a call failed. If the board was told, they
 -- are the first clocks of the scan of its line.
-pub record HasScannedFront {C : Type 0} (board : C → Option (List Card)) (makes : C → List Clock → C → Type 0)
+pub record HasScannedFront {C : Type 0} (board : C → Option (List Card)) (makes : C → List Signal → C → Type 0)
     (old new : C) (at : Tap) (s : BoardScan) : Type 0 where
   pub front : HasMadeFront board makes old new (inputs_of_scan at s)
   pub seen : (cs : List Card) → board old ≡ Some cs → AreFirst front.made.clocks (clocks_of_scan at s cs)

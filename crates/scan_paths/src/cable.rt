@@ -1,10 +1,9 @@
 //! The cable to a chain of devices.
 ghost use Rattle.std.specs.Prelude.{◌≡◌, ◌≢◌, ◌≤◌, ℕ, List, [], ◌++◌, Option, Some, IfOk, OnOk, OnErr};
 ghost use Rattle.dev_card.specs.Card.{Card};
-ghost use Rattle.dev_card.specs.Board.{Clock};
 ghost use Rattle.dev_card.specs.Sound.{AllSound};
 ghost use Rattle.dev_card.specs.Blocks.{block_inputs};
-ghost use Rattle.scan_paths.specs.Cables.{Breakage, whole, line, pins, HasPartCause, IsClocked, IsUnclocked, IsClockedOrNot, HasMadeFront, HasShifted};
+ghost use Rattle.scan_paths.specs.Cables.{Breakage, whole, line, pins, HasPartCause, Signal, Waits, Tunes, IsClocked, IsClockedOrNot, IsSignalled, IsSignalledOrNot, HasMadeFront, HasShifted};
 
 use tool_io::Failed;
 
@@ -13,14 +12,14 @@ use tool_io::Failed;
 ///
 /// A cable tells the cards of its board to contracts, as a simulated chain does, or tells nothing, as one to real
 /// devices. Either way it stays so, but after a clock that failed it need not tell any more. Told cards are sound. It
-/// has two counts of faults, one of the line to the devices and one of the lines in which its clocks are written, if it
-/// writes any; neither ever falls. A call that fails leaves it broken, and no call may be made on a broken cable.
+/// has two counts of faults, one of the line to the devices and one of the lines in which its signals are written, if
+/// it writes any; neither ever falls. A call that fails leaves it broken, and no call may be made on a broken cable.
 pub trait Cable {
     /// The cards of the board, the first nearest TDO, where the cable tells them.
     ghost board: { Self → Option (List Card) };
 
-    /// These clocks, one after another, lead from what the cable held to what it holds.
-    ghost made: { Self → List Clock → Self → Type 0 };
+    /// These signals, one after another, lead from what the cable held to what it holds.
+    ghost made: { Self → List Signal → Self → Type 0 };
 
     /// How often calls have failed by the line to the devices.
     ghost line_faults: { Self → ℕ };
@@ -28,7 +27,7 @@ pub trait Cable {
     /// That count stands at its last value.
     ghost is_line_last: { Self → Type 0 };
 
-    /// How often calls have failed by the lines in which clocks are written.
+    /// How often calls have failed by the lines in which signals are written.
     ghost pin_faults: { Self → ℕ };
 
     /// That count stands at its last value.
@@ -67,21 +66,24 @@ pub trait Cable {
         ensures line { HasPartCause line line_faults is_line_last breakage self.old self.new }
         ensures pins { HasPartCause pins pin_faults is_pin_last breakage self.old self.new };
 
-    /// Waits for n microseconds, without a clock: a told board stays as it is, whatever the answer. `Failed` has the
-    /// cause that it has at `clock`.
+    /// Waits for n microseconds, once and without a clock: a told board stays as it is, whatever the answer. `Failed`
+    /// has the cause that it has at `clock`, and then the wait was made or not.
     fn usec(&mut self, n: u32) -> Result<(), Failed>
         requires { breakage self.old ≡ whole }
-        ensures unclocked { IsUnclocked board made self.old self.new }
+        ensures signalled { OnOk result (IsSignalled board made self.old self.new (Waits n)) }
+        ensures failed { OnErr result (IsSignalledOrNot board made self.old self.new (Waits n)) }
         ensures unbroken { OnOk result (breakage self.new ≡ whole) }
         ensures broken { OnErr result (breakage self.new ≢ whole) }
         ensures line { HasPartCause line line_faults is_line_last breakage self.old self.new }
         ensures pins { HasPartCause pins pin_faults is_pin_last breakage self.old self.new };
 
-    /// Sets the frequency of the clocks that follow to n hertz, without a clock: a told board stays as it is, whatever
-    /// the answer. `Failed` has the cause that it has at `clock`.
+    /// Sets the frequency of the clocks that follow to n hertz, or states none if n is 0, without a clock: a told board
+    /// stays as it is, whatever the answer. `Failed` has the cause that it has at `clock`, and then the frequency was
+    /// set or not.
     fn hertz(&mut self, n: u32) -> Result<(), Failed>
         requires { breakage self.old ≡ whole }
-        ensures unclocked { IsUnclocked board made self.old self.new }
+        ensures signalled { OnOk result (IsSignalled board made self.old self.new (Tunes n)) }
+        ensures failed { OnErr result (IsSignalledOrNot board made self.old self.new (Tunes n)) }
         ensures unbroken { OnOk result (breakage self.new ≡ whole) }
         ensures broken { OnErr result (breakage self.new ≢ whole) }
         ensures line { HasPartCause line line_faults is_line_last breakage self.old self.new }
@@ -90,10 +92,10 @@ pub trait Cable {
     /// Told cards are sound.
     ghost sound: { (c : Self) (cs : List Card) → board c ≡ Some cs → AllSound cs };
 
-    /// No clock leads from what the cable holds to what it holds.
+    /// No signal leads from what the cable holds to what it holds.
     ghost none_made: { (c : Self) → made c [] c };
 
-    /// Clocks that lead on, joined.
-    ghost both_made: { (a b c : Self) (front back : List Clock) → made a front b → made b back c →
+    /// Signals that lead on, joined.
+    ghost both_made: { (a b c : Self) (front back : List Signal) → made a front b → made b back c →
         made a (front ++ back) c };
 }

@@ -14,7 +14,7 @@ use Rattle.dev_card.specs.Card.{Card}
 use Rattle.dev_card.specs.Board.{Clock, Input, tdos, board_after}
 use Rattle.dev_card.specs.Clocks.{is_nil, clocks_with}
 use Rattle.dev_card.specs.Blocks.{block_inputs}
-use Rattle.scan_paths.specs.Cables.{Breakage, whole, input_of, HasMadeFront, HasShifted}
+use Rattle.scan_paths.specs.Cables.{Signal, pulsed, Breakage, whole, input_of, HasMadeFront, HasShifted}
 use Rattle.scan_paths.proofs.Shifting.{length_of_inputs}
 use Rattle.stapl_meaning.specs.Deeds.{pulses}
 use Rattle.stapl_meaning.specs.Texts.{pin_limit, pin_line, full_line, with_digit, bytes_of, waiting}
@@ -24,6 +24,7 @@ use Rattle.stapl_machine.specs.Resets.{digit_of_clock}
 use Rattle.stapl_machine.specs.Papers.{Shown, Puts, PutsFront, IsOverSame}
 use Rattle.stapl_machine.specs.PaperLaws.{puts_nothing}
 use Rattle.stapl_machine.specs.PinLaws.{front_nothing}
+use Rattle.stapl_machine.proofs.SignalLemmas.{events_in_pulsed}
 use Rattle.stapl_machine.specs.Pins.{cable_of, lines_of, tap_of, digits_of, writes_pins, IsSamePort, PutsEvents, HasPut, HasMadePins}
 
 some_is : {X : Type 0} {x y : X} → Some x ≡ Some y → x ≡ y
@@ -197,10 +198,12 @@ after_told : (before now : Option (List Card)) (is : List Input) (cs after : Lis
 after_told before now is cs after e t u = some_is (sym u ∙ e ∙ ap (λ o. option_map (λ ks. board_after ks is) o) t)
 
 -- A block over a cable whose clocks are written.
-module _ {C O : Type 0} (breakage : PinCable C O → Breakage) (shown : O → Shown) (board : C → Option (List Card)) (makes : C → List Clock → C → Type 0)
+module _ {C O : Type 0} (breakage : PinCable C O → Breakage) (shown : O → Shown) (board : C → Option (List Card))
+    (makes : C → List Signal → C → Type 0)
     (a b : PinCable C O) (same : IsSamePort a b) (tap : tap_of b ≡ tap_of a) (over : IsOverSame shown (lines_of a) (lines_of b)) where
-  pins_made : (ks : List Clock) → makes (cable_of a) ks (cable_of b) → HasPut breakage shown a (pulses ks) b → HasMadePins breakage shown makes a ks b
-  pins_made ks m p = record { same = same; tap = tap; over = over; made = m; put = p }
+  pins_made : (ks : List Clock) → makes (cable_of a) (pulsed ks) (cable_of b) → HasPut breakage shown a (pulses ks) b →
+      HasMadePins breakage shown makes a (pulsed ks) b
+  pins_made ks m p = record { same = same; tap = tap; over = over; made = m; put = rw (events_in_pulsed ks) p }
 
   -- the line failed, and nothing was put
   pub front_by_line : (is : List Input) → lines_of b ≡ lines_of a → breakage b ≢ whole → HasMadeFront board makes (cable_of a) (cable_of b) is →

@@ -13,8 +13,11 @@ pub mod SettingLemmas
 pub mod ScanLemmas
 pub mod Machines
 pub mod ArrayLemmas
+pub mod SignalLemmas
 pub mod FarLemmas
+pub mod TornLemmas
 pub mod DeedLemmas
+pub mod SaidLemmas
 pub mod ResetLemmas
 pub mod PlayLemmas
 pub mod BlockLemmas

@@ -1,6 +1,7 @@
 -- On a whole play over a port: the line of the digits that wait, what the answer says of the parts, and the play over
 -- these parts.
-use Rattle.std.proofs.Common.{◌≡◌, ◌≤◌, ◌+◌, ℕ, Bool, true, false, List, ◌++◌, Option, Some, refl, sym, ap, subst, ◌∙◌, arith, reverse}
+use Rattle.std.proofs.Common.{◌≡◌, ◌≤◌, ◌+◌, ℕ, Bool, true, false, List, [], ◌++◌, Option, Some, refl, sym, ap, subst, ◌∙◌, arith, reverse}
+use Rattle.std.proofs.lemmas.List.{append-nil}
 use Rattle.tool_io.specs.Causes.{HasRisen}
 use Rattle.tap_states.specs.declared.Tap.{Tap}
 use Rattle.tap_states.specs.declared.Tap.TheVariants.{Reset}
@@ -8,7 +9,7 @@ use Rattle.dev_card.specs.Card.{Card}
 use Rattle.dev_card.specs.Board.{Clock, tdos}
 use Rattle.dev_card.specs.FarEnds.{far_end}
 use Rattle.dev_card.specs.Padding.{BaseLengths}
-use Rattle.scan_paths.specs.Cables.{Breakage, whole, line, pins, cable_faults, IsCableLast}
+use Rattle.scan_paths.specs.Cables.{Signal, Breakage, whole, line, pins, cable_faults, IsCableLast}
 use Rattle.stapl_meaning.specs.declared.events.Event.{Event}
 use Rattle.stapl_meaning.specs.declared.events.Ending.{Ending}
 use Rattle.stapl_meaning.specs.declared.values.Held.{Held}
@@ -29,14 +30,16 @@ use Rattle.stapl_machine.specs.PaperLaws.{put_then, put_then_front, front_with}
 use Rattle.stapl_machine.specs.Pins.{cable_of, lines_of, tap_of, base_of, digits_of, writes_pins, is_torn, broken_as, port_breakage}
 use Rattle.stapl_machine.specs.PinLaws.{events_front_with}
 use Rattle.stapl_machine.specs.Ports.{BrokeSo, IsKept, IfFault, IfMemory, LeavesSo, chain_before, RunsTo, RunsFront, PlaysTo, PlaysFront}
+use Rattle.stapl_machine.specs.Signals.{signals_of}
 use Rattle.stapl_machine.specs.Resets.{kept_digits}
 use Rattle.stapl_machine.specs.Runs.{play_from, play_ticks_from}
 use Rattle.stapl_machine.specs.Zeros.{zeros_of_code}
 use Rattle.stapl_machine.proofs.DeedLemmas.{same_chain}
 
-module _ {C O : Type 0} (breakage : PinCable C O → Breakage) (board : C → Option (List Card)) (makes : C → List Clock → C → Type 0) (shown : O → Shown) (all : Chain → Run) (count : Chain → ℕ) where
-  still_made : (a b c : C) (clocks : List Clock) → c ≡ b → makes a clocks b → makes a clocks c
-  still_made a b c clocks e m = subst (λ (x : C). makes a clocks x) (sym e) m
+module _ {C O : Type 0} (breakage : PinCable C O → Breakage) (board : C → Option (List Card))
+    (makes : C → List Signal → C → Type 0) (shown : O → Shown) (all : Chain → Run) (count : Chain → ℕ) where
+  still_made : (a b c : C) (signals : List Signal) → c ≡ b → makes a signals b → makes a signals c
+  still_made a b c signals e m = subst (λ (x : C). makes a signals x) (sym e) m
 
   -- the run, and the line of the digits that wait
   pub plays_end : (a b c : PinCable C O) (steps now : ℕ) (ending : Option Ending) (s : State) → cable_of c ≡ cable_of b → tap_of c ≡ tap_of b → base_of c ≡ base_of b →
@@ -45,7 +48,8 @@ module _ {C O : Type 0} (breakage : PinCable C O → Breakage) (board : C → Op
   plays_end a b c steps now ending s same tap base p put = record {
     events = p.events;
     clocks = p.clocks;
-    made = still_made (cable_of a) (cable_of b) (cable_of c) p.clocks same p.passed.made;
+    made = still_made (cable_of a) (cable_of b) (cable_of c) (signals_of p.events) same p.passed.made;
+    clocks_are = p.passed.clocks_are;
     put = subst (λ (ds : List ℕ). Puts shown (lines_of a) (bytes_of (writes_pins a) (digits_of a) p.events ++ pin_line ds) (lines_of c)) p.passed.put.digits (put_then p.passed.put.put put);
     runs = p.runs;
     ended = p.ended;
@@ -60,8 +64,15 @@ module _ {C O : Type 0} (breakage : PinCable C O → Breakage) (board : C → Op
       RunsTo breakage board makes shown all count a steps ending s b now → PutsFront shown (lines_of b) (pin_line (digits_of b)) (lines_of c) →
       PlaysFront breakage board makes shown all count a steps c now
   plays_torn a b c steps now ending s same p front = record {
+    events = p.events;
     clocks = p.clocks;
-    made = still_made (cable_of a) (cable_of b) (cable_of c) p.clocks same p.passed.made;
+    made = still_made (cable_of a) (cable_of b) (cable_of c) (signals_of p.events) same p.passed.made;
+    clocks_are = p.passed.clocks_are;
+    rest = λ more. [];
+    runs = λ more. p.runs more ∙ sym (append-nil p.events);
+    driven = subst (λ (ds : List ℕ). PutsFront shown (lines_of a)
+        (bytes_of (writes_pins a) (digits_of a) p.events ++ pin_line ds) (lines_of c)) p.passed.put.digits
+        (put_then_front p.passed.put.put front);
     front = λ more.
         subst (λ (es : List Event). PutsFront shown (lines_of a) (events_text (writes_pins a) (digits_of a) es) (lines_of c)) (sym (p.runs more))
         (subst (λ (ds : List ℕ). PutsFront shown (lines_of a) (bytes_of (writes_pins a) (digits_of a) p.events ++ pin_line ds) (lines_of c)) p.passed.put.digits (put_then_front p.passed.put.put front));
@@ -71,8 +82,13 @@ module _ {C O : Type 0} (breakage : PinCable C O → Breakage) (board : C → Op
   -- where the run was broken off
   pub plays_front : (a b : PinCable C O) (steps now : ℕ) → RunsFront breakage board makes shown all count a steps b now → PlaysFront breakage board makes shown all count a steps b now
   plays_front a b steps now p = record {
+    events = p.events;
     clocks = p.clocks;
     made = p.passed.made;
+    clocks_are = p.passed.clocks_are;
+    rest = p.rest;
+    runs = p.runs;
+    driven = front_with (pin_line (waiting (writes_pins a) (digits_of a) p.events)) p.passed.front;
     front = λ more.
         subst (λ (es : List Event). PutsFront shown (lines_of a) (events_text (writes_pins a) (digits_of a) es) (lines_of b)) (sym (p.runs more))
         (front_with (pin_line (waiting (writes_pins a) (digits_of a) (p.events ++ p.rest more))) (events_front_with breakage shown a b p.events (p.rest more) p.passed.front));
@@ -109,7 +125,9 @@ fault_causes a b troubles.WriteFault kept e = kept.pins_cause.broke e
 fault_causes a b troubles.Memory kept e = tt
 
 -- a play of the lists of a code, whose variables hold zeros
-pub over_code : {C O : Type 0} (breakage : PinCable C O → Breakage) (board : C → Option (List Card)) (makes : C → List Clock → C → Type 0) (shown : O → Shown) (lists code : CodeLists) (chosen : List ℕ) (v : List Held) (n : ℕ)
+pub over_code : {C O : Type 0} (breakage : PinCable C O → Breakage) (board : C → Option (List Card))
+    (makes : C → List Signal → C → Type 0) (shown : O → Shown) (lists code : CodeLists) (chosen : List ℕ)
+    (v : List Held) (n : ℕ)
     (a b : PinCable C O) (steps now : ℕ) (ending other : Option Ending) (s : State) → lists ≡ code → v ≡ zeros_of_code code → ending ≡ other →
     PlaysTo breakage board makes shown (play_from lists chosen v n) (play_ticks_from lists chosen v n) a steps ending s b now →
     PlaysTo breakage board makes shown (play_of code chosen n) (play_ticks_of code chosen n) a steps other s b now
@@ -118,7 +136,9 @@ over_code breakage board makes shown lists code chosen v n a b steps now ending 
     (subst (λ (l : CodeLists). PlaysTo breakage board makes shown (play_from l chosen v n) (play_ticks_from l chosen v n) a steps other s b now) same
     (subst (λ (o : Option Ending). PlaysTo breakage board makes shown (play_from lists chosen v n) (play_ticks_from lists chosen v n) a steps o s b now) is p))
 
-pub over_code_front : {C O : Type 0} (breakage : PinCable C O → Breakage) (board : C → Option (List Card)) (makes : C → List Clock → C → Type 0) (shown : O → Shown) (lists code : CodeLists) (chosen : List ℕ) (v : List Held) (n : ℕ)
+pub over_code_front : {C O : Type 0} (breakage : PinCable C O → Breakage) (board : C → Option (List Card))
+    (makes : C → List Signal → C → Type 0) (shown : O → Shown) (lists code : CodeLists) (chosen : List ℕ)
+    (v : List Held) (n : ℕ)
     (a b : PinCable C O) (steps now : ℕ) → lists ≡ code → v ≡ zeros_of_code code →
     PlaysFront breakage board makes shown (play_from lists chosen v n) (play_ticks_from lists chosen v n) a steps b now →
     PlaysFront breakage board makes shown (play_of code chosen n) (play_ticks_of code chosen n) a steps b now
@@ -127,7 +147,8 @@ over_code_front breakage board makes shown lists code chosen v n a b steps now s
     (subst (λ (l : CodeLists). PlaysFront breakage board makes shown (play_from l chosen v n) (play_ticks_from l chosen v n) a steps b now) same p)
 
 -- the play of a machine, over the parts of its port
-module _ {C O : Type 0} (breakage : PinCable C O → Breakage) (board : C → Option (List Card)) (makes : C → List Clock → C → Type 0) (shown : O → Shown) (chosen : List ℕ)
+module _ {C O : Type 0} (breakage : PinCable C O → Breakage) (board : C → Option (List Card))
+    (makes : C → List Signal → C → Type 0) (shown : O → Shown) (chosen : List ℕ)
     (machine : Machine) (p : Bool) (digits : List ℕ) (base : BaseLengths) (cable new_cable : C) (out new : O)
     (a b : PinCable C O) (cable_is : cable_of a ≡ cable) (out_is : lines_of a ≡ out) (digits_are : digits_of a ≡ kept_digits p digits) (pins_are : writes_pins a ≡ p)
     (tap_is : tap_of a ≡ Reset) (base_is : base_of a ≡ base) (new_out_is : new ≡ lines_of b) (new_cable_is : new_cable ≡ cable_of b) (run : Chain → Run) (count : Chain → ℕ) (steps now : ℕ) where
@@ -138,9 +159,10 @@ module _ {C O : Type 0} (breakage : PinCable C O → Breakage) (board : C → Op
       ∙ ap (λ (l : BaseLengths). chain_at l board (cable_of a) (tdos clocks ++ more)) base_is
       ∙ ap (λ (d : C). chain_at base board d (tdos clocks ++ more)) cable_is
 
-  made_over : (clocks : List Clock) → makes (cable_of a) clocks (cable_of b) → makes cable clocks new_cable
-  made_over clocks m =
-      subst (λ (d : C). makes cable clocks d) (sym new_cable_is) (subst (λ (d : C). makes d clocks (cable_of b)) cable_is m)
+  made_over : (signals : List Signal) → makes (cable_of a) signals (cable_of b) → makes cable signals new_cable
+  made_over signals m =
+      subst (λ (d : C). makes cable signals d) (sym new_cable_is)
+      (subst (λ (d : C). makes d signals (cable_of b)) cable_is m)
 
   put_over : (es : List Event) → Puts shown (lines_of a) (events_text (writes_pins a) (digits_of a) es) (lines_of b) → Puts shown out (events_text p (kept_digits p digits) es) new
   put_over es q =
@@ -162,7 +184,8 @@ module _ {C O : Type 0} (breakage : PinCable C O → Breakage) (board : C → Op
   machine_played ending work is q = record {
     events = q.events;
     clocks = q.clocks;
-    made = made_over q.clocks q.made;
+    made = made_over (signals_of q.events) q.made;
+    clocks_are = q.clocks_are;
     put = put_over q.events q.put;
     runs = λ more. ap (λ (k : Chain). (run k).events) (sym (begins q.clocks more)) ∙ q.runs more;
     ended = λ more. ap (λ (k : Chain). ending_of (run k).outcome) (sym (begins q.clocks more)) ∙ q.ended more;
@@ -180,8 +203,13 @@ module _ {C O : Type 0} (breakage : PinCable C O → Breakage) (board : C → Op
 
   pub machine_front : PlaysFront breakage board makes shown run count a steps b now → IsPlayedFront board makes shown p digits base run count cable out steps new_cable new now
   machine_front q = record {
+    events = q.events;
     clocks = q.clocks;
-    made = made_over q.clocks q.made;
+    made = made_over (signals_of q.events) q.made;
+    clocks_are = q.clocks_are;
+    rest = q.rest;
+    runs = λ more. ap (λ (k : Chain). (run k).events) (sym (begins q.clocks more)) ∙ q.runs more;
+    driven = front_over q.events q.driven;
     front = λ more.
         front_over (run (chain_at base board cable (tdos q.clocks ++ more))).events
         (subst (λ (k : Chain). PutsFront shown (lines_of a) (events_text (writes_pins a) (digits_of a) (run k).events) (lines_of b)) (begins q.clocks more) (q.front more));

@@ -5,7 +5,7 @@ use Rattle.std.specs.Option.{option_map}
 use Rattle.dev_card.specs.Card.{Card}
 use Rattle.dev_card.specs.Board.{Clock, Input, clocks_of, board_after}
 use Rattle.dev_card.proofs.ScanLines.{after-append, clocks-append}
-use Rattle.scan_paths.specs.Cables.{input_of, IsClocked}
+use Rattle.scan_paths.specs.Cables.{Signal, Pulses, pulsed, input_of, IsClocked}
 use Rattle.scan_paths.proofs.Way.{IsUnderWay}
 use Rattle.dev_card.specs.FarEnds.{FarEnd, Told, Heard, far_clocks}
 use Rattle.stapl_meaning.specs.declared.events.Event.{Event}
@@ -37,13 +37,13 @@ one = record { tms = true; tdi = false }
 abbrev pub one_with : Bool → Clock
 one_with tdo = record { tms = true; tdi = false; tdo = tdo }
 
-module _ {C : Type 0} (board : C → Option (List Card)) (makes : C → List Clock → C → Type 0) where
+module _ {C : Type 0} (board : C → Option (List Card)) (makes : C → List Signal → C → Type 0) where
   -- of five clocks with TMS 1 some were made, and these are their digits
   pub record IsNoted (start now : C) (rest : List Input) (digits : List ℕ) : Type 0 where
     pub front : List Input
     pub parts : reset_inputs ≡ front ++ rest
     pub clocks : List Clock
-    pub made : makes start clocks now
+    pub made : makes start (pulsed clocks) now
     pub went_in : map input_of clocks ≡ front
     pub seen : (cs : List Card) → board start ≡ Some cs → clocks ≡ clocks_of cs front
     pub cards : board now ≡ option_map (λ cs. board_after cs front) (board start)
@@ -61,14 +61,16 @@ module _ {C : Type 0} (board : C → Option (List Card)) (makes : C → List Clo
     digits_are = e;
   }
 
-  pub noted_more : ((a b c : C) (front back : List Clock) → makes a front b → makes b back c → makes a (front ++ back) c) →
+  pub noted_more : ((a b c : C) (front back : List Signal) → makes a front b → makes b back c →
+      makes a (front ++ back) c) →
       (start now next : C) (rest : List Input) (digits : List ℕ) (tdo : Bool) → IsClocked board makes now next true false tdo →
       IsNoted start now (one ∷ rest) digits → IsNoted start next rest (digits ++ digit_of_clock (one_with tdo) ∷ [])
   noted_more both start now next rest digits tdo k n = record {
     front = n.front ++ one ∷ [];
     parts = n.parts ∙ sym (append_assoc n.front (one ∷ []) rest);
     clocks = n.clocks ++ one_with tdo ∷ [];
-    made = both start now next n.clocks (one_with tdo ∷ []) n.made k.made;
+    made = rw (map-append Pulses n.clocks (one_with tdo ∷ []))
+        (both start now next (pulsed n.clocks) (pulsed (one_with tdo ∷ [])) n.made k.made);
     went_in = map-append input_of n.clocks (one_with tdo ∷ []) ∙ ap (λ (z : List Input). z ++ one ∷ []) n.went_in;
     seen = λ cs t.
         (let mid : board now ≡ Some (board_after cs n.front) = n.cards ∙ ap (λ (o : Option (List Card)). option_map (λ (ks : List Card). board_after ks n.front) o) t in

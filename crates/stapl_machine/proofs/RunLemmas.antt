@@ -3,7 +3,7 @@ use Rattle.std.proofs.Common.{◌≡◌, ◌≤◌, ◌<◌, ℕ, suc, ◌+◌, 
 use Rattle.std.proofs.lemmas.List.{append-nil}
 use Rattle.dev_card.specs.Card.{Card}
 use Rattle.dev_card.specs.Board.{Clock, tdos}
-use Rattle.scan_paths.specs.Cables.{Breakage, whole}
+use Rattle.scan_paths.specs.Cables.{Signal, Breakage, whole}
 use Rattle.stapl_meaning.specs.declared.events.Event.{Event}
 use Rattle.stapl_meaning.specs.declared.events.Ending.{Ending}
 use Rattle.stapl_meaning.specs.declared.events.Ending.TheVariants.{Spent}
@@ -95,7 +95,8 @@ one_left all i h = omega arith
 pub none_left : (all i : ℕ) → all ≤ i → all - i ≡ 0
 none_left all i h = omega arith
 
-module _ {C O : Type 0} (breakage : PinCable C O → Breakage) (board : C → Option (List Card)) (makes : C → List Clock → C → Type 0) (shown : O → Shown) where
+module _ {C O : Type 0} (breakage : PinCable C O → Breakage) (board : C → Option (List Card))
+    (makes : C → List Signal → C → Type 0) (shown : O → Shown) where
   -- no turn yet
   pub runs_none : (a : PinCable C O) (all rest : Chain → Run) (count left : Chain → ℕ) (steps : ℕ) → makes (cable_of a) [] (cable_of a) → breakage a ≡ whole →
       ((k : Chain) → all k ≡ rest k) → ((k : Chain) → steps + left k ≡ steps + count k) → Runs breakage board makes shown all count a steps rest left a steps
@@ -146,7 +147,8 @@ module _ {C O : Type 0} (breakage : PinCable C O → Breakage) (board : C → Op
   }
 
   -- a turn of a run, and what follows it
-  module _ (both : (x y z : C) (front back : List Clock) → makes x front y → makes y back z → makes x (front ++ back) z)
+  module _ (both : (x y z : C) (front back : List Signal) → makes x front y → makes y back z →
+      makes x (front ++ back) z)
       (a b c : PinCable C O) (all : Chain → Run) (count : Chain → ℕ) (s : State) (go : ℕ → State → Chain → Run) (counts : ℕ → State → Chain → ℕ)
       (turn : Chain → Happened) (turn_count : Chain → ℕ) (here : Chain → Run) (here_count : Chain → ℕ) (steps then now : ℕ)
       (opened : (k : Chain) → here k ≡ goes_on (turn k) s k go) (opened_count : (k : Chain) → here_count k ≡ turn_count k + counted_then (turn k) counts)
@@ -436,7 +438,8 @@ module _ (code : CodeLists) (chosen : List ℕ) (work : Workspace) (n : ℕ) (no
       ∙ ap (λ (h : Happened). whole + counted_then h (run_ticks_of code n)) (sym (first_begun k))
 
 -- what the prologue did, and the first chosen procedure behind it
-pub begun_does : {C O : Type 0} (breakage : PinCable C O → Breakage) (board : C → Option (List Card)) (makes : C → List Clock → C → Type 0) (shown : O → Shown) (a b : PinCable C O) (entry : ℕ → ℕ)
+pub begun_does : {C O : Type 0} (breakage : PinCable C O → Breakage) (board : C → Option (List Card))
+    (makes : C → List Signal → C → Type 0) (shown : O → Shown) (a b : PinCable C O) (entry : ℕ → ℕ)
     (turn rest : Chain → Happened) (count left : Chain → ℕ) (steps now : ℕ) → Does breakage board makes shown turn count a steps rest left b now →
     Does breakage board makes shown (λ k. begins_chosen entry (turn k)) count a steps (λ k. begins_chosen entry (rest k)) left b now
 begun_does breakage board makes shown a b entry turn rest count left steps now d = record {
@@ -447,7 +450,8 @@ begun_does breakage board makes shown a b entry turn rest count left steps now d
   ticked = d.ticked;
 }
 
-pub begun_front : {C O : Type 0} (breakage : PinCable C O → Breakage) (board : C → Option (List Card)) (makes : C → List Clock → C → Type 0) (shown : O → Shown) (a b : PinCable C O) (entry : ℕ → ℕ)
+pub begun_front : {C O : Type 0} (breakage : PinCable C O → Breakage) (board : C → Option (List Card))
+    (makes : C → List Signal → C → Type 0) (shown : O → Shown) (a b : PinCable C O) (entry : ℕ → ℕ)
     (turn : Chain → Happened) (count : Chain → ℕ) (steps now : ℕ) → DoesFront breakage board makes shown turn count a steps b now →
     DoesFront breakage board makes shown (λ k. begins_chosen entry (turn k)) count a steps b now
 begun_front breakage board makes shown a b entry turn count steps now d = record {

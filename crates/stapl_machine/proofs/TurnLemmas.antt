@@ -6,7 +6,7 @@ use Rattle.dev_card.specs.Scans.{BoardScan}
 use Rattle.std.proofs.lemmas.List.{append-nil, drop_more}
 use Rattle.dev_card.specs.Card.{Card}
 use Rattle.dev_card.specs.Board.{Clock, tdos}
-use Rattle.scan_paths.specs.Cables.{Breakage, whole}
+use Rattle.scan_paths.specs.Cables.{Signal, Breakage, whole}
 use Rattle.stapl_meaning.specs.declared.events.Event.{Event}
 use Rattle.stapl_meaning.specs.declared.values.Value.{Value}
 use Rattle.stapl_meaning.specs.Deeds.{Deed, Scans, Chain, deed_events, deed_chain, deeds_events, deeds_chain, captured_on}
@@ -29,7 +29,8 @@ use Rattle.stapl_machine.specs.Ports.{chain_before, Did, DidFront, Captured, Doe
 use Rattle.stapl_machine.specs.Turns.{rest_of, ticks_from, piece_of, turn_at, ticks_at}
 use Rattle.stapl_machine.proofs.DeedLemmas.{passes_none, front_none, passes_both, passes_both_front, before_both}
 
-module _ {C O : Type 0} (breakage : PinCable C O → Breakage) (board : C → Option (List Card)) (makes : C → List Clock → C → Type 0) (shown : O → Shown) where
+module _ {C O : Type 0} (breakage : PinCable C O → Breakage) (board : C → Option (List Card))
+    (makes : C → List Signal → C → Type 0) (shown : O → Shown) where
   -- nothing happens
   pub does_still : (a : PinCable C O) (turn rest : Chain → Happened) (count left : Chain → ℕ) (steps now : ℕ) → makes (cable_of a) [] (cable_of a) → breakage a ≡ whole →
       ((k : Chain) → turn k ≡ rest k) → ((k : Chain) → now + left k ≡ steps + count k) → Does breakage board makes shown turn count a steps rest left a now
@@ -180,7 +181,8 @@ module _ {C O : Type 0} (breakage : PinCable C O → Breakage) (board : C → Op
   }
 
   -- one part after another
-  module _ (both : (x y z : C) (front back : List Clock) → makes x front y → makes y back z → makes x (front ++ back) z) where
+  module _ (both : (x y z : C) (front back : List Signal) → makes x front y → makes y back z →
+      makes x (front ++ back) z) where
     pub does_both : (a b c : PinCable C O) (turn middle rest : Chain → Happened) (count between left : Chain → ℕ) (steps then now : ℕ) →
         Does breakage board makes shown turn count a steps middle between b then → Does breakage board makes shown middle between b then rest left c now →
         Does breakage board makes shown turn count a steps rest left c now

@@ -3,6 +3,7 @@ pub mod Prints
 pub mod Exports
 pub mod Papers
 pub mod PaperLaws
+pub mod Signals
 pub mod Pins
 pub mod PinLaws
 pub mod Ports

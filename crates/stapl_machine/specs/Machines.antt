@@ -5,6 +5,7 @@ use Rattle.dev_card.specs.Card.{Card}
 use Rattle.dev_card.specs.Board.{Clock, tdos}
 use Rattle.dev_card.specs.FarEnds.{far_end}
 use Rattle.dev_card.specs.Padding.{BaseLengths}
+use Rattle.scan_paths.specs.Cables.{Signal, clocks_in}
 use Rattle.stapl_meaning.specs.declared.events.Event.{Event}
 use Rattle.stapl_meaning.specs.declared.events.Ending.{Ending}
 use Rattle.stapl_meaning.specs.declared.records.Record.{Record}
@@ -16,6 +17,7 @@ use Rattle.stapl_code.specs.declared.raw.CodeLists.{CodeLists}
 use Rattle.stapl_machine.specs.declared.running.Machine.{Machine}
 use Rattle.stapl_machine.specs.Acts.{IsUnused}
 use Rattle.stapl_machine.specs.Papers.{Shown, Puts, PutsFront}
+use Rattle.stapl_machine.specs.Signals.{signals_of}
 use Rattle.stapl_machine.specs.Resets.{kept_digits}
 use Rattle.stapl_machine.specs.Zeros.{zeros_of_code}
 use Rattle.stapl_machine.specs.Runs.{play_from, play_ticks_from}
@@ -57,12 +59,15 @@ chain_at base board cable heard = record { tap = Reset; base = base; far = far_e
 
 -- A run on the far end that the cable is: its board, where that is told, else the TDO bits of the clocks that were
 -- made, with any that may follow.
-module _ {C O : Type 0} (board : C → Option (List Card)) (makes : C → List Clock → C → Type 0) (shown : O → Shown) (pins : Bool) (digits : List ℕ) (base : BaseLengths) (run : Chain → Run) (count : Chain → ℕ) where
-  -- The whole text of the run was put, and the run, the cable and the machine stand so.
+module _ {C O : Type 0} (board : C → Option (List Card)) (makes : C → List Signal → C → Type 0) (shown : O → Shown)
+    (pins : Bool) (digits : List ℕ) (base : BaseLengths) (run : Chain → Run) (count : Chain → ℕ) where
+  -- The whole text of the run was put, what was made on the cable are exactly the signals among its events, and the
+  -- run, the cable and the machine stand so.
   pub record IsPlayed (old : C) (out : O) (steps : ℕ) (ending : Ending) (new : C) (new_out : O) (now : ℕ) (machine : Machine) : Type 0 where
     pub events : List Event
     pub clocks : List Clock
-    pub made : makes old clocks new
+    pub made : makes old (signals_of events) new
+    pub clocks_are : clocks_in (signals_of events) ≡ clocks
     pub put : Puts shown out (events_text pins (kept_digits pins digits) events) new_out
     pub runs : (more : List Bool) → (run (chain_at base board old (tdos clocks ++ more))).events ≡ events
     pub ended : (more : List Bool) → ending_of (run (chain_at base board old (tdos clocks ++ more))).outcome ≡ Some ending
@@ -71,9 +76,14 @@ module _ {C O : Type 0} (board : C → Option (List Card)) (makes : C → List C
     pub records : (more : List Bool) → (run (chain_at base board old (tdos clocks ++ more))).state.records ≡ records_in machine
     pub ticked : (more : List Bool) → now ≡ steps + count (chain_at base board old (tdos clocks ++ more))
 
-  -- A front of its text was put.
+  -- The signals among its first events were made, and a front of the text of these was put.
   pub record IsPlayedFront (old : C) (out : O) (steps : ℕ) (new : C) (new_out : O) (now : ℕ) : Type 0 where
+    pub events : List Event
     pub clocks : List Clock
-    pub made : makes old clocks new
+    pub made : makes old (signals_of events) new
+    pub clocks_are : clocks_in (signals_of events) ≡ clocks
+    pub rest : List Bool → List Event
+    pub runs : (more : List Bool) → (run (chain_at base board old (tdos clocks ++ more))).events ≡ events ++ rest more
+    pub driven : PutsFront shown out (events_text pins (kept_digits pins digits) events) new_out
     pub front : (more : List Bool) → PutsFront shown out (events_text pins (kept_digits pins digits) (run (chain_at base board old (tdos clocks ++ more))).events) new_out
     pub most : (more : List Bool) → now ≤ steps + count (chain_at base board old (tdos clocks ++ more))

@@ -1,13 +1,14 @@
 -- Clocks of a cable whose clocks are shown can be joined.
 use Rattle.std.proofs.Common.{◌≡◌, ℕ, Bool, List, [], ◌∷◌, ◌++◌, ◌≢◌, refl, sym, ap, subst, ◌∙◌, append_assoc}
-use Rattle.std.proofs.lemmas.List.{map-append}
 use Rattle.stapl_machine.specs.Papers.{Shown, Puts, PutsFront}
 use Rattle.stapl_machine.specs.PaperLaws.{put_then, put_then_front, front_with, puts_nothing}
 use Rattle.tool_io.proofs.BytesLemmas.{then_bytes-nothing}
 use Rattle.dev_card.specs.Board.{Clock}
-use Rattle.scan_paths.specs.Cables.{Breakage, whole, line, pins}
+use Rattle.scan_paths.specs.Cables.{Signal, Pulses, Waits, Tunes, Breakage, whole, line, pins}
+use Rattle.stapl_meaning.specs.declared.events.Event.TheVariants.{Usec, Hertz}
+use Rattle.stapl_machine.specs.Signals.{events_in}
 use Rattle.stapl_meaning.specs.declared.events.Event.{Event}
-use Rattle.stapl_meaning.specs.Deeds.{pulse, pulses}
+use Rattle.stapl_meaning.specs.Deeds.{pulse}
 use Rattle.stapl_meaning.specs.Texts.{event_bytes, digits_after, bytes_of, waiting}
 use Rattle.stapl_machine.specs.declared.pin_cable.PinCable.{PinCable}
 use Rattle.stapl_machine.specs.Pins.{cable_of, lines_of, digits_of, writes_pins, IsSamePort, PutsEvents, PutsEventsFront, HasPut, HasMadePins}
@@ -21,6 +22,13 @@ bytes_both p digits (x ∷ xs) ys =
 pub waiting_both : (p : Bool) (digits : List ℕ) (xs ys : List Event) → waiting p digits (xs ++ ys) ≡ waiting p (waiting p digits xs) ys
 waiting_both p digits [] ys = refl
 waiting_both p digits (x ∷ xs) ys = waiting_both p (digits_after p digits x) xs ys
+
+-- joined signals as events
+pub events_in_both : (xs ys : List Signal) → events_in (xs ++ ys) ≡ events_in xs ++ events_in ys
+events_in_both [] ys = refl
+events_in_both (Pulses k ∷ xs) ys = ap (λ (z : List Event). pulse k ∷ z) (events_in_both xs ys)
+events_in_both (Waits n ∷ xs) ys = ap (λ (z : List Event). Usec n ∷ z) (events_in_both xs ys)
+events_in_both (Tunes n ∷ xs) ys = ap (λ (z : List Event). Hertz n ∷ z) (events_in_both xs ys)
 
 pub same_port : {C O : Type 0} (a : PinCable C O) → IsSamePort a a
 same_port a = record { cable = refl; out = refl; pins = refl; base = refl }
@@ -108,16 +116,17 @@ module _ {C O : Type 0} (breakage : PinCable C O → Breakage) (shown : O → Sh
     some = λ w. both_some (breakage b) a b c xs ys refl e p (q.some w);
   }
 
-  module _ (makes : C → List Clock → C → Type 0) where
+  module _ (makes : C → List Signal → C → Type 0) where
     pub made_none : (a : PinCable C O) → makes (cable_of a) [] (cable_of a) → HasMadePins breakage shown makes a [] a
     made_none a m = record { same = same_port a; tap = refl; over = refl; made = m; put = put_none a }
 
-    pub made_both : (a b c : PinCable C O) (front back : List Clock) → makes (cable_of a) (front ++ back) (cable_of c) →
+    pub made_both : (a b c : PinCable C O) (front back : List Signal) →
+        makes (cable_of a) (front ++ back) (cable_of c) →
         HasMadePins breakage shown makes a front b → HasMadePins breakage shown makes b back c → HasMadePins breakage shown makes a (front ++ back) c
     made_both a b c front back m p q = record {
       same = same_both p.same q.same;
       tap = q.tap ∙ p.tap;
       over = q.over ∙ p.over;
       made = m;
-      put = rw (map-append pulse front back) (put_both a b c (pulses front) (pulses back) p.same.pins p.put q.put);
+      put = rw (events_in_both front back) (put_both a b c (events_in front) (events_in back) p.same.pins p.put q.put);
     }

@@ -3,14 +3,14 @@ use Rattle.std.specs.Prelude.{◌≡◌, ◌≢◌, ℕ, Bool, true, false, List
 use Rattle.std.specs.Borrow.{MutBor}
 use Rattle.tap_states.specs.declared.Tap.{Tap}
 use Rattle.dev_card.specs.Card.{Card}
-use Rattle.dev_card.specs.Board.{Clock}
 use Rattle.dev_card.specs.FarEnds.{far_end}
 use Rattle.dev_card.specs.Padding.{BaseLengths}
-use Rattle.scan_paths.specs.Cables.{Breakage, whole, line, pins, cable_faults, IsCableLast}
+use Rattle.scan_paths.specs.Cables.{Signal, Breakage, whole, line, pins, cable_faults, IsCableLast}
 use Rattle.scan_paths.specs.Scans.{lengths_of}
 use Rattle.stapl_meaning.specs.declared.events.Event.{Event}
-use Rattle.stapl_meaning.specs.Deeds.{Chain, pulses}
+use Rattle.stapl_meaning.specs.Deeds.{Chain}
 use Rattle.stapl_meaning.specs.Texts.{bytes_of, waiting}
+use Rattle.stapl_machine.specs.Signals.{events_in}
 use Rattle.stapl_machine.specs.Papers.{Shown, Puts, PutsFront, IsOverSame}
 use Rattle.stapl_machine.specs.declared.pin_cable.PinCable.{PinCable}
 
@@ -110,10 +110,11 @@ module _ {C O : Type 0} (breakage : PinCable C O → Breakage) (shown : O → Sh
     pub all : breakage new ≡ whole → PutsEvents old events new
     pub some : breakage new ≢ whole → PutsEventsFront old events new
 
-  -- Clocks were made on the cable, and their digits were put.
-  pub record HasMadePins (makes : C → List Clock → C → Type 0) (old : PinCable C O) (clocks : List Clock) (new : PinCable C O) : Type 0 where
+  -- Signals were made on the cable, and their text was put.
+  pub record HasMadePins (makes : C → List Signal → C → Type 0) (old : PinCable C O) (signals : List Signal)
+      (new : PinCable C O) : Type 0 where
     pub same : IsSamePort old new
     pub tap : tap_of new ≡ tap_of old
     pub over : IsOverSame shown (lines_of old) (lines_of new)
-    pub made : makes (cable_of old) clocks (cable_of new)
-    pub put : HasPut old (pulses clocks) new
+    pub made : makes (cable_of old) signals (cable_of new)
+    pub put : HasPut old (events_in signals) new

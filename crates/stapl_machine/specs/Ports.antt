@@ -3,7 +3,7 @@
 use Rattle.std.specs.Prelude.{◌≡◌, ℕ, ◌+◌, ◌≤◌, Bool, List, [], ◌∷◌, ◌++◌, Option, Some, None, Result, Ok, Err, IfErr, OnOk}
 use Rattle.dev_card.specs.Card.{Card}
 use Rattle.dev_card.specs.Board.{Clock, tdos, AllIn}
-use Rattle.scan_paths.specs.Cables.{Breakage, whole, line, pins, HasPartCause, WhereTold}
+use Rattle.scan_paths.specs.Cables.{Signal, clocks_in, Breakage, whole, line, pins, HasPartCause, WhereTold}
 use Rattle.stapl_meaning.specs.declared.events.Event.{Event}
 use Rattle.stapl_meaning.specs.declared.events.Ending.{Ending}
 use Rattle.dev_card.specs.Scans.{BoardScan}
@@ -15,6 +15,7 @@ use Rattle.stapl_machine.specs.Papers.{Shown, Puts, PutsFront, IsOverSame}
 use Rattle.stapl_machine.specs.declared.pin_cable.PinCable.{PinCable}
 use Rattle.stapl_machine.specs.declared.turns.Trouble.{Trouble}
 use Rattle.stapl_machine.specs.declared.turns.Trouble.TheVariants.{CableFault, WriteFault, Memory}
+use Rattle.stapl_machine.specs.Signals.{signals_of}
 use Rattle.stapl_machine.specs.Pins.{cable_of, lines_of, tap_of, digits_of, writes_pins, port_line_faults, IsPortLineLast, port_pin_faults, IsPortPinLast, IsSamePort, PutsEvents, port_chain}
 
 -- where the board is told, all its controllers are in the state that the port keeps
@@ -51,16 +52,20 @@ abbrev pub LeavesSo : Run → Option Ending → State → Chain → Type 0
 LeavesSo run None s k = Unit {0}
 LeavesSo run (Some ending) s k = (run.state ≡ s) × (run.chain ≡ k)
 
-module _ {C O : Type 0} (breakage : PinCable C O → Breakage) (board : C → Option (List Card)) (makes : C → List Clock → C → Type 0) (shown : O → Shown) where
-  -- These events happened, with these clocks, and their text was put.
+module _ {C O : Type 0} (breakage : PinCable C O → Breakage) (board : C → Option (List Card))
+    (makes : C → List Signal → C → Type 0) (shown : O → Shown) where
+  -- These events happened, and their text was put. What was made on the cable are exactly the signals among them, of
+  -- which these are the clocks.
   pub record Passes (old : PinCable C O) (events : List Event) (clocks : List Clock) (new : PinCable C O) : Type 0 where
     pub same : IsSamePort old new
-    pub made : makes (cable_of old) clocks (cable_of new)
+    pub made : makes (cable_of old) (signals_of events) (cable_of new)
+    pub clocks_are : clocks_in (signals_of events) ≡ clocks
     pub put : PutsEvents breakage shown old events new
 
-  -- These clocks were made, and a front of the text of these events was put.
+  -- The signals among these events were made, and a front of the text of these events was put.
   pub record PassesFront (old : PinCable C O) (events : List Event) (clocks : List Clock) (new : PinCable C O) : Type 0 where
-    pub made : makes (cable_of old) clocks (cable_of new)
+    pub made : makes (cable_of old) (signals_of events) (cable_of new)
+    pub clocks_are : clocks_in (signals_of events) ≡ clocks
     pub front : PutsFront shown (lines_of old) (bytes_of (writes_pins old) (digits_of old) events) (lines_of new)
 
   -- the chain before clocks that were made, whatever is still to be heard behind them
@@ -152,17 +157,23 @@ module _ {C O : Type 0} (breakage : PinCable C O → Breakage) (board : C → Op
   pub record PlaysTo (all : Chain → Run) (count : Chain → ℕ) (old : PinCable C O) (steps : ℕ) (ending : Option Ending) (s : State) (new : PinCable C O) (now : ℕ) : Type 0 where
     pub events : List Event
     pub clocks : List Clock
-    pub made : makes (cable_of old) clocks (cable_of new)
+    pub made : makes (cable_of old) (signals_of events) (cable_of new)
+    pub clocks_are : clocks_in (signals_of events) ≡ clocks
     pub put : Puts shown (lines_of old) (events_text (writes_pins old) (digits_of old) events) (lines_of new)
     pub runs : (more : List Bool) → (all (chain_before old clocks more)).events ≡ events
     pub ended : (more : List Bool) → ending_of (all (chain_before old clocks more)).outcome ≡ ending
     pub leaves : (more : List Bool) → LeavesSo (all (chain_before old clocks more)) ending s (port_chain board new more)
     pub ticked : (more : List Bool) → now ≡ steps + count (chain_before old clocks more)
 
-  -- A front of it was put.
+  -- The signals among its first events were made, and a front of the text of these was put.
   pub record PlaysFront (all : Chain → Run) (count : Chain → ℕ) (old : PinCable C O) (steps : ℕ) (new : PinCable C O) (now : ℕ) : Type 0 where
+    pub events : List Event
     pub clocks : List Clock
-    pub made : makes (cable_of old) clocks (cable_of new)
+    pub made : makes (cable_of old) (signals_of events) (cable_of new)
+    pub clocks_are : clocks_in (signals_of events) ≡ clocks
+    pub rest : List Bool → List Event
+    pub runs : (more : List Bool) → (all (chain_before old clocks more)).events ≡ events ++ rest more
+    pub driven : PutsFront shown (lines_of old) (events_text (writes_pins old) (digits_of old) events) (lines_of new)
     pub front : (more : List Bool) → PutsFront shown (lines_of old) (events_text (writes_pins old) (digits_of old) (all (chain_before old clocks more)).events) (lines_of new)
     pub most : (more : List Bool) → now ≤ steps + count (chain_before old clocks more)
 

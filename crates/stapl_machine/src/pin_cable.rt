@@ -5,7 +5,7 @@ ghost use Rattle.base.specs.Bits.{bit_value};
 ghost use Rattle.tool_io.specs.Causes.{HasCause};
 ghost use Rattle.tap_states.specs.declared.Tap.TheVariants as taps;
 ghost use Rattle.tap_states.specs.Tap.{is_stable_state};
-ghost use Rattle.scan_paths.specs.Cables.{whole, line, pins, HasPartCause};
+ghost use Rattle.scan_paths.specs.Cables.{whole, line, pins, HasPartCause, Waits, Tunes, IsSignalled, IsSignalledOrNot};
 ghost use Rattle.stapl_meaning.specs.declared.events.Event.TheVariants.{Print, Usec, Hertz};
 ghost use Rattle.stapl_meaning.specs.Texts.{pin_digit, pin_line, full_line, with_digit, event_line, bytes_of, waiting, pin_limit};
 ghost use Rattle.scan_paths.specs.Scans.{lengths_of};
@@ -30,8 +30,8 @@ use stapl_meaning::Held;
 use tap_states::Tap;
 use tool_io::Failed;
 
-/// A cable over another one, which puts the digits of its clocks if that is wanted, and keeps the state of the
-/// controllers and the base padding of the scans. It takes no memory.
+/// A cable over another one, which puts a line for each wait and each frequency, puts the digits of its clocks if that
+/// is wanted, and keeps the state of the controllers and the base padding of the scans. It takes no memory.
 #[derive(Drop)]
 pub struct PinCable<'a, C, O> {
     cable: &'a mut C,
@@ -144,6 +144,34 @@ fn note_block<O: Paper>(
     note_line(out, digits, &line[..n as usize])
 }
 
+// A wait that is made on a cable, apart from its line.
+fn wait_once<C: Cable>(cable: &mut C, n: u32) -> Result<(), Failed>
+    requires { C.breakage cable.old ≡ whole }
+    ensures signalled { OnOk result (IsSignalled C.board C.made cable.old cable.new (Waits n)) }
+    ensures failed { OnErr result (IsSignalledOrNot C.board C.made cable.old cable.new (Waits n)) }
+    ensures unbroken { OnOk result (C.breakage cable.new ≡ whole) }
+    ensures broken { OnErr result (C.breakage cable.new ≢ whole) }
+    ensures line { HasPartCause line C.line_faults C.is_line_last C.breakage cable.old cable.new }
+    ensures pins { HasPartCause pins C.pin_faults C.is_pin_last C.breakage cable.old cable.new }
+{
+    cable.usec(n)?;
+    Ok(())
+}
+
+// A frequency that is set on a cable, apart from its line.
+fn set_frequency<C: Cable>(cable: &mut C, n: u32) -> Result<(), Failed>
+    requires { C.breakage cable.old ≡ whole }
+    ensures signalled { OnOk result (IsSignalled C.board C.made cable.old cable.new (Tunes n)) }
+    ensures failed { OnErr result (IsSignalledOrNot C.board C.made cable.old cable.new (Tunes n)) }
+    ensures unbroken { OnOk result (C.breakage cable.new ≡ whole) }
+    ensures broken { OnErr result (C.breakage cable.new ≢ whole) }
+    ensures line { HasPartCause line C.line_faults C.is_line_last C.breakage cable.old cable.new }
+    ensures pins { HasPartCause pins C.pin_faults C.is_pin_last C.breakage cable.old cable.new }
+{
+    cable.hertz(n)?;
+    Ok(())
+}
+
 impl<'a, C: Cable, O: Paper> PinCable<'a, C, O> {
     ghost use Rattle.stapl_machine.specs.Pins.{cable_of, lines_of, tap_of, base_of, digits_of, writes_pins, port_breakage, is_torn, port_line_faults, IsPortLineLast, port_pin_faults, IsPortPinLast, IsSamePort, IsOverCable, IsOverLines, PutsEvents};
 
@@ -254,12 +282,20 @@ impl<C: Cable, O: Paper> Cable for PinCable<'_, C, O> {
     }
 
     fn usec(&mut self, n: u32) -> Result<(), Failed> {
-        self.cable.usec(n)?;
+        wait_once(self.cable, n)?;
+        self.finish()?;
+        self.torn = true;
+        self.out.put_usec(n)?;
+        self.torn = false;
         Ok(())
     }
 
     fn hertz(&mut self, n: u32) -> Result<(), Failed> {
-        self.cable.hertz(n)?;
+        set_frequency(self.cable, n)?;
+        self.finish()?;
+        self.torn = true;
+        self.out.put_hertz(n)?;
+        self.torn = false;
         Ok(())
     }
 
@@ -432,11 +468,7 @@ impl<C: Cable, O: Paper> PinCable<'_, C, O> {
         ensures kept { IsKept (port_breakage C.breakage O.failed) C.line_faults C.is_line_last
             C.pin_faults C.is_pin_last O.shown O.faults O.is_last self.old self.new }
     {
-        self.cable.usec(n)?;
-        self.finish()?;
-        self.torn = true;
-        self.out.put_usec(n)?;
-        self.torn = false;
+        self.usec(n)?;
         Ok(())
     }
 
@@ -454,11 +486,7 @@ impl<C: Cable, O: Paper> PinCable<'_, C, O> {
         ensures kept { IsKept (port_breakage C.breakage O.failed) C.line_faults C.is_line_last
             C.pin_faults C.is_pin_last O.shown O.faults O.is_last self.old self.new }
     {
-        self.cable.hertz(n)?;
-        self.finish()?;
-        self.torn = true;
-        self.out.put_hertz(n)?;
-        self.torn = false;
+        self.hertz(n)?;
         Ok(())
     }
 }

@@ -1,13 +1,15 @@
 -- The first clocks and the run behind them are one play.
-use Rattle.std.proofs.Common.{◌≡◌, ◌≤◌, ◌+◌, ℕ, Bool, List, [], ◌++◌, map, Option, sym, ap, subst, ◌∙◌, arith}
+use Rattle.std.proofs.Common.{◌≡◌, ◌≤◌, ◌+◌, ℕ, Bool, List, [], ◌++◌, map, Option, sym, ap, subst, ◌∙◌, arith, append_assoc}
+use Rattle.std.proofs.lemmas.List.{map-append}
 use Rattle.tap_states.specs.declared.Tap.TheVariants.{Reset}
 use Rattle.dev_card.specs.Card.{Card}
-use Rattle.dev_card.specs.Board.{Clock, tdos}
-use Rattle.dev_card.specs.FarEnds.{FarEnd, far_end, far_clocks}
+use Rattle.dev_card.specs.Board.{Clock, Input, tdos}
+use Rattle.dev_card.specs.FarEnds.{FarEnd, far_end, far_clocks, far_after}
 use Rattle.dev_card.specs.Padding.{BaseLengths}
-use Rattle.scan_paths.specs.Cables.{HasMadeFront}
+use Rattle.scan_paths.specs.Cables.{Signal, pulsed, HasMadeFront}
+use Rattle.stapl_meaning.specs.declared.events.Event.{Event}
 use Rattle.stapl_meaning.specs.declared.events.Ending.{Ending}
-use Rattle.stapl_meaning.specs.Deeds.{Chain}
+use Rattle.stapl_meaning.specs.Deeds.{Chain, pulse, pulses}
 use Rattle.stapl_meaning.specs.Plays.{reset_inputs, reset_events, chain_reset, ending_of}
 use Rattle.stapl_meaning.specs.Texts.{events_text}
 use Rattle.stapl_code.specs.declared.raw.CodeLists.{CodeLists}
@@ -16,7 +18,9 @@ use Rattle.stapl_machine.specs.Machines.{play_of, play_ticks_of, chain_at, IsPla
 use Rattle.stapl_machine.specs.Papers.{Shown, Puts, PutsFront}
 use Rattle.stapl_machine.specs.PinLaws.{front_nothing}
 use Rattle.stapl_machine.specs.Resets.{digit_of_clock, IsReset, kept_digits}
-use Rattle.stapl_machine.proofs.FarLemmas.{heard_both, far_made, far_left}
+use Rattle.stapl_machine.proofs.FarLemmas.{heard_both, far_made, far_left, far_append}
+use Rattle.stapl_machine.specs.Signals.{signals_of}
+use Rattle.stapl_machine.proofs.SignalLemmas.{signals_both, signals_of_pulses, clocks_of_both, clocks_of_pulses}
 use Rattle.stapl_machine.proofs.ResetLemmas.{keeps_text}
 use Rattle.tool_io.specs.Causes.{CountKept, CountRose}
 use Rattle.tool_io.proofs.CauseLemmas.{rose_after}
@@ -25,8 +29,9 @@ use Rattle.stapl_machine.specs.declared.turns.Trouble.TheVariants.{CableFault, W
 use Rattle.stapl_machine.specs.Ports.{IfFault}
 use Rattle.stapl_player.specs.Plays.{whole_play, whole_ticks, far_before, HasPlayed, HasPlayedFront}
 
-module _ {C O : Type 0} (board : C → Option (List Card)) (makes : C → List Clock → C → Type 0) (shown : O → Shown) (pins : Bool) (code : CodeLists) (chosen : List ℕ) (n : ℕ) (base : BaseLengths)
-    (both : (a b c : C) (front back : List Clock) → makes a front b → makes b back c → makes a (front ++ back) c) where
+module _ {C O : Type 0} (board : C → Option (List Card)) (makes : C → List Signal → C → Type 0) (shown : O → Shown)
+    (pins : Bool) (code : CodeLists) (chosen : List ℕ) (n : ℕ) (base : BaseLengths)
+    (both : (a b c : C) (front back : List Signal) → makes a front b → makes b back c → makes a (front ++ back) c) where
   abbrev before : C → List Clock → List Bool → FarEnd
   before = far_before board makes shown pins (whole_play code chosen n base) (whole_ticks code chosen n base)
 
@@ -44,6 +49,21 @@ module _ {C O : Type 0} (board : C → Option (List Card)) (makes : C → List C
         ∙ ap (λ (f : FarEnd). let k : Chain = record { tap = Reset; base = base; far = f } in k)
         (far_left (board start) (board mid) r.made.clocks reset_inputs r.made.made.went_in (tdos clocks ++ more) r.made.made.cards)
 
+    -- the first clocks are the first events
+    first_are : reset_events far ≡ pulses r.made.clocks
+    first_are =
+        ap pulses (ap (λ (f : FarEnd). far_clocks f reset_inputs) same_far
+        ∙ far_made (board start) (board mid) r.made.clocks reset_inputs r.made.made.went_in
+        (tdos clocks ++ more) r.made.made.seen)
+
+    events_are : (events : List Event) → (play_of code chosen n
+        (chain_at base board mid (tdos clocks ++ more))).events ≡ events →
+        (whole_play code chosen n base far).events ≡ pulses r.made.clocks ++ events
+    events_are events e =
+        ap (λ (es : List Event). es ++ (play_of code chosen n (chain_reset base far)).events) first_are
+        ∙ ap (λ (es : List Event). pulses r.made.clocks ++ es)
+        (ap (λ (k : Chain). (play_of code chosen n k).events) chain_is ∙ e)
+
     -- their digits
     digits_are : digits ≡ map digit_of_clock (far_clocks far reset_inputs)
     digits_are =
@@ -58,12 +78,22 @@ module _ {C O : Type 0} (board : C → Option (List Card)) (makes : C → List C
         ∙ ap (λ (k : Chain). events_text pins [] (reset_events far ++ (play_of code chosen n k).events)) (sym chain_is)
 
   module _ (start mid new : C) (out new_out : O) (digits : List ℕ) (steps now : ℕ) (r : IsReset board makes start mid digits) where
+    made_all : (events : List Event) → makes mid (signals_of events) new →
+        makes start (signals_of (pulses r.made.clocks ++ events)) new
+    made_all events m =
+        rw (signals_both (pulses r.made.clocks) events, signals_of_pulses r.made.clocks)
+        (both start mid new (pulsed r.made.clocks) (signals_of events) r.made.made.made m)
+
     pub played : (ending : Ending) (machine : Machine) →
         IsPlayed board makes shown pins digits base (play_of code chosen n) (play_ticks_of code chosen n) mid out steps ending new new_out now machine →
         HasPlayed board makes shown pins (whole_play code chosen n base) (whole_ticks code chosen n base) start out steps ending new new_out now machine
     played ending machine p = record {
+      events = pulses r.made.clocks ++ p.events;
       clocks = r.made.clocks ++ p.clocks;
-      made = both start mid new r.made.clocks p.clocks r.made.made.made p.made;
+      made = made_all p.events p.made;
+      clocks_are = clocks_of_both (pulses r.made.clocks) p.events r.made.clocks p.clocks
+          (clocks_of_pulses r.made.clocks) p.clocks_are;
+      runs = λ more. events_are start mid digits r p.clocks more p.events (p.runs more);
       put = λ more.
           subst (λ (bs : List ℕ). Puts shown out bs new_out)
           (ap (events_text pins (kept_digits pins digits)) (sym (p.runs more)) ∙ text_is start mid digits r p.clocks more) p.put;
@@ -76,8 +106,21 @@ module _ {C O : Type 0} (board : C → Option (List Card)) (makes : C → List C
     pub played_front : IsPlayedFront board makes shown pins digits base (play_of code chosen n) (play_ticks_of code chosen n) mid out steps new new_out now →
         HasPlayedFront board makes shown pins (whole_play code chosen n base) (whole_ticks code chosen n base) start out steps new new_out now
     played_front p = record {
+      events = pulses r.made.clocks ++ p.events;
       clocks = r.made.clocks ++ p.clocks;
-      made = both start mid new r.made.clocks p.clocks r.made.made.made p.made;
+      made = made_all p.events p.made;
+      clocks_are = clocks_of_both (pulses r.made.clocks) p.events r.made.clocks p.clocks
+          (clocks_of_pulses r.made.clocks) p.clocks_are;
+      rest = p.rest;
+      runs = λ more. events_are start mid digits r p.clocks more (p.events ++ p.rest more) (p.runs more)
+          ∙ sym (append_assoc (pulses r.made.clocks) p.events (p.rest more));
+      driven =
+          subst (λ (bs : List ℕ). PutsFront shown out bs new_out)
+          (ap (λ (ds : List ℕ). events_text pins (kept_digits pins ds) p.events)
+          (digits_are start mid digits r p.clocks [])
+          ∙ keeps_text pins (far start mid digits r p.clocks []) p.events
+          ∙ ap (λ (es : List Event). events_text pins [] (es ++ p.events)) (first_are start mid digits r p.clocks []))
+          p.driven;
       front = λ more. subst (λ (bs : List ℕ). PutsFront shown out bs new_out) (text_is start mid digits r p.clocks more) (p.front more);
       most = λ more. subst (λ (k : Chain). now ≤ steps + play_ticks_of code chosen n k) (sym (chain_is start mid digits r p.clocks more)) (p.most more);
     }
@@ -86,8 +129,23 @@ module _ {C O : Type 0} (board : C → Option (List Card)) (makes : C → List C
   pub broken_off : (start new : C) (out : O) (steps : ℕ) → HasMadeFront board makes start new reset_inputs →
       HasPlayedFront board makes shown pins (whole_play code chosen n base) (whole_ticks code chosen n base) start out steps new out steps
   broken_off start new out steps f = record {
+    events = pulses f.made.clocks;
     clocks = f.made.clocks;
-    made = f.made.made;
+    made = rw (signals_of_pulses f.made.clocks) f.made.made;
+    clocks_are = clocks_of_pulses f.made.clocks;
+    rest = λ more. let far = before start f.made.clocks more in
+        pulses (far_clocks (far_after far f.front) f.rest) ++ (play_of code chosen n (chain_reset base far)).events;
+    runs = λ more.
+        (let far = before start f.made.clocks more in
+        let others : List Event = pulses (far_clocks (far_after far f.front) f.rest) in
+        let behind : List Event = (play_of code chosen n (chain_reset base far)).events in
+        ap (λ (es : List Event). es ++ behind)
+        (ap (λ (is : List Input). pulses (far_clocks far is)) f.parts ∙ ap pulses (far_append far f.front f.rest)
+        ∙ map-append pulse (far_clocks far f.front) (far_clocks (far_after far f.front) f.rest)
+        ∙ ap (λ (ks : List Clock). pulses ks ++ others)
+        (far_made (board start) (board start) f.made.clocks f.front f.made.went_in more f.made.seen))
+        ∙ append_assoc (pulses f.made.clocks) others behind);
+    driven = front_nothing shown out _;
     front = λ more. front_nothing shown out _;
     most = λ more. omega arith;
   }

@@ -5,12 +5,15 @@ use Rattle.dev_card.specs.Card.{Card}
 use Rattle.dev_card.specs.Board.{Clock, tdos}
 use Rattle.dev_card.specs.FarEnds.{FarEnd, far_end}
 use Rattle.dev_card.specs.Padding.{BaseLengths}
+use Rattle.scan_paths.specs.Cables.{Signal, clocks_in}
+use Rattle.stapl_meaning.specs.declared.events.Event.{Event}
 use Rattle.stapl_meaning.specs.declared.events.Ending.{Ending}
 use Rattle.stapl_meaning.specs.Plays.{Run, after, ending_of, reset_events, chain_reset}
 use Rattle.stapl_meaning.specs.Texts.{events_text}
 use Rattle.stapl_code.specs.declared.raw.CodeLists.{CodeLists}
 use Rattle.stapl_machine.specs.declared.running.Machine.{Machine}
 use Rattle.stapl_machine.specs.Papers.{Shown, Puts, PutsFront}
+use Rattle.stapl_machine.specs.Signals.{signals_of}
 use Rattle.stapl_machine.specs.Machines.{play_of, play_ticks_of, variables_in}
 
 -- the play of a code at the far end of a cable, for at most n turns of the chosen procedures, with this base padding of
@@ -23,23 +26,33 @@ whole_ticks code chosen n base far = play_ticks_of code chosen n (chain_reset ba
 
 -- The far end is the board of the cable, where that is told, else the TDO bits of the clocks that were made, with any
 -- that may follow.
-module _ {C O : Type 0} (board : C → Option (List Card)) (makes : C → List Clock → C → Type 0) (shown : O → Shown) (pins : Bool) (run : FarEnd → Run) (count : FarEnd → ℕ) where
+module _ {C O : Type 0} (board : C → Option (List Card)) (makes : C → List Signal → C → Type 0) (shown : O → Shown)
+    (pins : Bool) (run : FarEnd → Run) (count : FarEnd → ℕ) where
   abbrev pub far_before : C → List Clock → List Bool → FarEnd
   far_before cable clocks more = far_end (board cable) (tdos clocks ++ more)
 
-  -- The whole text of the play was put, and the play, the cable and the machine stand so.
+  -- The whole text of the play was put, what was made on the cable are exactly the signals among its events, in order,
+  -- and the play, the cable and the machine stand so.
   pub record HasPlayed (old : C) (out : O) (steps : ℕ) (ending : Ending) (new : C) (new_out : O) (now : ℕ) (machine : Machine) : Type 0 where
+    pub events : List Event
     pub clocks : List Clock
-    pub made : makes old clocks new
+    pub made : makes old (signals_of events) new
+    pub clocks_are : clocks_in (signals_of events) ≡ clocks
+    pub runs : (more : List Bool) → (run (far_before old clocks more)).events ≡ events
     pub put : (more : List Bool) → Puts shown out (events_text pins [] (run (far_before old clocks more)).events) new_out
     pub ended : (more : List Bool) → ending_of (run (far_before old clocks more)).outcome ≡ Some ending
     pub far : (more : List Bool) → (run (far_before old clocks more)).chain.far ≡ far_end (board new) more
     pub variables : (more : List Bool) → (run (far_before old clocks more)).state.store.variables ≡ variables_in machine
     pub ticked : (more : List Bool) → now ≡ steps + count (far_before old clocks more)
 
-  -- A front of its text was put.
+  -- The signals among its first events were made, and a front of the text of these was put.
   pub record HasPlayedFront (old : C) (out : O) (steps : ℕ) (new : C) (new_out : O) (now : ℕ) : Type 0 where
+    pub events : List Event
     pub clocks : List Clock
-    pub made : makes old clocks new
+    pub made : makes old (signals_of events) new
+    pub clocks_are : clocks_in (signals_of events) ≡ clocks
+    pub rest : List Bool → List Event
+    pub runs : (more : List Bool) → (run (far_before old clocks more)).events ≡ events ++ rest more
+    pub driven : PutsFront shown out (events_text pins [] events) new_out
     pub front : (more : List Bool) → PutsFront shown out (events_text pins [] (run (far_before old clocks more)).events) new_out
     pub most : (more : List Bool) → now ≤ steps + count (far_before old clocks more)

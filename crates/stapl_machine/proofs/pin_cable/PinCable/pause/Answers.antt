@@ -1,32 +1,20 @@
-use Rattle.std.proofs.Common.{refl, sym, ap, subst, ◌∙◌, [], ◌∷◌}
+use Rattle.std.proofs.Common.{refl, sym, subst, ◌∙◌}
 use Rattle.tool_io.proofs.BytesLemmas.{on_err}
 use Rattle.stapl_meaning.specs.declared.events.Event.TheVariants.{Usec}
-use Rattle.stapl_meaning.specs.Deeds.{Says}
 use Rattle.stapl_machine.specs.Pins.{port_breakage}
-use Rattle.stapl_machine.proofs.DeedLemmas.{untouched_front, said_pins_front, said_line_front, did_said}
+use Rattle.stapl_machine.proofs.DeedLemmas.{signal_did, signal_front}
 use Rattle.stapl_machine.proofs.pin_cable.PinCable.pause.Goals as goal
 
 pub returns-in_err-usec-clause-front : goal.returns-in_err-usec-clause-front
 returns-in_err-usec-clause-front g c =
     let m = g.C.Cable in
-    on_err c.from_residual.result (λ rest. untouched_front (port_breakage m.breakage g.O.Paper.failed) m.board m.made g.O.Paper.shown c.args.self.now _ (Says (Usec c.args.n) ∷ rest) c.usec.ensures.unclocked.made refl c.requires.whole)
-
-pub returns-in_err-finish-clause-front : goal.returns-in_err-finish-clause-front
-returns-in_err-finish-clause-front g c =
-    let m = g.C.Cable in
-    let made = subst (λ x. m.made c.args.self.now.cable.now [] x) (sym c.finish.ensures.cable) c.usec.ensures.unclocked.made in
-    on_err c.from_residual-in_err-finish.result (λ rest. said_pins_front (port_breakage m.breakage g.O.Paper.failed) m.board m.made g.O.Paper.shown (Usec c.args.n) tt rest c.args.self.now c.finish.new.self made c.in_err-finish.ensures.front)
-
-pub returns-in_err-put_usec-clause-front : goal.returns-in_err-put_usec-clause-front
-returns-in_err-put_usec-clause-front g c =
-    let m = g.C.Cable in
-    let made = subst (λ x. m.made c.args.self.now.cable.now [] x) (sym c.finish.ensures.cable) c.usec.ensures.unclocked.made in
-    on_err c.from_residual-in_err-put_usec.result
-    (λ rest. said_line_front (port_breakage m.breakage g.O.Paper.failed) m.board m.made g.O.Paper.shown (Usec c.args.n) tt rest c.args.self.now c.finish.new.self _ made c.in_ok-finish.ensures.put c.in_err-put_usec.ensures.front)
+    on_err c.from_residual.result
+    (λ rest. signal_front (port_breakage m.breakage g.O.Paper.failed) m.board m.made g.O.Paper.shown
+    (Usec c.args.n) tt rest c.args.self.now _ c.in_err-usec.ensures.broken c.in_err-usec.ensures.failed.made refl)
 
 pub returns-clause-did : goal.returns-clause-did
 returns-clause-did g c =
-    let m = g.C.Cable in let same = c.finish.ensures.same in
-    let made = subst (λ x. m.made c.args.self.now.cable.now [] x) (sym c.finish.ensures.cable) c.usec.ensures.unclocked.made in
-    λ rest. did_said (port_breakage m.breakage g.O.Paper.failed) m.board m.made g.O.Paper.shown (Usec c.args.n) tt rest c.args.self.now c.finish.new.self _ made (ap m.board c.finish.ensures.cable ∙ c.usec.ensures.unclocked.cards) c.finish.ensures.tap
-    (record { cable = same.cable; out = same.out; pins = same.pins; base = same.base }) c.requires.whole c.in_ok-finish.ensures.put c.in_ok-put_usec.ensures.ok c.in_ok-finish.ensures.none
+    let m = g.C.Cable in let k = c.in_ok-usec.ensures.signalled in
+    λ rest. signal_did (port_breakage m.breakage g.O.Paper.failed) m.board m.made g.O.Paper.shown
+    (Usec c.args.n) tt rest c.args.self.now _ k.made.made k.cards k.made.tap k.made.same
+    (k.made.put.all c.in_ok-usec.ensures.unbroken)

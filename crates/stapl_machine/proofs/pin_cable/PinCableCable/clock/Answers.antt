@@ -1,0 +1,13 @@
+use Rattle.std.proofs.Common.{refl}
+use Rattle.tool_io.proofs.BytesLemmas.{on_err}
+use Rattle.stapl_machine.specs.Pins.{port_breakage}
+use Rattle.stapl_machine.proofs.TornLemmas.{clock_torn}
+use Rattle.stapl_machine.proofs.pin_cable.PinCableCable.clock.Goals as goal
+
+pub returns-in_err-note-clause-failed : goal.returns-in_err-note-clause-failed
+returns-in_err-note-clause-failed g c =
+    let m = g.C.Cable in
+    on_err c.from_residual-in_err-note.result
+    (clock_torn (port_breakage m.breakage g.O.Paper.failed) m.board m.made g.O.Paper.shown c.args.self.now _ c.args.tms
+    c.args.tdi _ (record { cable = refl; out = refl; pins = refl; base = refl }) refl c.note.ensures.same
+    c.if-not-self.false c.requires refl c.in_ok-tdo.ensures.clocked c.in_err-note.ensures.front)
