@@ -5,7 +5,7 @@ use Rattle.tool_io.specs.Causes.{HasRisen}
 use Rattle.tool_io.specs.declared.lines.Lines.{Lines}
 use Rattle.tool_io.specs.Lines.{PutsFront}
 use Rattle.dev_card.specs.Card.{fresh}
-use Rattle.dev_card.specs.Board.{Clock}
+use Rattle.scan_paths.specs.Cables.{Signal}
 use Rattle.dev_card.specs.Padding.{BaseLengths}
 use Rattle.dev_card.specs.FarEnds.{FarEnd, Told}
 use Rattle.stapl_meaning.specs.declared.events.Ending.{Ending}
@@ -33,10 +33,10 @@ task_play code procedures task = far_play code procedures task (Told (map fresh 
 abbrev pub NeverRises : {C : Type 0} → (C → ℕ) → (C → Type 0) → Type 0
 NeverRises {C = C} faults is_last = (before after : C) → HasRisen faults is_last before after → ⊥
 
--- some clocks were made
-pub record WasClocked {C : Type 0} (makes : C → List Clock → C → Type 0) (old new : C) : Type 0 where
-  pub clocks : List Clock
-  pub made : makes old clocks new
+-- some signals were made
+pub record WasClocked {C : Type 0} (makes : C → List Signal → C → Type 0) (old new : C) : Type 0 where
+  pub signals : List Signal
+  pub made : makes old signals new
 
 -- The run comes to an ending: it ends, or its turns are spent.
 pub record HasEnding (run : Run) : Type 0 where

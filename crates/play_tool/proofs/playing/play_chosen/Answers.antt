@@ -6,7 +6,7 @@ use Rattle.play_tool.proofs.PlayLemmas.{puts_front_nothing}
 use Rattle.play_tool.proofs.playing.play_chosen.Goals as goal
 
 pub returns-in_err-machine-clause-clocked : goal.returns-in_err-machine-clause-clocked
-returns-in_err-machine-clause-clocked g c = record { clocks = []; made = g.met.C.Cable.none_made c.args.cable.now }
+returns-in_err-machine-clause-clocked g c = record { signals = []; made = g.met.C.Cable.none_made c.args.cable.now }
 
 pub returns-in_err-machine-clause-front : goal.returns-in_err-machine-clause-front
 returns-in_err-machine-clause-front g c =

@@ -1,3 +1,4 @@
+use Rattle.scan_paths.specs.Cables.{clocks_in}
 use Rattle.play_tool.proofs.PlayLemmas.{zero_never, are_left, on_done}
 use Rattle.play_tool.proofs.playing.play_over_chain.Goals as goal
 
@@ -7,4 +8,6 @@ play_chosen-requires-clause-sure g c = zero_never _
 pub returns-clause-left : goal.returns-clause-left
 returns-clause-left g c =
     let clocked = c.play_chosen.ensures.clocked in
-    on_done c.play_chosen.result (λ e. are_left _ _ _ _ clocked.clocks c.args.task.now.devices.now _ c.requires.cards clocked.made.1 e) c.play_chosen.ensures.far
+    on_done c.play_chosen.result (λ e. are_left _ _ _ _
+    (clocks_in clocked.signals) c.args.task.now.devices.now _ c.requires.cards clocked.made.1 e)
+    c.play_chosen.ensures.far

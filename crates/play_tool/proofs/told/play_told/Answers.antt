@@ -5,6 +5,7 @@ use Rattle.stapl_meaning.specs.Texts.{events_text}
 use Rattle.stapl_machine.specs.Papers.{Puts, PutsFront, shown_of}
 use Rattle.stapl_machine.specs.PaperLaws.{puts_back, puts_front_back}
 use Rattle.play_tool.specs.declared.status.NoAnswer.TheVariants.{Write, Memory}
+use Rattle.stapl_machine.specs.Signals.{signals_of}
 use Rattle.play_tool.specs.CodePlays.{far_play, task_play}
 use Rattle.play_tool.proofs.PlayLemmas.{same_error, on_board, no_cable_fault, write_cause, memory_first}
 use Rattle.play_tool.proofs.told.play_told.Goals as goal
@@ -30,7 +31,8 @@ returns-in-Ok-clause-far g c =
     ap (λ far. (far_play c.args.code.now c.args.chosen.now c.args.task.now far).chain.far) (sym (on_board c.requires.told (tdos p.clocks ++ []))) ∙ p.far []
 
 pub returns-in-Ok-clause-clocked : goal.returns-in-Ok-clause-clocked
-returns-in-Ok-clause-clocked g c = let p = rw c.base_of-base.ensures at c.in-Ok.ensures.played in record { clocks = p.clocks; made = p.made }
+returns-in-Ok-clause-clocked g c = let p = rw c.base_of-base.ensures at c.in-Ok.ensures.played in
+    record { signals = signals_of p.events; made = p.made }
 
 pub returns-clause-front : goal.returns-clause-front
 returns-clause-front g c =
@@ -40,7 +42,8 @@ returns-clause-front g c =
     (on_board c.requires.told (tdos p.clocks ++ [])) (p.front []))
 
 pub returns-clause-clocked : goal.returns-clause-clocked
-returns-clause-clocked g c = let p = rw c.base_of-base.ensures at c.in-Err.ensures.front in record { clocks = p.clocks; made = p.made }
+returns-clause-clocked g c = let p = rw c.base_of-base.ensures at c.in-Err.ensures.front in
+    record { signals = signals_of p.events; made = p.made }
 
 pub returns-clause-write : goal.returns-clause-write
 returns-clause-write g c = λ e. write_cause _ _ c.in-Err.trouble (c.no_answer.ensures.write (same_error c.no_answer.result Write e)) c.in-Err.ensures.fault
