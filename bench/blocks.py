@@ -80,7 +80,7 @@ def print_plays(folder, programs, runs):
         told = [measure.weighed(peak, [it, *played], 0, runs) for it in programs]
         times = [seconds - start for (seconds, _), start in zip(told, starts)]
         cells = [f"{seconds:.4f} s" for seconds in times] + [f"{memory / (1 << 20):.1f} MiB" for _, memory in told]
-        cells += [f"{times[1] / times[0]:.2f}"] * (len(names) - 1)
+        cells += [f"{times[-1] / times[0]:.2f}"] * (len(names) - 1)
         if yardstick:
             plain = chain_seconds(chain, yardstick, runs)
             cells += [f"{plain:.4f} s", f"{times[-1] / plain:.3f}"]
