@@ -31,8 +31,8 @@ fn clock_at<D: Device>(rack: &mut Vec<D>, place: usize, tms: bool, tdi: bool)
     rack[place].clock(tms, tdi);
 }
 
-/// TDO of the devices at some places of a rack, without a clock: of the device at the first place, which is nearest TDO,
-/// as it is before the next clock, or what comes in if there is no place.
+/// TDO of the devices at some places of a rack, without a clock, which are fitted: that of the device at the first
+/// place, which is nearest TDO, as it is before the next clock, or what comes in if there is no place.
 pub fn first_tdo<D: Device>(rack: &Vec<D>, places: &[u32], tdi: bool) -> bool
     requires fitted { IsSome (cards_at (map D.fitted rack.now.items) places.now) }
     ensures { option_map (λ cs. board_tdo cs tdi) (cards_at (map D.fitted rack.now.items) places.now) ≡ Some result }

@@ -14,7 +14,8 @@ use std::test::Fail;
 use tool_io::Failed;
 
 /// From reset to idle by a scan of the instruction registers, which selects the identification register of the first
-/// device, a register of the second one, and the words of the third one. A clock is a digit: TMS counts 4, TDI counts 2.
+/// device, a register of the second one, and the words of the third one. A clock is a digit: TMS counts 4, and TDI
+/// counts 2.
 const OPCODES: &str = "04400020000202224040";
 
 /// From idle to each state of the controller (IEEE 1149.1, TAP controller state diagram), in digits as above.
