@@ -1,5 +1,8 @@
 pub mod TurnLemmas
 pub mod RunLaws
+pub mod Walks
+pub mod KeptTurns
+pub mod SaidEvents
 pub mod Entries
 pub mod Sound
 pub mod Declared

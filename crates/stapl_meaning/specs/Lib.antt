@@ -1,6 +1,7 @@
 pub mod Values
 pub mod Operands
 pub mod Deeds
+pub mod SaidEvents
 pub mod States
 pub mod Effects
 pub mod Scans

@@ -3,10 +3,11 @@ ghost use Rattle.std.specs.Prelude.{◌≡◌, ℕ, ◌+◌, List};
 ghost use Rattle.stapl_syntax.specs.Trees.{StmtTree};
 ghost use Rattle.stapl_syntax.specs.Programs.{IsProgram};
 ghost use Rattle.stapl_meaning.specs.Deeds.{Chain};
+ghost use Rattle.stapl_meaning.specs.SaidEvents.{TurnSaysNoClock};
 ghost use Rattle.stapl_meaning.specs.States.{State, Turned};
 ghost use Rattle.stapl_meaning.specs.Scopes.{Played, as_played};
 ghost use Rattle.stapl_meaning.specs.Turns.{IsTurn, turn, IsFound};
-ghost use Rattle.stapl_meaning.specs.Plays.{run, then_runs};
+ghost use Rattle.stapl_meaning.specs.Plays.{run, then_runs, beginning};
 ghost use Rattle.stapl_meaning.specs.Typed.{IsTyped};
 
 /// A statement does what the function gives, and where the function finds something to do, the statement does that.
@@ -18,6 +19,12 @@ pub fn turns_are_computed()
 /// A state has at most one turn.
 pub fn one_turn()
     ensures { (program : Played) (i : ℕ) (s : State) (a b : Turned) → IsTurn program i s a → IsTurn program i s b → a ≡ b }
+{}
+
+/// No turn says a clock, and neither does the beginning of a play: clocks come from moves, stays and scans alone.
+pub fn no_turn_says_a_clock()
+    ensures turns { (program : Played) (i : ℕ) (s : State) → TurnSaysNoClock (turn program i s) }
+    ensures beginning { (program : Played) (s : State) → TurnSaysNoClock (beginning program s) }
 {}
 
 /// A run of n + m turns is a run of n turns, and then one of m.
