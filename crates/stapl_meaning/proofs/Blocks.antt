@@ -97,7 +97,7 @@ abbrev pub IsAligned : Names → Option (List ℕ) → Option (List ℕ) → Typ
 IsAligned names None inside = in_data_block names inside ≡ false
 IsAligned names (Some block) inside = (inside ≡ Some block) × (in_data_block names inside ≡ true)
 
-none_open : (names : Names) (now inside : Option (List ℕ)) → IsAligned names now inside → in_data_block names inside ≡ false → now ≡ None
+pub none_open : (names : Names) (now inside : Option (List ℕ)) → IsAligned names now inside → in_data_block names inside ≡ false → now ≡ None
 none_open names None inside aligned e = refl
 none_open names (Some block) inside aligned e = absurd (true≢false (sym aligned.1 ∙ e))
 
@@ -109,7 +109,7 @@ outside_no_data p rest e =
 pub inside_no_data : (some in_data : Bool) → (some && not in_data) ≡ true → in_data ≡ false
 inside_no_data some in_data e = not-true in_data (and_parts some (not in_data) e).1
 
-aligned_next : (names : Names) (p : Place) (now inside label : Option (List ℕ)) (body : BodyTree) (n : ℕ) →
+pub aligned_next : (names : Names) (p : Place) (now inside label : Option (List ℕ)) (body : BodyTree) (n : ℕ) →
     p.in_data ≡ in_data_block names inside → p.in_procedure ≡ (is_some inside && not (in_data_block names inside)) → may_stand p label body ≡ true →
     ((e : List ℕ × Block) → block_of_body n body ≡ Some e → lookup (bytes_eq e.0) names.blocks ≡ Some e.1) →
     IsAligned names now inside → IsAligned names (data_behind now body) (inside_behind inside body)
@@ -126,7 +126,7 @@ aligned_next names p now inside label end_data n kept own may blocks aligned = r
 aligned_next names p now inside label body n kept own may blocks aligned = aligned
 
 -- one statement more
-inside_step : (now : Option (List ℕ)) (n : ℕ) (rest : List StmtTree) (i : ℕ) (st : StmtTree) → slice_get rest i ≡ Some st →
+pub inside_step : (now : Option (List ℕ)) (n : ℕ) (rest : List StmtTree) (i : ℕ) (st : StmtTree) → slice_get rest i ≡ Some st →
     inside_from now (numbered_from n (take (suc i) (map Some rest))) ≡ inside_behind (inside_from now (numbered_from n (take i (map Some rest)))) st.body
 inside_step now n [] i st at = absurd (none-some st at)
 inside_step now n (x ∷ rest) zero st at = ap (λ (s : StmtTree). inside_behind now s.body) (same_Some x st at)

@@ -43,7 +43,7 @@ declared_parts declares (s ∷ rest) now n (suc i) st e at is =
     (parts.0, ap (cons_option (declares now n s)) parts.1 ∙ cons_front (declares now n s) front (e ∷ parts.0))
 
 module _ {K V : Type 0} (eq : K → K → Bool) where
-  behind_append : (xs ys es : List (K × V)) → firsts_behind eq es (xs ++ ys) ≡ firsts_behind eq (firsts_behind eq es xs) ys
+  pub behind_append : (xs ys es : List (K × V)) → firsts_behind eq es (xs ++ ys) ≡ firsts_behind eq (firsts_behind eq es xs) ys
   behind_append [] ys es = refl
   behind_append (x ∷ xs) ys es = behind_append xs ys (put_first eq es x)
 
