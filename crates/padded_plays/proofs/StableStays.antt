@@ -8,7 +8,7 @@ use Rattle.stapl_meaning.specs.States.{State, Turned, Leads, Over, Broken, Scann
 use Rattle.stapl_meaning.specs.Scopes.{Played}
 use Rattle.stapl_meaning.specs.Turns.{turn}
 use Rattle.stapl_meaning.specs.Plays.{beginning}
-use Rattle.stapl_meaning.proofs.Walks.{WalkRule, plain_rule, PaddingRule, KeptTurned}
+use Rattle.stapl_meaning.proofs.Walks.{WalkRule, plain_rule, KeptTurned}
 use Rattle.stapl_meaning.proofs.KeptTurns.{turn_kept, beginning_kept}
 
 -- deeds one after another, true if the controllers are in a stable state before them
@@ -50,9 +50,6 @@ staying = record plain_rule {
   dr_job_ok = λ x bits h some. some;
 }
 
-staying_pads : PaddingRule staying
-staying_pads = record { same = λ which bits s. refl; kept = λ which bits s h. (tt, tt, tt) }
-
 -- ---- turns
 
 abbrev pub TurnStays : Turned → Type 0
@@ -70,7 +67,7 @@ stays_of (Scanning ds job rest) h = (h.0, h.1, λ bits. stays_of (rest bits) (h.
 stays_of (NoTurn ds) h = h
 
 pub turn_stays : (program : Played) (i : ℕ) (s : State) → TurnStays (turn program i s)
-turn_stays program i s = stays_of (turn program i s) (turn_kept staying staying_pads (λ e p ps h. (refl, tt)) program i s (tt, tt, tt))
+turn_stays program i s = stays_of (turn program i s) (turn_kept staying (λ which bits s h. (tt, tt, tt)) (λ p ps h. tt) program i s (tt, tt, tt))
 
 pub beginning_stays : (program : Played) (s : State) → TurnStays (beginning program s)
-beginning_stays program s = stays_of (beginning program s) (beginning_kept staying staying_pads (λ e p ps h. (refl, tt)) program s (tt, tt, tt))
+beginning_stays program s = stays_of (beginning program s) (beginning_kept staying (λ which bits s h. (tt, tt, tt)) (λ p ps h. tt) program s (tt, tt, tt))

@@ -7,7 +7,7 @@ use Rattle.stapl_meaning.specs.States.{State, Turned, Leads, Over, Broken, Scann
 use Rattle.stapl_meaning.specs.Scopes.{Played}
 use Rattle.stapl_meaning.specs.Turns.{turn}
 use Rattle.stapl_meaning.specs.Plays.{beginning}
-use Rattle.stapl_meaning.proofs.Walks.{WalkRule, plain_rule, PaddingRule, KeptTurned}
+use Rattle.stapl_meaning.proofs.Walks.{WalkRule, plain_rule, KeptTurned}
 use Rattle.stapl_meaning.proofs.KeptTurns.{turn_kept, beginning_kept}
 
 both_say : (xs ys : List Deed) → SayNoClock xs → SayNoClock ys → SayNoClock (xs ++ ys)
@@ -31,9 +31,6 @@ said = record plain_rule {
   wait_ok = λ at end c u e. (refl, tt);
 }
 
-said_pads : PaddingRule said
-said_pads = record { same = λ which bits s. refl; kept = λ which bits s h. (tt, tt, tt) }
-
 said_by : (t : Turned) → KeptTurned said t → TurnSaysNoClock t
 said_by (Leads ds place s) h = h.0
 said_by (Over ds ending s) h = h.0
@@ -42,7 +39,7 @@ said_by (Scanning ds job rest) h = (h.0, λ bits. said_by (rest bits) (h.2 bits)
 said_by (NoTurn ds) h = h
 
 pub turn_says : (program : Played) (i : ℕ) (s : State) → TurnSaysNoClock (turn program i s)
-turn_says program i s = said_by (turn program i s) (turn_kept said said_pads (λ e p ps h. (refl, tt)) program i s (tt, tt, tt))
+turn_says program i s = said_by (turn program i s) (turn_kept said (λ which bits s h. (tt, tt, tt)) (λ p ps h. tt) program i s (tt, tt, tt))
 
 pub beginning_says : (program : Played) (s : State) → TurnSaysNoClock (beginning program s)
-beginning_says program s = said_by (beginning program s) (beginning_kept said said_pads (λ e p ps h. (refl, tt)) program s (tt, tt, tt))
+beginning_says program s = said_by (beginning program s) (beginning_kept said (λ which bits s h. (tt, tt, tt)) (λ p ps h. tt) program s (tt, tt, tt))

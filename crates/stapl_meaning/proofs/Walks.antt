@@ -1,7 +1,7 @@
--- One walk over what statements do. What a change of the settings of scans does to a turn, and what holds of the deeds
--- and the scans of each turn, is shown of all turns by the few facts of a rule.
+-- One walk over what statements do. What a change of the settings of scans and of the places in records does to a turn,
+-- and what holds of the deeds and the scans of each turn, is shown of all turns by the few facts of a rule.
 use Rattle.std.proofs.Common.{◌≡◌, sym, ap, subst, ◌∙◌, ℕ, Bool, true, false, cond, List, [], ◌∷◌, ◌++◌, length, map, Option, Some, None, refl, ◌<◌, ◌≤◌, ◌&&◌, suc, zero, take, replicate, arith}
-use Rattle.std.specs.Prelude.{ℤ, pos, ◌+ℤ◌, nat_lt, slice_get, slice_set, negsuc, nat_le, nat_abs, int_le}
+use Rattle.std.specs.Prelude.{ℤ, pos, ◌+ℤ◌, ◌==◌, nat_lt, slice_get, slice_set, negsuc, nat_le, nat_abs, int_le}
 use Rattle.std.proofs.lemmas.List.{length-append, length-take, length-replicate}
 use Rattle.std.proofs.lemmas.Bool.{false≢true, leb-true}
 use Rattle.std.specs.Int.{int_wrap, w32}
@@ -18,7 +18,7 @@ use Rattle.stapl_meaning.specs.declared.events.Event.{Event}
 use Rattle.stapl_meaning.specs.declared.events.Event.TheVariants.{Print, Export, Hertz, Usec}
 use Rattle.stapl_meaning.specs.declared.events.ExportValue.TheVariants.{Array}
 use Rattle.stapl_meaning.specs.declared.events.RunFault.{RunFault}
-use Rattle.stapl_meaning.specs.declared.events.RunFault.TheVariants.{BadLength, LengthMismatch, ZeroStep, RecordsFull}
+use Rattle.stapl_meaning.specs.declared.events.RunFault.TheVariants.{BadLength, LengthMismatch, ZeroStep, NoRecord, RecordsFull}
 use Rattle.stapl_meaning.specs.declared.records.Loop.{Loop}
 use Rattle.stapl_meaning.specs.declared.records.Record.{Record}
 use Rattle.stapl_meaning.specs.declared.records.Record.TheVariants.{Pushed, Called, Looped}
@@ -34,7 +34,7 @@ use Rattle.stapl_meaning.specs.declared.values.Held.TheVariants as held
 use Rattle.stapl_meaning.specs.Values.{Got, Known, Faults, Stuck, then_get, passed, Span, Source, These, Whole, Range, OfInt, source_bits, asked, bits_held, span_of, source_of}
 use Rattle.stapl_meaning.specs.Operands.{given_kind, values_of}
 use Rattle.stapl_meaning.specs.States.{ScanSettings, State, Did, Falls, Captures, Jumps, Resumes, Returns, Ends, Turned, Leads, Over, Broken, Scanning, NoTurn, with_got, preceded, turn_of_piece, next_chosen, jumps_to, led}
-use Rattle.stapl_meaning.specs.Effects.{export_of, replaced, scalar_written, element_written, with_variables, written, assigned, element_assigned, Target, IntoWhole, IntoRange, span_written, copied, with_integers, integers_set, jumped, parted, record_limit, with_records, with_room, number_of, topmost, pushed, popped, called, returned_from, returned, with_loop, looped, nearest_loop, is_over, integer_held, went_round, repeated, exited, joined, printed, exported, bits_exported, moved_through, cycles_of, usec_of, hertz_of, waited_for, waited, tuned}
+use Rattle.stapl_meaning.specs.Effects.{export_of, value_as, replaced, scalar_written, element_written, with_variables, written, assigned, element_assigned, Target, IntoWhole, IntoRange, span_written, copied, with_integers, integers_set, jumped, parted, record_limit, with_records, with_room, number_of, topmost, pushed, popped, called, returned_from, returned, with_loop, looped, nearest_loop, is_over, integer_held, went_round, repeated, exited, joined, printed, exported, bits_exported, moved_through, cycles_of, usec_of, hertz_of, waited_for, waited, tuned}
 use Rattle.stapl_meaning.specs.Scans.{settings_of, with_padding, with_stop, scan_limit, length_between, scan_of, ScanParts, Place, Comparison, Found, scan_found, landed, target_asked, compare_asked, scan_asked, scanned, padding_bits, surrounded, stopped}
 use Rattle.stapl_meaning.specs.ScanTrees.{given_source, scan_parts}
 use Rattle.stapl_meaning.specs.Scopes.{Scope}
@@ -46,10 +46,13 @@ sets_padding (pad which size bits) = true
 sets_padding (if_then e body) = sets_padding body
 sets_padding _ = false
 
--- What is to be shown of all turns. States are changed in the settings of their scans alone (`ir`, `dr`), and scans are
--- changed by that (`job`). Something is kept of the settings and of the procedures that are still to run (`IrOk`, `DrOk`,
--- `ChosenOk`), and it is enough for what holds of the deeds of a turn (`DeedsOk`) and of its scans (`JobOk`).
+-- What is to be shown of all turns. States are changed in the places that their records keep (`place`, and with it
+-- `records`) and in the settings of their scans (`ir`, `dr`), and scans are changed by that (`job`). Something is kept of
+-- the settings and of the procedures that are still to run (`IrOk`, `DrOk`, `ChosenOk`), and it is enough for what holds of
+-- the deeds of a turn (`DeedsOk`) and of its scans (`JobOk`).
 pub record WalkRule : Type 1 where
+  pub place : ℕ → ℕ
+  pub records : List Record → List Record
   pub ir : ScanSettings → ScanSettings
   pub dr : ScanSettings → ScanSettings
   pub job : BoardScan → BoardScan
@@ -58,6 +61,11 @@ pub record WalkRule : Type 1 where
   pub ChosenOk : List ℕ → Type 0
   pub DeedsOk : List Deed → Type 0
   pub JobOk : BoardScan → Type 0
+  -- records, one by one
+  pub no_record : records [] ≡ []
+  pub on_value : (z : ℤ) (rs : List Record) → records (Pushed z ∷ rs) ≡ Pushed z ∷ records rs
+  pub on_call : (i : ℕ) (rs : List Record) → records (Called i ∷ rs) ≡ Called (place i) ∷ records rs
+  pub on_loop : (l : Loop) (rs : List Record) → records (Looped l ∷ rs) ≡ Looped (record l { place = place l.place }) ∷ records rs
   -- deeds, as statements make them
   pub none_ok : DeedsOk []
   pub both_ok : (xs ys : List Deed) → DeedsOk xs → DeedsOk ys → DeedsOk (xs ++ ys)
@@ -81,6 +89,8 @@ pub record WalkRule : Type 1 where
 -- the rule that leaves states and scans as they are, and asks nothing
 abbrev pub plain_rule : WalkRule
 plain_rule = record {
+  place = λ i. i;
+  records = λ rs. rs;
   ir = λ x. x;
   dr = λ x. x;
   job = λ job. job;
@@ -89,6 +99,10 @@ plain_rule = record {
   ChosenOk = λ ps. Unit {0};
   DeedsOk = λ ds. Unit {0};
   JobOk = λ job. Unit {0};
+  no_record = refl;
+  on_value = λ z rs. refl;
+  on_call = λ i rs. refl;
+  on_loop = λ l rs. refl;
   none_ok = tt;
   both_ok = λ xs ys h k. tt;
   says_ok = λ event e. tt;
@@ -125,7 +139,10 @@ asked_long OfInt n bits = passed_long (nat_le n (length bits)) n bits LengthMism
 module _ (w : WalkRule) where
   -- the state after the change, and what is kept of it
   abbrev pub changed : State → State
-  changed s = record s { ir = w.ir s.ir; dr = w.dr s.dr }
+  changed s = record s { records = w.records s.records; ir = w.ir s.ir; dr = w.dr s.dr }
+
+  abbrev changed_loop : Loop → Loop
+  changed_loop l = record l { place = w.place l.place }
 
   abbrev pub Fits : State → Type 0
   Fits s = w.IrOk s.ir × w.DrOk s.dr × w.ChosenOk s.chosen
@@ -139,7 +156,7 @@ module _ (w : WalkRule) where
   changed_did (Falls deeds s) = Falls deeds (changed s)
   changed_did (Captures job lands) = Captures (w.job job) (λ bits. changed (lands bits))
   changed_did (Jumps s) = Jumps (changed s)
-  changed_did (Resumes place s) = Resumes place (changed s)
+  changed_did (Resumes place s) = Resumes (w.place place) (changed s)
   changed_did (Returns s) = Returns (changed s)
   changed_did (Ends ending s) = Ends ending (changed s)
 
@@ -183,7 +200,7 @@ module _ (w : WalkRule) where
   either_same true x y x2 y2 h k = h
   either_same false x y x2 y2 h k = k
 
-  abbrev SameEffect : (List Value → State → Got Did) → Type 0
+  abbrev pub SameEffect : (List Value → State → Got Did) → Type 0
   SameEffect does = (vs : List Value) (s : State) → Fits s → SameGot (does vs s) (does vs (changed s))
 
   written_same : (s : State) (g : Got (List Held)) → Fits s → SameGot (written s g) (written (changed s) g)
@@ -191,12 +208,12 @@ module _ (w : WalkRule) where
   written_same s (Faults k) h = fault_same k
   written_same s Stuck h = stuck_same
 
-  assigned_same : (n : ℕ) → SameEffect (assigned n)
+  pub assigned_same : (n : ℕ) → SameEffect (assigned n)
   assigned_same n [] s h = stuck_same
   assigned_same n (v ∷ []) s h = written_same s (scalar_written s.store.variables n (slice_get s.store.variables n) v) h
   assigned_same n (v ∷ w ∷ vs) s h = stuck_same
 
-  element_same : (n : ℕ) → SameEffect (element_assigned n)
+  pub element_same : (n : ℕ) → SameEffect (element_assigned n)
   element_same n [] s h = stuck_same
   element_same n (Bit b ∷ vs) s h = stuck_same
   element_same n (Int i ∷ []) s h = stuck_same
@@ -238,45 +255,75 @@ module _ (w : WalkRule) where
   parted_same (Bit false ∷ []) s h = record { same = refl; kept = h }
   parted_same (Bit b ∷ v ∷ vs) s h = stuck_same
 
+  -- records are as many
+  as_many : (rs : List Record) → length (w.records rs) ≡ length rs
+  as_many [] = ap length w.no_record
+  as_many (Pushed z ∷ rs) = ap length (w.on_value z rs) ∙ ap suc (as_many rs)
+  as_many (Called i ∷ rs) = ap length (w.on_call i rs) ∙ ap suc (as_many rs)
+  as_many (Looped l ∷ rs) = ap length (w.on_loop l rs) ∙ ap suc (as_many rs)
+
   room_same : (s : State) (x y : Got Did) → SameGot x y → SameGot (with_room s x) (with_room (changed s) y)
-  room_same s x y h = either_same (nat_lt (length s.records) record_limit) x (Faults RecordsFull) y (Faults RecordsFull) h (fault_same RecordsFull)
+  room_same s x y h =
+      subst (λ n. SameGot (with_room s x) (cond (nat_lt n record_limit) y (Faults RecordsFull))) (sym (as_many s.records))
+      (either_same (nat_lt (length s.records) record_limit) x (Faults RecordsFull) y (Faults RecordsFull) h (fault_same RecordsFull))
 
   pushed_same : SameEffect pushed
   pushed_same [] s h = stuck_same
   pushed_same (v ∷ []) s h =
-      let t : State = with_records s (Pushed (number_of v) ∷ s.records) in
-      room_same s (Known (Falls [] t)) (Known (Falls [] (changed t))) (falls_same t h)
+      let r : Record = Pushed (number_of v) in
+      let t : State = changed s in
+      room_same s (Known (Falls [] (with_records s (r ∷ s.records)))) (Known (Falls [] (with_records t (r ∷ t.records)))) (record {
+        same = ap (λ rs. Known (Falls [] (with_records t rs))) (sym (w.on_value (number_of v) s.records));
+        kept = (w.none_ok, h);
+      })
   pushed_same (v ∷ w ∷ vs) s h = stuck_same
 
-  called_same : (behind : ℕ) → SameEffect (called behind)
+  called_same : (behind : ℕ) (vs : List Value) (s : State) → Fits s → SameGot (called behind vs s) (called (w.place behind) vs (changed s))
   called_same behind [] s h =
-      let t : State = with_records s (Called behind ∷ s.records) in
-      room_same s (Known (Jumps t)) (Known (Jumps (changed t))) (record { same = refl; kept = h })
+      let t : State = changed s in
+      room_same s (Known (Jumps (with_records s (Called behind ∷ s.records)))) (Known (Jumps (with_records t (Called (w.place behind) ∷ t.records)))) (record {
+        same = ap (λ rs. Known (Jumps (with_records t rs))) (sym (w.on_call behind s.records));
+        kept = h;
+      })
   called_same behind (v ∷ vs) s h = stuck_same
+
+  -- what is done with the topmost record
+  top_same : (kind : ValueKind) (rs : List Record) (go go2 : Value × List Record → Got Did) → ((v : Value) (qs : List Record) → SameGot (go (v, qs)) (go2 (v, w.records qs)))
+      → SameGot (then_get (topmost kind rs) go) (then_get (topmost kind (w.records rs)) go2)
+  top_same kind [] go go2 k = subst (λ qs. SameGot (Faults NoRecord) (then_get (topmost kind qs) go2)) (sym w.no_record) (fault_same NoRecord)
+  top_same kind (Pushed z ∷ rs) go go2 k =
+      subst (λ qs. SameGot (go (value_as kind z, rs)) (then_get (topmost kind qs) go2)) (sym (w.on_value z rs)) (k (value_as kind z) rs)
+  top_same kind (Called i ∷ rs) go go2 k =
+      subst (λ qs. SameGot (Faults NoRecord) (then_get (topmost kind qs) go2)) (sym (w.on_call i rs)) (fault_same NoRecord)
+  top_same kind (Looped l ∷ rs) go go2 k =
+      subst (λ qs. SameGot (Faults NoRecord) (then_get (topmost kind qs) go2)) (sym (w.on_loop l rs)) (fault_same NoRecord)
 
   popped_same : (kind : ValueKind) (assigns : List Value → State → Got Did) → SameEffect assigns → SameEffect (popped kind assigns)
   popped_same kind assigns f vs s h =
       let go : State → Value × List Record → Got Did = λ t top. assigns (vs ++ top.0 ∷ []) (with_records t top.1) in
-      then_same (topmost kind s.records) (go s) (go (changed s)) (λ top. f (vs ++ top.0 ∷ []) (with_records s top.1) h)
+      top_same kind s.records (go s) (go (changed s)) (λ v qs. f (vs ++ v ∷ []) (with_records s qs) h)
 
   -- a loop is put on the records, and then something is done
-  loop_same : (g : Got (List Held)) (records : List Record) (go : State → Got Did) (s : State) → Fits s
-      → ((t : State) → Fits t → SameGot (go t) (go (changed t)))
-      → SameGot (then_get (then_get g (λ v. Known (with_variables (with_records s records) v))) go)
-      (then_get (then_get g (λ v. Known (with_variables (with_records (changed s) records) v))) go)
-  loop_same (Known list) records go s h f = f (with_variables (with_records s records) list) h
-  loop_same (Faults k) records go s h f = fault_same k
-  loop_same Stuck records go s h f = stuck_same
+  loop_same : (g : Got (List Held)) (l : Loop) (records : List Record) (go go2 : State → Got Did) (s : State) → Fits s
+      → ((t : State) → Fits t → SameGot (go t) (go2 (changed t)))
+      → SameGot (then_get (then_get g (λ v. Known (with_variables (with_records s (Looped l ∷ records)) v))) go)
+      (then_get (then_get g (λ v. Known (with_variables (with_records (changed s) (Looped (changed_loop l) ∷ w.records records)) v))) go2)
+  loop_same (Known list) l records go go2 s h f =
+      let t : State = with_variables (with_records s (Looped l ∷ records)) list in
+      subst (λ rs. SameGot (go t) (go2 (with_records (changed t) rs))) (w.on_loop l records) (f t h)
+  loop_same (Faults k) l records go go2 s h f = fault_same k
+  loop_same Stuck l records go go2 s h f = stuck_same
 
-  looped_same : (n behind : ℕ) → SameEffect (looped n behind)
+  looped_same : (n behind : ℕ) (vs : List Value) (s : State) → Fits s → SameGot (looped n behind vs s) (looped n (w.place behind) vs (changed s))
   looped_same n behind (Int first ∷ Int limit ∷ Int step ∷ []) s h =
       let l : Loop = record { variable = n; limit = limit; step = step; place = behind } in
       let t : State = changed s in
       let on : State → Got Did = λ t. Known (Falls [] t) in
-      let begins : State → Got Did = λ t. then_get (with_loop l s.records first t) on in
-      either_same (int_eq step (pos 0)) (Faults ZeroStep) (with_room s (begins s)) (Faults ZeroStep) (with_room t (begins t)) (fault_same ZeroStep)
-      (room_same s (begins s) (begins t)
-      (loop_same (scalar_written s.store.variables n (slice_get s.store.variables n) (Int first)) (Looped l ∷ s.records) on s h (λ t k. falls_same t k)))
+      let begins : Got Did = then_get (with_loop l s.records first s) on in
+      let begins2 : Got Did = then_get (with_loop (changed_loop l) t.records first t) on in
+      either_same (int_eq step (pos 0)) (Faults ZeroStep) (with_room s begins) (Faults ZeroStep) (with_room t begins2) (fault_same ZeroStep)
+      (room_same s begins begins2
+      (loop_same (scalar_written s.store.variables n (slice_get s.store.variables n) (Int first)) l s.records on on s h (λ t k. falls_same t k)))
   looped_same n behind [] s h = stuck_same
   looped_same n behind (Bit b ∷ vs) s h = stuck_same
   looped_same n behind (Int first ∷ []) s h = stuck_same
@@ -285,34 +332,59 @@ module _ (w : WalkRule) where
   looped_same n behind (Int first ∷ Int limit ∷ Bit b ∷ vs) s h = stuck_same
   looped_same n behind (Int first ∷ Int limit ∷ Int step ∷ v ∷ vs) s h = stuck_same
 
-  round_same : (l : Loop) (records : List Record) (z : ℤ) (s : State) → Fits s → SameGot (went_round l records z s) (went_round l records z (changed s))
+  round_same : (l : Loop) (records : List Record) (z : ℤ) (s : State) → Fits s
+      → SameGot (went_round l records z s) (went_round (changed_loop l) (w.records records) z (changed s))
   round_same l records z s h =
       let more : ℤ = int_wrap w32 (z +ℤ l.step) in
-      let back : State → Got Did = λ t. Known (Resumes l.place t) in
+      let back : ℕ → State → Got Did = λ i t. Known (Resumes i t) in
       let t : State = changed s in
       let u : State = with_records s records in
-      either_same (is_over l z) (Known (Falls [] u)) (then_get (with_loop l records more s) back) (Known (Falls [] (changed u))) (then_get (with_loop l records more t) back)
-      (falls_same u h)
-      (loop_same (scalar_written s.store.variables l.variable (slice_get s.store.variables l.variable) (Int more)) (Looped l ∷ records) back s h (λ t k. record { same = refl; kept = k }))
+      let again : Got Did = then_get (with_loop l records more s) (back l.place) in
+      let again2 : Got Did = then_get (with_loop (changed_loop l) (w.records records) more t) (back (w.place l.place)) in
+      either_same (is_over l z) (Known (Falls [] u)) again (Known (Falls [] (changed u))) again2 (falls_same u h)
+      (loop_same (scalar_written s.store.variables l.variable (slice_get s.store.variables l.variable) (Int more)) l records (back l.place) (back (w.place l.place)) s h
+      (λ t k. record { same = refl; kept = k }))
+
+  -- what is done with the nearest loop
+  nearest_same : (n : ℕ) (rs : List Record) (go go2 : Loop × List Record → Got Did) → ((l : Loop) (qs : List Record) → SameGot (go (l, qs)) (go2 (changed_loop l, w.records qs)))
+      → SameGot (then_get (nearest_loop n rs) go) (then_get (nearest_loop n (w.records rs)) go2)
+  nearest_same n [] go go2 k = subst (λ qs. SameGot (Faults NoRecord) (then_get (nearest_loop n qs) go2)) (sym w.no_record) (fault_same NoRecord)
+  nearest_same n (Pushed z ∷ rs) go go2 k =
+      subst (λ qs. SameGot (Faults NoRecord) (then_get (nearest_loop n qs) go2)) (sym (w.on_value z rs)) (fault_same NoRecord)
+  nearest_same n (Called i ∷ rs) go go2 k =
+      subst (λ qs. SameGot (Faults NoRecord) (then_get (nearest_loop n qs) go2)) (sym (w.on_call i rs)) (fault_same NoRecord)
+  nearest_same n (Looped l ∷ rs) go go2 k =
+      subst (λ qs. SameGot (then_get (nearest_loop n (Looped l ∷ rs)) go) (then_get (nearest_loop n qs) go2)) (sym (w.on_loop l rs))
+      (by (l.variable == n) (nearest_same n rs go go2 k))
+    where
+      by : (own : Bool) → SameGot (then_get (nearest_loop n rs) go) (then_get (nearest_loop n (w.records rs)) go2)
+          → SameGot (then_get (cond own (Known (l, rs)) (nearest_loop n rs)) go) (then_get (cond own (Known (changed_loop l, w.records rs)) (nearest_loop n (w.records rs))) go2)
+      by true others = k l rs
+      by false others = others
 
   repeated_same : (n : ℕ) → SameEffect (repeated n)
   repeated_same n [] s h =
       let t : State = changed s in
       let round : State → Loop × List Record → ℤ → Got Did = λ t top z. went_round top.0 top.1 z t in
       let go : State → Loop × List Record → Got Did = λ t top. then_get (integer_held (slice_get s.store.variables n)) (round t top) in
-      then_same (nearest_loop n s.records) (go s) (go t) (λ top.
-      then_same (integer_held (slice_get s.store.variables n)) (round s top) (round t top) (λ z. round_same top.0 top.1 z s h))
+      nearest_same n s.records (go s) (go t) (λ l qs.
+      then_same (integer_held (slice_get s.store.variables n)) (round s (l, qs)) (round t (changed_loop l, w.records qs)) (λ z. round_same l qs z s h))
   repeated_same n (v ∷ vs) s h = stuck_same
 
-  pub record SameDid (d e : Did) : Type 0 where
+  record SameDid (d e : Did) : Type 0 where
     pub same : e ≡ changed_did d
     pub kept : KeptDid d
 
-  returned_from_same : (records : List Record) (s : State) → Fits s → SameDid (returned_from records s) (returned_from records (changed s))
-  returned_from_same [] s h = record { same = refl; kept = h }
-  returned_from_same (Pushed z ∷ records) s h = returned_from_same records s h
-  returned_from_same (Called i ∷ records) s h = record { same = refl; kept = h }
-  returned_from_same (Looped l ∷ records) s h = returned_from_same records s h
+  returned_from_same : (rs : List Record) (s : State) → Fits s → SameDid (returned_from rs s) (returned_from (w.records rs) (changed s))
+  returned_from_same [] s h =
+      subst (λ qs. SameDid (returned_from [] s) (returned_from qs (changed s))) (sym w.no_record)
+      (record { same = ap (λ qs. Returns (with_records (changed s) qs)) (sym w.no_record); kept = h })
+  returned_from_same (Pushed z ∷ rs) s h =
+      subst (λ qs. SameDid (returned_from rs s) (returned_from qs (changed s))) (sym (w.on_value z rs)) (returned_from_same rs s h)
+  returned_from_same (Called i ∷ rs) s h =
+      subst (λ qs. SameDid (Resumes i (with_records s rs)) (returned_from qs (changed s))) (sym (w.on_call i rs)) (record { same = refl; kept = h })
+  returned_from_same (Looped l ∷ rs) s h =
+      subst (λ qs. SameDid (returned_from rs s) (returned_from qs (changed s))) (sym (w.on_loop l rs)) (returned_from_same rs s h)
 
   returned_same : SameEffect returned
   returned_same [] s h = let r = returned_from_same s.records s h in record { same = ap Known r.same; kept = r.kept }
@@ -476,9 +548,9 @@ module _ (w : WalkRule) where
       stop_if (is_stable_state tap) (with_stop registers.Instruction tap s) (with_stop registers.Instruction tap (changed s))
       (λ e. (ap (λ x. record (changed s) { ir = x }) (sym (w.ir_stop s.ir tap)), (w.ir_stop_ok s.ir tap e h.0, h.1, h.2)))
 
-  -- another scope that finds the same variables, and the same place behind the statement
+  -- another scope that finds the same variables, and the changed place behind the statement
   abbrev pub beside : Scope → Scope → Scope
-  beside scope other = record other { look = scope.look; follow = scope.follow }
+  beside scope other = record other { look = scope.look; follow = w.place scope.follow }
 
   module _ (scope other : Scope) where
     -- the effect of a statement, in both
@@ -520,8 +592,12 @@ module _ (w : WalkRule) where
 
   -- ---- turns
 
+  abbrev pub changed_target : Option ℕ → Option ℕ
+  changed_target None = None
+  changed_target (Some to) = Some (w.place to)
+
   abbrev pub changed_turned : Turned → Turned
-  changed_turned (Leads deeds place s) = Leads deeds place (changed s)
+  changed_turned (Leads deeds place s) = Leads deeds (w.place place) (changed s)
   changed_turned (Over deeds ending s) = Over deeds ending (changed s)
   changed_turned (Broken deeds fault s) = Broken deeds fault (changed s)
   changed_turned (Scanning deeds job rest) = Scanning deeds (w.job job) (λ bits. changed_turned (rest bits))
@@ -544,7 +620,7 @@ module _ (w : WalkRule) where
   with_got_same (Faults f) s go go2 h k = record { same = refl; kept = (w.none_ok, h) }
   with_got_same Stuck s go go2 h k = record { same = refl; kept = w.none_ok }
 
-  changed_preceded : (before : List Deed) (t : Turned) → preceded before (changed_turned t) ≡ changed_turned (preceded before t)
+  pub changed_preceded : (before : List Deed) (t : Turned) → preceded before (changed_turned t) ≡ changed_turned (preceded before t)
   changed_preceded before (Leads ds place s) = refl
   changed_preceded before (Over ds ending s) = refl
   changed_preceded before (Broken ds k s) = refl
@@ -561,7 +637,7 @@ module _ (w : WalkRule) where
   pub preceded_same : (before : List Deed) (t u : Turned) → w.DeedsOk before → SameTurned t u → SameTurned (preceded before t) (preceded before u)
   preceded_same before t u b h = record { same = ap (preceded before) h.same ∙ changed_preceded before t; kept = kept_preceded before t b h.kept }
 
-  changed_piece : (piece : ℕ) (t : Turned) → turn_of_piece piece (changed_turned t) ≡ changed_turned (turn_of_piece piece t)
+  pub changed_piece : (piece : ℕ) (t : Turned) → turn_of_piece piece (changed_turned t) ≡ changed_turned (turn_of_piece piece t)
   changed_piece piece (Leads ds place s) = refl
   changed_piece piece (Over ds ending s) = refl
   changed_piece piece (Broken ds k s) = refl
@@ -578,9 +654,9 @@ module _ (w : WalkRule) where
   pub piece_same : (piece : ℕ) (t u : Turned) → SameTurned t u → SameTurned (turn_of_piece piece t) (turn_of_piece piece u)
   piece_same piece t u h = record { same = ap (turn_of_piece piece) h.same ∙ changed_piece piece t; kept = kept_piece piece t h.kept }
 
-  -- the entries of the chosen procedures are the same
+  -- the entries of the chosen procedures are those of the others
   abbrev pub SameEntries : (ℕ → ℕ) → (ℕ → ℕ) → Type 0
-  SameEntries e1 e2 = (p : ℕ) (ps : List ℕ) → w.ChosenOk (p ∷ ps) → (e2 p ≡ e1 p) × w.ChosenOk ps
+  SameEntries e1 e2 = (p : ℕ) (ps : List ℕ) → w.ChosenOk (p ∷ ps) → (e2 p ≡ w.place (e1 p)) × w.ChosenOk ps
 
   pub chosen_same : (e1 e2 : ℕ → ℕ) → SameEntries e1 e2 → (s : State) → Fits s → (ps : List ℕ) → w.ChosenOk ps
       → SameTurned (next_chosen e1 s ps) (next_chosen e2 (changed s) ps)
@@ -589,12 +665,12 @@ module _ (w : WalkRule) where
       let q = e p ps b in
       record { same = ap (λ n. Leads [] n (changed (record s { chosen = ps }))) q.0; kept = (w.none_ok, (h.0, h.1, q.1)) }
 
-  jumps_same : (to : Option ℕ) (s : State) → Fits s → SameTurned (jumps_to to s) (jumps_to to (changed s))
+  pub jumps_same : (to : Option ℕ) (s : State) → Fits s → SameTurned (jumps_to to s) (jumps_to (changed_target to) (changed s))
   jumps_same None s h = record { same = refl; kept = w.none_ok }
   jumps_same (Some place) s h = record { same = refl; kept = (w.none_ok, h) }
 
   led_same : (e1 e2 : ℕ → ℕ) → SameEntries e1 e2 → (to : Option ℕ) (did : Did) (go go2 : State → Turned) → KeptDid did
-      → ((s : State) → Fits s → SameTurned (go s) (go2 (changed s))) → SameTurned (led e1 to did go) (led e2 to (changed_did did) go2)
+      → ((s : State) → Fits s → SameTurned (go s) (go2 (changed s))) → SameTurned (led e1 to did go) (led e2 (changed_target to) (changed_did did) go2)
   led_same e1 e2 e to (Falls ds s) go go2 h k = preceded_same ds (go s) (go2 (changed s)) h.0 (k s h.1)
   led_same e1 e2 e to (Captures job lands) go go2 h k = record {
     same = λ j. Scanning [] (w.job job) (λ bits. (k (lands bits) (h.1 bits)).same j);
@@ -607,13 +683,13 @@ module _ (w : WalkRule) where
 
   got_led_same : (e1 e2 : ℕ → ℕ) → SameEntries e1 e2 → (to : Option ℕ) (g g2 : Got Did) (s : State) (go go2 : State → Turned) → Fits s → SameGot g g2
       → ((t : State) → Fits t → SameTurned (go t) (go2 (changed t)))
-      → SameTurned (with_got g s (λ did. led e1 to did go)) (with_got g2 (changed s) (λ did. led e2 to did go2))
+      → SameTurned (with_got g s (λ did. led e1 to did go)) (with_got g2 (changed s) (λ did. led e2 (changed_target to) did go2))
   got_led_same e1 e2 e to g g2 s go go2 h r k =
-      let by : (g : Got Did) → KeptGot g → SameTurned (with_got g s (λ did. led e1 to did go)) (with_got (changed_got g) (changed s) (λ did. led e2 to did go2)) =
+      let by : (g : Got Did) → KeptGot g → SameTurned (with_got g s (λ did. led e1 to did go)) (with_got (changed_got g) (changed s) (λ did. led e2 (changed_target to) did go2)) =
       λ g kept. by_got g kept in
-      subst (λ x. SameTurned (with_got g s (λ did. led e1 to did go)) (with_got x (changed s) (λ did. led e2 to did go2))) (sym r.same) (by g r.kept)
+      subst (λ x. SameTurned (with_got g s (λ did. led e1 to did go)) (with_got x (changed s) (λ did. led e2 (changed_target to) did go2))) (sym r.same) (by g r.kept)
     where
-      by_got : (g : Got Did) → KeptGot g → SameTurned (with_got g s (λ did. led e1 to did go)) (with_got (changed_got g) (changed s) (λ did. led e2 to did go2))
+      by_got : (g : Got Did) → KeptGot g → SameTurned (with_got g s (λ did. led e1 to did go)) (with_got (changed_got g) (changed s) (λ did. led e2 (changed_target to) did go2))
       by_got (Known did) kept = led_same e1 e2 e to did go go2 kept k
       by_got (Faults f) kept = record { same = refl; kept = (w.none_ok, h) }
       by_got Stuck kept = record { same = refl; kept = w.none_ok }
@@ -622,19 +698,19 @@ module _ (w : WalkRule) where
     abbrev second : Scope
     second = beside scope other
 
-    -- each of these rows may set a padding if it does, and leads to the same place
+    -- each of these rows may set a padding if it does, and leads to the changed place
     abbrev pub SameRows : List BodyTree → Type 0
     SameRows [] = Unit {0}
-    SameRows (b ∷ bs) = (sets_padding b ≡ true → PaddingRule) × (target second b ≡ target scope b) × SameRows bs
+    SameRows (b ∷ bs) = (sets_padding b ≡ true → PaddingRule) × (target second b ≡ changed_target (target scope b)) × SameRows bs
 
-    pub carried_same : (b : BodyTree) (s : State) (go go2 : State → Turned) → (sets_padding b ≡ true → PaddingRule) → target second b ≡ target scope b → Fits s
+    pub carried_same : (b : BodyTree) (s : State) (go go2 : State → Turned) → (sets_padding b ≡ true → PaddingRule) → target second b ≡ changed_target (target scope b) → Fits s
         → ((t : State) → Fits t → SameTurned (go t) (go2 (changed t))) → SameTurned (carried scope b s go) (carried second b (changed s) go2)
     carried_same b s go go2 pads to h k =
         let t : State = changed s in
         let does : List Value → Turned = λ values. with_got (effect scope b values s) s (λ did. led scope.entry (target scope b) did go) in
         let does2 : Option ℕ → List Value → Turned = λ o values. with_got (effect second b values t) t (λ did. led other.entry o did go2) in
         subst (λ o. SameTurned (carried scope b s go) (with_got (values_of scope.look s.store.variables (operands second b)) t (does2 o))) (sym to)
-        (with_got_same (values_of scope.look s.store.variables (operands scope b)) s does (does2 (target scope b)) h
+        (with_got_same (values_of scope.look s.store.variables (operands scope b)) s does (does2 (changed_target (target scope b))) h
         (λ values. got_led_same scope.entry other.entry e (target scope b) (effect scope b values s) (effect second b values t) s go go2 h (effect_same scope other b pads values s h) k))
 
     pub rows_same : (bs : List BodyTree) → SameRows bs → (s : State) → Fits s → SameTurned (rows_done scope bs s) (rows_done second bs (changed s))
