@@ -17,7 +17,7 @@ use Rattle.stapl_meaning.specs.declared.values.ValueKind.{ValueKind}
 use Rattle.stapl_meaning.specs.declared.values.ValueKind.TheVariants as kinds
 use Rattle.stapl_meaning.specs.Values.{Got, Known, Faults, Stuck, then_get, is_index, passed, index_held, Lookup, value_of}
 use Rattle.stapl_meaning.specs.Operands.{an_index, values_of, given_kind, printed_kind}
-use Rattle.stapl_meaning.specs.States.{State, Did, Falls, Jumps, Resumes, Returns, Ends, Turned, Captures, Leads, Over, Broken, Scanning, NoTurn, with_got, preceded, turn_of_piece, next_chosen, jumps_to, led, Happened, Led, happens, with_events, scanned_on}
+use Rattle.stapl_meaning.specs.States.{State, Did, Falls, Jumps, Resumes, Returns, Ends, Turned, Captures, Leads, with_got, preceded, next_chosen, led, Happened, Led, happens, with_events, scanned_on}
 use Rattle.stapl_meaning.specs.Effects.{with_scalar, replaced, scalar_written, written, assigned, with_element, element_written, element_assigned, IntoWhole, IntoRange, copied, with_records, value_as, topmost, popped, called, returned_from, printed, exported, bits_exported}
 use Rattle.stapl_meaning.specs.Scans.{scanned, surrounded}
 use Rattle.stapl_meaning.specs.Scopes.{Scope}
@@ -30,22 +30,10 @@ use Rattle.stapl_codegen.specs.Emit.{Firsts, last, between, source_code, export_
 use Rattle.stapl_codegen.specs.Correct.{falls, placed_record, placed_state}
 use Rattle.stapl_codegen.proofs.Constants.{HasConstants, row_has, others_have, item_known, source_known, source_count}
 use Rattle.stapl_codegen.proofs.Exprs.{got_on, with_known, onto, taken-onto, operands_follow, one_each}
-use Rattle.stapl_codegen.proofs.Placed.{placed_did, placed_got, keeps_place, effect_placed, called_placed, looped_placed, assigned_placed, element_placed}
+use Rattle.stapl_codegen.proofs.Placed.{placed_did, placed_got, placed_scope, effect_placed, assigned_placed, element_placed, placed, target_placed, preceded_placed, jump_placed}
 use Rattle.stapl_codegen.proofs.ScanConstants.{given_known, given_count, scan_known, scan_count}
 use Rattle.stapl_codegen.proofs.Prints.{parts_are_joined, parts_count}
 use Rattle.stapl_codegen.proofs.Rows.{is_call, CallsLast, calls_last}
-
--- a turn of the program, with places of the code in it
-abbrev pub placed : (ℕ → ℕ) → Turned → Turned
-placed place (Leads es i s) = Leads es (place i) (placed_state place s)
-placed place (Over es ending s) = Over es ending (placed_state place s)
-placed place (Broken es k s) = Broken es k (placed_state place s)
-placed place (Scanning es job rest) = Scanning es job (λ bits. placed place (rest bits))
-placed place (NoTurn es) = NoTurn es
-
-abbrev target_placed : (ℕ → ℕ) → Option ℕ → Option ℕ
-target_placed place None = None
-target_placed place (Some to) = Some (place to)
 
 pub with_placed : {A : Type 0} (place : ℕ → ℕ) (g : Got A) (s : State) (chain : Chain) (k : A → Turned) →
     got_on g (placed_state place s) chain (λ x. happens chain (placed place (k x))) ≡ happens chain (placed place (with_got g s k))
@@ -53,29 +41,10 @@ with_placed place (Known x) s chain k = refl
 with_placed place (Faults f) s chain k = refl
 with_placed place Stuck s chain k = refl
 
-pub preceded_placed : (place : ℕ → ℕ) (ds : List Deed) (t : Turned) → preceded ds (placed place t) ≡ placed place (preceded ds t)
-preceded_placed place ds (Leads es i s) = refl
-preceded_placed place ds (Over es ending s) = refl
-preceded_placed place ds (Broken es k s) = refl
-preceded_placed place ds (Scanning es job rest) = refl
-preceded_placed place ds (NoTurn es) = refl
-
 -- deeds in front of a turn, on a chain
 deeds_placed : (place : ℕ → ℕ) (chain : Chain) (ds : List Deed) (t : Turned) →
     with_events (deeds_events chain ds) (happens (deeds_chain chain ds) (placed place t)) ≡ happens chain (placed place (preceded ds t))
 deeds_placed place chain ds t = sym (happens_behind chain ds (placed place t)) ∙ ap (happens chain) (preceded_placed place ds t)
-
-jump_placed : (place : ℕ → ℕ) (to : Option ℕ) (s : State) → jumps_to (target_placed place to) (placed_state place s) ≡ placed place (jumps_to to s)
-jump_placed place None s = refl
-jump_placed place (Some i) s = refl
-
--- a fault names the same piece
-pub piece_placed : (place : ℕ → ℕ) (piece : ℕ) (t : Turned) → turn_of_piece piece (placed place t) ≡ placed place (turn_of_piece piece t)
-piece_placed place piece (Leads es i s) = refl
-piece_placed place piece (Over es ending s) = refl
-piece_placed place piece (Broken es k s) = refl
-piece_placed place piece (Scanning es job rest) = λ j. Scanning es job (λ bits. piece_placed place piece (rest bits) j)
-piece_placed place piece (NoTurn es) = refl
 
 -- no operator makes nothing
 nothing_made : (vs : List Value) → two vs (λ x y. Stuck) ≡ Stuck
@@ -275,11 +244,11 @@ module _ (place : ℕ → ℕ) (entries : List ℕ) (constants : Constants) (tot
           (record { count = count ∙ one_each scope.look s (operands scope b) vs e; same = same here vs s behind; leads = leads here }) entry_is more;
     }
 
-    -- the same of a statement that keeps no place
-    plainly : keeps_place place b ≡ false → IsAlone → TakesAll → LeadsThere →
-        ((here : ℕ) (vs : List Value) (s : State) → made entries constants here (last scope place first b) vs s ≡ does (effect scope b vs s)) → Tied first b
-    plainly keeps alone count leads same =
-        simply alone count leads (λ here vs s behind. same here vs (placed_state place s) ∙ ap does (effect_placed place scope b keeps vs s))
+    -- the same of a statement whose instruction does what it does, with the place of the code behind it
+    plainly : IsAlone → TakesAll → LeadsThere →
+        ((here : ℕ) (vs : List Value) (s : State) → made entries constants here (last scope place first b) vs s ≡ does (effect (placed_scope place scope) b vs s)) → Tied first b
+    plainly alone count leads same =
+        simply alone count leads (λ here vs s behind. same here vs (placed_state place s) ∙ ap does (effect_placed place scope b vs s))
 
   -- ---- POP: the topmost record goes on the operands, and from there into the variable
 
@@ -343,40 +312,39 @@ module _ (place : ℕ → ℕ) (entries : List ℕ) (constants : Constants) (tot
   frequency_count (Some e) = refl
 
   pub row_tied : (first : Firsts) (b : BodyTree) → EntriesAre → HasConstants constants first (row_texts b) (row_literals b) → Tied first b
-  row_tied first end_procedure entry_is has = plainly first end_procedure entry_is refl (λ l. refl) refl (λ here. refl) (λ here vs s. refl)
-  row_tied first (boolean name (Some b)) entry_is has = plainly first (boolean name (Some b)) entry_is refl (λ l. refl) refl (λ here. refl) (λ here vs s. refl)
+  row_tied first end_procedure entry_is has = plainly first end_procedure entry_is (λ l. refl) refl (λ here. refl) (λ here vs s. refl)
+  row_tied first (boolean name (Some b)) entry_is has = plainly first (boolean name (Some b)) entry_is (λ l. refl) refl (λ here. refl) (λ here vs s. refl)
   row_tied first (boolean_array name size (Some bits)) entry_is has =
-      plainly first (boolean_array name size (Some bits)) entry_is refl (λ l. refl) refl (λ here. refl)
+      plainly first (boolean_array name size (Some bits)) entry_is (λ l. refl) refl (λ here. refl)
       (λ here vs s.
       ap (λ o. does (then_get (known_literal o) (λ from. copied (IntoWhole (scope.look.variable name)) from vs s)))
       (item_known constants.literals first.literal bits has.literals))
-  row_tied first (integer name (Some z)) entry_is has = plainly first (integer name (Some z)) entry_is refl (λ l. refl) refl (λ here. refl) (λ here vs s. refl)
+  row_tied first (integer name (Some z)) entry_is has = plainly first (integer name (Some z)) entry_is (λ l. refl) refl (λ here. refl) (λ here vs s. refl)
   row_tied first (integer_array name size (Some zs)) entry_is has =
-      plainly first (integer_array name size (Some zs)) entry_is refl (λ l. refl) refl (λ here. refl) (λ here vs s. refl)
-  row_tied first (assign name e) entry_is has = plainly first (assign name e) entry_is refl (λ l. refl) refl (λ here. refl) (λ here vs s. refl)
+      plainly first (integer_array name size (Some zs)) entry_is (λ l. refl) refl (λ here. refl) (λ here vs s. refl)
+  row_tied first (assign name e) entry_is has = plainly first (assign name e) entry_is (λ l. refl) refl (λ here. refl) (λ here vs s. refl)
   row_tied first (assign_element name index e) entry_is has =
-      plainly first (assign_element name index e) entry_is refl (λ l. refl) refl (λ here. refl) (λ here vs s. refl)
+      plainly first (assign_element name index e) entry_is (λ l. refl) refl (λ here. refl) (λ here vs s. refl)
   row_tied first (assign_array name a) entry_is has =
-      plainly first (assign_array name a) entry_is refl (λ l. refl) (source_count scope.look first.literal a) (λ here. refl)
+      plainly first (assign_array name a) entry_is (λ l. refl) (source_count scope.look first.literal a) (λ here. refl)
       (λ here vs s.
       ap (λ g. does (then_get g (λ from. copied (IntoWhole (scope.look.variable name)) from vs s)))
       (source_known constants.literals scope.look first.literal a has.literals))
   row_tied first (assign_range name high low a) entry_is has =
-      plainly first (assign_range name high low a) entry_is refl (λ l. refl) (ap (λ n. suc (suc n)) (source_count scope.look first.literal a)) (λ here. refl)
+      plainly first (assign_range name high low a) entry_is (λ l. refl) (ap (λ n. suc (suc n)) (source_count scope.look first.literal a)) (λ here. refl)
       (λ here vs s.
       ap (λ g. does (then_get g (λ from. copied (IntoRange (scope.look.variable name)) from vs s)))
       (source_known constants.literals scope.look first.literal a has.literals))
   row_tied first (call name) entry_is has =
       simply first (call name) entry_is (λ l. refl) refl (λ here. ap Some (entry_is (scope.procedure name)))
       (λ here vs s behind.
-      ap (λ n. does (called n vs (placed_state place s))) (behind refl) ∙ ap does (called_placed place scope.follow vs s))
-  row_tied first (goto name) entry_is has = plainly first (goto name) entry_is refl (λ l. refl) refl (λ here. refl) (λ here vs s. refl)
-  row_tied first (if_then e body) entry_is has = plainly first (if_then e body) entry_is refl (λ l. refl) refl (λ here. refl) (λ here vs s. refl)
+      ap (λ n. does (called n vs (placed_state place s))) (behind refl) ∙ ap does (effect_placed place scope (call name) vs s))
+  row_tied first (goto name) entry_is has = plainly first (goto name) entry_is (λ l. refl) refl (λ here. refl) (λ here vs s. refl)
+  row_tied first (if_then e body) entry_is has = plainly first (if_then e body) entry_is (λ l. refl) refl (λ here. refl) (λ here vs s. refl)
   row_tied first (for_loop name from to step) entry_is has =
-      simply first (for_loop name from to step) entry_is (λ l. refl) refl (λ here. refl)
-      (λ here vs s behind. ap does (looped_placed place (scope.look.variable name) scope.follow vs s))
-  row_tied first (next name) entry_is has = plainly first (next name) entry_is refl (λ l. refl) refl (λ here. refl) (λ here vs s. refl)
-  row_tied first (push e) entry_is has = plainly first (push e) entry_is refl (λ l. refl) refl (λ here. refl) (λ here vs s. refl)
+      plainly first (for_loop name from to step) entry_is (λ l. refl) refl (λ here. refl) (λ here vs s. refl)
+  row_tied first (next name) entry_is has = plainly first (next name) entry_is (λ l. refl) refl (λ here. refl) (λ here vs s. refl)
+  row_tied first (push e) entry_is has = plainly first (push e) entry_is (λ l. refl) refl (λ here. refl) (λ here vs s. refl)
   row_tied first (pop (scalar name)) entry_is has = record {
     follows = λ rest vs s k go e behind more.
         pop_follows (given_kind (scope.look.kind name)) (Store (scope.look.variable name)) (assigned (scope.look.variable name))
@@ -391,34 +359,34 @@ module _ (place : ℕ → ℕ) (entries : List ℕ) (constants : Constants) (tot
         (element_never scope.look (scope.look.variable name) index vs s e) more;
   }
   row_tied first (print list) entry_is has =
-      plainly first (print list) entry_is refl (λ l. refl) (parts_count scope.look list first.text) (λ here. refl)
+      plainly first (print list) entry_is (λ l. refl) (parts_count scope.look list first.text) (λ here. refl)
       (λ here vs s. ap (λ g. does (printed g s)) (parts_are_joined entries constants scope.look list first.text vs has.texts))
   row_tied first (export key (exported_value e)) entry_is has =
       let kind : ValueKind = printed_kind (expr_kind scope.look.kind e) in
-      plainly first (export key (exported_value e)) entry_is refl (λ l. refl) (value_count kind) (λ here. refl)
+      plainly first (export key (exported_value e)) entry_is (λ l. refl) (value_count kind) (λ here. refl)
       (λ here vs s.
       ap (λ o. does (then_get (known_text o) (λ bytes. part_exported constants.literals (export_part kind) bytes vs s))) (item_known constants.texts first.text key has.texts)
       ∙ ap does (value_exported kind key vs s))
   row_tied first (export key (exported_array a)) entry_is has =
-      plainly first (export key (exported_array a)) entry_is refl (λ l. refl) (source_count scope.look first.literal a) (λ here. refl)
+      plainly first (export key (exported_array a)) entry_is (λ l. refl) (source_count scope.look first.literal a) (λ here. refl)
       (λ here vs s.
       ap (λ o. does (then_get (known_text o) (λ bytes. then_get (known_source constants.literals (source_code scope.look first.literal a)) (λ from. bits_exported bytes from vs s))))
       (item_known constants.texts first.text key has.texts)
       ∙ ap (λ g. does (then_get g (λ from. bits_exported key from vs s))) (source_known constants.literals scope.look first.literal a has.literals))
-  row_tied first (exit e) entry_is has = plainly first (exit e) entry_is refl (λ l. refl) refl (λ here. refl) (λ here vs s. refl)
+  row_tied first (exit e) entry_is has = plainly first (exit e) entry_is (λ l. refl) refl (λ here. refl) (λ here vs s. refl)
   row_tied first (scan register count source target compare) entry_is has =
-      plainly first (scan register count source target compare) entry_is refl (λ l. refl) (ap suc (scan_count scope.look first.literal register source target compare)) (λ here. refl)
+      plainly first (scan register count source target compare) entry_is (λ l. refl) (ap suc (scan_count scope.look first.literal register source target compare)) (λ here. refl)
       (λ here vs s. ap (λ g. does (then_get g (λ parts. scanned parts vs s))) (scan_known constants.literals scope.look first.literal register source target compare has.literals))
-  row_tied first (stop register state) entry_is has = plainly first (stop register state) entry_is refl (λ l. refl) refl (λ here. refl) (λ here vs s. refl)
+  row_tied first (stop register state) entry_is has = plainly first (stop register state) entry_is (λ l. refl) refl (λ here. refl) (λ here vs s. refl)
   row_tied first (pad which count bits) entry_is has =
-      plainly first (pad which count bits) entry_is refl (λ l. refl) (ap suc (given_count scope.look first.literal bits)) (λ here. refl)
+      plainly first (pad which count bits) entry_is (λ l. refl) (ap suc (given_count scope.look first.literal bits)) (λ here. refl)
       (λ here vs s. ap (λ g. does (then_get g (λ from. surrounded which from vs s))) (given_known constants.literals scope.look first.literal bits has.literals))
-  row_tied first (state_list states) entry_is has = plainly first (state_list states) entry_is refl (λ l. refl) refl (λ here. refl) (λ here vs s. refl)
+  row_tied first (state_list states) entry_is has = plainly first (state_list states) entry_is (λ l. refl) refl (λ here. refl) (λ here vs s. refl)
   row_tied first (wait_cycles state cycles usec end) entry_is has =
-      plainly first (wait_cycles state cycles usec end) entry_is refl (λ l. refl) (wait_count usec) (λ here. refl) (λ here vs s. refl)
-  row_tied first (wait_usec state usec end) entry_is has = plainly first (wait_usec state usec end) entry_is refl (λ l. refl) refl (λ here. refl) (λ here vs s. refl)
-  row_tied first (frequency hertz) entry_is has = plainly first (frequency hertz) entry_is refl (λ l. refl) (frequency_count hertz) (λ here. refl) (λ here vs s. refl)
-  row_tied first _ entry_is has = plainly first _ entry_is refl (λ l. refl) refl (λ here. refl) (λ here vs s. nothing_made vs)
+      plainly first (wait_cycles state cycles usec end) entry_is (λ l. refl) (wait_count usec) (λ here. refl) (λ here vs s. refl)
+  row_tied first (wait_usec state usec end) entry_is has = plainly first (wait_usec state usec end) entry_is (λ l. refl) refl (λ here. refl) (λ here vs s. refl)
+  row_tied first (frequency hertz) entry_is has = plainly first (frequency hertz) entry_is (λ l. refl) (frequency_count hertz) (λ here. refl) (λ here vs s. refl)
+  row_tied first _ entry_is has = plainly first _ entry_is (λ l. refl) refl (λ here. refl) (λ here vs s. nothing_made vs)
 
   -- ---- rows, and statements
 
@@ -461,7 +429,7 @@ module _ (place : ℕ → ℕ) (entries : List ℕ) (constants : Constants) (tot
   end_follows : (s : State) (k : Chain) (rest : List Instr) → EntriesAre →
       stretch entries constants total (EndProc ∷ rest) [] (placed_state place s) k ≡ happens k (placed place (done scope s end_procedure))
   end_follows s k rest entry_is =
-      ap (λ g. continues k (on_made entries None [] (placed_state place s) (does g)) (stretch entries constants total rest)) (effect_placed place scope end_procedure refl [] s)
+      ap (λ g. continues k (on_made entries None [] (placed_state place s) (does g)) (stretch entries constants total rest)) (effect_placed place scope end_procedure [] s)
       ∙ by s.records
     where
       by : (records : List Record) →

@@ -17,7 +17,8 @@ use Rattle.stapl_codegen.specs.Emit.{Firsts, behind_row, row_texts, row_literals
 use Rattle.stapl_codegen.proofs.Constants.{HasConstants, row_has, others_have}
 use Rattle.stapl_codegen.specs.Correct.{placed_state, AllStart}
 use Rattle.stapl_codegen.proofs.Rows.{starts_no_call}
-use Rattle.stapl_codegen.proofs.Bodies.{placed, preceded_placed, end_law, row_follows, row_tied}
+use Rattle.stapl_codegen.proofs.Bodies.{end_law, row_follows, row_tied}
+use Rattle.stapl_codegen.proofs.Placed.{placed, preceded_placed}
 
 -- deeds in front, and others in front of these
 preceded_twice : (first second : List Deed) (t : Turned) → preceded first (preceded second t) ≡ preceded (first ++ second) t

@@ -19,7 +19,8 @@ use Rattle.stapl_codegen.specs.Correct.{GoesOn, IsClosed, placed_state, placed_r
 use Rattle.stapl_codegen.proofs.Heads.{head_of, get_head, drop_tail}
 use Rattle.stapl_codegen.proofs.Lists.{body_before, code_split}
 use Rattle.stapl_codegen.proofs.Texts.{presets_known, constants_at}
-use Rattle.stapl_codegen.proofs.Bodies.{placed, piece_placed, Behind, body_follows}
+use Rattle.stapl_codegen.proofs.Bodies.{Behind, body_follows}
+use Rattle.stapl_codegen.proofs.Placed.{placed, piece_placed}
 use Rattle.stapl_codegen.proofs.Prologue.{begins_alike}
 use Rattle.stapl_codegen.proofs.Pieces.{start_is, start_none, start_head, code_from, entry_is}
 
