@@ -14,3 +14,6 @@ pub mod DepthSteps
 pub mod BreakSteps
 pub mod Preceded
 pub mod SizeLemmas
+pub mod RoomLemmas
+pub mod ValidRooms
+pub mod StepCounts

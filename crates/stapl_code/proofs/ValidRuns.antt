@@ -62,15 +62,15 @@ and_left : (a b : Bool) → a && b ≡ true → a ≡ true
 and_left true b e = refl
 and_left false b e = e
 
-and_right : (a b : Bool) → a && b ≡ true → b ≡ true
+pub and_right : (a b : Bool) → a && b ≡ true → b ≡ true
 and_right true b e = e
 and_right false b e = absurd cc
 
-first_none : (a b : Option ℕ) → first_of a b ≡ None → (a ≡ None) × (b ≡ None)
+pub first_none : (a b : Option ℕ) → first_of a b ≡ None → (a ≡ None) × (b ≡ None)
 first_none None b e = (refl, e)
 first_none (Some i) b e = absurd cc
 
-judged_none : (o : Option (List ValueKind)) (well : Bool) (i : ℕ) (go : List ValueKind → Option ℕ) → judged o well i go ≡ None → (after : List ValueKind) × (o ≡ Some after) × (well ≡ true) × (go after ≡ None)
+pub judged_none : (o : Option (List ValueKind)) (well : Bool) (i : ℕ) (go : List ValueKind → Option ℕ) → judged o well i go ≡ None → (after : List ValueKind) × (o ≡ Some after) × (well ≡ true) × (go after ≡ None)
 judged_none None well i go e = absurd cc
 judged_none (Some after) true i go e = (after, refl, refl, e)
 judged_none (Some after) false i go e = absurd cc
@@ -117,7 +117,7 @@ module _ (entry : ℕ) (procedure : List Instr) (must : Bool) (x : Instr) (last 
   turn_stands : must ≡ true → is_turn (Some x) ≡ true
   turn_stands m = turn_if must (is_turn (Some x)) (and_left (not must || is_turn (Some x)) (agree (is_end x) last) first_two) m
 
-  end_stands : agree (is_end x) last ≡ true
+  pub end_stands : agree (is_end x) last ≡ true
   end_stands = and_right (not must || is_turn (Some x)) (agree (is_end x) last) first_two
 
   target_stands : leads_well entry procedure x ≡ true
@@ -185,7 +185,7 @@ module _ (code : CodeLists) where
   total = length code.instrs
 
   -- what is held from an instruction on is at least what is there, and what is held behind it
-  deeper : (x : Instr) (ks after : List ValueKind) (rest : List Instr) → kinds_behind code.variables x ks ≡ Some after → (length ks ≤ deepest code.variables ks (x ∷ rest)) × (deepest code.variables after rest ≤ deepest code.variables ks (x ∷ rest))
+  pub deeper : (x : Instr) (ks after : List ValueKind) (rest : List Instr) → kinds_behind code.variables x ks ≡ Some after → (length ks ≤ deepest code.variables ks (x ∷ rest)) × (deepest code.variables after rest ≤ deepest code.variables ks (x ∷ rest))
   deeper x ks after rest e =
       let behind : on_kinds (kinds_behind code.variables x ks) (λ after. deepest code.variables after rest) ≡ deepest code.variables after rest = ap (λ o. on_kinds o (λ after. deepest code.variables after rest)) e in
       (omega arith, omega (arith, behind))
@@ -280,7 +280,7 @@ module _ (code : CodeLists) where
     whole : procedure_break code.variables entry (slice_range code.instrs entry end) ≡ None
     deep : deepest code.variables [] (slice_range code.instrs entry end) ≤ procedures_depth code.variables code.instrs procedures
 
-  before_next : (p : ProcDef) (ps : List ProcDef) → AllPairs (λ (a b : ProcDef). a.entry < b.entry) (p ∷ ps) → list_all (λ (a : ProcDef). nat_lt a.entry total) (p ∷ ps) ≡ true → (p.entry < next_entry total ps) × (next_entry total ps ≤ total)
+  pub before_next : (p : ProcDef) (ps : List ProcDef) → AllPairs (λ (a b : ProcDef). a.entry < b.entry) (p ∷ ps) → list_all (λ (a : ProcDef). nat_lt a.entry total) (p ∷ ps) ≡ true → (p.entry < next_entry total ps) × (next_entry total ps ≤ total)
   before_next p [] order within =
       let here = and_left (nat_lt p.entry total) _ within in
       let less : p.entry < total = grind (arith, nat_tests) in
@@ -328,13 +328,13 @@ module _ (code : CodeLists) where
   all_within false e = absurd cc
 
   module _ (range : IsInRange code) (valid : IsValid code) where
-    prologue_ok : prologue_break code.variables 0 [] (slice_range code.instrs 0 (next_entry total code.procedures)) ≡ None
+    pub prologue_ok : prologue_break code.variables 0 [] (slice_range code.instrs 0 (next_entry total code.procedures)) ≡ None
     prologue_ok = (first_none (prologue_break code.variables 0 [] (slice_range code.instrs 0 (next_entry total code.procedures))) (first_of (procedures_break code.variables code.instrs code.procedures) (entry_break total code.procedures)) valid).0
 
-    rest_ok : (procedures_break code.variables code.instrs code.procedures ≡ None) × (entry_break total code.procedures ≡ None)
+    pub rest_ok : (procedures_break code.variables code.instrs code.procedures ≡ None) × (entry_break total code.procedures ≡ None)
     rest_ok = first_none (procedures_break code.variables code.instrs code.procedures) (entry_break total code.procedures) (first_none (prologue_break code.variables 0 [] (slice_range code.instrs 0 (next_entry total code.procedures))) (first_of (procedures_break code.variables code.instrs code.procedures) (entry_break total code.procedures)) valid).1
 
-    within : list_all (λ (p : ProcDef). nat_lt p.entry total) code.procedures ≡ true
+    pub within : list_all (λ (p : ProcDef). nat_lt p.entry total) code.procedures ≡ true
     within = all_within (list_all (λ (p : ProcDef). nat_lt p.entry total) code.procedures) rest_ok.1
 
     begin : (p : ℕ) → p < length code.procedures → IsPlace (entry_of (entries_of code.procedures) p)
@@ -563,7 +563,7 @@ module _ (code : CodeLists) where
     no_target to e = absurd (let a = and_right (nat_le 0 to) (is_turn (slice_get [] (to - 0))) e in cc)
 
     -- behind the last instruction of the prologue no operand is left
-    none_kept : (rest : List Instr) (o : Option (List ValueKind)) (after : List ValueKind) → kinds_kept (is_last rest) o ≡ Some after → (o ≡ Some after) × (rest ≡ [] → after ≡ [])
+    pub none_kept : (rest : List Instr) (o : Option (List ValueKind)) (after : List ValueKind) → kinds_kept (is_last rest) o ≡ Some after → (o ≡ Some after) × (rest ≡ [] → after ≡ [])
     none_kept [] (Some []) after e = (cc, λ _. cc)
     none_kept [] (Some (k ∷ ks)) after e = absurd cc
     none_kept [] None after e = absurd cc

@@ -10,3 +10,4 @@ pub mod Kinds
 pub mod Valid
 pub mod Safe
 pub mod Depth
+pub mod Rooms

@@ -1,5 +1,6 @@
 //! Laws of the definitions.
 ghost use Rattle.stapl_code.specs.Safe.{NeverStuck, DepthIsKept, TurnsAreBounded, PlaysAreBounded};
+ghost use Rattle.stapl_code.specs.Rooms.{CodesHoldTheirDepth, StepsLeaveTheirCount};
 
 /// A valid code in range never gets stuck: where the chosen procedures exist, the variables hold what their kinds say,
 /// and the chain is in a stable state when the play begins, no play of it finds an operand missing or of the wrong
@@ -13,6 +14,17 @@ pub fn never_stuck()
 /// the play begins.
 pub fn operands_keep_the_depth()
     ensures { DepthIsKept }
+{}
+
+/// A valid code in range that runs straight on from any place, where no operand is there at first, holds no more
+/// operands at once than its depth, by what the table says that its instructions take and give.
+pub fn codes_hold_their_depth()
+    ensures { CodesHoldTheirDepth }
+{}
+
+/// An instruction that goes on to the one behind it leaves no more operands than the table says.
+pub fn steps_leave_their_count()
+    ensures { StepsLeaveTheirCount }
 {}
 
 /// From one Turn to the next a code takes at most as many instructions as it has.
