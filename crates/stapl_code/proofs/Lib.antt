@@ -17,3 +17,4 @@ pub mod SizeLemmas
 pub mod RoomLemmas
 pub mod ValidRooms
 pub mod StepCounts
+pub mod TakenIntegers

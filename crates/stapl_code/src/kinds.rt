@@ -1,19 +1,20 @@
 //! The kinds of operands.
-ghost use Rattle.std.specs.Prelude.{◌≡◌, ◌∷◌, [], List, Some, None, IfOk, if◌then◌else◌, slice_get};
+ghost use Rattle.std.specs.Prelude.{◌≡◌, ◌∷◌, List, replicate, Some, None, IfOk, if◌then◌else◌, slice_get};
 ghost use Rattle.std.specs.List.{list_all};
-ghost use Rattle.stapl_code.specs.Machine.{Slot, Of, wait_slots, frequency_slots, part_slots, slot_of, sides_of, result_of, source_slots, source_wants, dest_slots, dest_want, export_slots, export_wants, takes, gives, wants};
+ghost use Rattle.stapl_code.specs.Machine.{Of, part_slots, slot_of, sides_of, result_of, source_wants, dest_want, export_slots, export_wants, takes, gives, wants};
 ghost use Rattle.stapl_code.specs.Kinds.{off, variable_kind, element_kind, is_of_kind, is_met, put_on, taken_off, clears, all_off, all_on, kinds_behind};
 
 use crate::instr::{Dest, ExportPart, Instr, PrintPart, Source};
 use crate::operators::{Operator, operator_of, unary_kind};
 use crate::raw::VarDef;
-use crate::scan_kinds::{given_is_met, scan_is_met, take_padding, take_scan};
+use crate::scan_wants::{given_is_met, scan_is_met};
+use crate::takes::{export_takes, operands_taken};
 use base::Stack;
-use stapl_meaning::{ValueKind, WaitKind};
+use stapl_meaning::ValueKind;
 use std::alloc::AllocError;
 
-/// Takes off the topmost kind, and answers whether it was this one.
-pub(crate) fn take(kinds: &mut Stack<ValueKind>, kind: ValueKind) -> bool
+// Takes off the topmost kind, and answers whether it was this one.
+fn take(kinds: &mut Stack<ValueKind>, kind: ValueKind) -> bool
     ensures { off kind kinds.old ≡ (if result then Some kinds.new else None) }
 {
     match (kinds.pop(), kind) {
@@ -176,46 +177,17 @@ fn take_signed(kinds: &mut Stack<ValueKind>, kind: Option<ValueKind>) -> bool
     }
 }
 
-// Takes off the kinds of two indexes, and answers whether they were there.
-pub(crate) fn take_indexes(kinds: &mut Stack<ValueKind>) -> bool
-    ensures { (variables : List VarDef) (slots : List Slot) (ks : List ValueKind) →
-        all_off variables slots ks ≡ Some kinds.old →
-        all_off variables (Of ValueKind.Int ∷ Of ValueKind.Int ∷ slots) ks ≡ (if result then Some kinds.new else None) }
-{
-    take(kinds, ValueKind::Int) && take(kinds, ValueKind::Int)
-}
-
-// Takes off the kinds of the operands of a source, and answers whether they were there.
-pub(crate) fn take_source(kinds: &mut Stack<ValueKind>, source: Source) -> bool
+// Takes off the kinds of so many integers, and answers whether they were there.
+fn take_integers(kinds: &mut Stack<ValueKind>, count: usize) -> bool
     ensures { (variables : List VarDef) →
-        all_off variables (source_slots source) kinds.old ≡ (if result then Some kinds.new else None) }
+        all_off variables (replicate count (Of ValueKind.Int)) kinds.old ≡ (if result then Some kinds.new else None) }
 {
-    match source {
-        Source::Literal(_) | Source::Whole(_) => true,
-        Source::Range(_) => take_indexes(kinds),
-        Source::FromInt => take(kinds, ValueKind::Int),
+    for _ in 0..count {
+        if !take(kinds, ValueKind::Int) {
+            return false;
+        }
     }
-}
-
-// Takes off the kinds of the operands of a destination, behind those of a source, and answers whether they were there.
-pub(crate) fn take_dest(kinds: &mut Stack<ValueKind>, dest: Dest) -> bool
-    ensures { (variables : List VarDef) (slots : List Slot) (ks : List ValueKind) →
-        all_off variables slots ks ≡ Some kinds.old →
-        all_off variables (dest_slots dest slots) ks ≡ (if result then Some kinds.new else None) }
-{
-    match dest {
-        Dest::Whole(_) => true,
-        Dest::Range(_) => take_indexes(kinds),
-    }
-}
-
-// Takes off the kinds of the first value, the limit and the step of a loop, and answers whether they were there.
-fn take_loop(kinds: &mut Stack<ValueKind>) -> bool
-    ensures { (variables : List VarDef) →
-        all_off variables (Of ValueKind.Int ∷ Of ValueKind.Int ∷ Of ValueKind.Int ∷ []) kinds.old
-        ≡ (if result then Some kinds.new else None) }
-{
-    take(kinds, ValueKind::Int) && take(kinds, ValueKind::Int) && take(kinds, ValueKind::Int)
+    true
 }
 
 // Takes off the kinds of what is exported, and answers whether they were there.
@@ -224,70 +196,28 @@ fn take_export(kinds: &mut Stack<ValueKind>, part: ExportPart) -> bool
         all_off variables (export_slots part) kinds.old ≡ (if result then Some kinds.new else None) }
 {
     match part {
-        ExportPart::Int => take(kinds, ValueKind::Int),
         ExportPart::Bit => take(kinds, ValueKind::Bit),
-        ExportPart::Array(source) => take_source(kinds, source),
+        _ => take_integers(kinds, export_takes(part)),
     }
 }
 
-// Takes off the kinds of the counts of a wait, and answers whether they were there.
-fn take_counts(kinds: &mut Stack<ValueKind>, wait: WaitKind) -> bool
-    ensures { (variables : List VarDef) →
-        all_off variables (wait_slots wait) kinds.old ≡ (if result then Some kinds.new else None) }
-{
-    match wait {
-        WaitKind::Cycles | WaitKind::Usec => take(kinds, ValueKind::Int),
-        WaitKind::Both => take_indexes(kinds),
-    }
-}
-
-// Takes off the kind of a frequency, where one is stated, and answers whether it was there.
-fn take_frequency(kinds: &mut Stack<ValueKind>, stated: bool) -> bool
-    ensures { (variables : List VarDef) →
-        all_off variables (frequency_slots stated) kinds.old ≡ (if result then Some kinds.new else None) }
-{
-    !stated || take(kinds, ValueKind::Int)
-}
-
-// Takes off the kinds of the operands of an instruction, and answers whether they were there.
+// Takes off the kinds of the operands of an instruction, and answers whether they were there. Where nothing else is
+// said, they are integers.
 fn take_operands(variables: &[VarDef], instr: &Instr, kinds: &mut Stack<ValueKind>) -> bool
     ensures { all_off variables.now (takes instr.now) kinds.old ≡ (if result then Some kinds.new else None) }
 {
     match instr {
-        Instr::Turn(_)
-        | Instr::Push(_)
-        | Instr::PushBit(_)
-        | Instr::Load(_)
-        | Instr::SetBits(_, _)
-        | Instr::SetInts(_, _)
-        | Instr::Next(_)
-        | Instr::PopRecord(_)
-        | Instr::Call(_)
-        | Instr::Jump(_)
-        | Instr::EndProc
-        | Instr::Stop(_, _)
-        | Instr::State(_) => true,
-        Instr::Scan(scan) => take_scan(kinds, scan),
-        Instr::Pad(_, source) => take_padding(kinds, *source),
-        Instr::For(_, _) => take_loop(kinds),
-        Instr::Wait(_, wait, _) => take_counts(kinds, *wait),
-        Instr::Frequency(stated) => take_frequency(kinds, *stated),
-        Instr::PushRecord(kind) => take(kinds, *kind),
-        Instr::Export(_, part) => take_export(kinds, *part),
-        Instr::CheckRange(_) => take_indexes(kinds),
         Instr::Store(n) => take_some(kinds, kind_at(variables, *n)),
         Instr::StoreAt(n) => {
             take_some(kinds, element_kind_at(variables, *n)) && take(kinds, ValueKind::Int)
         }
-        Instr::ToInt(source) => take_source(kinds, *source),
-        Instr::CopyBits(dest, source) => take_source(kinds, *source) && take_dest(kinds, *dest),
         Instr::Unary(op) => take_signed(kinds, unary_kind(*op)),
         Instr::Binary(op) => take_sides(kinds, operator_of(*op)),
+        Instr::PushRecord(kind) => take(kinds, *kind),
         Instr::JumpIfZero(_) => take(kinds, ValueKind::Bit),
         Instr::Print(parts) => take_parts(kinds, parts.as_slice()),
-        Instr::LoadAt(_) | Instr::CheckIndex(_) | Instr::CheckChar | Instr::Exit => {
-            take(kinds, ValueKind::Int)
-        }
+        Instr::Export(_, part) => take_export(kinds, *part),
+        _ => take_integers(kinds, operands_taken(instr)),
     }
 }
 
