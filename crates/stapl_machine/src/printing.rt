@@ -1,11 +1,11 @@
 //! How the text of a Print is joined.
-ghost use Rattle.std.specs.Prelude.{◌≡◌, ◌≤◌, ◌+◌, ◌∷◌, ◌++◌, [], List, ℕ, pos, length, drop, slice_get, OnOk, IfErr};
+ghost use Rattle.std.specs.Prelude.{◌≡◌, ◌∷◌, ◌++◌, [], List, ℕ, pos, drop, slice_get, OnOk, IfErr};
 ghost use Rattle.std.specs.Fmt.{signed_decimal};
 ghost use Rattle.stapl_meaning.specs.Values.{Got, Known, then_get, integer_of};
 ghost use Rattle.stapl_meaning.specs.Operands.{character_of};
 ghost use Rattle.stapl_meaning.specs.Effects.{digit_of, shown, after_value, after_character, printed};
 ghost use Rattle.stapl_meaning.specs.States.{State};
-ghost use Rattle.stapl_code.specs.Machine.{part_slots, known_text, parts_text, does};
+ghost use Rattle.stapl_code.specs.Machine.{known_text, parts_text, does};
 ghost use Rattle.stapl_code.specs.Safe.{constants_of};
 ghost use Rattle.stapl_machine.specs.declared.memory.Shifted.{Shifted};
 ghost use Rattle.stapl_machine.specs.Found.{IsGot, IsSure};
@@ -17,28 +17,6 @@ use crate::operate::Stop;
 use itoa::Buffer;
 use stapl_code::{CodeLists, PrintPart};
 use stapl_meaning::{Text, Value};
-
-// How many operands a part takes.
-fn operands_taken(part: PrintPart) -> usize
-    ensures number { (rest : List PrintPart) → length (part_slots (part ∷ rest)) ≡ result + length (part_slots rest) }
-    ensures small { result ≤ 1 }
-{
-    match part {
-        PrintPart::Text(_) => 0,
-        PrintPart::Int | PrintPart::Bit | PrintPart::Char => 1,
-    }
-}
-
-/// How many operands the parts of a Print take.
-pub fn count_operands(parts: &[PrintPart]) -> usize
-    ensures { result ≡ length (part_slots parts.now) }
-{
-    let mut n = 0;
-    for part in parts {
-        n += operands_taken(*part);
-    }
-    n
-}
 
 fn put(text: &mut Vec<u8>, bytes: &[u8]) -> Result<(), Stop>
     ensures put { OnOk result (text.new.items ≡ text.old.items ++ bytes.now) }

@@ -10,30 +10,30 @@ use Rattle.stapl_machine.proofs.act.act.Goals as goal
 pub returns-then-len-count-clause-acts : goal.returns-then-len-count-clause-acts
 returns-then-len-count-clause-acts c = λ chosen.
     let here = c.args.here in let len : c.len-len.result ≡ length c.args.work.now.operands.items = search rules in
-    none_there c.args.code.now c.args.instr.now c.args.work.now chosen here c.takes-count.result c.len-len.result c.takes-count.ensures len c.if-len-count.true
+    none_there c.args.code.now c.args.instr.now c.args.work.now chosen here c.operands_taken-count.result c.len-len.result c.operands_taken-count.ensures len c.if-len-count.true
 
 pub returns-in-Ok-clause-acts : goal.returns-in-Ok-clause-acts
 returns-in-Ok-clause-acts c = λ chosen.
     let here = c.args.here in let code = c.args.code.now in let i = c.args.instr.now in let old = c.args.work.now in
-    let xs = old.operands.items in let at = c.len-len.result - c.takes-count.result in
+    let xs = old.operands.items in let at = c.len-len.result - c.operands_taken-count.result in
     let entries = entries_of code.procedures in let s = state_of chosen old in
     let new : Workspace = record { memory = c.make.new.memory; operands = c.truncate.new.self; next = old.next; piece = old.piece } in
     let len : c.len-len.result ≡ length xs = search rules in
     let is : c.behind-values.result.now ≡ drop at xs = c.behind-values.ensures ∙ ap (drop at) c.deref.ensures.value in
     let told = c.in-Ok.ensures entries (drop old.next chosen) in
     acts code i (lands entries here i) chosen s new (reverse (take at xs)) (step_of code here i chosen old) (made entries (constants_of code) here i (drop at xs) s) c.in-Ok.made (ap reverse (sym c.truncate.ensures.items))
-    (all_there code i old chosen here c.takes-count.result c.len-len.result c.takes-count.ensures len c.if-len-count.false)
+    (all_there code i old chosen here c.operands_taken-count.result c.len-len.result c.operands_taken-count.ensures len c.if-len-count.false)
     (subst (λ vs. IsMade (Ok c.in-Ok.made) (told_by code i c.make.new.memory) s (state_of chosen new) (made entries (constants_of code) here i vs s)) is told)
 
 pub returns-in-Err-clause-acts : goal.returns-in-Err-clause-acts
 returns-in-Err-clause-acts c = λ chosen.
     let here = c.args.here in let code = c.args.code.now in let i = c.args.instr.now in let old = c.args.work.now in
-    let xs = old.operands.items in let at = c.len-len.result - c.takes-count.result in
+    let xs = old.operands.items in let at = c.len-len.result - c.operands_taken-count.result in
     let entries = entries_of code.procedures in let s = state_of chosen old in
     let new : Workspace = record { memory = c.make.new.memory; operands = old.operands; next = old.next; piece = old.piece } in
     let len : c.len-len.result ≡ length xs = search rules in
     let is : c.behind-values.result.now ≡ drop at xs = c.behind-values.ensures ∙ ap (drop at) c.deref.ensures.value in
     let told = c.in-Err.ensures entries (drop old.next chosen) in
     acts_not code i (lands entries here i) chosen s new (reverse (take at xs)) (step_of code here i chosen old) (made entries (constants_of code) here i (drop at xs) s) c.in-Err.stop
-    (all_there code i old chosen here c.takes-count.result c.len-len.result c.takes-count.ensures len c.if-len-count.false)
+    (all_there code i old chosen here c.operands_taken-count.result c.len-len.result c.operands_taken-count.ensures len c.if-len-count.false)
     (subst (λ vs. IsMade (Err c.in-Err.stop) (told_by code i c.make.new.memory) s (state_of chosen new) (made entries (constants_of code) here i vs s)) is told)
