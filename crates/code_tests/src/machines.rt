@@ -10,13 +10,14 @@ use base::Steps;
 use scan_paths::BasePads;
 use stapl_code::{Code, Dest, ExportPart, RawCode, Source, validate};
 use stapl_lexer::Register;
-use stapl_machine::{Machine, Trouble};
+use stapl_machine::Machine;
 use stapl_meaning::{Ending, WaitKind};
 use std::marker::Brand;
 use std::sync::ledger::{Blank, Ledger};
 use std::test::Fail;
 use tap_states::Tap;
 use tool_io::{Lines, MemSink};
+use written_cable::Trouble;
 
 // The code of these instructions, with procedures at these two entries.
 fn code(rt: &HostRuntime, entries: &[u32; 2], ops: &[Op]) -> Result<Code, Fail> {

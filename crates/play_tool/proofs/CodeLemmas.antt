@@ -11,7 +11,7 @@ use Rattle.stapl_code.specs.declared.raw.VarDef.{VarDef}
 use Rattle.stapl_code.specs.declared.raw.CodeLists.{CodeLists}
 use Rattle.stapl_code.specs.Ranges.{IsVariable, IsInRange}
 use Rattle.stapl_code.specs.Safe.{Fits, AllFit}
-use Rattle.stapl_machine.specs.Zeros.{zero_of, zeros_of_code}
+use Rattle.stapl_instructions.specs.Zeros.{zero_of, zeros_of_code}
 use Rattle.code_files.specs.declared.fault.CodeReason.{CodeReason}
 use Rattle.code_files.specs.CodeFaults.{IsFileOf, IsCodeFault}
 use Rattle.code_files.proofs.CodeAgain.{one_code}

@@ -1,6 +1,6 @@
 -- On plays of a program through its code.
 use Rattle.std.proofs.Common.{◌≡◌, ◌≢◌, ◌-◌, Bool, true, false, ℕ, zero, suc, List, [], ◌∷◌, ◌++◌, length, take, drop, map, refl, sym, ap, ◌∙◌, subst, arith, ◌<◌, ◌⊎◌, inl, inr, Option, None, Some, codes}
-use Rattle.std.specs.Prelude.{nat_abs, IsSomeAnd, Result, Ok, Err, OnOk, IsErrOf}
+use Rattle.std.specs.Prelude.{nat_abs, IsSomeAnd, Result, Ok, Err, OnOk}
 use Rattle.std.specs.Option.{option_map}
 use Rattle.std.proofs.lemmas.Option.{same_Some}
 use Rattle.tool_io.specs.Bytes.{then_bytes, MovesFront}
@@ -25,7 +25,7 @@ use Rattle.stapl_code.specs.declared.raw.CodeLists.{CodeLists}
 use Rattle.stapl_codegen.specs.Emit.{start_of}
 use Rattle.stapl_codegen.specs.Correct.{placed_outcome, placed_run}
 use Rattle.stapl_codegen.specs.Generated.{kind_number, variable_def, IsCodeOf}
-use Rattle.stapl_machine.specs.Zeros.{zero_of, zeros_of_code}
+use Rattle.stapl_instructions.specs.Zeros.{zero_of, zeros_of_code}
 use Rattle.stapl_machine.specs.Machines.{play_of}
 use Rattle.dev_card.specs.declared.desc.Desc.{Desc}
 use Rattle.dev_card.specs.declared.desc.Kind.{Kind}
@@ -40,9 +40,9 @@ use Rattle.chain_sim.specs.Places.{card_at, joined, cards_at}
 use Rattle.chain_sim.specs.Reports.{report_in}
 use Rattle.chain_sim.specs.Runs.{HasRun}
 use Rattle.chain_sim.proofs.Fitting.{fresh_described}
-use Rattle.stapl_machine.specs.declared.turns.Trouble.{Trouble}
-use Rattle.stapl_machine.specs.declared.turns.Trouble.TheVariants.{CableFault, WriteFault, Memory}
-use Rattle.stapl_machine.specs.Ports.{IfFault, IfMemory}
+use Rattle.written_cable.specs.declared.trouble.Trouble.{Trouble}
+use Rattle.written_cable.specs.declared.trouble.Trouble.TheVariants.{CableFault, WriteFault}
+use Rattle.written_cable.specs.Ports.{IfFault}
 use Rattle.play_tool.specs.declared.status.Status.{Status}
 use Rattle.play_tool.specs.declared.status.Status.TheVariants.{NoAction, BadChoice, BadPlace}
 use Rattle.play_tool.specs.Written.{Wrote, WroteFront, IsPrefixOf}
@@ -335,9 +335,6 @@ left_count {rack = rack} {places = places} l = cards_count rack places l.cards l
 
 -- A cable that tells its board, and never fails.
 
-pub same_error : {T E : Type 0} (a b : E) → IsErrOf {T = T} (Err a) b → a ≡ b
-same_error a b e = cc
-
 -- what stands at its far end
 pub on_board : {board : Option (List Card)} {cards : List Card} → board ≡ Some cards → (heard : List Bool) → far_end board heard ≡ Told cards
 on_board e heard = ap (λ (o : Option (List Card)). far_end o heard) e
@@ -354,14 +351,7 @@ zero_never C before after r = by r.risen
 pub no_cable_fault : (cable lines : Type 0) (trouble : Trouble) → (cable → ⊥) → IfFault trouble cable lines → trouble ≢ CableFault
 no_cable_fault cable lines CableFault never h e = never h
 no_cable_fault cable lines WriteFault never h e = cc
-no_cable_fault cable lines Memory never h e = cc
 
 pub write_cause : (cable lines : Type 0) (trouble : Trouble) → trouble ≡ WriteFault → IfFault trouble cable lines → lines
 write_cause cable lines CableFault e h = absurd cc
 write_cause cable lines WriteFault e h = h
-write_cause cable lines Memory e h = absurd cc
-
-pub memory_first : (P : Type 0) (trouble : Trouble) → trouble ≡ Memory → IfMemory trouble P → P
-memory_first P CableFault e h = absurd cc
-memory_first P WriteFault e h = absurd cc
-memory_first P Memory e h = h

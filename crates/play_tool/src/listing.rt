@@ -13,9 +13,9 @@ use crate::Status;
 use crate::status::NoAnswer;
 use base::ItemList;
 use stapl_lexer::Name;
-use stapl_machine::put_escaped;
 use stapl_syntax::{Body, Item, ItemChoice, Stmt};
 use tool_io::{Failed, Lines, Sink};
+use written_cable::put_escaped;
 
 // Puts a label and a text, which is escaped.
 #[tactic(auto, using(tool_io::proofs::PutLemmas::put_then, tool_io::proofs::PutLemmas::put_then_front, tool_io::proofs::PutLemmas::front_with))]

@@ -9,7 +9,7 @@ ghost use Rattle.dev_card.specs.FarEnds.{far_end};
 ghost use Rattle.stapl_meaning.specs.Plays.{ending_of};
 ghost use Rattle.stapl_meaning.specs.Texts.{events_text};
 ghost use Rattle.stapl_code.specs.Safe.{AllBelow};
-ghost use Rattle.stapl_machine.specs.declared.turns.Trouble.TheVariants as troubles;
+ghost use Rattle.written_cable.specs.declared.trouble.Trouble.TheVariants as troubles;
 ghost use Rattle.stapl_machine.specs.Machines.{IsPrepared};
 ghost use Rattle.play_tool.specs.Answers.{has_place};
 ghost use Rattle.play_tool.specs.Boards.{CanBeFitted};
@@ -20,22 +20,21 @@ use crate::status::NoAnswer;
 use base::Steps;
 use scan_paths::{BasePads, Cable};
 use stapl_code::Code;
-use stapl_machine::{Machine, Trouble};
+use stapl_machine::Machine;
 use stapl_meaning::Ending;
 use stapl_player::{base_pads, play};
 use std::sync::ledger::{Blank, Ledger};
 use tool_io::{Lines, Sink};
+use written_cable::Trouble;
 
-// Why there is no answer after a trouble that is none of the cable.
+// Why there is no answer after a trouble that is none of the cable: a write failed.
 fn no_answer(trouble: Trouble) -> NoAnswer
     requires { trouble ≢ troubles.CableFault }
-    ensures read { result ≡ NoAnswer.Read → ⊥ }
-    ensures write { result ≡ NoAnswer.Write → trouble ≡ troubles.WriteFault }
-    ensures memory { result ≡ NoAnswer.Memory → trouble ≡ troubles.Memory }
+    ensures write { result ≡ NoAnswer.Write }
+    ensures cause { trouble ≡ troubles.WriteFault }
 {
     match trouble {
         Trouble::WriteFault => NoAnswer::Write,
-        Trouble::Memory => NoAnswer::Memory,
         Trouble::CableFault => unreachable!(),
     }
 }
@@ -90,7 +89,7 @@ pub fn play_told<C: Cable, K: Sink, L: Ledger>(
     ensures read { IsErrOf result NoAnswer.Read → ⊥ }
     ensures write { IsErrOf result NoAnswer.Write →
         HasRisen K.faults K.is_last (sink_of lines.old) (sink_of lines.new) }
-    ensures memory { IsErrOf result NoAnswer.Memory → IsWhole lines.new }
+    ensures memory { IsErrOf result NoAnswer.Memory → ⊥ }
     ensures kept { SinkNeverFalls K.faults K.is_last lines.old lines.new }
 {
     let base = base_of(task);

@@ -18,23 +18,23 @@ use Rattle.stapl_meaning.specs.States.{State}
 use Rattle.stapl_meaning.specs.Plays.{Run, ending_of}
 use Rattle.stapl_meaning.specs.Texts.{bytes_of, waiting, pin_line, events_text}
 use Rattle.stapl_code.specs.declared.raw.CodeLists.{CodeLists}
-use Rattle.stapl_machine.specs.declared.act.Workspace.{Workspace}
-use Rattle.stapl_machine.specs.declared.pin_cable.PinCable.{PinCable}
+use Rattle.stapl_instructions.specs.declared.act.Workspace.{Workspace}
+use Rattle.written_cable.specs.declared.pin_cable.PinCable.{PinCable}
 use Rattle.stapl_machine.specs.declared.running.Machine.{Machine}
-use Rattle.stapl_machine.specs.declared.turns.Trouble.{Trouble}
-use Rattle.stapl_machine.specs.declared.turns.Trouble.TheVariants as troubles
-use Rattle.stapl_machine.specs.Acts.{state_of}
+use Rattle.written_cable.specs.declared.trouble.Trouble.{Trouble}
+use Rattle.written_cable.specs.declared.trouble.Trouble.TheVariants as troubles
+use Rattle.stapl_instructions.specs.Acts.{state_of}
 use Rattle.stapl_machine.specs.Machines.{play_of, play_ticks_of, chain_at, IsPlayed, IsPlayedFront}
-use Rattle.stapl_machine.specs.Papers.{Shown, Puts, PutsFront}
-use Rattle.stapl_machine.specs.PaperLaws.{put_then, put_then_front, front_with}
-use Rattle.stapl_machine.specs.Pins.{cable_of, lines_of, tap_of, base_of, digits_of, writes_pins, is_torn, broken_as, port_breakage}
-use Rattle.stapl_machine.specs.PinLaws.{events_front_with}
-use Rattle.stapl_machine.specs.Ports.{BrokeSo, IsKept, IfFault, IfMemory, LeavesSo, chain_before, RunsTo, RunsFront, PlaysTo, PlaysFront}
-use Rattle.stapl_machine.specs.Signals.{signals_of}
-use Rattle.stapl_machine.specs.Resets.{kept_digits}
+use Rattle.written_cable.specs.Papers.{Shown, Puts, PutsFront}
+use Rattle.written_cable.specs.PaperLaws.{put_then, put_then_front, front_with}
+use Rattle.written_cable.specs.Pins.{cable_of, lines_of, tap_of, base_of, digits_of, writes_pins, is_torn, broken_as, port_breakage}
+use Rattle.written_cable.specs.PinLaws.{events_front_with}
+use Rattle.written_cable.specs.Ports.{BrokeSo, IsKept, IfFault, LeavesSo, chain_before, RunsTo, RunsFront, PlaysTo, PlaysFront}
+use Rattle.written_cable.specs.Signals.{signals_of}
+use Rattle.written_cable.specs.Resets.{kept_digits}
 use Rattle.stapl_machine.specs.Runs.{play_from, play_ticks_from}
-use Rattle.stapl_machine.specs.Zeros.{zeros_of_code}
-use Rattle.stapl_machine.proofs.DeedLemmas.{same_chain}
+use Rattle.stapl_instructions.specs.Zeros.{zeros_of_code}
+use Rattle.written_cable.proofs.DeedLemmas.{same_chain}
 
 module _ {C O : Type 0} (breakage : PinCable C O → Breakage) (board : C → Option (List Card))
     (makes : C → List Signal → C → Type 0) (shown : O → Shown) (all : Chain → Run) (count : Chain → ℕ) where
@@ -109,12 +109,6 @@ module _ {C O : Type 0} (breakage : C → Breakage) (failed : O → Bool) (a : P
   pub whole_line : port_breakage breakage failed a ≡ whole → breakage (cable_of a) ≡ whole
   whole_line e = (whole_of_parts (is_torn a) (breakage (cable_of a)) (failed (lines_of a)) e).1
 
-  -- want of memory leaves the lines whole
-  pub memory_whole : (trouble : Trouble) → BrokeSo trouble (port_breakage breakage failed a) → IfMemory trouble (failed (lines_of a) ≡ false)
-  memory_whole troubles.CableFault e = tt
-  memory_whole troubles.WriteFault e = tt
-  memory_whole troubles.Memory e = whole_lines e
-
 -- the cause of a failure
 pub fault_causes : {C O : Type 0} {breakage : PinCable C O → Breakage} {line_faults : C → ℕ} {is_line_last : C → Type 0} {pin_faults : C → ℕ} {is_pin_last : C → Type 0}
     {shown : O → Shown} {faults : O → ℕ} {is_last : O → Type 0} (a b : PinCable C O) (trouble : Trouble) → IsKept breakage line_faults is_line_last pin_faults is_pin_last shown faults is_last a b →
@@ -122,7 +116,6 @@ pub fault_causes : {C O : Type 0} {breakage : PinCable C O → Breakage} {line_f
     IfFault trouble (HasRisen (cable_faults line_faults pin_faults) (IsCableLast is_line_last is_pin_last) (cable_of a) (cable_of b)) (HasRisen faults is_last (lines_of a) (lines_of b))
 fault_causes a b troubles.CableFault kept e = kept.line_cause.broke e
 fault_causes a b troubles.WriteFault kept e = kept.pins_cause.broke e
-fault_causes a b troubles.Memory kept e = tt
 
 -- a play of the lists of a code, whose variables hold zeros
 pub over_code : {C O : Type 0} (breakage : PinCable C O → Breakage) (board : C → Option (List Card))

@@ -17,18 +17,18 @@ use Rattle.stapl_code.specs.Machine.{entry_of, begins_chosen, stretch}
 use Rattle.stapl_code.specs.Safe.{entries_of, constants_of}
 use Rattle.stapl_code.specs.Ticks.{ticks, counted_then}
 use Rattle.stapl_code.proofs.Preceded.{begins_with, with_nothing}
-use Rattle.stapl_machine.specs.declared.act.Workspace.{Workspace}
-use Rattle.stapl_machine.specs.declared.moves.Went.{Went}
-use Rattle.stapl_machine.specs.declared.moves.Went.TheVariants as went
-use Rattle.stapl_machine.specs.declared.pin_cable.PinCable.{PinCable}
-use Rattle.stapl_machine.specs.Acts.{IsUnused, state_with, state_of, operands_of}
-use Rattle.stapl_machine.specs.Moves.{led_to, led_on}
-use Rattle.stapl_machine.specs.Papers.{Shown}
-use Rattle.stapl_machine.specs.Pins.{cable_of, port_chain}
-use Rattle.stapl_machine.specs.Ports.{chain_before, Does, DoesFront, Runs, LeavesSo, RunsTo, RunsFront}
+use Rattle.stapl_instructions.specs.declared.act.Workspace.{Workspace}
+use Rattle.stapl_instructions.specs.declared.control.Went.{Went}
+use Rattle.stapl_instructions.specs.declared.control.Went.TheVariants as went
+use Rattle.written_cable.specs.declared.pin_cable.PinCable.{PinCable}
+use Rattle.stapl_instructions.specs.Acts.{IsUnused, state_with, state_of, operands_of}
+use Rattle.stapl_instructions.specs.Moves.{led_to, led_on}
+use Rattle.written_cable.specs.Papers.{Shown}
+use Rattle.written_cable.specs.Pins.{cable_of, port_chain}
+use Rattle.written_cable.specs.Ports.{chain_before, Does, DoesFront, Runs, LeavesSo, RunsTo, RunsFront}
 use Rattle.stapl_machine.specs.Turns.{rest_of, ticks_from, no_ticks}
 use Rattle.stapl_machine.specs.Runs.{run_of, run_ticks_of, chosen_run, chosen_ticks, begun_run, begun_ticks, play_from, play_ticks_from}
-use Rattle.stapl_machine.proofs.DeedLemmas.{passes_none, passes_both, passes_both_front, before_both}
+use Rattle.written_cable.proofs.DeedLemmas.{passes_none, passes_both, passes_both_front, before_both}
 
 -- events in front of a turn are events in front of its run, and do not count
 pub goes_after : (seen : List Event) (h : Happened) (s : State) (k : Chain) (go : ℕ → State → Chain → Run) → goes_on (with_events seen h) s k go ≡ after seen (goes_on h s k go)

@@ -5,7 +5,7 @@ use Rattle.tap_states.specs.Tap.{is_stable_state}
 use Rattle.dev_card.specs.Scans.{BoardScan}
 use Rattle.std.proofs.lemmas.List.{append-nil, drop_more}
 use Rattle.dev_card.specs.Card.{Card}
-use Rattle.dev_card.specs.Board.{Clock, tdos}
+use Rattle.dev_card.specs.Board.{tdos}
 use Rattle.scan_paths.specs.Cables.{Signal, Breakage, whole}
 use Rattle.stapl_meaning.specs.declared.events.Event.{Event}
 use Rattle.stapl_meaning.specs.declared.values.Value.{Value}
@@ -18,16 +18,16 @@ use Rattle.stapl_code.specs.Machine.{Constants, step, stretch, begins, continues
 use Rattle.stapl_code.specs.Ticks.{ticks, begin_ticks, tick_of, counted_scan, counted_behind}
 use Rattle.stapl_code.specs.Safe.{entries_of, constants_of}
 use Rattle.stapl_code.proofs.Preceded.{with_nothing, with_both}
-use Rattle.stapl_machine.specs.declared.act.Workspace.{Workspace}
-use Rattle.stapl_machine.specs.declared.moves.Moved.{Moved}
-use Rattle.stapl_machine.specs.declared.pin_cable.PinCable.{PinCable}
-use Rattle.stapl_machine.specs.Acts.{state_of, operands_of, step_of}
-use Rattle.stapl_machine.specs.Moves.{moved_to, moved_ticks}
-use Rattle.stapl_machine.specs.Papers.{Shown}
-use Rattle.stapl_machine.specs.Pins.{cable_of, tap_of, port_chain}
-use Rattle.stapl_machine.specs.Ports.{chain_before, Did, DidFront, Captured, Does, DoesFront}
+use Rattle.stapl_instructions.specs.declared.act.Workspace.{Workspace}
+use Rattle.stapl_instructions.specs.declared.control.Moved.{Moved}
+use Rattle.written_cable.specs.declared.pin_cable.PinCable.{PinCable}
+use Rattle.stapl_instructions.specs.Acts.{state_of, operands_of, step_of}
+use Rattle.stapl_instructions.specs.Moves.{moved_to, moved_ticks}
+use Rattle.written_cable.specs.Papers.{Shown}
+use Rattle.written_cable.specs.Pins.{cable_of, tap_of, port_chain}
+use Rattle.written_cable.specs.Ports.{chain_before, Did, DidFront, Captured, Does, DoesFront}
 use Rattle.stapl_machine.specs.Turns.{rest_of, ticks_from, piece_of, turn_at, ticks_at}
-use Rattle.stapl_machine.proofs.DeedLemmas.{passes_none, front_none, passes_both, passes_both_front, before_both}
+use Rattle.written_cable.proofs.DeedLemmas.{passes_none, front_none, passes_both, passes_both_front, before_both}
 
 module _ {C O : Type 0} (breakage : PinCable C O → Breakage) (board : C → Option (List Card))
     (makes : C → List Signal → C → Type 0) (shown : O → Shown) where

@@ -15,11 +15,12 @@ use Rattle.stapl_meaning.specs.Plays.{Run, ending_of}
 use Rattle.stapl_meaning.specs.Texts.{events_text}
 use Rattle.stapl_code.specs.declared.raw.CodeLists.{CodeLists}
 use Rattle.stapl_machine.specs.declared.running.Machine.{Machine}
-use Rattle.stapl_machine.specs.Acts.{IsUnused}
-use Rattle.stapl_machine.specs.Papers.{Shown, Puts, PutsFront}
-use Rattle.stapl_machine.specs.Signals.{signals_of}
-use Rattle.stapl_machine.specs.Resets.{kept_digits}
-use Rattle.stapl_machine.specs.Zeros.{zeros_of_code}
+use Rattle.stapl_instructions.specs.Acts.{IsUnused}
+use Rattle.written_cable.specs.Papers.{Shown, Puts, PutsFront}
+use Rattle.written_cable.specs.Signals.{signals_of}
+use Rattle.written_cable.specs.Resets.{kept_digits}
+use Rattle.stapl_instructions.specs.RunRooms.{HasRoom}
+use Rattle.stapl_instructions.specs.Zeros.{zeros_of_code}
 use Rattle.stapl_machine.specs.Runs.{play_from, play_ticks_from}
 
 -- the play of a code, for at most n turns of the chosen procedures, and how many instructions it takes
@@ -46,6 +47,7 @@ pub record IsReady (code : CodeLists) (machine : Machine) : Type 0 where
   pub variables_are : variables_in machine ≡ zeros_of_code code
   pub none : machine.work.operands.items ≡ []
   pub unused : IsUnused machine.work.memory
+  pub room : HasRoom code machine.work
 
 -- the same, and it has made no clock yet
 pub record IsPrepared (code : CodeLists) (machine : Machine) : Type 0 where

@@ -1,14 +1,15 @@
 -- What follows instructions that were tried without the general machine.
-use Rattle.std.specs.Prelude.{◌≡◌, ◌<◌, ◌≤◌, ℕ, ◌+◌, List, []}
+use Rattle.std.specs.Prelude.{◌≡◌, ◌<◌, ◌≤◌, ℕ, ◌+◌, List, [], length}
 use Rattle.stapl_meaning.specs.Deeds.{Chain}
 use Rattle.stapl_meaning.specs.States.{Happened, Led, Lacks}
 use Rattle.stapl_code.specs.declared.raw.CodeLists.{CodeLists}
-use Rattle.stapl_machine.specs.declared.act.Workspace.{Workspace}
-use Rattle.stapl_machine.specs.declared.tries.Tried.{Tried}
-use Rattle.stapl_machine.specs.declared.tries.Tried.TheVariants as tried
+use Rattle.stapl_instructions.specs.declared.act.Workspace.{Workspace}
+use Rattle.stapl_instructions.specs.declared.fast_path.Tried.{Tried}
+use Rattle.stapl_instructions.specs.declared.fast_path.Tried.TheVariants as tried
 use Rattle.stapl_machine.specs.declared.turns.Reached.{Reached}
 use Rattle.stapl_machine.specs.declared.turns.Reached.TheVariants as reached
-use Rattle.stapl_machine.specs.Acts.{state_of}
+use Rattle.stapl_instructions.specs.Acts.{state_of}
+use Rattle.stapl_instructions.specs.RunRooms.{HoldsFrom}
 use Rattle.stapl_machine.specs.Turns.{rest_of, ticks_from, no_ticks}
 
 -- the rest of the turn behind instruction i, which was tried, and how many instructions it takes
@@ -22,9 +23,11 @@ ticks_behind_try code i chosen tried.On work = ticks_from code (i + 1) chosen wo
 ticks_behind_try code i chosen (tried.To place) work = no_ticks
 ticks_behind_try code i chosen tried.Not work = ticks_from code i chosen work
 
-abbrev pub IsCleanTry : Tried → Workspace → Type 0
-IsCleanTry (tried.To place) work = work.operands.items ≡ []
-IsCleanTry _ work = Unit {0}
+-- what follows holds no more operands than there is room for, and before a turn no operand is left
+abbrev pub IsCleanTry : CodeLists → ℕ → Tried → Workspace → Type 0
+IsCleanTry code i tried.On work = HoldsFrom code (i + 1) work
+IsCleanTry code i (tried.To place) work = work.operands.items ≡ []
+IsCleanTry code i tried.Not work = HoldsFrom code i work
 
 -- the same behind some instructions
 abbrev pub behind_reached : CodeLists → List ℕ → Reached → Workspace → Chain → Happened
@@ -37,8 +40,9 @@ ticks_behind_reached code chosen (reached.Within i) work = ticks_from code i cho
 ticks_behind_reached code chosen (reached.Turn place) work = no_ticks
 ticks_behind_reached code chosen reached.End work = no_ticks
 
--- an instruction that is reached is one of so many, and none before the first one; before a turn no operand is left
-abbrev pub IsReached : Reached → ℕ → ℕ → Workspace → Type 0
-IsReached (reached.Within i) first n work = (first ≤ i) × (i < n)
-IsReached (reached.Turn place) first n work = work.operands.items ≡ []
-IsReached reached.End first n work = Unit {0}
+-- An instruction that is reached is one of the code and none before the first one, and what follows holds no more
+-- operands than there is room for; before a turn no operand is left.
+abbrev pub IsReached : CodeLists → ℕ → Reached → Workspace → Type 0
+IsReached code first (reached.Within i) work = ((first ≤ i) × (i < length code.instrs)) × HoldsFrom code i work
+IsReached code first (reached.Turn place) work = work.operands.items ≡ []
+IsReached code first reached.End work = Unit {0}

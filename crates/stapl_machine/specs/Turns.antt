@@ -8,10 +8,11 @@ use Rattle.stapl_code.specs.declared.raw.CodeLists.{CodeLists}
 use Rattle.stapl_code.specs.Machine.{stretch, code_turn}
 use Rattle.stapl_code.specs.Ticks.{ticks, turn_ticks}
 use Rattle.stapl_code.specs.Safe.{entries_of, constants_of}
-use Rattle.stapl_machine.specs.declared.act.Workspace.{Workspace}
-use Rattle.stapl_machine.specs.declared.moves.Went.{Went}
-use Rattle.stapl_machine.specs.Acts.{state_of, operands_of}
-use Rattle.stapl_machine.specs.Moves.{led_on, IsClean}
+use Rattle.stapl_instructions.specs.declared.act.Workspace.{Workspace}
+use Rattle.stapl_instructions.specs.declared.control.Went.{Went}
+use Rattle.stapl_instructions.specs.Acts.{state_of, operands_of}
+use Rattle.stapl_instructions.specs.Moves.{led_on, IsClean}
+use Rattle.stapl_instructions.specs.RunRooms.{HoldsFrom}
 
 -- the rest of a turn from an instruction on, and how many instructions it takes
 abbrev pub rest_of : CodeLists → ℕ → List ℕ → Workspace → Chain → Happened
@@ -36,9 +37,9 @@ abbrev pub ticks_behind_it : CodeLists → ℕ → List ℕ → Workspace → Op
 ticks_behind_it code i chosen work None = ticks_from code (i + 1) chosen work
 ticks_behind_it code i chosen work (Some went) = no_ticks
 
-abbrev pub IsCleanBehind : Option Went → Workspace → Type 0
-IsCleanBehind None work = Unit {0}
-IsCleanBehind (Some went) work = IsClean went work.operands.items
+abbrev pub IsCleanBehind : CodeLists → ℕ → Option Went → Workspace → Type 0
+IsCleanBehind code i None work = HoldsFrom code (i + 1) work
+IsCleanBehind code i (Some went) work = IsClean went work.operands.items
 
 -- the piece of a Turn
 abbrev pub piece_of : Option Instr → Option ℕ

@@ -9,27 +9,22 @@ ghost use Rattle.scan_paths.specs.Cables.{whole, line, pins, WhereTold, HasPartC
 ghost use Rattle.scan_paths.specs.Scans.{lengths_of};
 ghost use Rattle.stapl_meaning.specs.Plays.{reset_inputs};
 ghost use Rattle.stapl_code.specs.Safe.{AllBelow};
-ghost use Rattle.stapl_machine.specs.Papers.{IsOverSame, shown_of};
-ghost use Rattle.stapl_machine.specs.Resets.{IsReset, kept_digits};
-ghost use Rattle.stapl_machine.specs.Ports.{IfFault, IfMemory};
+ghost use Rattle.written_cable.specs.Papers.{IsOverSame, shown_of};
+ghost use Rattle.written_cable.specs.Resets.{IsReset, kept_digits};
+ghost use Rattle.written_cable.specs.Ports.{IfFault};
 ghost use Rattle.stapl_machine.specs.Machines.{play_of, play_ticks_of, IsPrepared, IsReady, digits_in, IsPlayed, IsPlayedFront};
 
-use crate::act::Workspace;
-use crate::digits::Digits;
-use crate::memory::Memory;
-use crate::paper::Paper;
-use crate::pin_cable::PinCable;
-use crate::reset::five_ones;
 use crate::runs::play_out;
-use crate::turns::Trouble;
 use base::Steps;
 use scan_paths::{BasePads, Cable};
 use stapl_code::Code;
-use stapl_code::laws::{never_stuck, plays_are_bounded};
+use stapl_code::laws::{codes_hold_their_depth, never_stuck, plays_are_bounded};
+use stapl_instructions::{Memory, Workspace, print_room};
 use stapl_meaning::Ending;
 use std::alloc::{AllocError, Global};
 use std::sync::ledger::Ledger;
 use tool_io::{Failed, Lines, Sink};
+use written_cable::{Digits, Paper, PinCable, Trouble, five_ones};
 
 /// The stack machine, for one run of a code.
 #[derive(Drop)]
@@ -40,23 +35,34 @@ pub struct Machine {
 
 impl Machine {
     /// A machine for one run of this code: its variables are 0, it holds neither operand nor record, and scans have no
-    /// padding and end in Run-Test/Idle. It takes the memory of the variables, of as many operands as the code holds at
-    /// once, and of the most records there may be.
+    /// padding and end in Run-Test/Idle. It takes all memory that the run needs: of the variables, of as many operands as
+    /// the code holds at once, of the most records there may be, of the longest text that the code prints, and of the
+    /// longest scan and the longest paddings.
     ///
     /// `AllocError` comes only for want of memory.
     pub fn prepare(alloc: Global, code: &Code) -> Result<Machine, AllocError>
         ensures { IfOk result (IsPrepared code.now) }
     {
+        codes_hold_their_depth();
         let lists = code.raw().lists();
+        let Some(most) = print_room(lists) else {
+            return Err(AllocError);
+        };
         let operands = Vec::with_capacity(alloc, code.depth() as usize)?;
+        let Ok(text) = Vec::with_capacity(alloc, most) else {
+            drop(operands);
+            return Err(AllocError);
+        };
         let Ok(memory) = Memory::first(alloc, lists.variables.as_slice()) else {
             drop(operands);
+            drop(text);
             return Err(AllocError);
         };
         Ok(Machine {
             work: Workspace {
                 memory,
                 operands,
+                text,
                 next: 0,
                 piece: 0,
             },
@@ -130,7 +136,6 @@ impl Machine {
         ensures fault { IfErr result (λ trouble. IfFault trouble
             (HasRisen (cable_faults C.line_faults C.pin_faults) (IsCableLast C.is_line_last C.is_pin_last)
             cable.old cable.new) (HasRisen O.faults O.is_last out.old out.new)) }
-        ensures memory { IfErr result (λ trouble. IfMemory trouble (O.failed out.new ≡ false)) }
     {
         never_stuck();
         plays_are_bounded();
@@ -148,8 +153,8 @@ impl Machine {
     /// the program shifts. It puts the lines of the events, with those of the clocks if `pins` is true, and answers how
     /// the run ended: with `Spent` if it still goes on after these turns. Each instruction is one step.
     ///
-    /// `CableFault` comes only if the count of faults of the cable rose, or stands at its last value, `WriteFault` only
-    /// if that of the sink did, and `Memory` only for want of memory, before any call on the lines has failed.
+    /// It takes no memory. `CableFault` comes only if the count of faults of the cable rose, or stands at its last value,
+    /// and `WriteFault` only if that of the sink did.
     pub fn run<C: Cable, K: Sink, L: Ledger>(
         &mut self,
         code: &Code,
@@ -184,7 +189,6 @@ impl Machine {
         ensures fault { IfErr result (λ trouble. IfFault trouble
             (HasRisen (cable_faults C.line_faults C.pin_faults) (IsCableLast C.is_line_last C.is_pin_last)
             cable.old cable.new) (HasRisen K.faults K.is_last (sink_of out.old) (sink_of out.new))) }
-        ensures memory { IfErr result (λ trouble. IfMemory trouble (IsWhole out.new)) }
     {
         match self.run_on(code, chosen, base, cable, out, pins, turns, steps) {
             Ok(ending) => Ok(ending),

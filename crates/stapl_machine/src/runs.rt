@@ -2,23 +2,22 @@
 ghost use Rattle.std.specs.Prelude.{◌≡◌, ◌<◌, ◌^◌, [], false, length, OnOk, OnErr, IfOk, IfErr};
 ghost use Rattle.tool_io.specs.Causes.{HasRisen, NeverFalls};
 ghost use Rattle.scan_paths.specs.Cables.{whole, cable_faults, IsCableLast};
-ghost use Rattle.stapl_machine.specs.Acts.{IsUnused, state_of};
-ghost use Rattle.stapl_machine.specs.Moves.{led_on, IsClean};
-ghost use Rattle.stapl_machine.specs.Papers.{IsOverSame};
-ghost use Rattle.stapl_machine.specs.Pins.{cable_of, lines_of, port_breakage, IsSameCable, IsSameOut};
-ghost use Rattle.stapl_machine.specs.Ports.{IsInStep, IsRun, Keeps, PlaysTo, PlaysFront, IfFault, IfMemory};
+ghost use Rattle.stapl_instructions.specs.Acts.{IsUnused, state_of};
+ghost use Rattle.stapl_instructions.specs.Moves.{led_on, IsClean};
+ghost use Rattle.written_cable.specs.Papers.{IsOverSame};
+ghost use Rattle.written_cable.specs.Pins.{cable_of, lines_of, port_breakage, IsSameCable, IsSameOut};
+ghost use Rattle.written_cable.specs.Ports.{IsInStep, IsRun, Keeps, PlaysTo, PlaysFront, IfFault};
+ghost use Rattle.stapl_instructions.specs.RunRooms.{HasRoom};
 ghost use Rattle.stapl_machine.specs.Runs.{run_of, run_ticks_of, chosen_run, chosen_ticks, begun_run, begun_ticks, play_from, play_ticks_from};
 
-use crate::act::Workspace;
-use crate::moves::{Went, begin_next};
-use crate::paper::Paper;
-use crate::pin_cable::PinCable;
-use crate::turns::{Trouble, rest_of_turn, trouble_of, turn};
+use crate::turns::{rest_of_turn, turn};
 use base::Steps;
 use scan_paths::Cable;
 use stapl_code::CodeLists;
+use stapl_instructions::{Went, Workspace, begin_next};
 use stapl_meaning::Ending;
 use std::sync::ledger::Ledger;
+use written_cable::{Paper, PinCable, Trouble, trouble_of};
 
 // At most so many turns from a place on, and how the run stands then. There is no ending where it met what no valid
 // code meets.
@@ -36,6 +35,7 @@ fn run_turns<C: Cable, O: Paper, L: Ledger>(
     requires none { work.old.operands.items ≡ [] }
     requires whole { port_breakage C.breakage O.failed port.old ≡ whole }
     requires in_step { IsInStep C.board port.old }
+    requires room { HasRoom code.now work.old }
     ensures runs { IsRun (port_breakage C.breakage O.failed) C.board C.made O.shown
         (run_of code.now turns start (state_of chosen.now work.old))
         (run_ticks_of code.now turns start (state_of chosen.now work.old))
@@ -67,6 +67,7 @@ fn run_chosen<C: Cable, O: Paper, L: Ledger>(
     requires none { work.old.operands.items ≡ [] }
     requires whole { port_breakage C.breakage O.failed port.old ≡ whole }
     requires in_step { IsInStep C.board port.old }
+    requires room { HasRoom code.now work.old }
     ensures runs { IsRun (port_breakage C.breakage O.failed) C.board C.made O.shown
         (chosen_run code.now turns (state_of chosen.now work.old))
         (chosen_ticks code.now turns (state_of chosen.now work.old))
@@ -97,6 +98,7 @@ fn run_behind<C: Cable, O: Paper, L: Ledger>(
     requires none { IsClean went work.old.operands.items }
     requires whole { port_breakage C.breakage O.failed port.old ≡ whole }
     requires in_step { IsInStep C.board port.old }
+    requires room { HasRoom code.now work.old }
     ensures runs { IsRun (port_breakage C.breakage O.failed) C.board C.made O.shown
         (begun_run code.now turns (led_on went (state_of chosen.now work.old)) (state_of chosen.now work.old))
         (begun_ticks code.now turns (led_on went (state_of chosen.now work.old)))
@@ -128,6 +130,7 @@ fn play<C: Cable, O: Paper, L: Ledger>(
     requires unused { IsUnused work.old.memory }
     requires whole { port_breakage C.breakage O.failed port.old ≡ whole }
     requires in_step { IsInStep C.board port.old }
+    requires room { HasRoom code.now work.old }
     ensures runs { IsRun (port_breakage C.breakage O.failed) C.board C.made O.shown
         (play_from code.now chosen.now work.old.memory.variables.items turns)
         (play_ticks_from code.now chosen.now work.old.memory.variables.items turns)
@@ -146,7 +149,7 @@ fn play<C: Cable, O: Paper, L: Ledger>(
 }
 
 /// The same, and then the line of the digits that wait.
-#[tactic(auto, using(crate::proofs::PlayLemmas::whole_lines, crate::proofs::PlayLemmas::whole_line, crate::proofs::PlayLemmas::fault_causes, crate::proofs::PlayLemmas::memory_whole))]
+#[tactic(auto, using(crate::proofs::PlayLemmas::whole_lines, crate::proofs::PlayLemmas::whole_line, crate::proofs::PlayLemmas::fault_causes))]
 pub fn play_out<C: Cable, O: Paper, L: Ledger>(
     code: &CodeLists,
     chosen: &[u32],
@@ -160,6 +163,7 @@ pub fn play_out<C: Cable, O: Paper, L: Ledger>(
     requires unused { IsUnused work.old.memory }
     requires whole { port_breakage C.breakage O.failed port.old ≡ whole }
     requires in_step { IsInStep C.board port.old }
+    requires room { HasRoom code.now work.old }
     ensures plays { IfOk result (λ ending. PlaysTo (port_breakage C.breakage O.failed) C.board C.made O.shown
         (play_from code.now chosen.now work.old.memory.variables.items turns)
         (play_ticks_from code.now chosen.now work.old.memory.variables.items turns)
@@ -180,7 +184,6 @@ pub fn play_out<C: Cable, O: Paper, L: Ledger>(
         (HasRisen (cable_faults C.line_faults C.pin_faults) (IsCableLast C.is_line_last C.is_pin_last)
         (cable_of port.old) (cable_of port.new))
         (HasRisen O.faults O.is_last (lines_of port.old) (lines_of port.new))) }
-    ensures memory { IfErr result (λ trouble. IfMemory trouble (O.failed (lines_of port.new) ≡ false)) }
 {
     match play(code, chosen, work, port, turns, steps) {
         Ok(ending) => match port.finish() {

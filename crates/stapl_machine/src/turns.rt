@@ -5,42 +5,27 @@ ghost use Rattle.scan_paths.specs.Cables.{whole};
 ghost use Rattle.stapl_meaning.specs.Deeds.{Chain, Deed, Goes, Scans};
 ghost use Rattle.stapl_meaning.specs.Scans.{settings_of, scan_of};
 ghost use Rattle.stapl_code.specs.Ticks.{tick_of};
-ghost use Rattle.stapl_machine.specs.Acts.{state_in, state_of, states_of, told_by, stays_for, pauses_for, waited_deeds, deeds_told, RestsIn};
-ghost use Rattle.stapl_machine.specs.Jobs.{CanBeDone, job_scan, job_lands, with_captured};
-ghost use Rattle.stapl_machine.specs.Moves.{led_on, IsClean};
-ghost use Rattle.stapl_machine.specs.Pins.{tap_of, port_breakage};
-ghost use Rattle.stapl_machine.specs.Ports.{IsInStep, BrokeSo, IsKept, Did, DidFront, DidScan, Captured, IsDone, Keeps};
+ghost use Rattle.stapl_instructions.specs.Acts.{state_in, state_of, states_of, told_by, stays_for, pauses_for, waited_deeds, deeds_told, RestsIn};
+ghost use Rattle.stapl_instructions.specs.Jobs.{CanBeDone, job_scan, job_lands, with_captured};
+ghost use Rattle.stapl_instructions.specs.Moves.{led_on, IsClean};
+ghost use Rattle.written_cable.specs.Pins.{tap_of, port_breakage};
+ghost use Rattle.stapl_instructions.specs.RunRooms.{HasRoom, HoldsFrom, KeepsRoom};
+ghost use Rattle.written_cable.specs.Ports.{IsInStep, IsKept, Did, DidFront, DidScan, Captured, IsDone, Keeps};
 ghost use Rattle.stapl_machine.specs.Reaches.{behind_try, ticks_behind_try, IsCleanTry, behind_reached, ticks_behind_reached, IsReached};
 ghost use Rattle.stapl_machine.specs.Turns.{rest_of, ticks_from, no_ticks, behind_it, ticks_behind_it, IsCleanBehind, piece_of, turn_at, ticks_at};
 
-use crate::act::Workspace;
-use crate::effects::{Doing, ScanJob, Wait};
-use crate::memory::{Memory, Shifted};
-use crate::moves::{Moved, Went, advance};
-use crate::paper::Paper;
-use crate::pin_cable::PinCable;
-use crate::scanning::land;
-use crate::settings::Settings;
-use crate::tries::{Tried, try_step};
 use base::Steps;
 use scan_paths::Cable;
 use stapl_code::{CodeLists, Instr};
+use stapl_instructions::{
+    Doing, Memory, Moved, ScanJob, Settings, Shifted, Tried, Wait, Went, Workspace, advance, land,
+    try_step,
+};
 use stapl_lexer::Register;
 use std::sync::ledger::Ledger;
 use tap_states::Tap;
-use thiserror::Error;
 use tool_io::Failed;
-
-/// Why a run is broken off: the cable failed, a write failed, or want of memory.
-#[derive(Clone, Copy, PartialEq, Eq, Debug, Error)]
-pub enum Trouble {
-    #[error("the cable failed")]
-    CableFault,
-    #[error("a write failed")]
-    WriteFault,
-    #[error("out of memory")]
-    Memory,
-}
+use written_cable::{Paper, PinCable, Trouble, trouble_of};
 
 // Counts an instruction. A Turn is counted in the turn that it begins.
 #[inline(always)]
@@ -53,19 +38,8 @@ fn count<L: Ledger>(instr: &Instr, steps: &mut Steps<L>)
     }
 }
 
-/// Which part of a broken port is broken.
-pub fn trouble_of<C: Cable, O: Paper>(port: &PinCable<C, O>) -> Trouble
-    requires { port_breakage C.breakage O.failed port.now ≢ whole }
-    ensures { BrokeSo result (port_breakage C.breakage O.failed port.now) }
-{
-    if port.is_torn() {
-        return Trouble::WriteFault;
-    }
-    Trouble::CableFault
-}
-
 // Keeps the controllers in their state for so many clocks, if any are counted.
-#[tactic(auto, using(crate::proofs::DeedLemmas::kept_none))]
+#[tactic(auto, using(written_cable::proofs::DeedLemmas::kept_none))]
 fn rest_if<C: Cable, O: Paper>(cycles: Option<u32>, port: &mut PinCable<C, O>) -> Result<(), Failed>
     requires whole { port_breakage C.breakage O.failed port.old ≡ whole }
     requires in_step { IsInStep C.board port.old }
@@ -87,7 +61,7 @@ fn rest_if<C: Cable, O: Paper>(cycles: Option<u32>, port: &mut PinCable<C, O>) -
 }
 
 // Waits for so many microseconds, if any are counted.
-#[tactic(auto, using(crate::proofs::DeedLemmas::kept_none))]
+#[tactic(auto, using(written_cable::proofs::DeedLemmas::kept_none))]
 fn pause_if<C: Cable, O: Paper>(usec: Option<u32>, port: &mut PinCable<C, O>) -> Result<(), Failed>
     requires whole { port_breakage C.breakage O.failed port.old ≡ whole }
     requires in_step { IsInStep C.board port.old }
@@ -108,7 +82,7 @@ fn pause_if<C: Cable, O: Paper>(usec: Option<u32>, port: &mut PinCable<C, O>) ->
 }
 
 // Carries out a WAIT.
-#[tactic(auto, using(crate::proofs::DeedLemmas::kept_both))]
+#[tactic(auto, using(written_cable::proofs::DeedLemmas::kept_both))]
 fn wait<C: Cable, O: Paper>(wait: Wait, port: &mut PinCable<C, O>) -> Result<(), Failed>
     requires whole { port_breakage C.breakage O.failed port.old ≡ whole }
     requires in_step { IsInStep C.board port.old }
@@ -131,7 +105,7 @@ fn wait<C: Cable, O: Paper>(wait: Wait, port: &mut PinCable<C, O>) -> Result<(),
 }
 
 // Moves to one state after another.
-#[tactic(auto, using(crate::proofs::DeedLemmas::kept_both))]
+#[tactic(auto, using(written_cable::proofs::DeedLemmas::kept_both))]
 fn go_through<C: Cable, O: Paper>(states: &[Tap], port: &mut PinCable<C, O>) -> Result<(), Failed>
     requires whole { port_breakage C.breakage O.failed port.old ≡ whole }
     requires in_step { IsInStep C.board port.old }
@@ -165,6 +139,7 @@ fn states_of(instr: &Instr) -> &[Tap]
 fn perform<C: Cable, O: Paper>(
     code: &CodeLists,
     instr: &Instr,
+    text: &[u8],
     memory: &Memory,
     doing: Doing,
     port: &mut PinCable<C, O>,
@@ -174,16 +149,18 @@ fn perform<C: Cable, O: Paper>(
     requires rests { RestsIn doing }
     ensures in_step { OnOk result (IsInStep C.board port.new) }
     ensures did { OnOk result (Did (port_breakage C.breakage O.failed) C.board C.made O.shown
-        (deeds_told (told_by code.now instr.now memory.now) memory.now.variables.items doing) port.old [] port.new) }
+        (deeds_told (told_by code.now instr.now text.now memory.now) memory.now.variables.items doing)
+        port.old [] port.new) }
     ensures front { OnErr result (DidFront (port_breakage C.breakage O.failed) C.board C.made O.shown
-        (deeds_told (told_by code.now instr.now memory.now) memory.now.variables.items doing) port.old port.new) }
+        (deeds_told (told_by code.now instr.now text.now memory.now) memory.now.variables.items doing)
+        port.old port.new) }
     ensures unbroken { OnOk result (port_breakage C.breakage O.failed port.new ≡ whole) }
     ensures broken { OnErr result (port_breakage C.breakage O.failed port.new ≢ whole) }
     ensures kept { IsKept (port_breakage C.breakage O.failed) C.line_faults C.is_line_last
         C.pin_faults C.is_pin_last O.shown O.faults O.is_last port.old port.new }
 {
     match doing {
-        Doing::Prints => port.print(&memory.text),
+        Doing::Prints => port.print(text),
         Doing::Exports(export) => port.export(code, &memory.variables, export),
         Doing::Moves => go_through(states_of(instr), port),
         Doing::Waits(counts) => wait(counts, port),
@@ -290,22 +267,25 @@ fn carry_out<C: Cable, O: Paper, L: Ledger>(
     requires countable { length code.now.instrs < 2 ^ 32 }
     requires whole { port_breakage C.breakage O.failed port.old ≡ whole }
     requires in_step { IsInStep C.board port.old }
+    requires room { HasRoom code.now work.old }
+    requires few { HoldsFrom code.now i work.old }
     ensures does { IsDone (port_breakage C.breakage O.failed) C.board C.made O.shown
         (rest_of code.now i chosen.now work.old) (ticks_from code.now i chosen.now work.old) port.old steps.old result
         (behind_it code.now i chosen.now work.new) (ticks_behind_it code.now i chosen.now work.new) port.new steps.new }
-    ensures clean { IfOk result (λ end. IsCleanBehind end work.new) }
+    ensures clean { IfOk result (λ end. IsCleanBehind code.now i end work.new) }
+    ensures room { KeepsRoom work.old work.new }
     ensures keeps { Keeps (port_breakage C.breakage O.failed) C.board C.line_faults C.is_line_last
         C.pin_faults C.is_pin_last O.shown O.faults O.is_last port.old port.new result }
 {
     let instr = &code.instrs.as_slice()[i];
     count(instr, steps);
     match advance(code, chosen, i as u32, instr, work) {
-        Ok(Moved::On) => Ok(None),
-        Ok(Moved::Acts(doing)) => match perform(code, instr, &work.memory, doing, port) {
+        Moved::On => Ok(None),
+        Moved::Acts(doing) => match perform(code, instr, &work.text, &work.memory, doing, port) {
             Ok(()) => Ok(None),
             Err(_) => Err(trouble_of(port)),
         },
-        Ok(Moved::Scans(job)) => {
+        Moved::Scans(job) => {
             if !port.is_stable() {
                 return Ok(Some(Went::Over(None)));
             }
@@ -314,8 +294,7 @@ fn carry_out<C: Cable, O: Paper, L: Ledger>(
                 Err(_) => Err(trouble_of(port)),
             }
         }
-        Ok(Moved::Ends(went)) => Ok(Some(went)),
-        Err(_) => Err(Trouble::Memory),
+        Moved::Ends(went) => Ok(Some(went)),
     }
 }
 
@@ -329,12 +308,15 @@ fn try_at<L: Ledger>(
 ) -> Tried
     requires inside { i < length code.now.instrs }
     requires countable { length code.now.instrs < 2 ^ 32 }
+    requires room { HasRoom code.now work.old }
+    requires few { HoldsFrom code.now i work.old }
     ensures does { (chosen : List ℕ) (k : Chain) →
         rest_of code.now i chosen work.old k ≡ behind_try code.now i chosen result work.new k }
     ensures ticks { (chosen : List ℕ) (k : Chain) →
         steps.new + ticks_behind_try code.now i chosen result work.new k
         ≡ steps.old + ticks_from code.now i chosen work.old k }
-    ensures clean { IsCleanTry result work.new }
+    ensures clean { IsCleanTry code.now i result work.new }
+    ensures room { KeepsRoom work.old work.new }
 {
     let instr = &code.instrs.as_slice()[i];
     match try_step(i as u32, instr, work) {
@@ -371,12 +353,15 @@ fn carry_out_common<L: Ledger>(
     steps: &mut Steps<L>,
 ) -> Reached
     requires countable { length code.now.instrs < 2 ^ 32 }
+    requires room { HasRoom code.now work.old }
+    requires few { HoldsFrom code.now from work.old }
     ensures does { (chosen : List ℕ) (k : Chain) →
         rest_of code.now from chosen work.old k ≡ behind_reached code.now chosen result work.new k }
     ensures ticks { (chosen : List ℕ) (k : Chain) →
         steps.new + ticks_behind_reached code.now chosen result work.new k
         ≡ steps.old + ticks_from code.now from chosen work.old k }
-    ensures reached { IsReached result from (length code.now.instrs) work.new }
+    ensures reached { IsReached code.now from result work.new }
+    ensures room { KeepsRoom work.old work.new }
 {
     for i in from..code.instrs.len() {
         match try_at(code, i, work, steps) {
@@ -401,10 +386,13 @@ pub fn rest_of_turn<C: Cable, O: Paper, L: Ledger>(
     requires countable { length code.now.instrs < 2 ^ 32 }
     requires whole { port_breakage C.breakage O.failed port.old ≡ whole }
     requires in_step { IsInStep C.board port.old }
+    requires room { HasRoom code.now work.old }
+    requires few { HoldsFrom code.now from work.old }
     ensures does { IsDone (port_breakage C.breakage O.failed) C.board C.made O.shown
         (rest_of code.now from chosen.now work.old) (ticks_from code.now from chosen.now work.old)
         port.old steps.old result (λ went. led_on went (state_of chosen.now work.new)) (λ went. no_ticks) port.new steps.new }
     ensures clean { IfOk result (λ went. IsClean went work.new.operands.items) }
+    ensures room { KeepsRoom work.old work.new }
     ensures keeps { Keeps (port_breakage C.breakage O.failed) C.board C.line_faults C.is_line_last
         C.pin_faults C.is_pin_last O.shown O.faults O.is_last port.old port.new result }
 {
@@ -447,11 +435,13 @@ pub fn turn<C: Cable, O: Paper, L: Ledger>(
     requires none { work.old.operands.items ≡ [] }
     requires whole { port_breakage C.breakage O.failed port.old ≡ whole }
     requires in_step { IsInStep C.board port.old }
+    requires room { HasRoom code.now work.old }
     ensures does { IsDone (port_breakage C.breakage O.failed) C.board C.made O.shown
         (turn_at code.now place (state_of chosen.now work.old)) (ticks_at code.now place (state_of chosen.now work.old))
         port.old steps.old result
         (λ went. led_on went (state_of chosen.now work.new)) (λ went. no_ticks) port.new steps.new }
     ensures clean { IfOk result (λ went. IsClean went work.new.operands.items) }
+    ensures room { KeepsRoom work.old work.new }
     ensures keeps { Keeps (port_breakage C.breakage O.failed) C.board C.line_faults C.is_line_last
         C.pin_faults C.is_pin_last O.shown O.faults O.is_last port.old port.new result }
 {

@@ -15,18 +15,18 @@ use Rattle.stapl_meaning.specs.Texts.{events_text}
 use Rattle.stapl_code.specs.declared.raw.CodeLists.{CodeLists}
 use Rattle.stapl_machine.specs.declared.running.Machine.{Machine}
 use Rattle.stapl_machine.specs.Machines.{play_of, play_ticks_of, chain_at, IsPlayed, IsPlayedFront}
-use Rattle.stapl_machine.specs.Papers.{Shown, Puts, PutsFront}
-use Rattle.stapl_machine.specs.PinLaws.{front_nothing}
-use Rattle.stapl_machine.specs.Resets.{digit_of_clock, IsReset, kept_digits}
-use Rattle.stapl_machine.proofs.FarLemmas.{heard_both, far_made, far_left, far_append}
-use Rattle.stapl_machine.specs.Signals.{signals_of}
-use Rattle.stapl_machine.proofs.SignalLemmas.{signals_both, signals_of_pulses, clocks_of_both, clocks_of_pulses}
-use Rattle.stapl_machine.proofs.ResetLemmas.{keeps_text}
+use Rattle.written_cable.specs.Papers.{Shown, Puts, PutsFront}
+use Rattle.written_cable.specs.PinLaws.{front_nothing}
+use Rattle.written_cable.specs.Resets.{digit_of_clock, IsReset, kept_digits}
+use Rattle.written_cable.proofs.FarLemmas.{heard_both, far_made, far_left, far_append}
+use Rattle.written_cable.specs.Signals.{signals_of}
+use Rattle.written_cable.proofs.SignalLemmas.{signals_both, signals_of_pulses, clocks_of_both, clocks_of_pulses}
+use Rattle.written_cable.proofs.ResetLemmas.{keeps_text}
 use Rattle.tool_io.specs.Causes.{CountKept, CountRose}
 use Rattle.tool_io.proofs.CauseLemmas.{rose_after}
-use Rattle.stapl_machine.specs.declared.turns.Trouble.{Trouble}
-use Rattle.stapl_machine.specs.declared.turns.Trouble.TheVariants.{CableFault, WriteFault, Memory}
-use Rattle.stapl_machine.specs.Ports.{IfFault}
+use Rattle.written_cable.specs.declared.trouble.Trouble.{Trouble}
+use Rattle.written_cable.specs.declared.trouble.Trouble.TheVariants.{CableFault, WriteFault}
+use Rattle.written_cable.specs.Ports.{IfFault}
 use Rattle.stapl_player.specs.Plays.{whole_play, whole_ticks, far_before, HasPlayed, HasPlayedFront}
 
 module _ {C O : Type 0} (board : C → Option (List Card)) (makes : C → List Signal → C → Type 0) (shown : O → Shown)
@@ -154,4 +154,3 @@ module _ {C O : Type 0} (board : C → Option (List Card)) (makes : C → List S
 pub fault_after : (a b c : ℕ) (last_a last_b last_c lines : Type 0) (trouble : Trouble) → CountKept a b last_a last_b → IfFault trouble (CountRose b c last_c) lines → IfFault trouble (CountRose a c last_c) lines
 fault_after a b c last_a last_b last_c lines CableFault kept h = rose_after kept h
 fault_after a b c last_a last_b last_c lines WriteFault kept h = h
-fault_after a b c last_a last_b last_c lines Memory kept h = tt

@@ -12,8 +12,8 @@ use Rattle.stapl_meaning.specs.Plays.{Run, after, ending_of, reset_events, chain
 use Rattle.stapl_meaning.specs.Texts.{events_text}
 use Rattle.stapl_code.specs.declared.raw.CodeLists.{CodeLists}
 use Rattle.stapl_machine.specs.declared.running.Machine.{Machine}
-use Rattle.stapl_machine.specs.Papers.{Shown, Puts, PutsFront}
-use Rattle.stapl_machine.specs.Signals.{signals_of}
+use Rattle.written_cable.specs.Papers.{Shown, Puts, PutsFront}
+use Rattle.written_cable.specs.Signals.{signals_of}
 use Rattle.stapl_machine.specs.Machines.{play_of, play_ticks_of, variables_in}
 
 -- the play of a code at the far end of a cable, for at most n turns of the chosen procedures, with this base padding of

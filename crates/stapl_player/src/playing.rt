@@ -5,18 +5,19 @@ ghost use Rattle.tool_io.specs.Lines.{IsWhole, IsOverSame, SinkNeverFalls, sink_
 ghost use Rattle.scan_paths.specs.Cables.{whole, cable_faults, IsCableLast};
 ghost use Rattle.scan_paths.specs.Scans.{lengths_of};
 ghost use Rattle.stapl_code.specs.Safe.{AllBelow};
-ghost use Rattle.stapl_machine.specs.Papers.{shown_of};
-ghost use Rattle.stapl_machine.specs.Ports.{IfFault, IfMemory};
+ghost use Rattle.written_cable.specs.Papers.{shown_of};
+ghost use Rattle.written_cable.specs.Ports.{IfFault};
 ghost use Rattle.stapl_machine.specs.Machines.{IsPrepared};
 ghost use Rattle.stapl_player.specs.Plays.{whole_play, whole_ticks, HasPlayed, HasPlayedFront};
 
 use base::Steps;
 use scan_paths::{BasePads, Cable};
 use stapl_code::Code;
-use stapl_machine::{Machine, Trouble};
+use stapl_machine::Machine;
 use stapl_meaning::Ending;
 use std::sync::ledger::Ledger;
 use tool_io::{Lines, Sink};
+use written_cable::Trouble;
 
 /// Plays the chosen procedures of a code, which are told by their numbers, for at most so many turns, on a machine that
 /// is prepared for it and over a cable: first five clocks with TMS 1, and then the run of the code, in which each scan
@@ -24,8 +25,8 @@ use tool_io::{Lines, Sink};
 /// `pins` is true, and answers how the play ended: with `Spent` if it still goes on after these turns. A play of no
 /// procedures ends with the code 0 after no turn. Each instruction is one step.
 ///
-/// `CableFault` comes only if the count of faults of the cable rose, or stands at its last value, `WriteFault` only if
-/// that of the sink did, and `Memory` only for want of memory, before any call on the lines has failed.
+/// It takes no memory. `CableFault` comes only if the count of faults of the cable rose, or stands at its last value, and
+/// `WriteFault` only if that of the sink did.
 pub fn play<C: Cable, K: Sink, L: Ledger>(
     machine: &mut Machine,
     code: &Code,
@@ -59,7 +60,6 @@ pub fn play<C: Cable, K: Sink, L: Ledger>(
     ensures fault { IfErr result (λ trouble. IfFault trouble
         (HasRisen (cable_faults C.line_faults C.pin_faults) (IsCableLast C.is_line_last C.is_pin_last)
         cable.old cable.new) (HasRisen K.faults K.is_last (sink_of out.old) (sink_of out.new))) }
-    ensures memory { IfErr result (λ trouble. IfMemory trouble (IsWhole out.new)) }
 {
     match machine.reset_chain(cable) {
         Ok(()) => match machine.run(code, chosen, base, cable, out, pins, turns, steps) {

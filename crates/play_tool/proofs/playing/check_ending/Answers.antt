@@ -2,7 +2,7 @@ use Rattle.std.proofs.Common.{map, refl}
 use Rattle.dev_card.specs.Card.{fresh}
 use Rattle.dev_card.specs.FarEnds.{Told}
 use Rattle.stapl_meaning.specs.Plays.{chain_reset}
-use Rattle.stapl_machine.specs.Zeros.{zeros_of_code}
+use Rattle.stapl_instructions.specs.Zeros.{zeros_of_code}
 use Rattle.play_tool.specs.CodePlays.{task_base, task_play}
 use Rattle.play_tool.proofs.PlayLemmas.{has_ending}
 use Rattle.play_tool.proofs.CodeLemmas.{zeros_of_code_fit}

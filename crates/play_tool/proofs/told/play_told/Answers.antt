@@ -2,12 +2,11 @@ use Rattle.std.proofs.Common.{[], ◌++◌, sym, ap, subst, ◌∙◌}
 use Rattle.dev_card.specs.Board.{tdos}
 use Rattle.stapl_meaning.specs.Plays.{ending_of}
 use Rattle.stapl_meaning.specs.Texts.{events_text}
-use Rattle.stapl_machine.specs.Papers.{Puts, PutsFront, shown_of}
-use Rattle.stapl_machine.specs.PaperLaws.{puts_back, puts_front_back}
-use Rattle.play_tool.specs.declared.status.NoAnswer.TheVariants.{Write, Memory}
-use Rattle.stapl_machine.specs.Signals.{signals_of}
+use Rattle.written_cable.specs.Papers.{Puts, PutsFront, shown_of}
+use Rattle.written_cable.specs.PaperLaws.{puts_back, puts_front_back}
+use Rattle.written_cable.specs.Signals.{signals_of}
 use Rattle.play_tool.specs.CodePlays.{far_play, task_play}
-use Rattle.play_tool.proofs.PlayLemmas.{same_error, on_board, no_cable_fault, write_cause, memory_first}
+use Rattle.play_tool.proofs.PlayLemmas.{on_board, no_cable_fault, write_cause}
 use Rattle.play_tool.proofs.told.play_told.Goals as goal
 
 pub no_answer-requires : goal.no_answer-requires
@@ -46,7 +45,4 @@ returns-clause-clocked g c = let p = rw c.base_of-base.ensures at c.in-Err.ensur
     record { signals = signals_of p.events; made = p.made }
 
 pub returns-clause-write : goal.returns-clause-write
-returns-clause-write g c = λ e. write_cause _ _ c.in-Err.trouble (c.no_answer.ensures.write (same_error c.no_answer.result Write e)) c.in-Err.ensures.fault
-
-pub returns-clause-memory : goal.returns-clause-memory
-returns-clause-memory g c = λ e. memory_first _ c.in-Err.trouble (c.no_answer.ensures.memory (same_error c.no_answer.result Memory e)) c.in-Err.ensures.memory
+returns-clause-write g c = λ e. write_cause _ _ c.in-Err.trouble c.no_answer.ensures.cause c.in-Err.ensures.fault

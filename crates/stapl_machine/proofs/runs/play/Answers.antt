@@ -4,11 +4,12 @@ use Rattle.stapl_meaning.specs.Plays.{goes_on}
 use Rattle.stapl_code.specs.Machine.{entry_of, begins_chosen}
 use Rattle.stapl_code.specs.Safe.{entries_of}
 use Rattle.stapl_code.specs.Ticks.{counted_then}
-use Rattle.stapl_machine.specs.Acts.{state_of}
-use Rattle.stapl_machine.specs.Moves.{led_on}
-use Rattle.stapl_machine.specs.Pins.{port_breakage}
+use Rattle.stapl_instructions.specs.Acts.{state_of}
+use Rattle.stapl_instructions.specs.Moves.{led_on}
+use Rattle.written_cable.specs.Pins.{port_breakage}
 use Rattle.stapl_machine.specs.Turns.{rest_of, ticks_from, no_ticks}
 use Rattle.stapl_machine.specs.Runs.{run_of, run_ticks_of, begun_run, begun_ticks, play_from, play_ticks_from}
+use Rattle.stapl_instructions.proofs.OperandLemmas.{none_hold, room_kept}
 use Rattle.stapl_machine.proofs.RunLemmas.{runs_none, turn_then, turn_then_front, turn_front, at_first, started, begun_by, play_is, play_ticks_is, begun_does, begun_front}
 use Rattle.stapl_machine.proofs.runs.play.Goals as goal
 
@@ -56,3 +57,11 @@ returns-in-Err-clause-runs g c =
     (runs_none b m.board m.made w c.args.port.now all here count here_count c.args.steps.now (g.met.C.Cable.none_made c.args.port.now.cable.now) c.requires.whole
     (play_is code chosen work n none no) (λ k. ap (λ t. c.args.steps.now + t) (sym (play_ticks_is code chosen work n none no k))))
     (begun_front b m.board m.made w c.args.port.now c.rest_of_turn.new.port entry (rest_of code 0 chosen first) (ticks_from code 0 chosen first) c.args.steps.now c.rest_of_turn.new.steps c.in-Err.ensures.does)
+
+pub rest_of_turn-requires-clause-few : goal.rest_of_turn-requires-clause-few
+rest_of_turn-requires-clause-few g c =
+    let work = c.args.work.now in none_hold c.args.code.now 0 (record work { next = 0 }) c.requires.room c.requires.none
+
+pub run_behind-requires-clause-room : goal.run_behind-requires-clause-room
+run_behind-requires-clause-room g c =
+    let work = c.args.work.now in room_kept c.args.code.now (record work { next = 0 }) c.rest_of_turn.new.work c.requires.room c.rest_of_turn.ensures.room

@@ -1,10 +1,10 @@
 use Rattle.std.proofs.Common.{ap, None}
 use Rattle.stapl_meaning.specs.Plays.{goes_on, ending_of}
 use Rattle.stapl_code.specs.Ticks.{counted_then}
-use Rattle.stapl_machine.specs.declared.moves.Went.TheVariants as went
-use Rattle.stapl_machine.specs.Acts.{state_of}
-use Rattle.stapl_machine.specs.Moves.{led_on}
-use Rattle.stapl_machine.specs.Pins.{port_breakage}
+use Rattle.stapl_instructions.specs.declared.control.Went.TheVariants as went
+use Rattle.stapl_instructions.specs.Acts.{state_of}
+use Rattle.stapl_instructions.specs.Moves.{led_on}
+use Rattle.written_cable.specs.Pins.{port_breakage}
 use Rattle.stapl_machine.specs.Runs.{run_of, run_ticks_of, chosen_run, chosen_ticks, begun_run, begun_ticks}
 use Rattle.stapl_machine.proofs.RunLemmas.{to_same, front_same, runs_still, begun_on, begun_ticks_on, over_lacks}
 use Rattle.stapl_machine.proofs.runs.run_behind.Goals as goal

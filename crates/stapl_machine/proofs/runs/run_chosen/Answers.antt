@@ -1,7 +1,7 @@
 use Rattle.std.proofs.Common.{ap, ◌∙◌, reverse}
-use Rattle.stapl_machine.specs.Acts.{state_of}
-use Rattle.stapl_machine.specs.Moves.{led_to}
-use Rattle.stapl_machine.specs.Pins.{port_breakage}
+use Rattle.stapl_instructions.specs.Acts.{state_of}
+use Rattle.stapl_instructions.specs.Moves.{led_to}
+use Rattle.written_cable.specs.Pins.{port_breakage}
 use Rattle.stapl_machine.specs.Runs.{run_of, run_ticks_of, chosen_run, chosen_ticks}
 use Rattle.stapl_machine.proofs.RunLemmas.{chosen_on, chosen_ticks_on, to_same, front_same, runs_still, chosen_none_events, chosen_none_ends, chosen_none_leaves, chosen_none_ticks}
 use Rattle.stapl_machine.proofs.runs.run_chosen.Goals as goal

@@ -1,10 +1,11 @@
 use Rattle.std.proofs.Common.{◌≡◌, ◌+◌, ◌-◌, ap, suc, arith, sym, rules}
-use Rattle.stapl_machine.specs.Acts.{state_of}
-use Rattle.stapl_machine.specs.Moves.{led_on}
-use Rattle.stapl_machine.specs.Pins.{port_breakage}
+use Rattle.stapl_instructions.specs.Acts.{state_of}
+use Rattle.stapl_instructions.specs.Moves.{led_on}
+use Rattle.written_cable.specs.Pins.{port_breakage}
 use Rattle.stapl_machine.specs.Turns.{no_ticks, turn_at, ticks_at}
 use Rattle.stapl_machine.specs.Runs.{run_of, run_ticks_of}
-use Rattle.stapl_machine.proofs.DeedLemmas.{kept_none, kept_both}
+use Rattle.written_cable.proofs.DeedLemmas.{kept_none, kept_both}
+use Rattle.stapl_instructions.proofs.OperandLemmas.{room_kept}
 use Rattle.stapl_machine.proofs.TurnLemmas.{does_same}
 use Rattle.stapl_machine.proofs.RunLemmas.{runs_none, turn_on, turn_over, turn_front, run_spent, one_left, none_left}
 use Rattle.stapl_machine.proofs.runs.run_turns.Goals as goal
@@ -17,6 +18,7 @@ loop-turn-init g c =
     record {
       whole = c.requires.whole;
       in_step = c.requires.in_step;
+      room = c.requires.room;
       none = c.requires.none;
       within = omega arith;
       runs = runs_none b m.board m.made g.O.Paper.shown c.args.port.now all (run_of c.args.code.now (c.args.turns - 0) c.args.start u) count (run_ticks_of c.args.code.now (c.args.turns - 0) c.args.start u) c.args.steps.now
@@ -34,6 +36,7 @@ loop-turn-preserved g c =
     record {
       whole = c.in-Ok-On.ensures.keeps.whole_now;
       in_step = c.in-Ok-On.ensures.keeps.in_step;
+      room = room_kept code c.loop-turn.work c.turn.new.work c.loop-turn.invariant.room c.turn.ensures.room;
       none = search rules;
       within = search rules;
       runs = turn_on b m.board m.made w g.met.C.Cable.both_made c.args.port.now c.loop-turn.port c.turn.new.port (run_of code c.args.turns c.args.start first) (run_ticks_of code c.args.turns c.args.start first) s

@@ -1,8 +1,9 @@
 use Rattle.std.proofs.Common.{◌≡◌, ◌≤◌, ◌-◌, []}
 use Rattle.scan_paths.specs.Cables.{whole}
-use Rattle.stapl_machine.specs.Acts.{state_of}
-use Rattle.stapl_machine.specs.Pins.{port_breakage}
-use Rattle.stapl_machine.specs.Ports.{IsInStep, IsKept, Runs}
+use Rattle.stapl_instructions.specs.Acts.{state_of}
+use Rattle.written_cable.specs.Pins.{port_breakage}
+use Rattle.written_cable.specs.Ports.{IsInStep, IsKept, Runs}
+use Rattle.stapl_instructions.specs.RunRooms.{HasRoom}
 use Rattle.stapl_machine.specs.Runs.{run_of, run_ticks_of}
 use Rattle.stapl_machine.proofs.runs.run_turns.Given as goal
 
@@ -12,6 +13,7 @@ invariant-loop-turn g l =
     record {
       whole : b l.port ≡ whole;
       in_step : IsInStep m.board l.port;
+      room : HasRoom l.code l.work;
       none : l.work.operands.items ≡ [];
       within : l._turn ≤ l.turns;
       runs : Runs b m.board m.made g.O.Paper.shown (run_of l.code l.turns l.start (state_of l.chosen l.fn.work)) (run_ticks_of l.code l.turns l.start (state_of l.chosen l.fn.work)) l.fn.port l.fn.steps

@@ -2,8 +2,8 @@ use Rattle.std.proofs.Common.{◌∷◌, ◌+◌, List, map, drop, arith, slice_
 use Rattle.tool_io.proofs.BytesLemmas.{on_err}
 use Rattle.tap_states.specs.declared.Tap.TheVariants.{Reset}
 use Rattle.stapl_meaning.specs.Deeds.{Deed, Goes}
-use Rattle.stapl_machine.specs.Pins.{port_breakage}
-use Rattle.stapl_machine.proofs.DeedLemmas.{did_none, did_both, did_both_front, did_same, kept_none, kept_both, next_goes, no_goes}
+use Rattle.written_cable.specs.Pins.{port_breakage}
+use Rattle.written_cable.proofs.DeedLemmas.{did_none, did_both, did_both_front, did_same, kept_none, kept_both, next_goes, no_goes}
 use Rattle.stapl_machine.proofs.turns.go_through.Goals as goal
 
 pub loop-i-init : goal.loop-i-init

@@ -1,8 +1,8 @@
 use Rattle.std.proofs.Common.{◌≡◌, map, drop}
 use Rattle.scan_paths.specs.Cables.{whole}
 use Rattle.stapl_meaning.specs.Deeds.{Goes}
-use Rattle.stapl_machine.specs.Pins.{port_breakage}
-use Rattle.stapl_machine.specs.Ports.{IsInStep, IsKept, Did}
+use Rattle.written_cable.specs.Pins.{port_breakage}
+use Rattle.written_cable.specs.Ports.{IsInStep, IsKept, Did}
 use Rattle.stapl_machine.proofs.turns.go_through.Given as goal
 
 abbrev pub invariant-loop-i : goal.invariant-loop-i

@@ -1,5 +1,5 @@
-use Rattle.stapl_machine.specs.Pins.{port_breakage}
-use Rattle.stapl_machine.proofs.DeedLemmas.{did_none}
+use Rattle.written_cable.specs.Pins.{port_breakage}
+use Rattle.written_cable.proofs.DeedLemmas.{did_none}
 use Rattle.stapl_machine.proofs.turns.rest_if.Goals as goal
 
 pub returns-in-None-clause-did : goal.returns-in-None-clause-did

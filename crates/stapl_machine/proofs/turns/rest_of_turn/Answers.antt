@@ -1,10 +1,11 @@
-use Rattle.std.proofs.Common.{refl, ◌+◌, None}
-use Rattle.stapl_machine.specs.declared.moves.Went.TheVariants as went
-use Rattle.stapl_machine.specs.Acts.{state_of}
-use Rattle.stapl_machine.specs.Moves.{led_on}
-use Rattle.stapl_machine.specs.Pins.{port_breakage}
-use Rattle.stapl_machine.specs.Turns.{rest_of, ticks_from, no_ticks, behind_it, ticks_behind_it}
-use Rattle.stapl_machine.proofs.DeedLemmas.{kept_none, kept_both}
+use Rattle.std.proofs.Common.{refl, ◌+◌, None, subst, arith}
+use Rattle.stapl_instructions.specs.declared.control.Went.TheVariants as went
+use Rattle.stapl_instructions.specs.Acts.{state_of}
+use Rattle.stapl_instructions.specs.Moves.{led_on}
+use Rattle.written_cable.specs.Pins.{port_breakage}
+use Rattle.stapl_machine.specs.Turns.{rest_of, ticks_from, no_ticks, behind_it, ticks_behind_it, IsCleanBehind}
+use Rattle.written_cable.proofs.DeedLemmas.{kept_none, kept_both}
+use Rattle.stapl_instructions.proofs.OperandLemmas.{room_kept}
 use Rattle.stapl_machine.proofs.TurnLemmas.{does_still, does_same, does_of, front_of, does_both, does_both_front}
 use Rattle.stapl_machine.proofs.turns.rest_of_turn.Goals as goal
 
@@ -15,6 +16,9 @@ parts-init g c =
     record {
       whole = c.requires.whole;
       in_step = c.requires.in_step;
+      room = c.requires.room;
+      kept_room = (omega arith, omega arith);
+      few = c.requires.few;
       does = does_still b m.board m.made g.O.Paper.shown c.args.port.now turn turn count count c.args.steps.now c.args.steps.now (g.met.C.Cable.none_made c.args.port.now.cable.now) c.requires.whole (λ k. refl) (λ k. refl);
       kept = kept_none c.args.port.now c.requires.whole;
     }
@@ -26,6 +30,12 @@ parts-preserved g c =
     record {
       whole = c.in-Ok-None.ensures.keeps.whole_now;
       in_step = c.in-Ok-None.ensures.keeps.in_step;
+      room = room_kept code mid new (room_kept code old mid c.parts.invariant.room c.carry_out_common.ensures.room) c.carry_out.ensures.room;
+      kept_room = (
+        omega (arith, c.parts.invariant.kept_room.0, c.carry_out_common.ensures.room.0, c.carry_out.ensures.room.0),
+        omega (arith, c.parts.invariant.kept_room.1, c.carry_out_common.ensures.room.1, c.carry_out.ensures.room.1),
+      );
+      few = subst (λ e. IsCleanBehind code i e new) c.in-Ok-None.field-0-is c.in-Ok-None.ensures.clean;
       does =
           does_both b m.board m.made s g.met.C.Cable.both_made c.args.port.now c.parts.port c.carry_out.new.port (rest_of code c.args.from chosen first) (rest_of code c.parts.place chosen old) (rest_of code (i + 1) chosen new)
           (ticks_from code c.args.from chosen first) (ticks_from code c.parts.place chosen old) (ticks_from code (i + 1) chosen new) c.args.steps.now c.parts.steps c.carry_out.new.steps c.parts.invariant.does
@@ -78,3 +88,6 @@ returns-in-Err-clause-does g c =
     (ticks_from code c.args.from chosen first) (ticks_from code c.parts.place chosen old) c.args.steps.now c.parts.steps c.carry_out.new.steps c.parts.invariant.does
     (front_of b m.board m.made s c.parts.port c.carry_out.new.port (rest_of code i chosen mid) (rest_of code c.parts.place chosen old) (ticks_from code i chosen mid) (ticks_from code c.parts.place chosen old)
     c.parts.steps c.carry_out_common.new.steps c.carry_out.new.steps (c.in-Within.ensures.does chosen) (c.in-Within.ensures.ticks chosen) c.in-Err.ensures.does)
+
+pub carry_out-requires-clause-room : goal.carry_out-requires-clause-room
+carry_out-requires-clause-room g c = room_kept c.args.code.now c.parts.work c.carry_out_common.new.work c.parts.invariant.room c.carry_out_common.ensures.room

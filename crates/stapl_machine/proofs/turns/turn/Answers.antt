@@ -1,9 +1,10 @@
 use Rattle.std.proofs.Common.{rules, ◌≡◌, ◌+◌, Some, None, slice_get}
-use Rattle.stapl_machine.specs.declared.moves.Went.TheVariants as went
-use Rattle.stapl_machine.specs.Acts.{state_of}
-use Rattle.stapl_machine.specs.Moves.{led_on}
-use Rattle.stapl_machine.specs.Pins.{port_breakage}
+use Rattle.stapl_instructions.specs.declared.control.Went.TheVariants as went
+use Rattle.stapl_instructions.specs.Acts.{state_of}
+use Rattle.stapl_instructions.specs.Moves.{led_on}
+use Rattle.written_cable.specs.Pins.{port_breakage}
 use Rattle.stapl_machine.specs.Turns.{rest_of, ticks_from, no_ticks, piece_of, turn_at, ticks_at}
+use Rattle.stapl_instructions.proofs.OperandLemmas.{none_hold}
 use Rattle.stapl_machine.proofs.TurnLemmas.{turn_begins, turn_ticks_begin, turn_lacks, turn_ticks_lack, does_still, does_of, front_of, one_tick_more, no_tick}
 use Rattle.stapl_machine.proofs.turns.turn.Goals as goal
 
@@ -33,3 +34,7 @@ returns-in-Err-clause-does g c =
     (ticks_from code (place + 1) chosen (record work { piece = piece })) (ticks_at code place u) c.args.steps.now c.tick.new.self c.rest_of_turn.new.steps
     (turn_begins code place piece chosen work c.requires.none h)
     (λ k. one_tick_more c.args.steps.now c.tick.new.self _ _ c.tick.ensures (turn_ticks_begin code place piece chosen work c.requires.none h k)) c.in-Err.ensures.does
+
+pub rest_of_turn-requires-clause-few : goal.rest_of_turn-requires-clause-few
+rest_of_turn-requires-clause-few g c =
+    let work = c.args.work.now in none_hold c.args.code.now (c.args.place + 1) (record work { piece = c.in-Some.piece }) c.requires.room c.requires.none

@@ -1,7 +1,7 @@
 use Rattle.tool_io.proofs.CauseLemmas.{kept_then}
 use Rattle.scan_paths.specs.Scans.{lengths_of}
 use Rattle.stapl_machine.specs.Machines.{digits_in}
-use Rattle.stapl_machine.specs.Papers.{shown_of}
+use Rattle.written_cable.specs.Papers.{shown_of}
 use Rattle.stapl_player.proofs.PlayLemmas.{played, played_front, broken_off, fault_after}
 use Rattle.stapl_player.proofs.playing.play.Goals as goal
 

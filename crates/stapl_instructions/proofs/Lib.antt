@@ -1,0 +1,12 @@
+pub mod Wraps
+pub mod Bitwise
+pub mod PrintLemmas
+pub mod RecordLemmas
+pub mod Slices
+pub mod MoveLemmas
+pub mod SettingLemmas
+pub mod ScanLemmas
+pub mod ArrayLemmas
+pub mod RoomLemmas
+pub mod OperandLemmas
+pub mod ExportLemmas

@@ -1,0 +1,5 @@
+use Rattle.stapl_instructions.proofs.ScanLemmas.{ask_alike}
+use Rattle.stapl_instructions.proofs.scan_parts.find_known.Goals as goal
+
+pub returns-clause-kind : goal.returns-clause-kind
+returns-clause-kind c = ask_alike c.args.literals.now c.args.source c.find_bits.result c.find_bits.ensures.kind

@@ -1,6 +1,0 @@
-use Rattle.std.proofs.Common.{arith}
-use Rattle.stapl_machine.proofs.MoveLemmas.{end_clean}
-use Rattle.stapl_machine.proofs.moves.end_turn.Goals as goal
-
-pub returns-clause-ends : goal.returns-clause-ends
-returns-clause-ends c = λ piece s k. end_clean piece c.args.operands.now c.args.went s k (omega arith)

@@ -1,9 +1,0 @@
-use Rattle.std.proofs.lemmas.Nat.Bits.{bit_at-zero}
-use Rattle.stapl_machine.proofs.BlockLemmas.{marked_tms}
-use Rattle.stapl_machine.proofs.pin_cable.block_tms.Goals as goal
-
-pub returns-then-last : goal.returns-then-last
-returns-then-last c = λ i h. rw c.if-last.true (marked_tms c.args.n i c.requires.some c.requires.most h)
-
-pub returns-else-last : goal.returns-else-last
-returns-else-last c = λ i h. rw c.if-last.false (bit_at-zero i)

@@ -1,5 +1,0 @@
-use Rattle.stapl_machine.proofs.ScanLemmas.{ask_alike}
-use Rattle.stapl_machine.proofs.scan_parts.find_known.Goals as goal
-
-pub returns-clause-kind : goal.returns-clause-kind
-returns-clause-kind c = ask_alike c.args.literals.now c.args.source c.find_bits.result c.find_bits.ensures.kind

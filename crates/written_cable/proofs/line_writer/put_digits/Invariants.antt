@@ -1,0 +1,18 @@
+use Rattle.std.proofs.Common.{◌≤◌}
+use Rattle.bit_list.specs.Ranges.{taken}
+use Rattle.dev_card.specs.Hexadecimal.{all_hex_digits}
+use Rattle.tool_io.specs.Lines.{IsWhole, IsOverSame, SinkNeverFalls}
+use Rattle.written_cable.specs.HexTexts.{PutsDigits}
+use Rattle.written_cable.proofs.line_writer.put_digits.Given as goal
+
+abbrev pub invariant-down : goal.invariant-down
+invariant-down g l = record {
+  same_sink : IsOverSame l.fn.out l.out;
+  whole : IsWhole l.out;
+  below : l.left ≤ l.span.count;
+  puts : PutsDigits g.K.Sink.written (taken l.span.low l.span.count l.bits) (all_hex_digits (taken l.span.low l.span.count l.bits)) l.fn.out l.left l.out;
+  kept : SinkNeverFalls g.K.Sink.faults g.K.Sink.is_last l.fn.out l.out;
+}
+
+abbrev pub decreases-down : goal.decreases-down
+decreases-down g l = l.left

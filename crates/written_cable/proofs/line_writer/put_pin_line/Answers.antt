@@ -1,0 +1,18 @@
+use Rattle.std.proofs.Common.{[], ◌∷◌}
+use Rattle.tool_io.proofs.BytesLemmas.{on_err}
+use Rattle.tool_io.proofs.PutLemmas.{put_then, put_then_front, front_with}
+use Rattle.written_cable.proofs.line_writer.put_pin_line.Goals as goal
+
+pub returns-in_err-put-clause-front : goal.returns-in_err-put-clause-front
+returns-in_err-put-clause-front g c = on_err c.from_residual.result (front_with (10 ∷ []) (front_with c.args.digits.now c.in_err-put.ensures.front))
+
+pub returns-in_err-put-2-clause-front : goal.returns-in_err-put-2-clause-front
+returns-in_err-put-2-clause-front g c =
+    on_err c.from_residual-in_err-put-2.result (front_with (10 ∷ []) (put_then_front c.in_ok-put.ensures.ok c.in_err-put-2.ensures.front))
+
+pub returns-in_err-put-3-clause-front : goal.returns-in_err-put-3-clause-front
+returns-in_err-put-3-clause-front g c =
+    on_err c.from_residual-in_err-put-3.result (put_then_front (put_then c.in_ok-put.ensures.ok c.in_ok-put-2.ensures.ok) c.in_err-put-3.ensures.front)
+
+pub returns-clause-ok : goal.returns-clause-ok
+returns-clause-ok g c = put_then (put_then c.in_ok-put.ensures.ok c.in_ok-put-2.ensures.ok) c.in_ok-put-3.ensures.ok

@@ -1,0 +1,52 @@
+use Rattle.std.proofs.Common.{rules, refl, sym, ap, subst, ◌∙◌, [], ◌∷◌}
+use Rattle.tool_io.proofs.BytesLemmas.{on_err}
+use Rattle.scan_paths.specs.Cables.{Tunes, whole, pins}
+use Rattle.stapl_meaning.specs.declared.events.Event.TheVariants.{Hertz}
+use Rattle.written_cable.specs.Pins.{port_breakage}
+use Rattle.written_cable.proofs.SaidLemmas.{said_wholly, said_not, pins_failed, line_failed}
+use Rattle.written_cable.proofs.TornLemmas.{pins≢whole}
+use Rattle.written_cable.proofs.pin_cable.PinCableCable.hertz.Goals as goal
+
+pub returns-in_err-set_frequency-clause-failed : goal.returns-in_err-set_frequency-clause-failed
+returns-in_err-set_frequency-clause-failed g c =
+    let m = g.C.Cable in
+    on_err c.from_residual.result
+    (said_not (port_breakage m.breakage g.O.Paper.failed) m.board m.made g.O.Paper.shown (Tunes c.args.n)
+    (Hertz c.args.n) refl tt c.args.self.now _
+    (record { cable = refl; out = refl; pins = refl; base = refl }) refl refl
+    c.in_err-set_frequency.ensures.failed.cards c.in_err-set_frequency.ensures.failed.made refl (search rules))
+
+pub returns-in_err-finish-clause-failed : goal.returns-in_err-finish-clause-failed
+returns-in_err-finish-clause-failed g c =
+    let m = g.C.Cable in let f = c.finish.ensures in
+    on_err c.from_residual-in_err-finish.result
+    (pins_failed (port_breakage m.breakage g.O.Paper.failed) m.board m.made g.O.Paper.shown (Tunes c.args.n)
+    (Hertz c.args.n) refl tt c.args.self.now _
+    (record { cable = f.same.cable; out = f.same.out; pins = f.same.pins; base = f.same.base }) f.tap f.over
+    (ap m.board f.cable ∙ c.in_ok-set_frequency.ensures.signalled.cards)
+    (subst (λ x. m.made c.args.self.now.cable.now (Tunes c.args.n ∷ []) x)
+    (sym f.cable) c.in_ok-set_frequency.ensures.signalled.made) c.requires
+    (λ e. pins≢whole (sym c.in_err-finish.ensures.broken ∙ e)) c.in_err-finish.ensures.front)
+
+pub returns-in_err-put_hertz-clause-failed : goal.returns-in_err-put_hertz-clause-failed
+returns-in_err-put_hertz-clause-failed g c =
+    let m = g.C.Cable in let f = c.finish.ensures in
+    on_err c.from_residual-in_err-put_hertz.result
+    (line_failed (port_breakage m.breakage g.O.Paper.failed) m.board m.made g.O.Paper.shown (Tunes c.args.n)
+    (Hertz c.args.n) refl tt c.args.self.now _
+    (record { cable = f.same.cable; out = f.same.out; pins = f.same.pins; base = f.same.base }) f.tap
+    (c.put_hertz.ensures.same ∙ f.over) (ap m.board f.cable ∙ c.in_ok-set_frequency.ensures.signalled.cards) _
+    (subst (λ x. m.made c.args.self.now.cable.now (Tunes c.args.n ∷ []) x)
+    (sym f.cable) c.in_ok-set_frequency.ensures.signalled.made) c.requires pins≢whole c.in_ok-finish.ensures.put
+    c.in_err-put_hertz.ensures.front)
+
+pub returns-clause-signalled : goal.returns-clause-signalled
+returns-clause-signalled g c =
+    let m = g.C.Cable in let f = c.finish.ensures in
+    said_wholly (port_breakage m.breakage g.O.Paper.failed) m.board m.made g.O.Paper.shown (Tunes c.args.n)
+    (Hertz c.args.n) refl tt c.args.self.now _
+    (record { cable = f.same.cable; out = f.same.out; pins = f.same.pins; base = f.same.base }) f.tap
+    (c.put_hertz.ensures.same ∙ f.over) (ap m.board f.cable ∙ c.in_ok-set_frequency.ensures.signalled.cards) _
+    (subst (λ x. m.made c.args.self.now.cable.now (Tunes c.args.n ∷ []) x)
+    (sym f.cable) c.in_ok-set_frequency.ensures.signalled.made) c.requires
+    (search rules) c.in_ok-finish.ensures.put c.in_ok-put_hertz.ensures.ok c.in_ok-finish.ensures.none

@@ -1,0 +1,9 @@
+pub mod Papers
+pub mod PaperLaws
+pub mod Signals
+pub mod Pins
+pub mod PinLaws
+pub mod Ports
+pub mod Resets
+pub mod Blocks
+pub mod HexTexts

@@ -1,0 +1,16 @@
+//! The lines of a play, and a cable whose signals are written to them.
+#![tactic(auto)]
+
+mod digits;
+mod line_writer;
+mod paper;
+mod pin_cable;
+mod reset;
+mod trouble;
+
+pub use digits::Digits;
+pub use line_writer::put_escaped;
+pub use paper::Paper;
+pub use pin_cable::PinCable;
+pub use reset::five_ones;
+pub use trouble::{Trouble, trouble_of};
