@@ -15,7 +15,7 @@ use Rattle.play_tool.specs.declared.mode.WordKey.{WordKey}
 use Rattle.play_tool.specs.declared.mode.WordKey.TheVariants.{Board, Program, Code, Action, Do, Skip, Place, Turns, Pins, Report, Seed}
 use Rattle.play_tool.specs.declared.words.Request.{Request}
 use Rattle.play_tool.specs.Words.{mode_word, takes, needs, Part, BoardIn, ProgramIn, CodeIn, ActionNamed, NamesAsked, NamesSkipped, PlaceAsked, TurnsAtMost, PinsWritten, DevicesReported, SeedGiven, key_of, parts_between_commas, NamesBoard, NamesProgram, NamesCode, NamesAction, SpellsNames, AsksFor, LeavesOut, NamesNumber, NamesPlace, NamesTurns, NamesSeed, most_place, most_turns, most_seed, answer_word, SaysPins, SaysReport, GivesPart, word_at, HasMode, IsGivenBefore, GivesNew, IsRead, AreReadBefore, IsKeyGiven, GiveOf, AskNames, names_given, names_missing, AskTurns, turns_given, turns_usual, AskAnswer, answer_given, answer_missing, has_key, IsRequest, lack_mode, lack_key, IsFirstUnread, IsUsage, is_unread, is_missing}
-use Rattle.play_tool.specs.GivenParts.{name_spelled, names_in, Values, given_of, with_part, Adds, Refuses, not_taken, given_already, AddsWord, AddsNothing, one_if_some, count_of, AreReadUpTo, lacks, is_complete, names_or_none, turns_or_usual, answer_or_no, HasValues}
+use Rattle.play_tool.specs.GivenParts.{name_spelled, names_in, Values, given_of, with_part, Adds, Refuses, not_taken, given_already, GivesNoPart, AddsWord, AddsNothing, one_if_some, count_of, AreReadUpTo, lacks, is_complete, names_or_none, turns_or_usual, answer_or_no, HasValues}
 
 -- A word gives at most one part.
 
@@ -137,27 +137,55 @@ pub adds_refused : {word : List ℕ} {values : Values} (part : Part) → GivesPa
 adds_refused {word = word} {values = values} part gives r =
     record { refused = λ other given. subst (Refuses values) (one_part word part other gives given) r }
 
-no_part : (word : List ℕ) (values : Values) → ((path : List ℕ) → NamesBoard word path → ⊥) → ((path : List ℕ) → NamesProgram word path → ⊥) → ((path : List ℕ) → NamesCode word path → ⊥) → ((name : List ℕ) → NamesAction word name → ⊥) →
+no_part : (word : List ℕ) → ((path : List ℕ) → NamesBoard word path → ⊥) → ((path : List ℕ) → NamesProgram word path → ⊥) → ((path : List ℕ) → NamesCode word path → ⊥) → ((name : List ℕ) → NamesAction word name → ⊥) →
     ((names : List (List ℕ)) → AsksFor word names → ⊥) → ((names : List (List ℕ)) → LeavesOut word names → ⊥) →
     ((n : ℕ) → NamesPlace word n → ⊥) → ((n : ℕ) → NamesTurns word n → ⊥) → ((written : Bool) → SaysPins word written → ⊥) → ((reported : Bool) → SaysReport word reported → ⊥) →
-    ((seed : ℕ) → NamesSeed word seed → ⊥) → (part : Part) → GivesPart word part → Refuses values part
-no_part word values b p k a d s l t w r e (BoardIn path) g = absurd (b path g)
-no_part word values b p k a d s l t w r e (ProgramIn path) g = absurd (p path g)
-no_part word values b p k a d s l t w r e (CodeIn path) g = absurd (k path g)
-no_part word values b p k a d s l t w r e (SeedGiven n) g = absurd (e n g)
-no_part word values b p k a d s l t w r e (ActionNamed name) g = absurd (a name g)
-no_part word values b p k a d s l t w r e (NamesAsked names) g = absurd (d names g)
-no_part word values b p k a d s l t w r e (NamesSkipped names) g = absurd (s names g)
-no_part word values b p k a d s l t w r e (PlaceAsked n) g = absurd (l n g)
-no_part word values b p k a d s l t w r e (TurnsAtMost n) g = absurd (t n g)
-no_part word values b p k a d s l t w r e (PinsWritten written) g = absurd (w written g)
-no_part word values b p k a d s l t w r e (DevicesReported reported) g = absurd (r reported g)
+    ((seed : ℕ) → NamesSeed word seed → ⊥) → (part : Part) → GivesPart word part → ⊥
+no_part word b p k a d s l t w r e (BoardIn path) g = b path g
+no_part word b p k a d s l t w r e (ProgramIn path) g = p path g
+no_part word b p k a d s l t w r e (CodeIn path) g = k path g
+no_part word b p k a d s l t w r e (SeedGiven n) g = e n g
+no_part word b p k a d s l t w r e (ActionNamed name) g = a name g
+no_part word b p k a d s l t w r e (NamesAsked names) g = d names g
+no_part word b p k a d s l t w r e (NamesSkipped names) g = s names g
+no_part word b p k a d s l t w r e (PlaceAsked n) g = l n g
+no_part word b p k a d s l t w r e (TurnsAtMost n) g = t n g
+no_part word b p k a d s l t w r e (PinsWritten written) g = w written g
+no_part word b p k a d s l t w r e (DevicesReported reported) g = r reported g
 
-pub adds_no_part : {word : List ℕ} {values : Values} → ((path : List ℕ) → NamesBoard word path → ⊥) → ((path : List ℕ) → NamesProgram word path → ⊥) → ((path : List ℕ) → NamesCode word path → ⊥) → ((name : List ℕ) → NamesAction word name → ⊥) →
+pub gives_no_part : {word : List ℕ} → ((path : List ℕ) → NamesBoard word path → ⊥) → ((path : List ℕ) → NamesProgram word path → ⊥) → ((path : List ℕ) → NamesCode word path → ⊥) → ((name : List ℕ) → NamesAction word name → ⊥) →
     ((names : List (List ℕ)) → AsksFor word names → ⊥) → ((names : List (List ℕ)) → LeavesOut word names → ⊥) →
     ((n : ℕ) → NamesPlace word n → ⊥) → ((n : ℕ) → NamesTurns word n → ⊥) → ((written : Bool) → SaysPins word written → ⊥) → ((reported : Bool) → SaysReport word reported → ⊥) →
-    ((seed : ℕ) → NamesSeed word seed → ⊥) → AddsNothing values word
-adds_no_part {word = word} {values = values} b p k a d s l t w r e = record { refused = no_part word values b p k a d s l t w r e }
+    ((seed : ℕ) → NamesSeed word seed → ⊥) → GivesNoPart word
+gives_no_part {word = word} b p k a d s l t w r e = record { none = no_part word b p k a d s l t w r e }
+
+pub adds_no_part : {word : List ℕ} (values : Values) → GivesNoPart word → AddsNothing values word
+adds_no_part values n = record { refused = λ part gives. absurd (n.none part gives) }
+
+-- A part is added, or not.
+
+none_given : {A : Type 0} (found : Option A) → is_some found ≡ false → found ≡ None
+none_given None e = refl
+none_given (Some x) e = absurd cc
+
+pub adds_where_free : {values new : Values} (part : Part) (key : WordKey) → key ≡ key_of part → takes values.mode key ≡ true → is_some (given_of values key) ≡ false →
+    new ≡ with_part values part → Adds values part new
+adds_where_free {values = values} part key e taken free added = record {
+  taken = ap (takes values.mode) (sym e) ∙ taken;
+  free = none_given _ (ap (λ (k : WordKey). is_some (given_of values k)) (sym e) ∙ free);
+  added = added;
+}
+
+pub refuses_key : {values : Values} (part : Part) (key : WordKey) → key ≡ key_of part → takes values.mode key ≡ false → Refuses values part
+refuses_key {values = values} part key e taken = not_taken (ap (takes values.mode) (sym e) ∙ taken)
+
+given_there : (values : Values) (part : Part) (found : Option Part) → given_of values (key_of part) ≡ found → is_some found ≡ true → Refuses values part
+given_there values part None e there = absurd cc
+given_there values part (Some other) e there = given_already other e
+
+pub refuses_given : {values : Values} (part : Part) (key : WordKey) → key ≡ key_of part → is_some (given_of values key) ≡ true → Refuses values part
+refuses_given {values = values} part key e there =
+    given_there values part (given_of values (key_of part)) refl (ap (λ (k : WordKey). is_some (given_of values k)) (sym e) ∙ there)
 
 -- The first word is that of at most one mode.
 

@@ -8,6 +8,8 @@ use Rattle.play_tool.specs.declared.mode.Mode.{Mode}
 use Rattle.play_tool.specs.declared.mode.WordKey.{WordKey}
 use Rattle.play_tool.specs.declared.mode.WordKey.TheVariants.{Board, Program, Code, Action, Do, Skip, Place, Turns, Pins, Report, Seed}
 use Rattle.play_tool.specs.declared.words.Given.{Given}
+use Rattle.play_tool.specs.declared.words.GivenPart.{GivenPart}
+use Rattle.play_tool.specs.declared.words.GivenPart.TheVariants as given
 use Rattle.play_tool.specs.declared.words.Request.{Request}
 use Rattle.play_tool.specs.Words.{Part, BoardIn, ProgramIn, CodeIn, ActionNamed, NamesAsked, NamesSkipped, PlaceAsked, TurnsAtMost, PinsWritten, DevicesReported, SeedGiven, key_of, parts_between_commas, usual_turns, takes, needs, GivesPart, HasMode, GiveOf, AreReadBefore}
 
@@ -50,6 +52,20 @@ values_of given = record {
   seed = given.seed;
 }
 
+-- the part of the request that a word gives
+abbrev pub part_of : GivenPart → Part
+part_of (given.Board path) = BoardIn path.now
+part_of (given.Program path) = ProgramIn path.now
+part_of (given.Code path) = CodeIn path.now
+part_of (given.Action name) = ActionNamed name
+part_of (given.Do spelling) = NamesAsked (names_in spelling.now)
+part_of (given.Skip spelling) = NamesSkipped (names_in spelling.now)
+part_of (given.Place n) = PlaceAsked n
+part_of (given.Turns n) = TurnsAtMost n
+part_of (given.Pins written) = PinsWritten written
+part_of (given.Report reported) = DevicesReported reported
+part_of (given.Seed n) = SeedGiven n
+
 -- the part that is given of a key
 abbrev pub given_of : Values → WordKey → Option Part
 given_of values Board = option_map BoardIn values.board
@@ -78,6 +94,10 @@ with_part values (PinsWritten written) = record values { pins = Some written }
 with_part values (DevicesReported reported) = record values { report = Some reported }
 with_part values (SeedGiven n) = record values { seed = Some n }
 
+-- the mode takes the key of a part, and it is not given
+abbrev pub is_open : Values → Part → Bool
+is_open values part = takes values.mode (key_of part) && not (is_some (given_of values (key_of part)))
+
 -- a part more, whose key the mode takes and which was free
 pub record Adds (old : Values) (part : Part) (new : Values) : Type 0 where
   pub taken : takes old.mode (key_of part) ≡ true
@@ -88,6 +108,10 @@ pub record Adds (old : Values) (part : Part) (new : Values) : Type 0 where
 pub data Refuses (values : Values) (part : Part) : Type 0 where
   not_taken : takes values.mode (key_of part) ≡ false → Refuses values part
   given_already : (other : Part) → given_of values (key_of part) ≡ Some other → Refuses values part
+
+-- The word gives no part.
+pub record GivesNoPart (word : List ℕ) : Type 0 where
+  pub none : (part : Part) → GivesPart word part → ⊥
 
 -- The word gives a part more.
 pub record AddsWord (old : Values) (word : List ℕ) (new : Values) : Type 0 where

@@ -1,11 +1,11 @@
 //! The words of a command.
-ghost use Rattle.std.specs.Prelude.{◌≡◌, ◌≢◌, ◌≤◌, ◌<◌, ◌+◌, ℕ, Bool, List, [], length, map, codes, string_bytes, is_some, None, IfSome, IfNone, IfOk, IfErr, OnOk};
+ghost use Rattle.std.specs.Prelude.{◌≡◌, ◌≢◌, ◌≤◌, ◌<◌, ◌+◌, ℕ, Bool, List, length, map, codes, string_bytes, is_some, None, IfSome, IfNone, IfOk, IfErr, OnOk};
 ghost use Rattle.std.specs.Char.{is_ascii_digit};
 ghost use Rattle.std.specs.List.{list_all};
 ghost use Rattle.std.specs.Option.{option_map};
 ghost use Rattle.stapl_lexer.specs.ReservedWords.{is_free_name};
-ghost use Rattle.play_tool.specs.Words.{mode_word, BoardIn, ProgramIn, CodeIn, ActionNamed, NamesAsked, NamesSkipped, PlaceAsked, TurnsAtMost, PinsWritten, DevicesReported, SeedGiven, is_decimal, parts_between_commas, NamesBoard, NamesProgram, NamesCode, NamesAction, SpellsNames, AsksFor, LeavesOut, SpellsNumber, NamesPlace, NamesTurns, NamesSeed, answer_word, SaysPins, SaysReport, HasMode, IsRequest, IsFirstUnread, IsWordsRefused};
-ghost use Rattle.play_tool.specs.GivenParts.{name_spelled, names_in, values_of, given_of, Adds, Refuses, AddsWord, AddsNothing, AreReadUpTo, lacks, is_complete, names_or_none, HasValues};
+ghost use Rattle.play_tool.specs.Words.{mode_word, key_of, GivesPart, is_decimal, parts_between_commas, NamesBoard, NamesProgram, NamesCode, NamesAction, AsksFor, LeavesOut, SpellsNumber, NamesPlace, NamesTurns, NamesSeed, answer_word, SaysPins, SaysReport, HasMode, IsRequest, IsFirstUnread, IsWordsRefused};
+ghost use Rattle.play_tool.specs.GivenParts.{name_spelled, names_in, values_of, given_of, with_part, part_of, GivesNoPart, Adds, Refuses, AddsWord, AddsNothing, AreReadUpTo, lacks, is_complete, names_or_none, HasValues};
 ghost use Rattle.play_tool.specs.declared.mode.Mode.{Mode};
 
 use crate::mode::WordKey;
@@ -65,6 +65,42 @@ pub enum WordsRefused {
     Memory,
 }
 
+// What a word gives. A list of names is kept as it is spelled.
+#[derive(Clone, Copy)]
+enum GivenPart<'a> {
+    Board(&'a str),
+    Program(&'a str),
+    Code(&'a str),
+    Action(Name),
+    Do(&'a str),
+    Skip(&'a str),
+    Place(u32),
+    Turns(u32),
+    Pins(bool),
+    Report(bool),
+    Seed(u32),
+}
+
+impl<'a> GivenPart<'a> {
+    fn key(&self) -> WordKey
+        ensures { result ≡ key_of (part_of self.now) }
+    {
+        match self {
+            GivenPart::Board(_) => WordKey::Board,
+            GivenPart::Program(_) => WordKey::Program,
+            GivenPart::Code(_) => WordKey::Code,
+            GivenPart::Action(_) => WordKey::Action,
+            GivenPart::Do(_) => WordKey::Do,
+            GivenPart::Skip(_) => WordKey::Skip,
+            GivenPart::Place(_) => WordKey::Place,
+            GivenPart::Turns(_) => WordKey::Turns,
+            GivenPart::Pins(_) => WordKey::Pins,
+            GivenPart::Report(_) => WordKey::Report,
+            GivenPart::Seed(_) => WordKey::Seed,
+        }
+    }
+}
+
 // What the words so far have given. A list of names is kept as it is spelled.
 #[derive(Clone, Copy)]
 struct Given<'a> {
@@ -113,182 +149,72 @@ impl<'a> Given<'a> {
         }
     }
 
-    fn with_board(&self, path: &'a str) -> Option<Given<'a>>
-        ensures some { IfSome result (λ next. Adds (values_of self.now) (BoardIn path.now) (values_of next)) }
-        ensures none { IfNone result (Refuses (values_of self.now) (BoardIn path.now)) }
+    // What is given with one part more in place of what was given of its key.
+    fn with(&self, part: &GivenPart<'a>) -> Given<'a>
+        ensures { values_of result ≡ with_part (values_of self.now) (part_of part.now) }
     {
-        if !self.mode.takes(WordKey::Board) {
-            return None;
-        }
-        match self.board {
-            Some(_) => None,
-            None => Some(Given {
-                board: Some(path),
+        match part {
+            GivenPart::Board(path) => Given {
+                board: Some(*path),
                 ..*self
-            }),
+            },
+            GivenPart::Program(path) => Given {
+                program: Some(*path),
+                ..*self
+            },
+            GivenPart::Code(path) => Given {
+                code: Some(*path),
+                ..*self
+            },
+            GivenPart::Action(name) => Given {
+                action: Some(*name),
+                ..*self
+            },
+            GivenPart::Do(spelling) => Given {
+                todo: Some(*spelling),
+                ..*self
+            },
+            GivenPart::Skip(spelling) => Given {
+                skip: Some(*spelling),
+                ..*self
+            },
+            GivenPart::Place(place) => Given {
+                place: Some(*place),
+                ..*self
+            },
+            GivenPart::Turns(turns) => Given {
+                turns: Some(*turns),
+                ..*self
+            },
+            GivenPart::Pins(written) => Given {
+                pins: Some(*written),
+                ..*self
+            },
+            GivenPart::Report(reported) => Given {
+                report: Some(*reported),
+                ..*self
+            },
+            GivenPart::Seed(seed) => Given {
+                seed: Some(*seed),
+                ..*self
+            },
         }
     }
 
-    fn with_program(&self, path: &'a str) -> Option<Given<'a>>
-        ensures some { IfSome result (λ next. Adds (values_of self.now) (ProgramIn path.now) (values_of next)) }
-        ensures none { IfNone result (Refuses (values_of self.now) (ProgramIn path.now)) }
+    // What is given with one part more; `None` where the mode does not take its key, or that has been given.
+    #[tactic(auto, using(crate::proofs::WordLemmas::adds_where_free, crate::proofs::WordLemmas::refuses_key, crate::proofs::WordLemmas::refuses_given))]
+    fn add(&self, part: &GivenPart<'a>) -> Option<Given<'a>>
+        ensures some { IfSome result (λ next. Adds (values_of self.now) (part_of part.now) (values_of next)) }
+        ensures none { IfNone result (Refuses (values_of self.now) (part_of part.now)) }
     {
-        if !self.mode.takes(WordKey::Program) {
+        let key = part.key();
+        if !self.mode.takes(key) {
             return None;
         }
-        match self.program {
-            Some(_) => None,
-            None => Some(Given {
-                program: Some(path),
-                ..*self
-            }),
-        }
-    }
-
-    fn with_code(&self, path: &'a str) -> Option<Given<'a>>
-        ensures some { IfSome result (λ next. Adds (values_of self.now) (CodeIn path.now) (values_of next)) }
-        ensures none { IfNone result (Refuses (values_of self.now) (CodeIn path.now)) }
-    {
-        if !self.mode.takes(WordKey::Code) {
+        if self.has(key) {
             return None;
         }
-        match self.code {
-            Some(_) => None,
-            None => Some(Given {
-                code: Some(path),
-                ..*self
-            }),
-        }
-    }
-
-    fn with_action(&self, name: Name) -> Option<Given<'a>>
-        ensures some { IfSome result (λ next. Adds (values_of self.now) (ActionNamed name) (values_of next)) }
-        ensures none { IfNone result (Refuses (values_of self.now) (ActionNamed name)) }
-    {
-        if !self.mode.takes(WordKey::Action) {
-            return None;
-        }
-        match self.action {
-            Some(_) => None,
-            None => Some(Given {
-                action: Some(name),
-                ..*self
-            }),
-        }
-    }
-
-    fn with_todo(&self, spelling: &'a str) -> Option<Given<'a>>
-        ensures some { IfSome result (λ next.
-            Adds (values_of self.now) (NamesAsked (names_in spelling.now)) (values_of next)) }
-        ensures none { IfNone result (Refuses (values_of self.now) (NamesAsked (names_in spelling.now))) }
-    {
-        if !self.mode.takes(WordKey::Do) {
-            return None;
-        }
-        match self.todo {
-            Some(_) => None,
-            None => Some(Given {
-                todo: Some(spelling),
-                ..*self
-            }),
-        }
-    }
-
-    fn with_skip(&self, spelling: &'a str) -> Option<Given<'a>>
-        ensures some { IfSome result (λ next.
-            Adds (values_of self.now) (NamesSkipped (names_in spelling.now)) (values_of next)) }
-        ensures none { IfNone result (Refuses (values_of self.now) (NamesSkipped (names_in spelling.now))) }
-    {
-        if !self.mode.takes(WordKey::Skip) {
-            return None;
-        }
-        match self.skip {
-            Some(_) => None,
-            None => Some(Given {
-                skip: Some(spelling),
-                ..*self
-            }),
-        }
-    }
-
-    fn with_place(&self, place: u32) -> Option<Given<'a>>
-        ensures some { IfSome result (λ next. Adds (values_of self.now) (PlaceAsked place) (values_of next)) }
-        ensures none { IfNone result (Refuses (values_of self.now) (PlaceAsked place)) }
-    {
-        if !self.mode.takes(WordKey::Place) {
-            return None;
-        }
-        match self.place {
-            Some(_) => None,
-            None => Some(Given {
-                place: Some(place),
-                ..*self
-            }),
-        }
-    }
-
-    fn with_turns(&self, turns: u32) -> Option<Given<'a>>
-        ensures some { IfSome result (λ next. Adds (values_of self.now) (TurnsAtMost turns) (values_of next)) }
-        ensures none { IfNone result (Refuses (values_of self.now) (TurnsAtMost turns)) }
-    {
-        if !self.mode.takes(WordKey::Turns) {
-            return None;
-        }
-        match self.turns {
-            Some(_) => None,
-            None => Some(Given {
-                turns: Some(turns),
-                ..*self
-            }),
-        }
-    }
-
-    fn with_pins(&self, written: bool) -> Option<Given<'a>>
-        ensures some { IfSome result (λ next. Adds (values_of self.now) (PinsWritten written) (values_of next)) }
-        ensures none { IfNone result (Refuses (values_of self.now) (PinsWritten written)) }
-    {
-        if !self.mode.takes(WordKey::Pins) {
-            return None;
-        }
-        match self.pins {
-            Some(_) => None,
-            None => Some(Given {
-                pins: Some(written),
-                ..*self
-            }),
-        }
-    }
-
-    fn with_report(&self, reported: bool) -> Option<Given<'a>>
-        ensures some { IfSome result (λ next. Adds (values_of self.now) (DevicesReported reported) (values_of next)) }
-        ensures none { IfNone result (Refuses (values_of self.now) (DevicesReported reported)) }
-    {
-        if !self.mode.takes(WordKey::Report) {
-            return None;
-        }
-        match self.report {
-            Some(_) => None,
-            None => Some(Given {
-                report: Some(reported),
-                ..*self
-            }),
-        }
-    }
-
-    fn with_seed(&self, seed: u32) -> Option<Given<'a>>
-        ensures some { IfSome result (λ next. Adds (values_of self.now) (SeedGiven seed) (values_of next)) }
-        ensures none { IfNone result (Refuses (values_of self.now) (SeedGiven seed)) }
-    {
-        if !self.mode.takes(WordKey::Seed) {
-            return None;
-        }
-        match self.seed {
-            Some(_) => None,
-            None => Some(Given {
-                seed: Some(seed),
-                ..*self
-            }),
-        }
+        Some(self.with(part))
     }
 
     // What is given with one word more; `None` where it gives nothing that the mode takes, or its key has been given.
@@ -297,40 +223,10 @@ impl<'a> Given<'a> {
         ensures some { IfSome result (λ next. AddsWord (values_of self.now) word.now (values_of next)) }
         ensures none { IfNone result (AddsNothing (values_of self.now) word.now) }
     {
-        if let Some(path) = board_path(word) {
-            return self.with_board(path);
+        match part_in(word) {
+            Some(part) => self.add(&part),
+            None => None,
         }
-        if let Some(path) = program_path(word) {
-            return self.with_program(path);
-        }
-        if let Some(path) = code_path(word) {
-            return self.with_code(path);
-        }
-        if let Some(name) = action_name(word) {
-            return self.with_action(name);
-        }
-        if let Some(spelling) = names_asked(word) {
-            return self.with_todo(spelling);
-        }
-        if let Some(spelling) = names_skipped(word) {
-            return self.with_skip(spelling);
-        }
-        if let Some(place) = place_asked(word) {
-            return self.with_place(place);
-        }
-        if let Some(turns) = turn_count(word) {
-            return self.with_turns(turns);
-        }
-        if let Some(written) = pins_written(word) {
-            return self.with_pins(written);
-        }
-        if let Some(reported) = devices_reported(word) {
-            return self.with_report(reported);
-        }
-        if let Some(seed) = seed_given(word) {
-            return self.with_seed(seed);
-        }
-        None
     }
 
     fn has(&self, key: WordKey) -> bool
@@ -389,6 +285,48 @@ impl<'a> Given<'a> {
             report: self.report.unwrap_or(false),
             seed: self.seed,
         })
+    }
+}
+
+// The part that a word gives, if it gives one.
+#[tactic(auto, using(crate::proofs::WordLemmas::gives_no_part))]
+fn part_in<'a>(word: &'a str) -> Option<GivenPart<'a>>
+    ensures some { IfSome result (λ part. GivesPart word.now (part_of part)) }
+    ensures none { IfNone result (GivesNoPart word.now) }
+{
+    if let Some(path) = board_path(word) {
+        return Some(GivenPart::Board(path));
+    }
+    if let Some(path) = program_path(word) {
+        return Some(GivenPart::Program(path));
+    }
+    if let Some(path) = code_path(word) {
+        return Some(GivenPart::Code(path));
+    }
+    if let Some(name) = action_name(word) {
+        return Some(GivenPart::Action(name));
+    }
+    if let Some(spelling) = names_asked(word) {
+        return Some(GivenPart::Do(spelling));
+    }
+    if let Some(spelling) = names_skipped(word) {
+        return Some(GivenPart::Skip(spelling));
+    }
+    if let Some(place) = place_asked(word) {
+        return Some(GivenPart::Place(place));
+    }
+    if let Some(turns) = turn_count(word) {
+        return Some(GivenPart::Turns(turns));
+    }
+    if let Some(written) = pins_written(word) {
+        return Some(GivenPart::Pins(written));
+    }
+    if let Some(reported) = devices_reported(word) {
+        return Some(GivenPart::Report(reported));
+    }
+    match seed_given(word) {
+        Some(seed) => Some(GivenPart::Seed(seed)),
+        None => None,
     }
 }
 
