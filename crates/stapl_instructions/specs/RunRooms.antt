@@ -20,7 +20,8 @@ HasRoom code work = IsRoomFor code (vec_capacity work.operands) (vec_capacity wo
 
 -- the room is kept, and so is the piece
 abbrev pub KeepsRoom : Workspace → Workspace → Type 0
-KeepsRoom old new = (vec_capacity old.operands ≤ vec_capacity new.operands) × (vec_capacity old.text ≤ vec_capacity new.text)
+KeepsRoom old new =
+    (vec_capacity old.operands ≤ vec_capacity new.operands) × (vec_capacity old.text ≤ vec_capacity new.text)
 
 abbrev pub IsKeptBeside : Workspace → Workspace → Type 0
 IsKeptBeside old new = (new.piece ≡ old.piece) × KeepsRoom old new

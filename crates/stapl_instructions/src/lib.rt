@@ -1,5 +1,5 @@
-//! What instructions make and change: the machine's memory, its operands, and where each instruction leads. Nothing here
-//! writes a line or drives a cable.
+//! What instructions make and change: the machine's memory, its operands, and where each instruction leads. Nothing
+//! here writes a line or drives a cable.
 #![tactic(auto)]
 
 mod act;

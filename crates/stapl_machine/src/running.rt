@@ -35,9 +35,9 @@ pub struct Machine {
 
 impl Machine {
     /// A machine for one run of this code: its variables are 0, it holds neither operand nor record, and scans have no
-    /// padding and end in Run-Test/Idle. It takes all memory that the run needs: of the variables, of as many operands as
-    /// the code holds at once, of the most records there may be, of the longest text that the code prints, and of the
-    /// longest scan and the longest paddings.
+    /// padding and end in Run-Test/Idle. It takes all memory that the run needs: of the variables, of as many operands
+    /// as the code holds at once, of the most records there may be, of the longest text that the code prints, and of
+    /// the longest scan and the longest paddings.
     ///
     /// `AllocError` comes only for want of memory.
     pub fn prepare(alloc: Global, code: &Code) -> Result<Machine, AllocError>
@@ -153,8 +153,8 @@ impl Machine {
     /// the program shifts. It puts the lines of the events, with those of the clocks if `pins` is true, and answers how
     /// the run ended: with `Spent` if it still goes on after these turns. Each instruction is one step.
     ///
-    /// It takes no memory. `CableFault` comes only if the count of faults of the cable rose, or stands at its last value,
-    /// and `WriteFault` only if that of the sink did.
+    /// It takes no memory. `CableFault` comes only if the count of faults of the cable rose, or stands at its last
+    /// value, and `WriteFault` only if that of the sink did.
     pub fn run<C: Cable, K: Sink, L: Ledger>(
         &mut self,
         code: &Code,

@@ -25,8 +25,8 @@ use written_cable::Trouble;
 /// `pins` is true, and answers how the play ended: with `Spent` if it still goes on after these turns. A play of no
 /// procedures ends with the code 0 after no turn. Each instruction is one step.
 ///
-/// It takes no memory. `CableFault` comes only if the count of faults of the cable rose, or stands at its last value, and
-/// `WriteFault` only if that of the sink did.
+/// It takes no memory. `CableFault` comes only if the count of faults of the cable rose, or stands at its last value,
+/// and `WriteFault` only if that of the sink did.
 pub fn play<C: Cable, K: Sink, L: Ledger>(
     machine: &mut Machine,
     code: &Code,

@@ -48,7 +48,10 @@ put_then_front {shown = shown} {a = a} {xs = xs} {ys = ys} first second = record
 }
 
 begins_with : {bytes front : List ℕ} (more : List ℕ) → Begins bytes front → Begins (bytes ++ more) front
-begins_with {front = front} more b = record { more = b.more ++ more; is = ap (λ (v : List ℕ). v ++ more) b.is ∙ append_assoc front b.more more }
+begins_with {front = front} more b = record {
+  more = b.more ++ more;
+  is = ap (λ (v : List ℕ). v ++ more) b.is ∙ append_assoc front b.more more;
+}
 
 -- more text that was to be put behind
 pub front_with : {K : Type 0} {shown : K → Shown} {a b : K} {xs : List ℕ} (more : List ℕ) →
@@ -65,9 +68,15 @@ front_with {shown = shown} {a = a} {xs = xs} more m = record {
 pub puts_on : {K : Type 0} (written : K → Option (List ℕ)) (a b : Lines K) (bytes : List ℕ) → io.Puts written a bytes b → Puts (shown_of written) a bytes b
 puts_on written a b bytes p = record { front = p.front; parts = p.parts; went = p.went }
 
-pub puts_front_on : {K : Type 0} (written : K → Option (List ℕ)) (a b : Lines K) (bytes : List ℕ) → io.IsBroken b → io.PutsFront written a bytes b →
-    PutsFront (shown_of written) a bytes b
-puts_front_on written a b bytes broken p = record { front = p.front; rest = p.rest; parts = p.parts; went = p.went; waits = λ whole. absurd cc }
+pub puts_front_on : {K : Type 0} (written : K → Option (List ℕ)) (a b : Lines K) (bytes : List ℕ) → io.IsBroken b →
+    io.PutsFront written a bytes b → PutsFront (shown_of written) a bytes b
+puts_front_on written a b bytes broken p = record {
+  front = p.front;
+  rest = p.rest;
+  parts = p.parts;
+  went = p.went;
+  waits = λ whole. absurd cc;
+}
 
 pub puts_back : {K : Type 0} (written : K → Option (List ℕ)) (a b : Lines K) (bytes : List ℕ) → Puts (shown_of written) a bytes b → io.Puts written a bytes b
 puts_back written a b bytes p = record { front = p.front; parts = p.parts; went = p.went }

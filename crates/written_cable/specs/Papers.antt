@@ -6,8 +6,8 @@ use Rattle.tool_io.specs.declared.lines.Lines.{Lines}
 use Rattle.tool_io.specs.Bytes.{then_bytes}
 use Rattle.tool_io.specs.Lines.{gathered, taken, sink_of}
 
--- the bytes that are put and not yet written, those that are written, where that is told, whether a call has failed, and
--- the name of what they are written to
+-- the bytes that are put and not yet written, those that are written, where that is told, whether a call has failed,
+-- and the name of what they are written to
 pub record Shown : Type 0 where
   pub waiting_bytes : List ℕ
   pub told_bytes : Option (List ℕ)
