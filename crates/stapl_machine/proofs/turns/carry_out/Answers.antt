@@ -30,7 +30,7 @@ returns-in-Ok-clause-does g c =
     (rest_of code i chosen old) (rest_of code (i + 1) chosen new) (ticks_from code i chosen old) (ticks_from code (i + 1) chosen new) c.args.steps.now c.count.new.steps
     (goes code i chosen old x c.requires.inside is new c.advance.result (Acts d) c.in-Acts.is c.advance.ensures.leads)
     (counts code i chosen old x c.requires.inside is new c.advance.result (Acts d) c.in-Acts.is c.advance.ensures.ticks c.args.steps.now c.count.new.steps c.count.ensures)
-    c.in-Ok.ensures.did
+    (rw c.deref.ensures.value at c.in-Ok.ensures.did)
 
 pub returns-in-Err-clause-does : goal.returns-in-Err-clause-does
 returns-in-Err-clause-does g c =
@@ -42,7 +42,7 @@ returns-in-Err-clause-does g c =
     (goes code i chosen old x c.requires.inside is new c.advance.result (Acts d) c.in-Acts.is c.advance.ensures.leads)
     (λ k. none_over c.count.new.steps (ticks_from code (i + 1) chosen new (deeds_chain k deeds)) (c.args.steps.now + ticks_from code i chosen old k)
     (counts code i chosen old x c.requires.inside is new c.advance.result (Acts d) c.in-Acts.is c.advance.ensures.ticks c.args.steps.now c.count.new.steps c.count.ensures k))
-    c.in-Err.ensures.front
+    (rw c.deref.ensures.value at c.in-Err.ensures.front)
 
 pub returns-in-Ends-clause-does : goal.returns-in-Ends-clause-does
 returns-in-Ends-clause-does g c =
