@@ -1,0 +1,2 @@
+" Vim itself takes .stp for stored procedures.
+autocmd BufRead,BufNewFile *.stp set filetype=stapl
