@@ -1,4 +1,4 @@
-//! Lists of bits, the lowest index first.
+//! Lists of bits, the lowest index first, and hexadecimal digits.
 #![tactic(auto)]
 
 ghost use Rattle.std.specs.Prelude.{◌≡◌, ◌<◌, ◌≤◌, ◌+◌, ◌-◌, ◌↔◌, ◌++◌, ℕ, Bool, false, [], IsTrue, IfOk, OnOk, All, length, replicate, reverse, take, drop, slice_get, slice_set};
@@ -10,9 +10,11 @@ ghost use Rattle.bit_list.specs.Ranges.{taken, spliced, AgreeUnderMask};
 ghost use Rattle.base.specs.Bits.{low_bits, number_of};
 
 mod digits;
+mod hexadecimal;
 pub mod laws;
 mod words;
 
+pub use hexadecimal::{hex_byte, word_digits};
 use std::alloc::{AllocError, Global};
 use std::marker::Model;
 use thiserror::Error;

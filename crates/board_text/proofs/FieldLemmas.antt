@@ -8,7 +8,8 @@ use Rattle.dev_card.specs.declared.desc.Kind.TheVariants as kinds
 use Rattle.board_text.specs.declared.shapes.Place.TheVariants as places
 use Rattle.board_text.specs.declared.shapes.Shape.TheVariants as shapes
 use Rattle.stapl_lexer.specs.Names.{is_name}
-use Rattle.board_text.specs.Shapes.{is_spelled, is_decimal, are_hexadecimal, is_opcode_word, is_identity_word, fits, places_of, memory_places}
+use Rattle.base.specs.Decimals.{is_decimal}
+use Rattle.board_text.specs.Shapes.{is_spelled, are_hexadecimal, is_opcode_word, is_identity_word, fits, places_of, memory_places}
 use Rattle.board_text.specs.Contents.{word, code_at, identity_of, last_words}
 use Rattle.board_text.specs.Limits.{IsOdd}
 use Rattle.board_text.proofs.ShapeLemmas.{fits-length, fits-drop, spelled_at}

@@ -1,6 +1,6 @@
 -- Boards as texts: the devices that a text describes, or its first faulty line with the smallest of its reasons. The
 -- notation is this profile's.
-use Rattle.std.specs.Prelude.{◌≡◌, ◌≢◌, ◌<◌, ◌≤◌, ◌+◌, ◌-◌, ◌++◌, ℕ, false, List, [], ◌∷◌, length, take, fold, slice_get, slice_index_or, Option, Some, None, IsSomeAnd, AllPairs, Contains, ◌⊎◌, if◌then◌else◌, option_and_then}
+use Rattle.std.specs.Prelude.{◌≡◌, ◌≢◌, ◌<◌, ◌≤◌, ◌+◌, ◌-◌, ◌++◌, ℕ, false, List, [], ◌∷◌, length, take, fold, slice_get, slice_index_or, Option, Some, None, IsSomeAnd, All, AllPairs, Contains, ◌⊎◌, if◌then◌else◌, option_and_then}
 use Rattle.std.specs.List.{Any}
 use Rattle.std.specs.Option.{option_map_or}
 use Rattle.std.specs.Str.Lines.{lines}
@@ -9,7 +9,7 @@ use Rattle.dev_card.specs.declared.desc.Kind.{Kind}
 use Rattle.dev_card.specs.declared.desc.Kind.TheVariants as kinds
 use Rattle.dev_card.specs.declared.desc.RegDesc.{RegDesc}
 use Rattle.dev_card.specs.declared.desc.Desc.{Desc}
-use Rattle.dev_card.specs.Descriptions.{opcodes_of}
+use Rattle.dev_card.specs.Descriptions.{opcodes_of, IsGood}
 use Rattle.board_text.specs.declared.reason.BoardReason.{BoardReason}
 use Rattle.board_text.specs.declared.reason.BoardReason.TheVariants as reasons
 use Rattle.board_text.specs.Reasons.{reason_number}
@@ -152,3 +152,9 @@ pub record IsEmptyBoard (text : List ℕ) (line : ℕ) (reason : BoardReason) : 
 -- the first fault of a text
 abbrev pub IsFirstFault : List ℕ → ℕ → BoardReason → Type 0
 IsFirstFault text line reason = IsTooLong text line reason ⊎ (IsFaultyLine text line reason ⊎ IsEmptyBoard text line reason)
+
+-- These devices can be fitted into a rack.
+pub record CanBeFitted (devices : List Desc) : Type 0 where
+  pub some : 1 ≤ length devices
+  pub most : length devices ≤ most_devices
+  pub good : All IsGood devices

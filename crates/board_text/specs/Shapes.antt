@@ -9,6 +9,7 @@ use Rattle.std.specs.Prelude.{ℕ, Bool, true, false, ◌&&◌, ◌||◌, ◌==�
 use Rattle.std.specs.Char.{is_ascii_digit, is_ascii_hexdigit}
 use Rattle.std.specs.List.{list_all, find}
 use Rattle.std.specs.Str.{bytes_eq}
+use Rattle.base.specs.Decimals.{is_decimal}
 use Rattle.stapl_lexer.specs.Names.{is_name}
 use Rattle.dev_card.specs.declared.desc.Kind.{Kind}
 use Rattle.dev_card.specs.declared.desc.Kind.TheVariants as kinds
@@ -36,10 +37,6 @@ spelling keys.Words = codes "words"
 spelling keys.Width = codes "width"
 spelling keys.Busy = codes "busy"
 spelling keys.Fill = codes "fill"
-
--- decimal digits without a leading zero; a lone 0 is written so too
-abbrev pub is_decimal : List ℕ → Bool
-is_decimal word = not (length word == 0) && list_all is_ascii_digit word && ((length word == 1) || not (slice_index word 0 == 48))
 
 -- hexadecimal digits of either case
 abbrev pub are_hexadecimal : List ℕ → Bool

@@ -3,29 +3,16 @@ ghost use Rattle.std.specs.Prelude.{◌≡◌, ◌≤◌, ◌<◌, ◌^◌, true
 ghost use Rattle.std.specs.Char.{is_ascii_digit, is_ascii_hexdigit, digit_value};
 ghost use Rattle.std.specs.List.{list_all};
 ghost use Rattle.std.specs.Str.Parse.{digits_value};
-ghost use Rattle.board_text.specs.Shapes.{is_decimal, are_hexadecimal, is_opcode_word, is_identity_word, is_constant_word};
+ghost use Rattle.board_text.specs.Shapes.{are_hexadecimal, is_opcode_word, is_identity_word, is_constant_word};
 ghost use Rattle.board_text.specs.Reading.{cap};
 
 // What stands for each number that is greater.
 const CAP: u32 = 1_000_001;
 
-fn has_digits(word: &[u8]) -> bool
-    ensures { result ≡ list_all is_ascii_digit word.now }
-{
-    word.iter().all(|byte| byte.is_ascii_digit())
-}
-
 fn are_hexadecimal(word: &[u8]) -> bool
     ensures { result ≡ are_hexadecimal word.now }
 {
     word.iter().all(|byte| byte.is_ascii_hexdigit())
-}
-
-// Whether a word is spelled as a decimal number.
-pub fn is_decimal(word: &[u8]) -> bool
-    ensures { result ≡ is_decimal word.now }
-{
-    !word.is_empty() && has_digits(word) && (word.len() == 1 || word[0] != b'0')
 }
 
 // Whether a word is spelled as an opcode.

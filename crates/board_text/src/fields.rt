@@ -2,7 +2,8 @@
 ghost use Rattle.std.specs.Prelude.{◌≡◌, ◌≤◌, ◌<◌, ◌^◌, true, length, SomeIff};
 ghost use Rattle.stapl_lexer.specs.Names.{is_name};
 ghost use Rattle.board_text.specs.Lines.{texts};
-ghost use Rattle.board_text.specs.Shapes.{is_decimal, is_opcode_word, is_identity_word};
+ghost use Rattle.base.specs.Decimals.{is_decimal};
+ghost use Rattle.board_text.specs.Shapes.{is_opcode_word, is_identity_word};
 ghost use Rattle.board_text.specs.Contents.{word, name_at, number_at, code_at};
 ghost use Rattle.board_text.specs.Reading.{cap};
 

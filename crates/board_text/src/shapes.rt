@@ -3,7 +3,8 @@ ghost use Rattle.std.specs.Prelude.{◌≡◌};
 ghost use Rattle.board_text.specs.Lines.{texts};
 ghost use Rattle.board_text.specs.Shapes.{spelling, is_spelled, fits, places_of, shape_of};
 
-use crate::digits::{is_constant_word, is_decimal, is_identity_word, is_opcode_word};
+use crate::digits::{is_constant_word, is_identity_word, is_opcode_word};
+use base::is_decimal;
 use dev_card::Kind;
 use stapl_lexer::Name;
 

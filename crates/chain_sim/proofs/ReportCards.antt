@@ -11,7 +11,7 @@ use Rattle.dev_card.specs.declared.desc.FlashDesc.{FlashDesc}
 use Rattle.dev_card.specs.declared.desc.Desc.{Desc}
 use Rattle.dev_card.specs.Descriptions.{HasPartsOf, IsGoodFlash}
 use Rattle.dev_card.specs.Card.{Card}
-use Rattle.dev_card.specs.Hexadecimal.{all_hex_digits}
+use Rattle.bit_list.specs.Hexadecimal.{all_hex_digits}
 use Rattle.dev_card.specs.PaddedScan.{descriptions_of}
 use Rattle.dev_card.specs.Reports.{named_text, registers_text, word_text, words_text, memory_text, held_text}
 use Rattle.dev_card.specs.Sound.{SoundCard, card_in, cell_lengths, flash_cell_lengths}

@@ -4,7 +4,7 @@ use Rattle.base.specs.Bits.{low_bits}
 use Rattle.tool_io.specs.declared.lines.Lines.{Lines}
 use Rattle.tool_io.specs.Lines.{Puts}
 use Rattle.dev_card.specs.Card.{Card}
-use Rattle.dev_card.specs.Hexadecimal.{all_hex_digits}
+use Rattle.bit_list.specs.Hexadecimal.{all_hex_digits}
 use Rattle.dev_card.specs.Reports.{named_text, held_text, report_line, report_of}
 
 -- the cells of a card, and one of them

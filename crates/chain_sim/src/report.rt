@@ -1,19 +1,19 @@
 //! The report of a board: a line for each device, with what it holds.
-ghost use Rattle.std.specs.Prelude.{◌≡◌, ◌<◌, ◌≤◌, ◌+◌, ◌-◌, ◌*◌, ◌^◌, ◌++◌, ◌∷◌, [], pos, codes, drop, length, map, IsSomeAnd, OnOk, OnErr};
+ghost use Rattle.std.specs.Prelude.{◌≡◌, ◌<◌, ◌≤◌, ◌+◌, ◌-◌, ◌*◌, ◌^◌, ◌++◌, pos, codes, drop, length, map, IsSomeAnd};
 ghost use Rattle.std.specs.Fmt.{signed_decimal};
-ghost use Rattle.base.specs.Bits.{low_bits, number_of};
+ghost use Rattle.base.specs.Bits.{number_of};
 ghost use Rattle.bit_list.specs.Ranges.{taken};
 ghost use Rattle.dev_card.specs.declared.desc.Kind.TheVariants as kinds;
-ghost use Rattle.dev_card.specs.Hexadecimal.{all_hex_digits};
+ghost use Rattle.bit_list.specs.Hexadecimal.{all_hex_digits};
 ghost use Rattle.dev_card.specs.PaddedScan.{descriptions_of};
 ghost use Rattle.dev_card.specs.Reports.{named_text, registers_text, are_ones, word_text, words_text, memory_text};
 ghost use Rattle.dev_card.specs.Sound.{card_in};
-ghost use Rattle.tool_io.specs.Lines.{IsWhole, IsOverSame, HasSinkCause, Puts, PutsFront};
+ghost use Rattle.tool_io.specs.Lines.{IsWhole, HasPut, KeepsLines};
 ghost use Rattle.chain_sim.specs.Places.{card_at, cards_at};
 ghost use Rattle.chain_sim.specs.Reports.{cells_in, cell_in, instruction_in, held_in, line_in, report_in};
 
-use dev_card::{Desc, Device, Kind, RegDesc, word_digits};
-use tool_io::{Failed, Lines, Sink};
+use dev_card::{Desc, Device, Kind, RegDesc};
+use tool_io::{Failed, Lines, Sink, put_count, put_hex};
 
 // The length of a cell in bits.
 fn length_of<D: Device>(device: &D, cell: u32) -> u32
@@ -33,38 +33,18 @@ fn word_of<D: Device>(device: &D, cell: u32, at: u32, n: u32) -> u64
     device.cell_word(cell, at, n)
 }
 
-// Puts all digits of the bits of a number, the highest first.
-fn put_number<K: Sink>(out: &mut Lines<K>, number: u64, len: u32) -> Result<(), Failed>
-    requires whole { IsWhole out.old }
-    requires most { len ≤ 64 }
-    requires fits { number < 2 ^ len }
-    ensures same_sink { IsOverSame out.old out.new }
-    ensures whole { OnOk result (IsWhole out.new) }
-    ensures ok { OnOk result (Puts K.written out.old (all_hex_digits (low_bits len number)) out.new) }
-    ensures front { OnErr result (PutsFront K.written out.old (all_hex_digits (low_bits len number)) out.new) }
-    ensures cause { HasSinkCause K.faults K.is_last out.old out.new result }
-{
-    let digits = word_digits(number);
-    let first = 16 - len.div_ceil(4) as usize;
-    out.put(&digits[first..])
-}
-
 // Puts all digits of a cell, the highest first.
 fn put_cell<D: Device, K: Sink>(out: &mut Lines<K>, device: &D, cell: u32) -> Result<(), Failed>
     requires whole { IsWhole out.old }
     requires cell { cell < length (cells_in (card_in (D.fitted device.now))) }
-    ensures same_sink { IsOverSame out.old out.new }
-    ensures whole { OnOk result (IsWhole out.new) }
-    ensures ok { OnOk result (Puts K.written out.old
-        (all_hex_digits (cell_in (card_in (D.fitted device.now)) cell)) out.new) }
-    ensures front { OnErr result (PutsFront K.written out.old
-        (all_hex_digits (cell_in (card_in (D.fitted device.now)) cell)) out.new) }
-    ensures cause { HasSinkCause K.faults K.is_last out.old out.new result }
+    ensures put { HasPut K.written out.old
+        (all_hex_digits (cell_in (card_in (D.fitted device.now)) cell)) out.new result }
+    ensures kept { KeepsLines K.faults K.is_last out.old out.new result }
 {
     let mut left = length_of(device, cell);
     'down: while left > 0 {
         let low = (left - 1) / 64 * 64;
-        put_number(out, word_of(device, cell, low, left - low), left - low)?;
+        put_hex(out, word_of(device, cell, low, left - low), left - low)?;
         left = low;
     }
     Ok(())
@@ -73,11 +53,8 @@ fn put_cell<D: Device, K: Sink>(out: &mut Lines<K>, device: &D, cell: u32) -> Re
 // Puts a name, between a space and an equals sign.
 fn put_name<K: Sink>(out: &mut Lines<K>, name: &[u8]) -> Result<(), Failed>
     requires { IsWhole out.old }
-    ensures same_sink { IsOverSame out.old out.new }
-    ensures whole { OnOk result (IsWhole out.new) }
-    ensures ok { OnOk result (Puts K.written out.old (codes " " ++ name.now ++ codes "=") out.new) }
-    ensures front { OnErr result (PutsFront K.written out.old (codes " " ++ name.now ++ codes "=") out.new) }
-    ensures cause { HasSinkCause K.faults K.is_last out.old out.new result }
+    ensures put { HasPut K.written out.old (codes " " ++ name.now ++ codes "=") out.new result }
+    ensures kept { KeepsLines K.faults K.is_last out.old out.new result }
 {
     out.put(b" ")?;
     out.put(name)?;
@@ -94,13 +71,9 @@ fn put_named_cell<D: Device, K: Sink>(
 ) -> Result<(), Failed>
     requires whole { IsWhole out.old }
     requires cell { cell < length (cells_in (card_in (D.fitted device.now))) }
-    ensures same_sink { IsOverSame out.old out.new }
-    ensures whole { OnOk result (IsWhole out.new) }
-    ensures ok { OnOk result (Puts K.written out.old
-        (named_text name.now (all_hex_digits (cell_in (card_in (D.fitted device.now)) cell))) out.new) }
-    ensures front { OnErr result (PutsFront K.written out.old
-        (named_text name.now (all_hex_digits (cell_in (card_in (D.fitted device.now)) cell))) out.new) }
-    ensures cause { HasSinkCause K.faults K.is_last out.old out.new result }
+    ensures put { HasPut K.written out.old
+        (named_text name.now (all_hex_digits (cell_in (card_in (D.fitted device.now)) cell))) out.new result }
+    ensures kept { KeepsLines K.faults K.is_last out.old out.new result }
 {
     put_name(out, name)?;
     put_cell(out, device, cell)?;
@@ -116,13 +89,9 @@ fn put_registers<D: Device, K: Sink>(
     requires whole { IsWhole out.old }
     requires cells { length registers.now ≡ length (cells_in (card_in (D.fitted device.now))) }
     requires few { length registers.now ≤ 64 }
-    ensures same_sink { IsOverSame out.old out.new }
-    ensures whole { OnOk result (IsWhole out.new) }
-    ensures ok { OnOk result (Puts K.written out.old
-        (registers_text registers.now (cells_in (card_in (D.fitted device.now)))) out.new) }
-    ensures front { OnErr result (PutsFront K.written out.old
-        (registers_text registers.now (cells_in (card_in (D.fitted device.now)))) out.new) }
-    ensures cause { HasSinkCause K.faults K.is_last out.old out.new result }
+    ensures put { HasPut K.written out.old
+        (registers_text registers.now (cells_in (card_in (D.fitted device.now)))) out.new result }
+    ensures kept { KeepsLines K.faults K.is_last out.old out.new result }
 {
     for i in 0..registers.len() {
         put_named_cell(out, registers[i].name.bytes(), device, i as u32)?;
@@ -156,18 +125,6 @@ fn is_ones<D: Device>(device: &D, cell: u32) -> bool
     true
 }
 
-// Puts a number in decimal digits.
-fn put_count<K: Sink>(out: &mut Lines<K>, n: u32) -> Result<(), Failed>
-    requires { IsWhole out.old }
-    ensures same_sink { IsOverSame out.old out.new }
-    ensures whole { OnOk result (IsWhole out.new) }
-    ensures ok { OnOk result (Puts K.written out.old (signed_decimal (pos n)) out.new) }
-    ensures front { OnErr result (PutsFront K.written out.old (signed_decimal (pos n)) out.new) }
-    ensures cause { HasSinkCause K.faults K.is_last out.old out.new result }
-{
-    out.put_int(i64::from(n))
-}
-
 // Puts a cell under a number.
 fn put_numbered_cell<D: Device, K: Sink>(
     out: &mut Lines<K>,
@@ -177,16 +134,12 @@ fn put_numbered_cell<D: Device, K: Sink>(
 ) -> Result<(), Failed>
     requires whole { IsWhole out.old }
     requires cell { cell < length (cells_in (card_in (D.fitted device.now))) }
-    ensures same_sink { IsOverSame out.old out.new }
-    ensures whole { OnOk result (IsWhole out.new) }
-    ensures ok { OnOk result (Puts K.written out.old (named_text (signed_decimal (pos number))
-        (all_hex_digits (cell_in (card_in (D.fitted device.now)) cell))) out.new) }
-    ensures front { OnErr result (PutsFront K.written out.old (named_text (signed_decimal (pos number))
-        (all_hex_digits (cell_in (card_in (D.fitted device.now)) cell))) out.new) }
-    ensures cause { HasSinkCause K.faults K.is_last out.old out.new result }
+    ensures put { HasPut K.written out.old
+        (named_text (signed_decimal (pos number)) (all_hex_digits (cell_in (card_in (D.fitted device.now)) cell)))
+        out.new result }
+    ensures kept { KeepsLines K.faults K.is_last out.old out.new result }
 {
-    out.put(b" ")?;
-    put_count(out, number)?;
+    put_count(out, b" ", number)?;
     out.put(b"=")?;
     put_cell(out, device, cell)?;
     Ok(())
@@ -197,13 +150,9 @@ fn put_word<D: Device, K: Sink>(out: &mut Lines<K>, device: &D, number: u32) -> 
     requires whole { IsWhole out.old }
     requires cell { number + 1 < length (cells_in (card_in (D.fitted device.now))) }
     requires fits { number + 1 < 2 ^ 32 }
-    ensures same_sink { IsOverSame out.old out.new }
-    ensures whole { OnOk result (IsWhole out.new) }
-    ensures ok { OnOk result (Puts K.written out.old
-        (word_text number (cell_in (card_in (D.fitted device.now)) (number + 1))) out.new) }
-    ensures front { OnErr result (PutsFront K.written out.old
-        (word_text number (cell_in (card_in (D.fitted device.now)) (number + 1))) out.new) }
-    ensures cause { HasSinkCause K.faults K.is_last out.old out.new result }
+    ensures put { HasPut K.written out.old
+        (word_text number (cell_in (card_in (D.fitted device.now)) (number + 1))) out.new result }
+    ensures kept { KeepsLines K.faults K.is_last out.old out.new result }
 {
     if is_ones(device, number + 1) {
         return Ok(());
@@ -223,13 +172,9 @@ fn count_of<D: Device>(device: &D) -> u32
 fn put_words<D: Device, K: Sink>(out: &mut Lines<K>, device: &D) -> Result<(), Failed>
     requires whole { IsWhole out.old }
     requires address { 1 ≤ length (cells_in (card_in (D.fitted device.now))) }
-    ensures same_sink { IsOverSame out.old out.new }
-    ensures whole { OnOk result (IsWhole out.new) }
-    ensures ok { OnOk result (Puts K.written out.old
-        (words_text 0 (drop 1 (cells_in (card_in (D.fitted device.now))))) out.new) }
-    ensures front { OnErr result (PutsFront K.written out.old
-        (words_text 0 (drop 1 (cells_in (card_in (D.fitted device.now))))) out.new) }
-    ensures cause { HasSinkCause K.faults K.is_last out.old out.new result }
+    ensures put { HasPut K.written out.old
+        (words_text 0 (drop 1 (cells_in (card_in (D.fitted device.now))))) out.new result }
+    ensures kept { KeepsLines K.faults K.is_last out.old out.new result }
 {
     for number in 0..count_of(device) - 1 {
         put_word(out, device, number)?;
@@ -241,13 +186,8 @@ fn put_words<D: Device, K: Sink>(out: &mut Lines<K>, device: &D) -> Result<(), F
 fn put_memory<D: Device, K: Sink>(out: &mut Lines<K>, device: &D) -> Result<(), Failed>
     requires whole { IsWhole out.old }
     requires address { 1 ≤ length (cells_in (card_in (D.fitted device.now))) }
-    ensures same_sink { IsOverSame out.old out.new }
-    ensures whole { OnOk result (IsWhole out.new) }
-    ensures ok { OnOk result (Puts K.written out.old
-        (memory_text (cells_in (card_in (D.fitted device.now)))) out.new) }
-    ensures front { OnErr result (PutsFront K.written out.old
-        (memory_text (cells_in (card_in (D.fitted device.now)))) out.new) }
-    ensures cause { HasSinkCause K.faults K.is_last out.old out.new result }
+    ensures put { HasPut K.written out.old (memory_text (cells_in (card_in (D.fitted device.now)))) out.new result }
+    ensures kept { KeepsLines K.faults K.is_last out.old out.new result }
 {
     put_named_cell(out, b"addr", device, 0)?;
     put_words(out, device)?;
@@ -258,12 +198,8 @@ fn put_memory<D: Device, K: Sink>(out: &mut Lines<K>, device: &D) -> Result<(), 
 fn put_held<D: Device, K: Sink>(out: &mut Lines<K>, device: &D, desc: &Desc) -> Result<(), Failed>
     requires whole { IsWhole out.old }
     requires desc { IsSomeAnd (card_in (D.fitted device.now)) (λ c. c.desc ≡ desc.now) }
-    ensures same_sink { IsOverSame out.old out.new }
-    ensures whole { OnOk result (IsWhole out.new) }
-    ensures ok { OnOk result (Puts K.written out.old (held_in (card_in (D.fitted device.now))) out.new) }
-    ensures front { OnErr result (PutsFront K.written out.old
-        (held_in (card_in (D.fitted device.now))) out.new) }
-    ensures cause { HasSinkCause K.faults K.is_last out.old out.new result }
+    ensures put { HasPut K.written out.old (held_in (card_in (D.fitted device.now))) out.new result }
+    ensures kept { KeepsLines K.faults K.is_last out.old out.new result }
 {
     match desc.kind {
         Kind::Plain => Ok(()),
@@ -280,17 +216,12 @@ fn put_instruction<D: Device, K: Sink>(
 ) -> Result<(), Failed>
     requires whole { IsWhole out.old }
     requires desc { IsSomeAnd (card_in (D.fitted device.now)) (λ c. c.desc ≡ desc.now) }
-    ensures same_sink { IsOverSame out.old out.new }
-    ensures whole { OnOk result (IsWhole out.new) }
-    ensures ok { OnOk result (Puts K.written out.old
-        (instruction_in (card_in (D.fitted device.now))) out.new) }
-    ensures front { OnErr result (PutsFront K.written out.old
-        (instruction_in (card_in (D.fitted device.now))) out.new) }
-    ensures cause { HasSinkCause K.faults K.is_last out.old out.new result }
+    ensures put { HasPut K.written out.old (instruction_in (card_in (D.fitted device.now))) out.new result }
+    ensures kept { KeepsLines K.faults K.is_last out.old out.new result }
 {
     let opcode = device.instruction();
     put_name(out, b"ir")?;
-    put_number(out, opcode, desc.ir_len)?;
+    put_hex(out, opcode, desc.ir_len)?;
     Ok(())
 }
 
@@ -298,12 +229,8 @@ fn put_instruction<D: Device, K: Sink>(
 fn put_line<D: Device, K: Sink>(out: &mut Lines<K>, device: &D, desc: &Desc) -> Result<(), Failed>
     requires whole { IsWhole out.old }
     requires desc { IsSomeAnd (card_in (D.fitted device.now)) (λ c. c.desc ≡ desc.now) }
-    ensures same_sink { IsOverSame out.old out.new }
-    ensures whole { OnOk result (IsWhole out.new) }
-    ensures ok { OnOk result (Puts K.written out.old (line_in (card_in (D.fitted device.now))) out.new) }
-    ensures front { OnErr result (PutsFront K.written out.old
-        (line_in (card_in (D.fitted device.now))) out.new) }
-    ensures cause { HasSinkCause K.faults K.is_last out.old out.new result }
+    ensures put { HasPut K.written out.old (line_in (card_in (D.fitted device.now))) out.new result }
+    ensures kept { KeepsLines K.faults K.is_last out.old out.new result }
 {
     let name = desc.name.bytes();
     out.put(b"D ")?;
@@ -329,13 +256,8 @@ pub fn put_report<D: Device, K: Sink>(
 ) -> Result<(), Failed>
     requires whole { IsWhole out.old }
     requires board { IsSomeAnd (cards_at (map D.fitted rack.now) places.now) (λ cs. descriptions_of cs ≡ descs.now) }
-    ensures same_sink { IsOverSame out.old out.new }
-    ensures whole { OnOk result (IsWhole out.new) }
-    ensures ok { OnOk result (Puts K.written out.old
-        (report_in (cards_at (map D.fitted rack.now) places.now)) out.new) }
-    ensures front { OnErr result (PutsFront K.written out.old
-        (report_in (cards_at (map D.fitted rack.now) places.now)) out.new) }
-    ensures cause { HasSinkCause K.faults K.is_last out.old out.new result }
+    ensures put { HasPut K.written out.old (report_in (cards_at (map D.fitted rack.now) places.now)) out.new result }
+    ensures kept { KeepsLines K.faults K.is_last out.old out.new result }
 {
     for i in 0..descs.len() {
         let desc = &descs[i];

@@ -12,4 +12,3 @@ pub mod Scanning
 pub mod RunsOfNeighbours
 pub mod BlockSteps
 pub mod BlockShifts
-pub mod HexDigits

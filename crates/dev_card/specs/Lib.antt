@@ -9,6 +9,5 @@ pub mod PaddedScan
 pub mod Scans
 pub mod Blocks
 pub mod FarEnds
-pub mod Hexadecimal
 pub mod Reports
 pub mod ReportExample

@@ -8,7 +8,7 @@ use Rattle.dev_card.specs.declared.desc.Kind.{Kind}
 use Rattle.dev_card.specs.declared.desc.Kind.TheVariants.{Plain, Regs, Flash}
 use Rattle.dev_card.specs.declared.desc.RegDesc.{RegDesc}
 use Rattle.dev_card.specs.Card.{Card}
-use Rattle.dev_card.specs.Hexadecimal.{all_hex_digits}
+use Rattle.bit_list.specs.Hexadecimal.{all_hex_digits}
 
 -- a name with what stands under it
 abbrev pub named_text : List ℕ → List ℕ → List ℕ

@@ -24,17 +24,18 @@ use Rattle.board_text.proofs.BoardLemmas.{good_at_end}
 use Rattle.padded_plays.specs.QuietPlays.{IsQuietPlay}
 use Rattle.padded_plays.specs.SamePlays.{cards_from, IsSameText}
 use Rattle.padded_plays.proofs.SameTexts.{text_of_place}
-use Rattle.play_tool.specs.declared.mode.Mode.{Mode}
-use Rattle.play_tool.specs.declared.mode.Mode.TheVariants.{Play}
-use Rattle.play_tool.specs.declared.status.Status.{Status}
-use Rattle.play_tool.specs.declared.words.Request.{Request}
-use Rattle.play_tool.specs.Words.{reads_text, soaks}
-use Rattle.play_tool.specs.Answers.{done_with, has_place, reported_far, asked_text, Plays, no_action, bad_choice, bad_place, played, play_on, PlaysAction, PlaysAsked, Work, TextAnswer, FileAnswer, Contents, WordsAnswer, base_at}
-use Rattle.play_tool.specs.Boards.{HasBoard}
+use Rattle.play_words.specs.declared.mode.Mode.{Mode}
+use Rattle.play_words.specs.declared.mode.Mode.TheVariants.{Play}
+use Rattle.play_status.specs.declared.status.Status.{Status}
+use Rattle.play_words.specs.declared.words.Request.{Request}
+use Rattle.play_words.specs.Words.{reads_text, soaks}
+use Rattle.play_tool.specs.Answers.{play_on, PlaysAction, PlaysAsked, Work, TextAnswer, FileAnswer, Contents, WordsAnswer}
+use Rattle.named_files.specs.Boards.{HasBoard}
 use Rattle.play_tool.specs.Alone.{alone_request, IsQuietAlone, PlaysAlone}
 use Rattle.play_tool.proofs.AnswerLemmas.{answers_work, asked_plays, source_to_text}
 use Rattle.play_tool.proofs.RequestLemmas.{words_request, mode_of_request, the_file}
-use Rattle.play_tool.proofs.WrittenLemmas.{IsWithin}
+use Rattle.tool_answers.proofs.AnswerLemmas.{IsWithin}
+use Rattle.code_plays.specs.Plays.{done_with, has_place, reported_far, asked_text, Plays, no_action, bad_choice, bad_place, played, base_at}
 
 -- the devices of a board are good
 board_good : (text : List ℕ) (devices : List Desc) → IsBoard text devices → All IsGood devices

@@ -1,104 +1,25 @@
 -- On answers: which relation holds the answers of which.
-use Rattle.std.proofs.Common.{◌≡◌, ◌<◌, ℕ, pos, List, length, codes, Option, None, Some, Result, Ok, Err, IfOk, IfSome, IsSomeAnd, refl, sym, ap, ◌∙◌, subst, true, false, Bool}
+use Rattle.std.proofs.Common.{◌≡◌, ◌<◌, ℕ, List, length, Option, None, Some, IsSomeAnd, refl, sym, ◌∙◌, subst, true, false, Bool}
 use Rattle.std.proofs.lemmas.Option.{same_Some}
-use Rattle.std.specs.Prelude.{is_some, IsSome}
-use Rattle.tool_io.specs.Bytes.{then_bytes, MovesFront}
 use Rattle.stapl_lexer.specs.Pieces.{text_limit}
 use Rattle.stapl_lexer.specs.declared.reason.Reason.{Reason}
 use Rattle.stapl_lexer.specs.declared.reason.Reason.TheVariants as reasons
 use Rattle.stapl_syntax.specs.Trees.{StmtTree}
 use Rattle.stapl_syntax.specs.Programs.{IsProgram, FirstFault, is_too_long}
 use Rattle.stapl_checker.proofs.UniqueLemmas.{one_program, no_fault}
-use Rattle.dev_card.specs.declared.desc.Desc.{Desc}
-use Rattle.play_tool.specs.declared.mode.Mode.{Mode}
-use Rattle.play_tool.specs.declared.mode.Mode.TheVariants as modes
-use Rattle.play_tool.specs.declared.words.Request.{Request}
-use Rattle.play_tool.specs.declared.status.Status.{Status}
-use Rattle.play_tool.specs.declared.status.Status.TheVariants.{Refused, Usage}
-use Rattle.play_tool.specs.Texts.{number_line, refusal_line}
-use Rattle.play_tool.specs.declared.mode.WordKey.{WordKey}
-use Rattle.play_tool.specs.declared.mode.WordKey.TheVariants.{Board, Program, Code, Action, Seed}
-use Rattle.play_tool.specs.Words.{reads_text, soaks, plays, source_in, source_of, needs, has_key, HasNeeded, IsUsage}
-use Rattle.play_tool.specs.Written.{Wrote, WroteFront}
-use Rattle.play_tool.specs.Answers.{PlaysAction, PlaysAsked, Work, TextAnswer, refused, accepted, CodeAnswer, code_refused, SourceAnswer, FileAnswer, Contents, WordsAnswer, usage, SomeSourceAnswer, SomeFilesAnswer}
 use Rattle.stapl_code.specs.Files.{most_bytes}
+use Rattle.code_files.specs.declared.fault.CodeReason.{CodeReason}
 use Rattle.code_files.specs.declared.fault.CodeReason.TheVariants as code_reasons
-use Rattle.code_files.specs.CodeFaults.{too_long}
+use Rattle.code_files.specs.CodeFaults.{IsCodeFault, too_long}
+use Rattle.dev_card.specs.declared.desc.Desc.{Desc}
+use Rattle.named_files.specs.Texts.{refusal_line}
+use Rattle.play_words.specs.declared.words.Request.{Request}
+use Rattle.play_words.specs.Words.{reads_text}
+use Rattle.play_status.specs.declared.status.Status.{Status}
+use Rattle.play_status.specs.declared.status.Status.TheVariants.{Refused}
+use Rattle.tool_answers.proofs.AnswerLemmas.{IsWithin}
 use Rattle.play_tool.specs.Sources.{most_of_source, long_line, long_status}
-use Rattle.play_tool.proofs.BoardLemmas.{long_text}
-use Rattle.play_tool.proofs.WrittenLemmas.{IsWithin, wrote_text, wrote_front}
-
-pub on_ok : {T E : Type 0} {P Q : T → Type 0} (r : Result T E) → ((x : T) → P x → Q x) → IfOk r P → IfOk r Q
-on_ok (Ok x) f p = f x p
-on_ok (Err e) f p = tt
-
-pub on_some : {T : Type 0} {P Q : T → Type 0} (o : Option T) → ((x : T) → P x → Q x) → IfSome o P → IfSome o Q
-on_some None f p = tt
-on_some (Some x) f p = f x p
-
--- What a request needs, it has.
-
-has_needed : (request : Request) (mode : Mode) → HasNeeded request → request.mode ≡ mode → (key : WordKey) → needs mode key ≡ true → has_key request key ≡ true
-has_needed request mode has e key needed = has.has key (ap (λ (m : Mode). needs m key) e ∙ needed)
-
-none_there : {A : Type 0} (found : Option A) → is_some found ≡ true → found ≡ None → ⊥
-none_there {A = A} found some none = let same : is_some found ≡ false = ap (λ (a : Option A). is_some a) none in cc
-
-pub has_action : (request : Request) (mode : Mode) → HasNeeded request → request.mode ≡ mode → needs mode Action ≡ true → request.action ≡ None → ⊥
-has_action request mode has e needed none = none_there request.action (has_needed request mode has e Action needed) none
-
-pub has_board : (request : Request) (mode : Mode) → HasNeeded request → request.mode ≡ mode → needs mode Board ≡ true → IsSome request.board
-has_board request mode has e needed = has_needed request mode has e Board needed
-
-pub has_seed : (request : Request) → HasNeeded request → request.mode ≡ modes.Soak → request.seed ≡ None → ⊥
-has_seed request has e none = none_there request.seed (has_needed request modes.Soak has e Seed refl) none
-
-source_some : (request : Request) (mode : Mode) → request.mode ≡ mode → HasNeeded request → soaks mode ≡ false → is_some (source_in (reads_text mode) request) ≡ true
-source_some request modes.Play e has other = has_needed request modes.Play has e Program refl
-source_some request modes.Check e has other = has_needed request modes.Check has e Program refl
-source_some request modes.List e has other = has_needed request modes.List has e Program refl
-source_some request modes.Compile e has other = has_needed request modes.Compile has e Program refl
-source_some request modes.Run e has other = has_needed request modes.Run has e Code refl
-source_some request modes.Soak e has other = absurd cc
-
-pub has_source : (request : Request) → HasNeeded request → soaks request.mode ≡ false → source_of request ≡ None → ⊥
-has_source request has other none = none_there (source_of request) (source_some request request.mode refl has other) none
-
--- The modes, by what is known of them.
-
-pub run_mode : (mode : Mode) → reads_text mode ≡ false → soaks mode ≡ false → mode ≡ modes.Run
-run_mode modes.Run a b = refl
-run_mode modes.Play a b = absurd cc
-run_mode modes.Check a b = absurd cc
-run_mode modes.List a b = absurd cc
-run_mode modes.Compile a b = absurd cc
-run_mode modes.Soak a b = absurd cc
-
-pub text_mode : (mode : Mode) → mode ≡ modes.Run → reads_text mode ≡ true → ⊥
-text_mode mode e f = let g = ap reads_text e in cc
-
-pub no_soak_mode : (mode : Mode) → mode ≡ modes.Soak → reads_text mode ≡ true → ⊥
-no_soak_mode mode e f = let g = ap reads_text e in cc
-
-pub source_plays : (mode : Mode) → reads_text mode ≡ false → plays mode ≡ false → ⊥
-source_plays modes.Play a b = cc
-source_plays modes.Check a b = cc
-source_plays modes.List a b = cc
-source_plays modes.Compile a b = cc
-source_plays modes.Run a b = cc
-source_plays modes.Soak a b = cc
-
-pub not_playing : (playing : Bool) → (playing ≡ true → ⊥) → playing ≡ false
-not_playing false never = refl
-not_playing true never = absurd (never refl)
-
-pub soak_mode : (mode : Mode) → soaks mode ≡ true → mode ≡ modes.Soak
-soak_mode modes.Soak a = refl
-soak_mode modes.Play a = absurd cc
-soak_mode modes.Check a = absurd cc
-soak_mode modes.List a = absurd cc
-soak_mode modes.Compile a = absurd cc
-soak_mode modes.Run a = absurd cc
+use Rattle.play_tool.specs.Answers.{PlaysAction, PlaysAsked, Work, TextAnswer, refused, accepted, CodeAnswer, code_refused, SourceAnswer, FileAnswer}
 
 -- The play that a request asks for is that of the action that it names.
 
@@ -135,16 +56,6 @@ answers_work request devices own bytes program same is =
     subst (λ (z : List ℕ). IsWithin (TextAnswer request devices bytes) (Work request devices z program request.mode)) (sym same)
     (record { to = λ text status a. answer_works program is a })
 
--- A text is refused.
-
-pub refused_wrote : {request : Request} {devices : List Desc} {bytes : List ℕ} {before after : Option (List ℕ)} (piece line : ℕ) (reason : Reason) → FirstFault bytes piece line reason →
-    after ≡ then_bytes before (refusal_line piece line reason) → Wrote (TextAnswer request devices bytes) before after (Refused piece reason)
-refused_wrote piece line reason fault e = wrote_text (refusal_line piece line reason) (refused piece line reason fault) e
-
-pub refused_front : {request : Request} {devices : List Desc} {bytes : List ℕ} {before after : Option (List ℕ)} (piece line : ℕ) (reason : Reason) → FirstFault bytes piece line reason →
-    MovesFront before (refusal_line piece line reason) after → WroteFront (TextAnswer request devices bytes) before after
-refused_front piece line reason fault m = wrote_front (refusal_line piece line reason) (Refused piece reason) (refused piece line reason fault) m
-
 -- A text is too long.
 
 long_answer : {request : Request} {devices : List Desc} {bytes : List ℕ} → text_limit < length bytes →
@@ -165,12 +76,6 @@ long_file request devices (Some bytes) long = record {
   answer = long_source request devices bytes (reads_text request.mode) long;
 }
 
-pub some_long_answer : (request : Request) (devices : List Desc) →
-    SomeSourceAnswer request devices (long_line (reads_text request.mode)) (long_status (reads_text request.mode))
-some_long_answer request devices =
-    let t = long_text (most_of_source (reads_text request.mode)) in
-    record { bytes = t.0; answer = long_source request devices t.0 (reads_text request.mode) t.1 }
-
 -- The answer for what a mode reads is that for a text or for a code.
 
 pub text_to_source : (request : Request) (devices : List Desc) (bytes : List ℕ) (text : Bool) → text ≡ true →
@@ -189,23 +94,11 @@ pub source_to_code : (request : Request) (devices : List Desc) (bytes : List ℕ
     IsWithin (SourceAnswer text request devices bytes) (CodeAnswer request devices bytes)
 source_to_code request devices bytes text e = record { to = λ xs s a. rw e at a }
 
--- Words are refused.
+-- A fault, by equal numbers and an equal reason.
 
-pub usage_wrote : {words : List (List ℕ)} {contents_of : Request → Contents} {before after : Option (List ℕ)} (n : ℕ) → IsUsage words n →
-    after ≡ then_bytes before (number_line (codes "R usage ") (pos n)) → Wrote (WordsAnswer words contents_of) before after (Usage n)
-usage_wrote n u e = wrote_text (number_line (codes "R usage ") (pos n)) (usage n u) e
+pub text_fault_is : {bytes : List ℕ} {p q l m : ℕ} {r s : Reason} → p ≡ q → l ≡ m → r ≡ s → FirstFault bytes p l r → FirstFault bytes q m s
+text_fault_is {bytes = bytes} {q = q} {l = l} {m = m} {r = r} a b c f =
+    subst (λ (x : Reason). FirstFault bytes q m x) c (subst (λ (k : ℕ). FirstFault bytes q k r) b (subst (λ (k : ℕ). FirstFault bytes k l r) a f))
 
-pub usage_front : {words : List (List ℕ)} {contents_of : Request → Contents} {before after : Option (List ℕ)} (n : ℕ) → IsUsage words n →
-    MovesFront before (number_line (codes "R usage ") (pos n)) after → WroteFront (WordsAnswer words contents_of) before after
-usage_front n u m = wrote_front (number_line (codes "R usage ") (pos n)) (Usage n) (usage n u) m
-
-some_usage : {words : List (List ℕ)} (n : ℕ) → IsUsage words n → SomeFilesAnswer words (number_line (codes "R usage ") (pos n)) (Usage n)
-some_usage n u = record { contents = record { board = None; source = None }; answer = usage n u }
-
-pub some_usage_wrote : {words : List (List ℕ)} {before after : Option (List ℕ)} (n : ℕ) → IsUsage words n →
-    after ≡ then_bytes before (number_line (codes "R usage ") (pos n)) → Wrote (SomeFilesAnswer words) before after (Usage n)
-some_usage_wrote n u e = wrote_text (number_line (codes "R usage ") (pos n)) (some_usage n u) e
-
-pub some_usage_front : {words : List (List ℕ)} {before after : Option (List ℕ)} (n : ℕ) → IsUsage words n →
-    MovesFront before (number_line (codes "R usage ") (pos n)) after → WroteFront (SomeFilesAnswer words) before after
-some_usage_front n u m = wrote_front (number_line (codes "R usage ") (pos n)) (Usage n) (some_usage n u) m
+pub code_fault_is : {bytes : List ℕ} {i j : ℕ} {r s : CodeReason} → i ≡ j → r ≡ s → IsCodeFault bytes i r → IsCodeFault bytes j s
+code_fault_is {bytes = bytes} {j = j} {r = r} a b f = subst (IsCodeFault bytes j) b (subst (λ (k : ℕ). IsCodeFault bytes k r) a f)

@@ -6,17 +6,17 @@ use Rattle.stapl_syntax.specs.Programs.{IsProgram}
 use Rattle.stapl_meaning.specs.Scopes.{as_played}
 use Rattle.stapl_meaning.specs.Typed.{IsTyped}
 use Rattle.dev_card.specs.declared.desc.Desc.{Desc}
-use Rattle.play_tool.specs.declared.mode.Mode.TheVariants.{Run}
-use Rattle.play_tool.specs.declared.status.Status.{Status}
-use Rattle.play_tool.specs.declared.words.Request.{Request}
-use Rattle.play_tool.specs.Words.{reads_text, soaks}
+use Rattle.play_words.specs.declared.mode.Mode.TheVariants.{Run}
+use Rattle.play_status.specs.declared.status.Status.{Status}
+use Rattle.play_words.specs.declared.words.Request.{Request}
+use Rattle.play_words.specs.Words.{reads_text, soaks}
 use Rattle.play_tool.specs.Answers.{CodeAnswer, FileAnswer, Contents, WordsAnswer}
 use Rattle.play_tool.specs.Compiled.{RunsCompiled, PlaysProgram}
 use Rattle.play_tool.proofs.AnswerLemmas.{source_to_code}
 use Rattle.play_tool.proofs.CodeLemmas.{accepted_code}
 use Rattle.play_tool.proofs.ProgramLemmas.{code_to_program}
 use Rattle.play_tool.proofs.RequestLemmas.{words_request, mode_of_request, the_file}
-use Rattle.play_tool.proofs.WrittenLemmas.{IsWithin}
+use Rattle.tool_answers.proofs.AnswerLemmas.{IsWithin}
 
 file_code : {request : Request} {devices : List Desc} {file : Option (List ℕ)} {bytes text : List ℕ} {status : Status} → request.mode ≡ Run → file ≡ Some bytes →
     FileAnswer request devices file text status → CodeAnswer request devices bytes text status

@@ -1,5 +1,5 @@
 -- The words and the files have at most one answer.
-use Rattle.std.proofs.Common.{Bool, true, false, ◌≡◌, ◌++◌, ℕ, pos, List, refl, sym, ap, ◌∙◌, subst, Option, Some, codes}
+use Rattle.std.proofs.Common.{Bool, true, false, ◌≡◌, ◌++◌, ℕ, pos, List, refl, sym, ap, ◌∙◌, subst, Option, Some}
 use Rattle.std.proofs.lemmas.Option.{same_Some}
 use Rattle.stapl_lexer.specs.declared.reason.Reason.{Reason}
 use Rattle.stapl_syntax.specs.Trees.{StmtTree}
@@ -10,28 +10,28 @@ use Rattle.stapl_meaning.specs.Choices as choices
 use Rattle.stapl_meaning.specs.Plays.{Run, ending_of}
 use Rattle.dev_card.specs.declared.desc.Desc.{Desc}
 use Rattle.board_text.specs.declared.reason.BoardReason.{BoardReason}
-use Rattle.play_tool.specs.declared.checking.CheckWords.{CheckWords}
-use Rattle.play_tool.specs.declared.mode.Mode.{Mode}
-use Rattle.play_tool.specs.declared.mode.Mode.TheVariants as modes
-use Rattle.play_tool.specs.declared.words.Request.{Request}
-use Rattle.play_tool.specs.declared.status.Status.{Status}
-use Rattle.play_tool.specs.declared.status.Status.TheVariants.{Done, Refused, BoardRefused, CodeRefused, Usage}
-use Rattle.play_tool.specs.Checks.{check_text, Checks, checked}
-use Rattle.play_tool.specs.Listings.{Lists, listed}
-use Rattle.play_tool.specs.Texts.{number_line, refusal_line, board_refusal_line, code_refusal_line}
+use Rattle.play_words.specs.declared.mode.Mode.{Mode}
+use Rattle.play_words.specs.declared.mode.Mode.TheVariants as modes
+use Rattle.play_words.specs.declared.words.Request.{Request}
+use Rattle.play_status.specs.declared.status.Status.{Status}
+use Rattle.play_status.specs.declared.status.Status.TheVariants.{Done, Refused, BoardRefused, CodeRefused, Usage}
+use Rattle.program_reports.specs.Checks.{IsCheckText}
+use Rattle.program_reports.specs.Listings.{list_text}
+use Rattle.play_tool.specs.Texts.{code_refusal_line}
 use Rattle.stapl_code.specs.declared.raw.CodeLists.{CodeLists}
 use Rattle.stapl_code.specs.Files.{file}
 use Rattle.code_files.specs.declared.fault.CodeReason.{CodeReason}
 use Rattle.code_files.proofs.FileFaults.{one_alone}
 use Rattle.code_files.proofs.FileFaults as code_faults
-use Rattle.play_tool.specs.Words.{reads_text, soaks}
-use Rattle.play_tool.specs.CodePlays.{run_text}
-use Rattle.play_tool.specs.Answers.{done_with, Plays, no_action, bad_choice, bad_place, played, PlaysAction, PlaysAsked, Compiles, Work, TextAnswer, refused, accepted, PlaysCodeAction, PlaysCodeAsked, CodeAnswer, code_refused, code_accepted, SourceAnswer, FileAnswer, Contents, RequestAnswer, board_refused, board_read, soak_request, soak_contents, soak_head, SoakAnswer, ModeAnswer, WordsAnswer, Answer, usage, asked}
-use Rattle.play_tool.proofs.BoardLemmas.{one_held, one_fault, board_or_fault}
+use Rattle.play_words.specs.Words.{reads_text, soaks}
+use Rattle.play_tool.specs.Answers.{PlaysAction, PlaysAsked, IsDone, Compiles, Work, TextAnswer, refused, accepted, PlaysCodeAsked, CodeAnswer, code_refused, code_accepted, SourceAnswer, FileAnswer, Contents, RequestAnswer, board_refused, board_read, soak_request, soak_contents, soak_head, SoakAnswer, ModeAnswer, WordsAnswer, Answer, usage, asked}
+use Rattle.named_files.proofs.BoardLemmas.{one_held, one_fault, board_or_fault}
 use Rattle.play_tool.proofs.RequestLemmas.{words_request}
-use Rattle.play_tool.proofs.CheckLemmas.{one_word}
+use Rattle.program_reports.proofs.CheckLemmas.{one_check_text}
 use Rattle.play_tool.proofs.CodeLemmas.{same_code}
-use Rattle.play_tool.proofs.OneRequest.{one_usage, no_usage}
+use Rattle.code_plays.specs.Plays.{done_with, asked_text, Plays, no_action, bad_choice, bad_place, played, PlaysCodeAction}
+use Rattle.named_files.specs.Texts.{refusal_line, board_refusal_line, usage_line}
+use Rattle.play_words.proofs.OneRequest.{one_usage, no_usage}
 
 -- a text and a status
 pub record Said : Type 0 where
@@ -43,7 +43,7 @@ said text status = record { text = text; status = status }
 
 -- what a play says that ends so
 abbrev said_of : (List ℕ → Run) → Request → List ℕ → Ending → Said
-said_of plays request chosen ending = said (run_text request (plays chosen) ending) (done_with ending)
+said_of plays request chosen ending = said (asked_text request (plays chosen).events (plays chosen).chain.far ending) (done_with ending)
 
 same_play : (plays : List ℕ → Run) (request : Request) (a b : List ℕ) (e f : Ending) → a ≡ b → e ≡ f → said_of plays request a e ≡ said_of plays request b f
 same_play plays request a b e f p q = rw (p, q) refl
@@ -95,27 +95,26 @@ one_asked : {program : List StmtTree} {request : Request} {devices : List Desc} 
 one_asked {program = program} {request = request} {devices = devices} {ys = ys} {t = t} a b =
     one_play a.plays (subst (λ (z : List ℕ). PlaysAction program z request devices ys t) (same_Some b.action a.action (sym b.asked ∙ a.asked)) b.plays)
 
-same_check : (program : List StmtTree) (a b : Option CheckWords) → a ≡ b → said (check_text program a) (Done (pos 0)) ≡ said (check_text program b) (Done (pos 0))
-same_check program a b e = rw e refl
+same_done : {xs ys : List ℕ} {s t : Status} → xs ≡ ys → s ≡ Done (pos 0) → t ≡ Done (pos 0) → said xs s ≡ said ys t
+same_done e f g = rw (e, f, g) refl
 
-one_check : {bytes : List ℕ} {program : List StmtTree} {xs ys : List ℕ} {s t : Status} → Checks bytes program xs s → Checks bytes program ys t → said xs s ≡ said ys t
-one_check {program = program} (checked a x) (checked b y) = same_check program a b (one_word x y)
+one_check : {bytes : List ℕ} {program : List StmtTree} {xs ys : List ℕ} {s t : Status} → IsDone (IsCheckText bytes program) xs s → IsDone (IsCheckText bytes program) ys t →
+    said xs s ≡ said ys t
+one_check a b = same_done (one_check_text a.said b.said) a.done b.done
 
-one_list : {program : List StmtTree} {xs ys : List ℕ} {s t : Status} → Lists program xs s → Lists program ys t → said xs s ≡ said ys t
-one_list listed listed = refl
-
-same_file : (xs ys : List ℕ) (s t : Status) → xs ≡ ys → s ≡ Done (pos 0) → t ≡ Done (pos 0) → said xs s ≡ said ys t
-same_file xs ys s t e f g = rw (e, f, g) refl
+one_list : (program : List StmtTree) {xs ys : List ℕ} {s t : Status} → IsDone (λ text. text ≡ list_text program) xs s → IsDone (λ text. text ≡ list_text program) ys t →
+    said xs s ≡ said ys t
+one_list program a b = same_done (a.said ∙ sym b.said) a.done b.done
 
 one_compiled : {program : List StmtTree} {xs ys : List ℕ} {s t : Status} → Compiles program xs s → Compiles program ys t → said xs s ≡ said ys t
-one_compiled a b = same_file _ _ _ _ (a.file.file ∙ ap file (a.of_program.lists ∙ sym b.of_program.lists) ∙ sym b.file.file) a.done b.done
+one_compiled a b = same_done (a.file.file ∙ ap file (a.of_program.lists ∙ sym b.of_program.lists) ∙ sym b.file.file) a.done b.done
 
 -- each mode says one thing of a program
 one_work : (request : Request) (devices : List Desc) (bytes : List ℕ) (program : List StmtTree) (xs ys : List ℕ) (s t : Status) (mode : Mode) → Work request devices bytes program mode xs s →
     Work request devices bytes program mode ys t → said xs s ≡ said ys t
 one_work request devices bytes program xs ys s t modes.Play a b = one_asked a b
 one_work request devices bytes program xs ys s t modes.Check a b = one_check a b
-one_work request devices bytes program xs ys s t modes.List a b = one_list a b
+one_work request devices bytes program xs ys s t modes.List a b = one_list program a b
 one_work request devices bytes program xs ys s t modes.Compile a b = one_compiled a b
 one_work request devices bytes program xs ys s t modes.Run a b = absurd a
 one_work request devices bytes program xs ys s t modes.Soak a b = absurd a
@@ -133,7 +132,7 @@ one_text (accepted program text status is w) (refused p l r f) = absurd (no_faul
 one_text {request = request} {devices = devices} {bytes = bytes} (accepted program text status is w) (accepted other text' status' is' w') =
     one_work request devices bytes program text text' status status' request.mode w (subst (λ (z : List StmtTree). Work request devices bytes z request.mode text' status') (sym (one_program bytes program other is is')) w')
 
-same_line : (n m : ℕ) → n ≡ m → said (number_line (codes "R usage ") (pos n)) (Usage n) ≡ said (number_line (codes "R usage ") (pos m)) (Usage m)
+same_line : (n m : ℕ) → n ≡ m → said (usage_line n) (Usage n) ≡ said (usage_line m) (Usage m)
 same_line n m e = rw e refl
 
 same_code_line : (n m : ℕ) (r s : CodeReason) → n ≡ m → r ≡ s → said (code_refusal_line n r) (CodeRefused n r) ≡ said (code_refusal_line m s) (CodeRefused m s)

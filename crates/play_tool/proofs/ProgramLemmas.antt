@@ -1,5 +1,21 @@
 -- A program plays as its code does.
-use Rattle.std.proofs.Common.{◌≡◌, ◌∙◌, ℕ, pos, Bool, true, List, [], Option, refl, sym, ap, subst}
+use Rattle.std.proofs.Common.{◌≡◌, ◌∙◌, ℕ, pos, Bool, true, List, [], ◌∷◌, ◌++◌, map, Option, refl, sym, ap, subst}
+use Rattle.std.specs.Prelude.{nat_abs}
+use Rattle.stapl_syntax.specs.declared.names.Key.{Key}
+use Rattle.stapl_syntax.specs.declared.names.Variable.{Variable}
+use Rattle.stapl_syntax.specs.declared.names.VarKind.{VarKind}
+use Rattle.stapl_syntax.specs.declared.names.VarKind.TheVariants as variables
+use Rattle.stapl_meaning.specs.Scopes.{Played, zeros_of}
+use Rattle.stapl_meaning.specs.Scopes as scopes
+use Rattle.stapl_meaning.specs.Plays.{Outcome, Ended, Going, Stopped, procedures_run, reset_events, chain_reset}
+use Rattle.stapl_codegen.specs.Emit.{start_of}
+use Rattle.stapl_codegen.specs.Correct.{placed_outcome, placed_run}
+use Rattle.stapl_codegen.specs.Generated.{kind_number, variable_def}
+use Rattle.stapl_instructions.specs.Zeros.{zero_of, zeros_of_code}
+use Rattle.stapl_machine.specs.Machines.{play_of}
+use Rattle.dev_card.specs.Card.{fresh}
+use Rattle.dev_card.specs.FarEnds.{Told}
+use Rattle.code_plays.specs.Plays.{base_at}
 use Rattle.stapl_syntax.specs.Trees.{StmtTree}
 use Rattle.stapl_meaning.specs.declared.events.Ending.{Ending}
 use Rattle.stapl_meaning.specs.Choices.{Choice, chosen, choice_of}
@@ -13,15 +29,56 @@ use Rattle.stapl_player.specs.Choices.{code_choice}
 use Rattle.dev_card.specs.declared.desc.Desc.{Desc}
 use Rattle.dev_card.specs.Sound.{SoundCard}
 use Rattle.chain_sim.specs.Rack.{places_of}
-use Rattle.play_tool.specs.declared.status.Status.{Status}
-use Rattle.play_tool.specs.declared.status.Status.TheVariants.{Done}
-use Rattle.play_tool.specs.declared.words.Request.{Request}
-use Rattle.play_tool.specs.Answers.{done_with, has_place, asked_text, Plays, no_action, bad_choice, bad_place, played, play_on, PlaysAction, code_play_on, PlaysCodeAction, Compiles}
-use Rattle.play_tool.specs.CodePlays.{IsPlayOf}
-use Rattle.play_tool.specs.Finals.{AreLeft, HoldsFinal, CodeHoldsFinal}
+use Rattle.play_status.specs.declared.status.Status.{Status}
+use Rattle.play_status.specs.declared.status.Status.TheVariants.{Done}
+use Rattle.play_words.specs.declared.words.Request.{Request}
+use Rattle.play_tool.specs.Answers.{play_on, PlaysAction, Compiles}
+use Rattle.code_plays.specs.CodePlays.{IsPlayOf}
+use Rattle.play_tool.specs.Finals.{HoldsFinal}
 use Rattle.play_tool.proofs.ChoiceLemmas.{same_choice}
-use Rattle.play_tool.proofs.PlayLemmas.{code_run}
-use Rattle.play_tool.proofs.WrittenLemmas.{IsWithin}
+use Rattle.tool_answers.proofs.AnswerLemmas.{IsWithin}
+use Rattle.code_plays.specs.Racks.{AreLeft, CodeHoldsFinal}
+use Rattle.code_plays.specs.Plays.{done_with, has_place, asked_text, Plays, no_action, bad_choice, bad_place, played, code_play_on, PlaysCodeAction}
+
+-- The variables of the code of a program begin as the program's do.
+
+zero_same : (v : Key × Variable) → zero_of (variable_def v) ≡ scopes.zero_of v
+zero_same v = by v.1.kind (nat_abs v.1.size)
+  where
+    by : (k : VarKind) (n : ℕ) → zero_of (record { kind = kind_number k; size = n }) ≡ scopes.zero_by k n
+    by variables.Integer n = refl
+    by variables.Boolean n = refl
+    by variables.IntegerArray n = refl
+    by variables.BooleanArray n = refl
+
+zeros_are : (vs : List (Key × Variable)) → map zero_of (map variable_def vs) ≡ map scopes.zero_of vs
+zeros_are [] = refl
+zeros_are (v ∷ vs) = λ j. zero_same v j ∷ zeros_are vs j
+
+pub same_zeros : (program : Played) (code : CodeLists) → IsCodeOf program code → zeros_of_code code ≡ zeros_of program
+same_zeros program code is = ap zeros_of_code is.lists ∙ zeros_are program.names.variables
+
+-- The code's play of the chosen procedures is the program's.
+
+ending_placed : (place : ℕ → ℕ) (o : Outcome) → ending_of (placed_outcome place o) ≡ ending_of o
+ending_placed place (Ended ending) = refl
+ending_placed place (Going i) = refl
+ending_placed place Stopped = refl
+
+pub code_run : {program : Played} {choice : Choice} (request : Request) (devices : List Desc) (code : CodeLists) (procedures : List ℕ) → IsCodeOf program code → choice ≡ chosen procedures →
+    IsPlayOf choice true (play_on program request devices) (code_play_on code request devices procedures)
+code_run {program = program} request devices code procedures is e =
+    let base = base_at devices request.place in let turns = request.turns in
+    let k = chain_reset base (Told (map fresh devices)) in let source = procedures_run program procedures turns k in
+    let same : play_of code procedures turns k ≡ placed_run (start_of program) source = rw (same_zeros program code is) (is.stands procedures turns k) in
+    record {
+      procedures = procedures;
+      are_chosen = e;
+      is_placed = refl;
+      same_events = ap (λ (r : Run). reset_events (Told (map fresh devices)) ++ r.events) same;
+      same_far = ap (λ (r : Run). r.chain.far) same;
+      same_ending = ap (λ (r : Run). ending_of r.outcome) same ∙ ending_placed (start_of program) source.outcome;
+    }
 
 -- Plays of the same choices whose runs say the same.
 pub record SaySame (one other : List ℕ → Run) : Type 0 where

@@ -6,12 +6,13 @@ use Rattle.stapl_meaning.specs.Choices.{choice_of, chosen}
 use Rattle.stapl_meaning.specs.Scopes.{as_played}
 use Rattle.dev_card.specs.declared.desc.Desc.{Desc}
 use Rattle.padded_plays.specs.QuietPlays.{IsQuietPlay}
-use Rattle.play_tool.specs.declared.mode.Mode.TheVariants.{Play}
-use Rattle.play_tool.specs.declared.status.Status.{Status}
-use Rattle.play_tool.specs.declared.words.Request.{Request}
-use Rattle.play_tool.specs.Words.{IsRequest}
-use Rattle.play_tool.specs.Boards.{HasBoard}
-use Rattle.play_tool.specs.Answers.{has_place, Contents, PlaysAction}
+use Rattle.play_words.specs.declared.mode.Mode.TheVariants.{Play}
+use Rattle.play_status.specs.declared.status.Status.{Status}
+use Rattle.play_words.specs.declared.words.Request.{Request}
+use Rattle.play_words.specs.Words.{IsRequest}
+use Rattle.named_files.specs.Boards.{HasBoard}
+use Rattle.play_tool.specs.Answers.{Contents, PlaysAction}
+use Rattle.code_plays.specs.Plays.{has_place}
 
 -- the same request for a board of the device alone, so without a place
 abbrev pub alone_request : Request → Request

@@ -3,12 +3,12 @@ use Rattle.std.specs.Prelude.{◌≡◌, ℕ, pos, List, Some}
 use Rattle.stapl_syntax.specs.Trees.{StmtTree}
 use Rattle.stapl_syntax.specs.Programs.{IsProgram}
 use Rattle.dev_card.specs.declared.desc.Desc.{Desc}
-use Rattle.play_tool.specs.declared.mode.Mode.TheVariants.{Run}
-use Rattle.play_tool.specs.declared.status.Status.{Status}
-use Rattle.play_tool.specs.declared.status.Status.TheVariants.{Done}
-use Rattle.play_tool.specs.declared.words.Request.{Request}
-use Rattle.play_tool.specs.Words.{IsRequest}
-use Rattle.play_tool.specs.Boards.{HasBoard}
+use Rattle.play_words.specs.declared.mode.Mode.TheVariants.{Run}
+use Rattle.play_status.specs.declared.status.Status.{Status}
+use Rattle.play_status.specs.declared.status.Status.TheVariants.{Done}
+use Rattle.play_words.specs.declared.words.Request.{Request}
+use Rattle.play_words.specs.Words.{IsRequest}
+use Rattle.named_files.specs.Boards.{HasBoard}
 use Rattle.play_tool.specs.Answers.{Contents, Compiles, PlaysAsked}
 
 -- The words ask for a play of a code on a board, and the bytes of the code are what is written for a program if that is

@@ -4,9 +4,10 @@ use Rattle.stapl_lexer.specs.Pieces.{text_limit}
 use Rattle.stapl_lexer.specs.declared.reason.Reason.TheVariants as reasons
 use Rattle.stapl_code.specs.Files.{most_bytes}
 use Rattle.code_files.specs.declared.fault.CodeReason.TheVariants as code_reasons
-use Rattle.play_tool.specs.declared.status.Status.{Status}
-use Rattle.play_tool.specs.declared.status.Status.TheVariants.{Refused, CodeRefused}
-use Rattle.play_tool.specs.Texts.{refusal_line, code_refusal_line}
+use Rattle.play_status.specs.declared.status.Status.{Status}
+use Rattle.play_status.specs.declared.status.Status.TheVariants.{Refused, CodeRefused}
+use Rattle.play_tool.specs.Texts.{code_refusal_line}
+use Rattle.named_files.specs.Texts.{refusal_line}
 
 -- the most bytes of it, by whether it is a text
 abbrev pub most_of_source : Bool → ℕ

@@ -1,14 +1,21 @@
 //! Laws of the definitions.
-ghost use Rattle.std.specs.Prelude.{◌≡◌, ℕ, List, Some, IsSome};
-ghost use Rattle.play_tool.specs.declared.mode.Mode.TheVariants.{Play};
-ghost use Rattle.play_tool.specs.declared.words.Request.{Request};
-ghost use Rattle.play_tool.specs.declared.status.Status.{Status};
-ghost use Rattle.play_tool.specs.Answers.{Answer, RequestAnswer};
+ghost use Rattle.std.specs.Prelude.{◌≡◌, ℕ, List, Some, map};
+ghost use Rattle.play_words.specs.declared.words.Request.{Request};
+ghost use Rattle.play_words.specs.Words.{soaks, HasNeeded};
+ghost use Rattle.play_status.specs.declared.status.Status.{Status};
+ghost use Rattle.play_status.specs.Statuses.{IsFault};
+ghost use Rattle.play_tool.specs.Answers.{Contents, Answer, ModeAnswer, WordsAnswer};
+ghost use Rattle.play_tool.specs.Alone.{IsQuietAlone, PlaysAlone};
+ghost use Rattle.play_tool.specs.Compiled.{RunsCompiled, PlaysProgram};
+ghost use Rattle.play_tool.specs.ReadContents.{OfWords};
+ghost use Rattle.play_tool.specs.Held.{AreHeld};
 
 use board_text::laws::every_text_is_a_board_or_has_a_fault;
+use code_files::laws::bytes_are_a_file_or_have_a_fault;
+use program_reports::laws::each_program_has_a_check_text;
 use stapl_checker::laws::each_text_is_a_program_or_has_a_fault;
 use stapl_code::laws::never_stuck;
-use stapl_codegen::laws::{accepted_code_is_valid, programs_are_accepted};
+use stapl_codegen::laws::{accepted_code_is_valid, files_are_short, programs_are_accepted};
 use stapl_meaning::laws::programs_are_typed;
 
 /// The words and the files have at most one answer.
@@ -17,16 +24,46 @@ pub fn one_answer()
         Answer words files a s → Answer words files b t → (a ≡ b) × (s ≡ t) }
 {}
 
-/// A play has an answer, whatever bytes its board and its program have.
-pub fn plays_are_answered()
-    ensures { (request : Request) (board program : List ℕ) → request.mode ≡ Play → IsSome request.board →
-        IsSome request.action → (text : List ℕ) × (status : Status)
-        × RequestAnswer request (record { board = Some board; source = Some program }) text status }
+/// A request of any mode whose files are held has an answer, whatever they hold.
+pub fn requests_are_answered()
+    ensures { (request : Request) (contents : Contents) → HasNeeded request → AreHeld request contents →
+        (text : List ℕ) × (status : Status) × ModeAnswer (soaks request.mode) request contents text status }
 {
     every_text_is_a_board_or_has_a_fault();
     each_text_is_a_program_or_has_a_fault();
+    bytes_are_a_file_or_have_a_fault();
+    each_program_has_a_check_text();
     programs_are_typed();
     programs_are_accepted();
     accepted_code_is_valid();
+    files_are_short();
     never_stuck();
+}
+
+/// The status of an answer is that of no fault.
+pub fn answers_are_no_faults()
+    ensures { (words : List (List ℕ)) (contents_of : Request → Contents) (text : List ℕ) (status : Status) →
+        WordsAnswer words contents_of text status → IsFault status → ⊥ }
+{}
+
+/// With a store that tells its files, the answer for the contents that were read is that for its files.
+pub fn told_files_are_answered()
+    ensures { (words : List (List ℕ)) (files : List (List ℕ × List ℕ)) (text : List ℕ) (status : Status) →
+        OfWords (Some files) words (λ contents. WordsAnswer words (λ request. contents) text status) →
+        Answer words files text status }
+{}
+
+/// What is answered to a play for one device of a board, without the clocks, is what is answered to the play on that
+/// device alone, if this is quiet for all its turns: the text, which has the report of that device, and the status.
+pub fn quiet_plays_are_as_alone()
+    ensures { (words : List (List ℕ)) (contents_of : Request → Contents) (q : IsQuietAlone words contents_of)
+        (text : List ℕ) (status : Status) → WordsAnswer words contents_of text status → PlaysAlone q text status }
+{}
+
+/// What is answered to a play of a code that a program was compiled to is what is answered to the play of the program.
+pub fn compiled_programs_play_as_programs()
+    ensures { (words : List (List ℕ)) (contents_of : Request → Contents) (q : RunsCompiled words contents_of)
+        (text : List ℕ) (status : Status) → WordsAnswer words contents_of text status → PlaysProgram q text status }
+{
+    programs_are_typed();
 }

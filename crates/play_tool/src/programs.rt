@@ -1,27 +1,29 @@
-//! What is done with a program through its code.
-ghost use Rattle.std.specs.Prelude.{◌≡◌, map, Some, IfOk, IsErrOf};
-ghost use Rattle.tool_io.specs.Causes.{HasRisen, NeverFalls};
+//! What is done with a program.
+ghost use Rattle.std.specs.Prelude.{◌≡◌, map, Some};
+ghost use Rattle.tool_io.specs.Lines.{IsWhole};
+ghost use Rattle.tool_answers.specs.Answers.{Says, KeepsOutput};
 ghost use Rattle.stapl_syntax.specs.Programs.{IsProgram};
 ghost use Rattle.stapl_syntax.specs.ProgramValues.{trees_of};
 ghost use Rattle.chain_sim.specs.Rack.{IsRack};
-ghost use Rattle.play_tool.specs.Written.{Wrote, WroteFront, IsPrefixOf};
-ghost use Rattle.play_tool.specs.Answers.{IsFault, Compiles, PlaysAction};
-ghost use Rattle.play_tool.specs.Boards.{CanBeFitted};
-ghost use Rattle.play_tool.specs.Racks.{ComesBeforeFitting};
-ghost use Rattle.play_tool.specs.Finals.{IsPlayed, HoldsFinal};
+ghost use Rattle.board_text.specs.Boards.{CanBeFitted};
+ghost use Rattle.program_reports.specs.Checks.{IsCheckText};
+ghost use Rattle.program_reports.specs.Listings.{list_text};
+ghost use Rattle.code_plays.specs.Racks.{KeepsRack};
+ghost use Rattle.play_tool.specs.Answers.{IsDone, Compiles, PlaysAction};
+ghost use Rattle.play_tool.specs.Finals.{HoldsFinal};
 
-use crate::Status;
-use crate::playing::{Task, play_code};
-use crate::status::NoAnswer;
-use crate::writing::write_text;
 use code_files::encode_code;
+use code_plays::{Task, play_code};
 use dev_card::Device;
+use play_status::Status;
+use program_reports::{check_words, put_check, put_list};
 use stapl_codegen::generate;
 use stapl_lexer::Name;
 use stapl_meaning::laws::programs_are_typed;
 use stapl_syntax::Program;
 use std::alloc::Global;
-use tool_io::Sink;
+use tool_answers::NoAnswer;
+use tool_io::{Lines, Sink};
 
 /// Plays an action of a program, as a task asks for it: that of its code.
 ///
@@ -33,54 +35,67 @@ pub fn play_program<K: Sink>(
     action: &Name,
     task: &Task,
     rack: &mut Vec<Box<dyn Device>>,
-    out: &mut K,
+    lines: &mut Lines<K>,
 ) -> Result<Status, NoAnswer>
     requires program { IsProgram program.now.text (trees_of program.now) }
     requires asked { task.now.request.now.action ≡ Some action.now }
     requires rack { IsRack (map kind_of rack.old.items) }
     requires devices { CanBeFitted task.now.devices.now }
-    ensures answered { IfOk result (λ status. IsFault status → ⊥) }
-    ensures ok { IfOk result (Wrote
-        (PlaysAction (trees_of program.now) action.now task.now.request.now task.now.devices.now)
-        (K.written out.old) (K.written out.new)) }
-    ensures read { IsErrOf result NoAnswer.Read → ⊥ }
-    ensures write { IsErrOf result NoAnswer.Write → HasRisen K.faults K.is_last out.old out.new }
-    ensures front { IsErrOf result NoAnswer.Write →
-        WroteFront (PlaysAction (trees_of program.now) action.now task.now.request.now task.now.devices.now)
-        (K.written out.old) (K.written out.new) }
-    ensures memory { IsErrOf result NoAnswer.Memory →
-        IsPrefixOf (PlaysAction (trees_of program.now) action.now task.now.request.now task.now.devices.now)
-        (K.written out.old) (K.written out.new) }
-    ensures later { NeverFalls K.faults K.is_last out.old out.new }
-    ensures before { IfOk result (λ status. ComesBeforeFitting status → rack.new.items ≡ rack.old.items) }
-    ensures leaves { IfOk result (λ status. IsPlayed status → HoldsFinal (trees_of program.now) task.now.request.now
-        task.now.devices.now (map fitted rack.new.items)) }
-    ensures kinds { map kind_of rack.new.items ≡ map kind_of rack.old.items }
+    requires whole { IsWhole lines.old }
+    ensures says { Says K.written
+        (PlaysAction (trees_of program.now) action.now task.now.request.now task.now.devices.now) ⊥
+        lines.old lines.new result }
+    ensures output { KeepsOutput K.faults K.is_last lines.old lines.new result }
+    ensures rack { KeepsRack kind_of fitted (Unit {0})
+        (HoldsFinal (trees_of program.now) task.now.request.now task.now.devices.now)
+        rack.old.items rack.new.items result }
 {
     programs_are_typed();
     let code = generate(alloc, program)?;
-    play_code(alloc, &code, action, task, rack, out)
+    play_code(alloc, &code, action, task, rack, lines)
 }
 
-/// Writes the file of the code of a program.
+/// Says how many statements a program has, and whether its check word is that of its text.
+pub fn check_program<K: Sink>(
+    alloc: Global,
+    program: &Program,
+    lines: &mut Lines<K>,
+) -> Result<Status, NoAnswer>
+    requires program { IsProgram program.now.text (trees_of program.now) }
+    requires whole { IsWhole lines.old }
+    ensures says { Says K.written (IsDone (IsCheckText program.now.text (trees_of program.now))) ⊥
+        lines.old lines.new result }
+    ensures output { KeepsOutput K.faults K.is_last lines.old lines.new result }
+{
+    let words = check_words(alloc, program.text(), program.statements())?;
+    put_check(lines, program.statements(), words)?;
+    Ok(Status::Done(0))
+}
+
+/// Lists the notes of a program, and its actions with their procedures.
+pub fn list_program<K: Sink>(program: &Program, lines: &mut Lines<K>) -> Result<Status, NoAnswer>
+    requires whole { IsWhole lines.old }
+    ensures says { Says K.written (IsDone (λ text. text ≡ list_text (trees_of program.now))) ⊥
+        lines.old lines.new result }
+    ensures output { KeepsOutput K.faults K.is_last lines.old lines.new result }
+{
+    put_list(lines, program.statements())?;
+    Ok(Status::Done(0))
+}
+
+/// Puts the file of the code of a program.
 pub fn compile_program<K: Sink>(
     alloc: Global,
     program: &Program,
-    out: &mut K,
+    lines: &mut Lines<K>,
 ) -> Result<Status, NoAnswer>
-    requires { IsProgram program.now.text (trees_of program.now) }
-    ensures answered { IfOk result (λ status. IsFault status → ⊥) }
-    ensures ok { IfOk result (Wrote (Compiles (trees_of program.now)) (K.written out.old) (K.written out.new)) }
-    ensures read { IsErrOf result NoAnswer.Read → ⊥ }
-    ensures write { IsErrOf result NoAnswer.Write → HasRisen K.faults K.is_last out.old out.new }
-    ensures front { IsErrOf result NoAnswer.Write →
-        WroteFront (Compiles (trees_of program.now)) (K.written out.old) (K.written out.new) }
-    ensures memory { IsErrOf result NoAnswer.Memory →
-        IsPrefixOf (Compiles (trees_of program.now)) (K.written out.old) (K.written out.new) }
-    ensures later { NeverFalls K.faults K.is_last out.old out.new }
+    requires program { IsProgram program.now.text (trees_of program.now) }
+    requires whole { IsWhole lines.old }
+    ensures says { Says K.written (Compiles (trees_of program.now)) ⊥ lines.old lines.new result }
+    ensures output { KeepsOutput K.faults K.is_last lines.old lines.new result }
 {
     let code = generate(alloc, program)?;
     let file = encode_code(alloc, &code)?;
-    write_text(out, &file)?;
+    lines.put(&file)?;
     Ok(Status::Done(0))
 }

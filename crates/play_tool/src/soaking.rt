@@ -1,28 +1,28 @@
-//! Soaks: plays of a program on a board that are both made from a number.
-ghost use Rattle.std.specs.Prelude.{◌≡◌, ◌==◌, ◌≤◌, Some, IsSome, length, map, count_by, IfOk, IsErrOf};
-ghost use Rattle.tool_io.specs.Causes.{HasRisen, NeverFalls};
+//! The play of a program that is made from a number, on a board that is made from it.
+ghost use Rattle.std.specs.Prelude.{◌≡◌, ◌≤◌, ◌==◌, [], Some, count_by, length, map, IfOk};
+ghost use Rattle.tool_io.specs.Lines.{IsWhole, gathered};
+ghost use Rattle.tool_answers.specs.Answers.{Says, KeepsOutput};
 ghost use Rattle.chain_sim.specs.Rack.{IsRack};
-ghost use Rattle.play_tool.specs.declared.mode.Mode.TheVariants.{Play, Soak as Soaks};
-ghost use Rattle.play_tool.specs.Words.{HasNeeded};
-ghost use Rattle.play_tool.specs.Written.{Wrote, WroteFront, IsPrefixOf};
-ghost use Rattle.play_tool.specs.Answers.{RequestAnswer, request_at, SoakAnswer, IsFault};
-ghost use Rattle.play_tool.specs.Racks.{ComesBeforeFitting};
-ghost use Rattle.play_tool.specs.Finals.{IsPlayed, TextsHoldFinal, SoakHoldsFinal};
+ghost use Rattle.play_words.specs.declared.mode.Mode.TheVariants.{Play, Soak as Soaks};
+ghost use Rattle.play_words.specs.Words.{HasNeeded};
+ghost use Rattle.code_plays.specs.Racks.{KeepsRack};
+ghost use Rattle.play_tool.specs.Answers.{request_at, RequestAnswer, SoakAnswer};
+ghost use Rattle.play_tool.specs.Finals.{RequestHoldsFinal, SoakHoldsFinal};
 
-use crate::boards::{BoardNotRead, board_of};
-use crate::laws::plays_are_answered;
-use crate::playing::Task;
-use crate::status::NoAnswer;
+use crate::lines::{SoakSummary, soak_line};
 use crate::top::answer_text;
-use crate::words::USUAL_TURNS;
-use crate::writing::{SoakSummary, write_board_refusal, write_soak};
-use crate::{FileName, Mode, Request, Status};
 use base::ItemList;
+use code_plays::Task;
+use command_words::FileName;
 use dev_card::Device;
+use named_files::{BoardNotRead, board_of, put_board_refusal};
+use play_status::Status;
+use play_words::{Mode, Request, USUAL_TURNS};
 use soak_texts::soak_texts;
 use stapl_lexer::Name;
 use std::alloc::{AllocError, Global};
-use tool_io::Sink;
+use tool_answers::NoAnswer;
+use tool_io::{Lines, Sink};
 
 // The play of action A that a soak asks for, for the device at a place.
 fn request_at(alloc: Global, place: u32) -> Result<Request, AllocError>
@@ -65,28 +65,19 @@ fn answer_texts<K: Sink>(
     board: &[u8],
     program: &[u8],
     rack: &mut Vec<Box<dyn Device>>,
-    out: &mut K,
+    lines: &mut Lines<K>,
 ) -> Result<Status, NoAnswer>
     requires needed { HasNeeded request.now }
     requires plays { request.now.mode ≡ Play }
     requires rack { IsRack (map kind_of rack.old.items) }
-    ensures answered { IfOk result (λ status. IsFault status → ⊥) }
-    ensures ok { IfOk result (Wrote
-        (RequestAnswer request.now (record { board = Some board.now; source = Some program.now }))
-        (K.written out.old) (K.written out.new)) }
-    ensures read { IsErrOf result NoAnswer.Read → ⊥ }
-    ensures write { IsErrOf result NoAnswer.Write → HasRisen K.faults K.is_last out.old out.new }
-    ensures front { IsErrOf result NoAnswer.Write → WroteFront
-        (RequestAnswer request.now (record { board = Some board.now; source = Some program.now }))
-        (K.written out.old) (K.written out.new) }
-    ensures memory { IsErrOf result NoAnswer.Memory → IsPrefixOf
-        (RequestAnswer request.now (record { board = Some board.now; source = Some program.now }))
-        (K.written out.old) (K.written out.new) }
-    ensures later { NeverFalls K.faults K.is_last out.old out.new }
-    ensures before { IfOk result (λ status. ComesBeforeFitting status → rack.new.items ≡ rack.old.items) }
-    ensures leaves { IfOk result (λ status. IsPlayed status →
-        TextsHoldFinal request.now board.now program.now (map fitted rack.new.items)) }
-    ensures kinds { map kind_of rack.new.items ≡ map kind_of rack.old.items }
+    requires whole { IsWhole lines.old }
+    ensures says { Says K.written
+        (RequestAnswer request.now (record { board = Some board.now; source = Some program.now })) ⊥
+        lines.old lines.new result }
+    ensures output { KeepsOutput K.faults K.is_last lines.old lines.new result }
+    ensures rack { KeepsRack kind_of fitted (Unit {0})
+        (RequestHoldsFinal request.now (record { board = Some board.now; source = Some program.now }))
+        rack.old.items rack.new.items result }
 {
     match board_of(alloc, board) {
         Ok(devices) => {
@@ -94,10 +85,10 @@ fn answer_texts<K: Sink>(
                 request,
                 devices: &devices,
             };
-            answer_text(alloc, &task, program, rack, out)
+            answer_text(alloc, &task, program, rack, lines)
         }
         Err(BoardNotRead::At { line, reason }) => {
-            write_board_refusal(out, line, reason)?;
+            put_board_refusal(lines, line, reason)?;
             Ok(Status::BoardRefused(line, reason))
         }
         Err(BoardNotRead::Read) => Err(NoAnswer::Read),
@@ -105,31 +96,24 @@ fn answer_texts<K: Sink>(
     }
 }
 
-/// Answers a soak: tells its board and its program in one line, and plays the program.
+/// Answers a soak: tells its board and its program in one line, and plays the program. The line waits in the lines
+/// until all memory is taken.
 pub fn answer_soak<K: Sink>(
     alloc: Global,
     request: &Request,
     rack: &mut Vec<Box<dyn Device>>,
-    out: &mut K,
+    lines: &mut Lines<K>,
 ) -> Result<Status, NoAnswer>
     requires needed { HasNeeded request.now }
     requires soaks { request.now.mode ≡ Soaks }
     requires rack { IsRack (map kind_of rack.old.items) }
-    ensures answered { IfOk result (λ status. IsFault status → ⊥) }
-    ensures ok { IfOk result (Wrote (SoakAnswer request.now) (K.written out.old) (K.written out.new)) }
-    ensures read { IsErrOf result NoAnswer.Read → ⊥ }
-    ensures write { IsErrOf result NoAnswer.Write → HasRisen K.faults K.is_last out.old out.new }
-    ensures front { IsErrOf result NoAnswer.Write →
-        WroteFront (SoakAnswer request.now) (K.written out.old) (K.written out.new) }
-    ensures memory { IsErrOf result NoAnswer.Memory →
-        IsPrefixOf (SoakAnswer request.now) (K.written out.old) (K.written out.new) }
-    ensures later { NeverFalls K.faults K.is_last out.old out.new }
-    ensures before { IfOk result (λ status. ComesBeforeFitting status → rack.new.items ≡ rack.old.items) }
-    ensures leaves { IfOk result (λ status. IsPlayed status →
-        SoakHoldsFinal request.now (map fitted rack.new.items)) }
-    ensures kinds { map kind_of rack.new.items ≡ map kind_of rack.old.items }
+    requires whole { IsWhole lines.old }
+    requires empty { gathered lines.old ≡ [] }
+    ensures says { Says K.written (SoakAnswer request.now) ⊥ lines.old lines.new result }
+    ensures output { KeepsOutput K.faults K.is_last lines.old lines.new result }
+    ensures rack { KeepsRack kind_of fitted (Unit {0}) (SoakHoldsFinal request.now)
+        rack.old.items rack.new.items result }
 {
-    plays_are_answered();
     let Some(seed) = request.seed else {
         unreachable!()
     };
@@ -141,6 +125,7 @@ pub fn answer_soak<K: Sink>(
         place: soak.place,
         pieces: piece_count(&soak.program),
     };
-    write_soak(out, summary)?;
-    answer_texts(alloc, &asked, &soak.board, &soak.program, rack, out)
+    let line = soak_line(alloc, summary)?;
+    lines.put(&line)?;
+    answer_texts(alloc, &asked, &soak.board, &soak.program, rack, lines)
 }

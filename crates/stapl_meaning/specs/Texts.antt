@@ -1,12 +1,11 @@
 -- The written text of a play: a line for each event, a report of the devices if it is asked for, and a line for its
 -- ending. The format is this profile's.
-use Rattle.std.specs.Prelude.{ℕ, pos, ◌+◌, ◌*◌, ◌/◌, ◌%◌, List, [], ◌∷◌, ◌++◌, length, Bool, true, false, ◌&&◌, ◌==◌, nat_le, not, codes, if◌then◌else◌}
-use Rattle.std.specs.List.{flat_map}
+use Rattle.std.specs.Prelude.{ℕ, pos, ◌+◌, ◌*◌, List, [], ◌∷◌, ◌++◌, length, Bool, true, false, ◌==◌, codes, if◌then◌else◌}
 use Rattle.std.specs.Fmt.{signed_decimal}
 use Rattle.base.specs.Bits.{bit_value}
 use Rattle.dev_card.specs.FarEnds.{FarEnd, Told, Heard}
-pub use Rattle.dev_card.specs.Hexadecimal.{hex_digit, digits_needed, hex_digits}
-use Rattle.dev_card.specs.Hexadecimal.{all_hex_digits}
+use Rattle.bit_list.specs.Hexadecimal.{all_hex_digits}
+use Rattle.tool_io.specs.Texts.{escaped}
 use Rattle.dev_card.specs.Reports.{report_of}
 use Rattle.stapl_meaning.specs.declared.events.Event.{Event}
 use Rattle.stapl_meaning.specs.declared.events.Event.TheVariants.{Print, Export, Clock, Usec, Hertz}
@@ -17,17 +16,6 @@ use Rattle.stapl_meaning.specs.declared.events.RunFault.TheVariants.{DivideByZer
 use Rattle.stapl_meaning.specs.declared.events.Ending.{Ending}
 use Rattle.stapl_meaning.specs.declared.events.Ending.TheVariants.{Exit, Fault, Spent}
 use Rattle.stapl_meaning.specs.Effects.{digit_of}
-
--- the byte is written as it is: it is one of 32 to 126, and no backslash
-abbrev pub is_plain : ℕ → Bool
-is_plain b = nat_le 32 b && nat_le b 126 && not (b == 92)
-
--- any other byte is written as a backslash and two hexadecimal digits
-abbrev pub escaped_byte : ℕ → List ℕ
-escaped_byte b = if is_plain b then b ∷ [] else 92 ∷ hex_digit (b / 16) ∷ hex_digit (b % 16) ∷ []
-
-abbrev pub escaped : List ℕ → List ℕ
-escaped bytes = flat_map escaped_byte bytes
 
 -- what is exported, as it is written: an integer in decimal, a Boolean as 0 or 1, bits in hexadecimal
 abbrev pub export_text : ExportValue → List ℕ

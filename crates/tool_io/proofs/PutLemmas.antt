@@ -1,12 +1,13 @@
 -- On calls of `Lines`, one after another.
-use Rattle.std.proofs.Common.{◌≡◌, ℕ, ◌+◌, ◌<◌, length, take, drop, get_or, add-one, List, [], ◌∷◌, ◌++◌, sym, ap, ◌∙◌, append_assoc, Option}
+use Rattle.std.proofs.Common.{◌≡◌, ℕ, ◌+◌, ◌<◌, length, take, drop, get_or, add-one, List, [], ◌∷◌, ◌++◌, sym, ap, ◌∙◌, append_assoc, Option, Result, Ok, Err}
+use Rattle.std.specs.Prelude.{IsErr}
 use Rattle.std.specs.List.{flat_map}
 use Rattle.std.proofs.Math.Seq.{take-suc}
 use Rattle.std.proofs.lemmas.List.{append-nil, take-append-drop}
 use Rattle.std.proofs.lemmas.Grind.{flat_map-append}
 use Rattle.tool_io.specs.declared.lines.Lines.{Lines}
 use Rattle.tool_io.specs.Bytes.{then_bytes, Moves, MovesFront}
-use Rattle.tool_io.specs.Lines.{gathered, taken, Puts, PutsFront}
+use Rattle.tool_io.specs.Lines.{gathered, taken, Puts, PutsFront, HasPut}
 use Rattle.tool_io.proofs.BytesLemmas.{then_bytes-twice, then_bytes-nothing}
 
 -- the text of one item more
@@ -108,3 +109,20 @@ puts_from_moves m = record { front = m.front; parts = m.parts; went = m.written 
 pub front_from_moves : {K : Type 0} {written : K → Option (List ℕ)} {a b : Lines K} {xs : List ℕ} →
     MovesFront (taken written a) (gathered a ++ xs) (taken written b) → PutsFront written a xs b
 front_from_moves m = record { front = m.moves.front; rest = m.rest; parts = m.moves.parts; went = m.moves.written }
+
+-- at the exit of a `?`
+pub put_failed : {K T E : Type 0} {written : K → Option (List ℕ)} {a b : Lines K} {xs : List ℕ} (r : Result T E) → IsErr r →
+    PutsFront written a xs b → HasPut written a xs b r
+put_failed (Ok x) is front = absurd cc
+put_failed (Err e) is front = record { ok = tt; front = front }
+
+-- at the end
+pub put_done : {K T E : Type 0} {written : K → Option (List ℕ)} {a b : Lines K} {xs : List ℕ} {x : T} →
+    Puts written a xs b → HasPut {E = E} written a xs b (Ok x)
+put_done put = record { ok = put; front = tt }
+
+-- one text, and after it what a last call put
+pub put_then_put : {K T E : Type 0} {written : K → Option (List ℕ)} {a b c : Lines K} {xs ys : List ℕ} (r : Result T E) →
+    Puts written a xs b → HasPut written b ys c r → HasPut written a (xs ++ ys) c r
+put_then_put (Ok x) first second = record { ok = put_then first second.ok; front = tt }
+put_then_put (Err e) first second = record { ok = tt; front = put_then_front first second.front }

@@ -1,5 +1,5 @@
 -- What a value of `Lines` holds, and what its calls do. The rules are the tool's own.
-use Rattle.std.specs.Prelude.{◌≡◌, ℕ, List, ◌++◌, true, false, Option, Result}
+use Rattle.std.specs.Prelude.{◌≡◌, ℕ, List, ◌++◌, true, false, Option, Result, OnOk, OnErr}
 use Rattle.std.specs.Borrow.{MutBor}
 use Rattle.tool_io.specs.declared.lines.Lines.{Lines}
 use Rattle.tool_io.specs.Bytes.{then_bytes}
@@ -57,3 +57,16 @@ pub record PutsFront {K : Type 0} (written : K → Option (List ℕ)) (old : Lin
   pub rest : List ℕ
   pub parts : gathered old ++ bytes ≡ front ++ rest
   pub went : taken written new ≡ then_bytes (taken written old) front
+
+-- What a call does that puts bytes: they are put, or a front of them if the call failed.
+pub record HasPut {K T E : Type 0} (written : K → Option (List ℕ)) (old : Lines K) (bytes : List ℕ) (new : Lines K) (result : Result T E) : Type 0 where
+  pub ok : OnOk result (Puts written old bytes new)
+  pub front : OnErr result (PutsFront written old bytes new)
+
+-- What such a call keeps: the sink under the lines, the lines if it did not fail, and the count of the sink, which has
+-- the cause of a failure.
+pub record KeepsLines {K T E : Type 0} (faults : K → ℕ) (is_last : K → Type 0) (old new : Lines K) (result : Result T E) : Type 0 where
+  pub same_sink : IsOverSame old new
+  pub whole : OnOk result (IsWhole new)
+  pub broken : OnErr result (IsBroken new)
+  pub cause : HasSinkCause faults is_last old new result

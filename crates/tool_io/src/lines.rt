@@ -35,7 +35,7 @@ fn write_all<K: Sink>(sink: &mut K, bytes: &[u8]) -> Result<(), Failed>
 }
 
 impl<'a, K: Sink> Lines<'a, K> {
-    ghost use Rattle.tool_io.specs.Lines.{gathered, IsWhole, IsBroken, taken, sink_of, IsOver, IsOverSame, IsSinkUntouched, HasSinkCause, Puts, PutsFront};
+    ghost use Rattle.tool_io.specs.Lines.{gathered, IsWhole, taken, sink_of, IsOver, IsSinkUntouched, PutsFront, HasPut, KeepsLines};
 
     /// Over this sink, with nothing gathered.
     pub fn new(sink: &'a mut K) -> Lines<'a, K>
@@ -57,13 +57,9 @@ impl<'a, K: Sink> Lines<'a, K> {
     /// `Failed` as of the sink.
     pub fn put(&mut self, bytes: &[u8]) -> Result<(), Failed>
         requires { IsWhole self.old }
-        ensures same_sink { IsOverSame self.old self.new }
-        ensures whole { OnOk result (IsWhole self.new) }
-        ensures broken { OnErr result (IsBroken self.new) }
-        ensures ok { OnOk result (Puts K.written self.old bytes.now self.new) }
-        ensures front { OnErr result (PutsFront K.written self.old bytes.now self.new) }
+        ensures put { HasPut K.written self.old bytes.now self.new result }
+        ensures kept { KeepsLines K.faults K.is_last self.old self.new result }
         ensures gathers { length (gathered self.old) + length bytes.now ≤ 4096 → IsOk result × IsSinkUntouched self.old self.new }
-        ensures cause { HasSinkCause K.faults K.is_last self.old self.new result }
     {
         let mut rest = bytes;
         'turns: while !rest.is_empty() {
@@ -79,14 +75,10 @@ impl<'a, K: Sink> Lines<'a, K> {
     /// `Failed` as of the sink.
     pub fn put_int(&mut self, n: i64) -> Result<(), Failed>
         requires { IsWhole self.old }
-        ensures same_sink { IsOverSame self.old self.new }
-        ensures whole { OnOk result (IsWhole self.new) }
-        ensures broken { OnErr result (IsBroken self.new) }
-        ensures ok { OnOk result (Puts K.written self.old (signed_decimal n) self.new) }
-        ensures front { OnErr result (PutsFront K.written self.old (signed_decimal n) self.new) }
+        ensures put { HasPut K.written self.old (signed_decimal n) self.new result }
+        ensures kept { KeepsLines K.faults K.is_last self.old self.new result }
         ensures gathers { length (gathered self.old) + length (signed_decimal n) ≤ 4096 →
             IsOk result × IsSinkUntouched self.old self.new }
-        ensures cause { HasSinkCause K.faults K.is_last self.old self.new result }
     {
         let mut digits = Buffer::new();
         self.put(digits.format(n).as_bytes())
@@ -97,13 +89,10 @@ impl<'a, K: Sink> Lines<'a, K> {
     /// `Failed` as of the sink.
     pub fn finish(&mut self) -> Result<(), Failed>
         requires { IsWhole self.old }
-        ensures same_sink { IsOverSame self.old self.new }
-        ensures whole { OnOk result (IsWhole self.new) }
-        ensures broken { OnErr result (IsBroken self.new) }
         ensures empty { OnOk result (gathered self.new ≡ []) }
         ensures ok { OnOk result (taken K.written self.new ≡ then_bytes (taken K.written self.old) (gathered self.old)) }
         ensures front { OnErr result (PutsFront K.written self.old [] self.new) }
-        ensures cause { HasSinkCause K.faults K.is_last self.old self.new result }
+        ensures kept { KeepsLines K.faults K.is_last self.old self.new result }
     {
         self.empty()?;
         if self.sink.flush().is_err() {
@@ -116,13 +105,10 @@ impl<'a, K: Sink> Lines<'a, K> {
     // Writes the block.
     fn empty(&mut self) -> Result<(), Failed>
         requires { IsWhole self.old }
-        ensures same_sink { IsOverSame self.old self.new }
-        ensures whole { OnOk result (IsWhole self.new) }
-        ensures broken { OnErr result (IsBroken self.new) }
         ensures empty { OnOk result (gathered self.new ≡ []) }
         ensures ok { OnOk result (taken K.written self.new ≡ then_bytes (taken K.written self.old) (gathered self.old)) }
         ensures front { OnErr result (MovesFront (taken K.written self.old) (gathered self.old) (taken K.written self.new)) }
-        ensures cause { HasSinkCause K.faults K.is_last self.old self.new result }
+        ensures kept { KeepsLines K.faults K.is_last self.old self.new result }
     {
         self.failed = true;
         write_all(self.sink, self.block.bytes())?;
@@ -134,15 +120,12 @@ impl<'a, K: Sink> Lines<'a, K> {
     // Writes the block if it is full.
     fn make_room(&mut self) -> Result<(), Failed>
         requires { IsWhole self.old }
-        ensures same_sink { IsOverSame self.old self.new }
-        ensures whole { OnOk result (IsWhole self.new) }
-        ensures broken { OnErr result (IsBroken self.new) }
         ensures room { OnOk result (length (gathered self.new) < 4096) }
         ensures same { length (gathered self.old) < 4096 →
             IsOk result × IsSinkUntouched self.old self.new × (gathered self.new ≡ gathered self.old) }
         ensures ok { OnOk result (Moves (taken K.written self.old) (gathered self.old) (taken K.written self.new) (gathered self.new)) }
         ensures front { OnErr result (MovesFront (taken K.written self.old) (gathered self.old) (taken K.written self.new)) }
-        ensures cause { HasSinkCause K.faults K.is_last self.old self.new result }
+        ensures kept { KeepsLines K.faults K.is_last self.old self.new result }
     {
         if self.block.is_full() {
             return self.empty();

@@ -4,8 +4,8 @@ use Rattle.std.proofs.lemmas.List.{drop-drop, append-nil}
 use Rattle.base.specs.Bits.{low_bits, number_of}
 use Rattle.bit_list.specs.Ranges.{taken}
 use Rattle.bit_list.proofs.Splices.{taken_of_first, length_taken}
-use Rattle.dev_card.specs.Hexadecimal.{all_hex_digits}
-use Rattle.dev_card.proofs.HexDigits.{digits_down, none_left, all_left}
+use Rattle.bit_list.specs.Hexadecimal.{all_hex_digits}
+use Rattle.bit_list.proofs.HexDigits.{digits_down, none_left, all_left}
 use Rattle.tool_io.specs.declared.lines.Lines.{Lines}
 use Rattle.tool_io.specs.Lines.{Puts, PutsFront}
 use Rattle.tool_io.proofs.PutLemmas.{put_then, put_then_front, puts_nothing, front_with}

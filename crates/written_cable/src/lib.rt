@@ -9,7 +9,6 @@ mod reset;
 mod trouble;
 
 pub use digits::Digits;
-pub use line_writer::put_escaped;
 pub use paper::Paper;
 pub use pin_cable::PinCable;
 pub use reset::five_ones;

@@ -1,13 +1,12 @@
 //! The written lines of events and of clocks.
-ghost use Rattle.std.specs.Prelude.{◌≡◌, ◌<◌, ◌≤◌, ◌+◌, ◌*◌, ◌/◌, ◌%◌, ◌^◌, ◌++◌, ◌∷◌, [], pos, codes, OnOk, OnErr, length, slice_get};
-ghost use Rattle.std.specs.Fmt.{signed_decimal};
-ghost use Rattle.tool_io.specs.Lines.{IsWhole, IsBroken, IsOverSame, HasSinkCause, Puts, PutsFront};
+ghost use Rattle.std.specs.Prelude.{◌≡◌, ◌<◌, ◌≤◌, ◌+◌, ◌^◌, ◌++◌, ◌∷◌, [], codes, length, slice_get};
+ghost use Rattle.tool_io.specs.Lines.{IsWhole, HasPut, KeepsLines};
 ghost use Rattle.base.specs.Bits.{low_bits};
 ghost use Rattle.bit_list.specs.Integers.{bits_of_int};
 ghost use Rattle.bit_list.specs.Ranges.{taken};
-ghost use Rattle.dev_card.specs.Hexadecimal.{all_hex_digits};
+ghost use Rattle.bit_list.specs.Hexadecimal.{all_hex_digits};
 ghost use Rattle.stapl_meaning.specs.Effects.{export_of};
-ghost use Rattle.stapl_meaning.specs.Texts.{is_plain, escaped_byte, escaped, export_text, event_line, pin_line};
+ghost use Rattle.stapl_meaning.specs.Texts.{export_text, event_line, pin_line};
 ghost use Rattle.stapl_meaning.specs.declared.events.Event.TheVariants.{Print, Usec, Hertz};
 ghost use Rattle.stapl_meaning.specs.declared.events.Event.TheVariants as events;
 ghost use Rattle.stapl_code.specs.Safe.{constants_of};
@@ -16,63 +15,18 @@ ghost use Rattle.stapl_instructions.specs.Exports.{text_in, literal_in, bits_at,
 ghost use Rattle.written_cable.specs.HexTexts.{hex_text};
 
 use bit_list::Bits;
-use dev_card::{hex_byte, word_digits};
 use stapl_code::CodeLists;
 use stapl_instructions::{BitsAt, Export, Exported, Part, Span, digit_of, held_at, literal_at};
 use stapl_meaning::{Held, Text, Value};
-use tool_io::{Failed, Lines, Sink};
-
-fn is_plain_byte(byte: u8) -> bool
-    ensures { result ≡ is_plain byte }
-{
-    byte >= 32 && byte <= 126 && byte != b'\\'
-}
-
-// Puts a byte of a text, which is escaped where it is not plain.
-fn put_escaped_byte<K: Sink>(out: &mut Lines<K>, byte: u8) -> Result<(), Failed>
-    requires { IsWhole out.old }
-    ensures same_sink { IsOverSame out.old out.new }
-    ensures whole { OnOk result (IsWhole out.new) }
-    ensures broken { OnErr result (IsBroken out.new) }
-    ensures ok { OnOk result (Puts K.written out.old (escaped_byte byte) out.new) }
-    ensures front { OnErr result (PutsFront K.written out.old (escaped_byte byte) out.new) }
-    ensures cause { HasSinkCause K.faults K.is_last out.old out.new result }
-{
-    if is_plain_byte(byte) {
-        return out.put(&[byte]);
-    }
-    out.put(&[b'\\', hex_byte(byte / 16), hex_byte(byte % 16)])
-}
-
-/// Puts a text, escaped.
-///
-/// `Failed` as of the sink.
-pub fn put_escaped<K: Sink>(out: &mut Lines<K>, bytes: &[u8]) -> Result<(), Failed>
-    requires { IsWhole out.old }
-    ensures same_sink { IsOverSame out.old out.new }
-    ensures whole { OnOk result (IsWhole out.new) }
-    ensures broken { OnErr result (IsBroken out.new) }
-    ensures ok { OnOk result (Puts K.written out.old (escaped bytes.now) out.new) }
-    ensures front { OnErr result (PutsFront K.written out.old (escaped bytes.now) out.new) }
-    ensures cause { HasSinkCause K.faults K.is_last out.old out.new result }
-{
-    for byte in bytes {
-        put_escaped_byte(out, *byte)?;
-    }
-    Ok(())
-}
+use tool_io::{Failed, Lines, Sink, put_count_line, put_escaped, put_hex};
 
 /// Puts the line of a PRINT with this text.
 ///
 /// `Failed` as of the sink.
 pub fn put_print<K: Sink>(out: &mut Lines<K>, bytes: &[u8]) -> Result<(), Failed>
     requires { IsWhole out.old }
-    ensures same_sink { IsOverSame out.old out.new }
-    ensures whole { OnOk result (IsWhole out.new) }
-    ensures broken { OnErr result (IsBroken out.new) }
-    ensures ok { OnOk result (Puts K.written out.old (event_line (Print bytes.now)) out.new) }
-    ensures front { OnErr result (PutsFront K.written out.old (event_line (Print bytes.now)) out.new) }
-    ensures cause { HasSinkCause K.faults K.is_last out.old out.new result }
+    ensures put { HasPut K.written out.old (event_line (Print bytes.now)) out.new result }
+    ensures kept { KeepsLines K.faults K.is_last out.old out.new result }
 {
     out.put(b"P ")?;
     put_escaped(out, bytes)?;
@@ -80,40 +34,18 @@ pub fn put_print<K: Sink>(out: &mut Lines<K>, bytes: &[u8]) -> Result<(), Failed
     Ok(())
 }
 
-// Puts all digits of the bits of a number, the highest first.
-fn put_number<K: Sink>(out: &mut Lines<K>, number: u64, len: u32) -> Result<(), Failed>
-    requires whole { IsWhole out.old }
-    requires most { len ≤ 64 }
-    requires fits { number < 2 ^ len }
-    ensures same_sink { IsOverSame out.old out.new }
-    ensures whole { OnOk result (IsWhole out.new) }
-    ensures broken { OnErr result (IsBroken out.new) }
-    ensures ok { OnOk result (Puts K.written out.old (all_hex_digits (low_bits len number)) out.new) }
-    ensures front { OnErr result (PutsFront K.written out.old (all_hex_digits (low_bits len number)) out.new) }
-    ensures cause { HasSinkCause K.faults K.is_last out.old out.new result }
-{
-    let digits = word_digits(number);
-    let first = 16 - len.div_ceil(4) as usize;
-    out.put(&digits[first..])
-}
-
 // Puts all digits of a part of a list of bits, the highest first.
 fn put_digits<K: Sink>(out: &mut Lines<K>, bits: &Bits, span: Span) -> Result<(), Failed>
     requires whole { IsWhole out.old }
     requires inside { span.low + span.count ≤ length bits.now }
     requires few { span.low + span.count + 3 < 2 ^ 32 }
-    ensures same_sink { IsOverSame out.old out.new }
-    ensures whole { OnOk result (IsWhole out.new) }
-    ensures broken { OnErr result (IsBroken out.new) }
-    ensures ok { OnOk result (Puts K.written out.old (all_hex_digits (taken span.low span.count bits.now)) out.new) }
-    ensures front { OnErr result (PutsFront K.written out.old
-        (all_hex_digits (taken span.low span.count bits.now)) out.new) }
-    ensures cause { HasSinkCause K.faults K.is_last out.old out.new result }
+    ensures put { HasPut K.written out.old (all_hex_digits (taken span.low span.count bits.now)) out.new result }
+    ensures kept { KeepsLines K.faults K.is_last out.old out.new result }
 {
     let mut left = span.count;
     'down: while left > 0 {
         let low = (left - 1) / 64 * 64;
-        put_number(out, bits.word(span.low + low, left - low), left - low)?;
+        put_hex(out, bits.word(span.low + low, left - low), left - low)?;
         left = low;
     }
     Ok(())
@@ -124,13 +56,8 @@ fn put_inside<K: Sink>(out: &mut Lines<K>, bits: &Bits, span: Span) -> Result<()
     requires whole { IsWhole out.old }
     requires inside { span.low + span.count ≤ length bits.now }
     requires few { span.low + span.count + 3 < 2 ^ 32 }
-    ensures same_sink { IsOverSame out.old out.new }
-    ensures whole { OnOk result (IsWhole out.new) }
-    ensures broken { OnErr result (IsBroken out.new) }
-    ensures ok { OnOk result (Puts K.written out.old (hex_text (taken span.low span.count bits.now)) out.new) }
-    ensures front { OnErr result (PutsFront K.written out.old
-        (hex_text (taken span.low span.count bits.now)) out.new) }
-    ensures cause { HasSinkCause K.faults K.is_last out.old out.new result }
+    ensures put { HasPut K.written out.old (hex_text (taken span.low span.count bits.now)) out.new result }
+    ensures kept { KeepsLines K.faults K.is_last out.old out.new result }
 {
     out.put(b"$")?;
     put_digits(out, bits, span)?;
@@ -152,13 +79,8 @@ fn inside(span: Span, bits: &Bits) -> Span
 // Puts the text of as much of a part as lies in a list of bits.
 fn put_part<K: Sink>(out: &mut Lines<K>, bits: &Bits, span: Span) -> Result<(), Failed>
     requires { IsWhole out.old }
-    ensures same_sink { IsOverSame out.old out.new }
-    ensures whole { OnOk result (IsWhole out.new) }
-    ensures broken { OnErr result (IsBroken out.new) }
-    ensures ok { OnOk result (Puts K.written out.old (hex_text (taken span.low span.count bits.now)) out.new) }
-    ensures front { OnErr result (PutsFront K.written out.old
-        (hex_text (taken span.low span.count bits.now)) out.new) }
-    ensures cause { HasSinkCause K.faults K.is_last out.old out.new result }
+    ensures put { HasPut K.written out.old (hex_text (taken span.low span.count bits.now)) out.new result }
+    ensures kept { KeepsLines K.faults K.is_last out.old out.new result }
 {
     let there = inside(span, bits);
     put_inside(out, bits, there)
@@ -177,12 +99,8 @@ fn whole_span(bits: &Bits) -> Span
 // Puts the text of all of a list of bits.
 fn put_all<K: Sink>(out: &mut Lines<K>, bits: &Bits) -> Result<(), Failed>
     requires { IsWhole out.old }
-    ensures same_sink { IsOverSame out.old out.new }
-    ensures whole { OnOk result (IsWhole out.new) }
-    ensures broken { OnErr result (IsBroken out.new) }
-    ensures ok { OnOk result (Puts K.written out.old (hex_text bits.now) out.new) }
-    ensures front { OnErr result (PutsFront K.written out.old (hex_text bits.now) out.new) }
-    ensures cause { HasSinkCause K.faults K.is_last out.old out.new result }
+    ensures put { HasPut K.written out.old (hex_text bits.now) out.new result }
+    ensures kept { KeepsLines K.faults K.is_last out.old out.new result }
 {
     let whole = whole_span(bits);
     put_part(out, bits, whole)
@@ -191,25 +109,16 @@ fn put_all<K: Sink>(out: &mut Lines<K>, bits: &Bits) -> Result<(), Failed>
 // Puts the text of a part of no bits.
 fn put_none<K: Sink>(out: &mut Lines<K>, span: Span) -> Result<(), Failed>
     requires { IsWhole out.old }
-    ensures same_sink { IsOverSame out.old out.new }
-    ensures whole { OnOk result (IsWhole out.new) }
-    ensures broken { OnErr result (IsBroken out.new) }
-    ensures ok { OnOk result (Puts K.written out.old (hex_text (taken span.low span.count [])) out.new) }
-    ensures front { OnErr result (PutsFront K.written out.old (hex_text (taken span.low span.count [])) out.new) }
-    ensures cause { HasSinkCause K.faults K.is_last out.old out.new result }
+    ensures put { HasPut K.written out.old (hex_text (taken span.low span.count [])) out.new result }
+    ensures kept { KeepsLines K.faults K.is_last out.old out.new result }
 {
     out.put(b"$")
 }
 
 fn put_literal<K: Sink>(out: &mut Lines<K>, literals: &[Bits], n: u32) -> Result<(), Failed>
     requires { IsWhole out.old }
-    ensures same_sink { IsOverSame out.old out.new }
-    ensures whole { OnOk result (IsWhole out.new) }
-    ensures broken { OnErr result (IsBroken out.new) }
-    ensures ok { OnOk result (Puts K.written out.old (hex_text (literal_in (slice_get literals.now n))) out.new) }
-    ensures front { OnErr result (PutsFront K.written out.old
-        (hex_text (literal_in (slice_get literals.now n))) out.new) }
-    ensures cause { HasSinkCause K.faults K.is_last out.old out.new result }
+    ensures put { HasPut K.written out.old (hex_text (literal_in (slice_get literals.now n))) out.new result }
+    ensures kept { KeepsLines K.faults K.is_last out.old out.new result }
 {
     match literal_at(literals, n) {
         Some(literal) => put_all(out, literal),
@@ -220,14 +129,8 @@ fn put_literal<K: Sink>(out: &mut Lines<K>, literals: &[Bits], n: u32) -> Result
 // Puts the text of a part of what a variable holds, which is no bits if it is no array of bits.
 fn put_held<K: Sink>(out: &mut Lines<K>, held: &Held, span: Span) -> Result<(), Failed>
     requires { IsWhole out.old }
-    ensures same_sink { IsOverSame out.old out.new }
-    ensures whole { OnOk result (IsWhole out.new) }
-    ensures broken { OnErr result (IsBroken out.new) }
-    ensures ok { OnOk result (Puts K.written out.old
-        (hex_text (taken span.low span.count (bits_of held.now))) out.new) }
-    ensures front { OnErr result (PutsFront K.written out.old
-        (hex_text (taken span.low span.count (bits_of held.now))) out.new) }
-    ensures cause { HasSinkCause K.faults K.is_last out.old out.new result }
+    ensures put { HasPut K.written out.old (hex_text (taken span.low span.count (bits_of held.now))) out.new result }
+    ensures kept { KeepsLines K.faults K.is_last out.old out.new result }
 {
     match held {
         Held::Bits(bits) => put_part(out, bits, span),
@@ -237,14 +140,9 @@ fn put_held<K: Sink>(out: &mut Lines<K>, held: &Held, span: Span) -> Result<(), 
 
 fn put_variable<K: Sink>(out: &mut Lines<K>, variables: &[Held], part: Part) -> Result<(), Failed>
     requires { IsWhole out.old }
-    ensures same_sink { IsOverSame out.old out.new }
-    ensures whole { OnOk result (IsWhole out.new) }
-    ensures broken { OnErr result (IsBroken out.new) }
-    ensures ok { OnOk result (Puts K.written out.old
-        (hex_text (taken part.span.low part.span.count (bits_in (slice_get variables.now part.array)))) out.new) }
-    ensures front { OnErr result (PutsFront K.written out.old
-        (hex_text (taken part.span.low part.span.count (bits_in (slice_get variables.now part.array)))) out.new) }
-    ensures cause { HasSinkCause K.faults K.is_last out.old out.new result }
+    ensures put { HasPut K.written out.old
+        (hex_text (taken part.span.low part.span.count (bits_in (slice_get variables.now part.array)))) out.new result }
+    ensures kept { KeepsLines K.faults K.is_last out.old out.new result }
 {
     match held_at(variables, part.array) {
         Some(held) => put_held(out, held, part.span),
@@ -257,26 +155,18 @@ fn put_number_text<K: Sink>(out: &mut Lines<K>, number: u64, len: u32) -> Result
     requires whole { IsWhole out.old }
     requires most { len ≤ 64 }
     requires fits { number < 2 ^ len }
-    ensures same_sink { IsOverSame out.old out.new }
-    ensures whole { OnOk result (IsWhole out.new) }
-    ensures broken { OnErr result (IsBroken out.new) }
-    ensures ok { OnOk result (Puts K.written out.old (hex_text (low_bits len number)) out.new) }
-    ensures front { OnErr result (PutsFront K.written out.old (hex_text (low_bits len number)) out.new) }
-    ensures cause { HasSinkCause K.faults K.is_last out.old out.new result }
+    ensures put { HasPut K.written out.old (hex_text (low_bits len number)) out.new result }
+    ensures kept { KeepsLines K.faults K.is_last out.old out.new result }
 {
     out.put(b"$")?;
-    put_number(out, number, len)?;
+    put_hex(out, number, len)?;
     Ok(())
 }
 
 fn put_integer<K: Sink>(out: &mut Lines<K>, z: i32) -> Result<(), Failed>
     requires { IsWhole out.old }
-    ensures same_sink { IsOverSame out.old out.new }
-    ensures whole { OnOk result (IsWhole out.new) }
-    ensures broken { OnErr result (IsBroken out.new) }
-    ensures ok { OnOk result (Puts K.written out.old (hex_text (bits_of_int z)) out.new) }
-    ensures front { OnErr result (PutsFront K.written out.old (hex_text (bits_of_int z)) out.new) }
-    ensures cause { HasSinkCause K.faults K.is_last out.old out.new result }
+    ensures put { HasPut K.written out.old (hex_text (bits_of_int z)) out.new result }
+    ensures kept { KeepsLines K.faults K.is_last out.old out.new result }
 {
     put_number_text(out, u64::from(z.cast_unsigned()), 32)
 }
@@ -289,13 +179,8 @@ fn put_bits<K: Sink>(
     at: BitsAt,
 ) -> Result<(), Failed>
     requires { IsWhole out.old }
-    ensures same_sink { IsOverSame out.old out.new }
-    ensures whole { OnOk result (IsWhole out.new) }
-    ensures broken { OnErr result (IsBroken out.new) }
-    ensures ok { OnOk result (Puts K.written out.old (hex_text (bits_at literals.now variables.now at)) out.new) }
-    ensures front { OnErr result (PutsFront K.written out.old
-        (hex_text (bits_at literals.now variables.now at)) out.new) }
-    ensures cause { HasSinkCause K.faults K.is_last out.old out.new result }
+    ensures put { HasPut K.written out.old (hex_text (bits_at literals.now variables.now at)) out.new result }
+    ensures kept { KeepsLines K.faults K.is_last out.old out.new result }
 {
     match at {
         BitsAt::Literal(n) => put_literal(out, literals, n),
@@ -307,12 +192,8 @@ fn put_bits<K: Sink>(
 // Puts a value as it is exported.
 fn put_value<K: Sink>(out: &mut Lines<K>, value: Value) -> Result<(), Failed>
     requires { IsWhole out.old }
-    ensures same_sink { IsOverSame out.old out.new }
-    ensures whole { OnOk result (IsWhole out.new) }
-    ensures broken { OnErr result (IsBroken out.new) }
-    ensures ok { OnOk result (Puts K.written out.old (export_text (export_of value)) out.new) }
-    ensures front { OnErr result (PutsFront K.written out.old (export_text (export_of value)) out.new) }
-    ensures cause { HasSinkCause K.faults K.is_last out.old out.new result }
+    ensures put { HasPut K.written out.old (export_text (export_of value)) out.new result }
+    ensures kept { KeepsLines K.faults K.is_last out.old out.new result }
 {
     match value {
         Value::Int(z) => out.put_int(i64::from(z)),
@@ -328,14 +209,9 @@ fn put_exported<K: Sink>(
     value: Exported,
 ) -> Result<(), Failed>
     requires { IsWhole out.old }
-    ensures same_sink { IsOverSame out.old out.new }
-    ensures whole { OnOk result (IsWhole out.new) }
-    ensures broken { OnErr result (IsBroken out.new) }
-    ensures ok { OnOk result (Puts K.written out.old
-        (export_text (value_exported literals.now variables.now value)) out.new) }
-    ensures front { OnErr result (PutsFront K.written out.old
-        (export_text (value_exported literals.now variables.now value)) out.new) }
-    ensures cause { HasSinkCause K.faults K.is_last out.old out.new result }
+    ensures put { HasPut K.written out.old
+        (export_text (value_exported literals.now variables.now value)) out.new result }
+    ensures kept { KeepsLines K.faults K.is_last out.old out.new result }
 {
     match value {
         Exported::Value(value) => put_value(out, value),
@@ -362,14 +238,9 @@ fn put_line<K: Sink>(
     value: Exported,
 ) -> Result<(), Failed>
     requires { IsWhole out.old }
-    ensures same_sink { IsOverSame out.old out.new }
-    ensures whole { OnOk result (IsWhole out.new) }
-    ensures broken { OnErr result (IsBroken out.new) }
-    ensures ok { OnOk result (Puts K.written out.old
-        (event_line (events.Export key.now (value_exported literals.now variables.now value))) out.new) }
-    ensures front { OnErr result (PutsFront K.written out.old
-        (event_line (events.Export key.now (value_exported literals.now variables.now value))) out.new) }
-    ensures cause { HasSinkCause K.faults K.is_last out.old out.new result }
+    ensures put { HasPut K.written out.old
+        (event_line (events.Export key.now (value_exported literals.now variables.now value))) out.new result }
+    ensures kept { KeepsLines K.faults K.is_last out.old out.new result }
 {
     out.put(b"X ")?;
     put_escaped(out, key)?;
@@ -389,48 +260,12 @@ pub fn put_export<K: Sink>(
     export: Export,
 ) -> Result<(), Failed>
     requires { IsWhole out.old }
-    ensures same_sink { IsOverSame out.old out.new }
-    ensures whole { OnOk result (IsWhole out.new) }
-    ensures broken { OnErr result (IsBroken out.new) }
-    ensures ok { OnOk result (Puts K.written out.old
-        (event_line (export_event (constants_of code.now) variables.now export)) out.new) }
-    ensures front { OnErr result (PutsFront K.written out.old
-        (event_line (export_event (constants_of code.now) variables.now export)) out.new) }
-    ensures cause { HasSinkCause K.faults K.is_last out.old out.new result }
+    ensures put { HasPut K.written out.old
+        (event_line (export_event (constants_of code.now) variables.now export)) out.new result }
+    ensures kept { KeepsLines K.faults K.is_last out.old out.new result }
 {
     let key = text_at(code.texts.as_slice(), export.key);
     put_line(out, key, code.literals.as_slice(), variables, export.value)
-}
-
-// Puts a number in decimal.
-fn put_count<K: Sink>(out: &mut Lines<K>, n: u32) -> Result<(), Failed>
-    requires { IsWhole out.old }
-    ensures same_sink { IsOverSame out.old out.new }
-    ensures whole { OnOk result (IsWhole out.new) }
-    ensures broken { OnErr result (IsBroken out.new) }
-    ensures ok { OnOk result (Puts K.written out.old (signed_decimal (pos n)) out.new) }
-    ensures front { OnErr result (PutsFront K.written out.old (signed_decimal (pos n)) out.new) }
-    ensures cause { HasSinkCause K.faults K.is_last out.old out.new result }
-{
-    out.put_int(i64::from(n))
-}
-
-// Puts a line with a label and a number.
-fn put_number_line<K: Sink>(out: &mut Lines<K>, label: &[u8], n: u32) -> Result<(), Failed>
-    requires { IsWhole out.old }
-    ensures same_sink { IsOverSame out.old out.new }
-    ensures whole { OnOk result (IsWhole out.new) }
-    ensures broken { OnErr result (IsBroken out.new) }
-    ensures ok { OnOk result (Puts K.written out.old
-        ((label.now ++ signed_decimal (pos n)) ++ 10 ∷ []) out.new) }
-    ensures front { OnErr result (PutsFront K.written out.old
-        ((label.now ++ signed_decimal (pos n)) ++ 10 ∷ []) out.new) }
-    ensures cause { HasSinkCause K.faults K.is_last out.old out.new result }
-{
-    out.put(label)?;
-    put_count(out, n)?;
-    out.put(b"\n")?;
-    Ok(())
 }
 
 /// Puts the line of a wait of n microseconds.
@@ -438,14 +273,10 @@ fn put_number_line<K: Sink>(out: &mut Lines<K>, label: &[u8], n: u32) -> Result<
 /// `Failed` as of the sink.
 pub fn put_usec<K: Sink>(out: &mut Lines<K>, n: u32) -> Result<(), Failed>
     requires { IsWhole out.old }
-    ensures same_sink { IsOverSame out.old out.new }
-    ensures whole { OnOk result (IsWhole out.new) }
-    ensures broken { OnErr result (IsBroken out.new) }
-    ensures ok { OnOk result (Puts K.written out.old (event_line (Usec n)) out.new) }
-    ensures front { OnErr result (PutsFront K.written out.old (event_line (Usec n)) out.new) }
-    ensures cause { HasSinkCause K.faults K.is_last out.old out.new result }
+    ensures put { HasPut K.written out.old (event_line (Usec n)) out.new result }
+    ensures kept { KeepsLines K.faults K.is_last out.old out.new result }
 {
-    put_number_line(out, b"W ", n)
+    put_count_line(out, b"W ", n)
 }
 
 /// Puts the line of a frequency of n hertz.
@@ -453,14 +284,10 @@ pub fn put_usec<K: Sink>(out: &mut Lines<K>, n: u32) -> Result<(), Failed>
 /// `Failed` as of the sink.
 pub fn put_hertz<K: Sink>(out: &mut Lines<K>, n: u32) -> Result<(), Failed>
     requires { IsWhole out.old }
-    ensures same_sink { IsOverSame out.old out.new }
-    ensures whole { OnOk result (IsWhole out.new) }
-    ensures broken { OnErr result (IsBroken out.new) }
-    ensures ok { OnOk result (Puts K.written out.old (event_line (Hertz n)) out.new) }
-    ensures front { OnErr result (PutsFront K.written out.old (event_line (Hertz n)) out.new) }
-    ensures cause { HasSinkCause K.faults K.is_last out.old out.new result }
+    ensures put { HasPut K.written out.old (event_line (Hertz n)) out.new result }
+    ensures kept { KeepsLines K.faults K.is_last out.old out.new result }
 {
-    put_number_line(out, b"F ", n)
+    put_count_line(out, b"F ", n)
 }
 
 /// Puts the line of these digits of clocks, and nothing if there is none.
@@ -469,12 +296,8 @@ pub fn put_hertz<K: Sink>(out: &mut Lines<K>, n: u32) -> Result<(), Failed>
 #[tactic(auto, using(tool_io::proofs::PutLemmas::puts_nothing, tool_io::proofs::PutLemmas::put_then, tool_io::proofs::PutLemmas::put_then_front, tool_io::proofs::PutLemmas::front_with))]
 pub fn put_pins<K: Sink>(out: &mut Lines<K>, digits: &[u8]) -> Result<(), Failed>
     requires { IsWhole out.old }
-    ensures same_sink { IsOverSame out.old out.new }
-    ensures whole { OnOk result (IsWhole out.new) }
-    ensures broken { OnErr result (IsBroken out.new) }
-    ensures ok { OnOk result (Puts K.written out.old (pin_line digits.now) out.new) }
-    ensures front { OnErr result (PutsFront K.written out.old (pin_line digits.now) out.new) }
-    ensures cause { HasSinkCause K.faults K.is_last out.old out.new result }
+    ensures put { HasPut K.written out.old (pin_line digits.now) out.new result }
+    ensures kept { KeepsLines K.faults K.is_last out.old out.new result }
 {
     if digits.len() == 0 {
         return Ok(());
@@ -485,12 +308,8 @@ pub fn put_pins<K: Sink>(out: &mut Lines<K>, digits: &[u8]) -> Result<(), Failed
 // Puts the line of these digits of clocks.
 fn put_pin_line<K: Sink>(out: &mut Lines<K>, digits: &[u8]) -> Result<(), Failed>
     requires { IsWhole out.old }
-    ensures same_sink { IsOverSame out.old out.new }
-    ensures whole { OnOk result (IsWhole out.new) }
-    ensures broken { OnErr result (IsBroken out.new) }
-    ensures ok { OnOk result (Puts K.written out.old ((codes "C " ++ digits.now) ++ 10 ∷ []) out.new) }
-    ensures front { OnErr result (PutsFront K.written out.old ((codes "C " ++ digits.now) ++ 10 ∷ []) out.new) }
-    ensures cause { HasSinkCause K.faults K.is_last out.old out.new result }
+    ensures put { HasPut K.written out.old ((codes "C " ++ digits.now) ++ 10 ∷ []) out.new result }
+    ensures kept { KeepsLines K.faults K.is_last out.old out.new result }
 {
     out.put(b"C ")?;
     out.put(digits)?;

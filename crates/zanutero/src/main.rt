@@ -1,16 +1,14 @@
 //! The tool over the real files and the real output.
 #![tactic(auto)]
 
-mod command;
-mod help;
-
 use chain_sim::is_rack;
 use dev_card::{Device, MOST_DEVICES};
 use dev_kinds::{Flash, Plain, Regs};
-use play_tool::Status;
+use play_status::Status;
 use std::alloc::AllocError;
 use std::process::ExitCode;
 use std::{env, io};
+use tool_command::run_command;
 use tool_io::{FileShelf, StdSink};
 
 /// The exit code where the words cannot be had: there is no memory for them, or one is not UTF-8.
@@ -31,7 +29,7 @@ fn run(rt: &HostRuntime, words: &[String]) -> Result<Status, AllocError> {
     }
     let mut shelf = FileShelf::new(rt);
     let mut out = StdSink::new(io::writer(rt));
-    Ok(command::run_command(alloc, words, &mut shelf, &mut rack, &mut out))
+    Ok(run_command(alloc, words, &mut shelf, &mut rack, &mut out))
 }
 
 fn main(rt: HostRuntime) -> ExitCode {

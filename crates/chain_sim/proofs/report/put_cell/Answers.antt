@@ -1,10 +1,10 @@
 use Rattle.std.proofs.Common.{rules, ◌/◌, ◌-◌, ◌*◌, ℕ, take, refl, arith}
 use Rattle.base.specs.Bits.{low_bits}
-use Rattle.dev_card.specs.Hexadecimal.{all_hex_digits}
+use Rattle.bit_list.specs.Hexadecimal.{all_hex_digits}
 use Rattle.dev_card.specs.Sound.{card_in}
-use Rattle.dev_card.proofs.HexDigits.{word_fits, digits_down, none_left, all_left}
-use Rattle.tool_io.proofs.BytesLemmas.{on_err}
+use Rattle.bit_list.proofs.HexDigits.{word_fits, digits_down, none_left, all_left}
 use Rattle.tool_io.proofs.CauseLemmas.{kept_start, kept_then}
+use Rattle.tool_io.proofs.PutLemmas.{put_failed, put_done}
 use Rattle.chain_sim.specs.Reports.{cell_in}
 use Rattle.chain_sim.proofs.PutParts.{nothing_put, part_put, part_failed, all_put}
 use Rattle.chain_sim.proofs.report.put_cell.Goals as goal
@@ -21,8 +21,8 @@ down-init g c =
       kept = kept_start _ _;
     }
 
-pub put_number-requires-clause-fits : goal.put_number-requires-clause-fits
-put_number-requires-clause-fits g c =
+pub put_hex-requires-clause-fits : goal.put_hex-requires-clause-fits
+put_hex-requires-clause-fits g c =
     let bits = cell_in (card_in (g.D.Device.fitted c.args.device.now)) c.args.cell in
     let left : ℕ = c.down.left in
     let low : ℕ = (left - 1) / 64 * 64 in
@@ -40,22 +40,23 @@ down-preserved g c =
       inside = omega arith;
       puts = part_put (all_hex_digits bits) (all_hex_digits (take left bits))
           (all_hex_digits (low_bits (left - low) c.word_of.result)) (all_hex_digits (take low bits))
-          (digits_down left low c.word_of.result bits (omega arith) inside (omega arith) c.word_of.ensures) c.down.invariant.puts c.in_ok-put_number.ensures.ok;
-      kept = kept_then c.down.invariant.kept c.in_ok-put_number.ensures.cause.kept;
+          (digits_down left low c.word_of.result bits (omega arith) inside (omega arith) c.word_of.ensures)
+          c.down.invariant.puts c.in_ok-put_hex.ensures.put.ok;
+      kept = kept_then c.down.invariant.kept c.in_ok-put_hex.ensures.kept.cause.kept;
     }
 
-pub returns-in_err-put_number-clause-front : goal.returns-in_err-put_number-clause-front
-returns-in_err-put_number-clause-front g c =
+pub returns-in_err-put_hex-clause-put : goal.returns-in_err-put_hex-clause-put
+returns-in_err-put_hex-clause-put g c =
     let bits = cell_in (card_in (g.D.Device.fitted c.args.device.now)) c.args.cell in
     let left : ℕ = c.down.left in
     let low : ℕ = (left - 1) / 64 * 64 in
-    on_err c.from_residual.result
+    put_failed c.from_residual.result c.from_residual.ensures.0
     (part_failed (all_hex_digits bits) (all_hex_digits (take left bits))
     (all_hex_digits (low_bits (left - low) c.word_of.result)) (all_hex_digits (take low bits))
     (digits_down left low c.word_of.result bits (omega arith) c.down.invariant.inside
-    (omega arith) c.word_of.ensures) c.down.invariant.puts c.in_err-put_number.ensures.front)
+    (omega arith) c.word_of.ensures) c.down.invariant.puts c.in_err-put_hex.ensures.put.front)
 
-pub returns-clause-ok : goal.returns-clause-ok
-returns-clause-ok g c =
+pub returns-clause-put : goal.returns-clause-put
+returns-clause-put g c =
     let bits = cell_in (card_in (g.D.Device.fitted c.args.device.now)) c.args.cell in
-    all_put (all_hex_digits bits) (all_hex_digits (take c.down.left bits)) (none_left c.down.left bits (omega arith)) c.down.invariant.puts
+    put_done (all_put (all_hex_digits bits) (all_hex_digits (take c.down.left bits)) (none_left c.down.left bits (omega arith)) c.down.invariant.puts)

@@ -1,5 +1,5 @@
 use Rattle.std.proofs.Common.{◌≤◌, length, take}
-use Rattle.dev_card.specs.Hexadecimal.{all_hex_digits}
+use Rattle.bit_list.specs.Hexadecimal.{all_hex_digits}
 use Rattle.dev_card.specs.Sound.{card_in}
 use Rattle.tool_io.specs.Lines.{IsWhole, IsOverSame, SinkNeverFalls}
 use Rattle.chain_sim.specs.Reports.{cell_in, PutsBut}

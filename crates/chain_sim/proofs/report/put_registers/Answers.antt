@@ -1,9 +1,9 @@
 use Rattle.std.proofs.Common.{rules, ◌+◌, drop, refl, get_or, [], arith}
-use Rattle.dev_card.specs.Hexadecimal.{all_hex_digits}
+use Rattle.bit_list.specs.Hexadecimal.{all_hex_digits}
 use Rattle.dev_card.specs.Reports.{named_text, registers_text}
 use Rattle.dev_card.specs.Sound.{card_in}
-use Rattle.tool_io.proofs.BytesLemmas.{on_err}
 use Rattle.tool_io.proofs.CauseLemmas.{kept_start, kept_then}
+use Rattle.tool_io.proofs.PutLemmas.{put_failed, put_done}
 use Rattle.chain_sim.specs.Reports.{cells_in}
 use Rattle.chain_sim.proofs.PutParts.{nothing_put, part_put, part_failed, all_put}
 use Rattle.chain_sim.proofs.ReportCards.{register_more, registers_end}
@@ -30,27 +30,29 @@ loop-i-preserved g c =
     record {
       same_sink = search rules;
       whole = search rules;
-      puts = part_put (registers_text registers cells) (registers_text (drop i registers) (drop i cells)) (named_text c.bytes.result.now (all_hex_digits (get_or cells i [])))
+      puts = part_put (registers_text registers cells) (registers_text (drop i registers) (drop i cells))
+          (named_text c.bytes.result.now (all_hex_digits (get_or cells i [])))
           (registers_text (drop (i + 1) registers) (drop (i + 1) cells))
           (register_more registers cells i c.index-registers-i.result c.bytes.result.now (omega arith) c.requires.cells c.bytes.ensures.value)
-          c.loop-i.invariant.puts c.in_ok-put_named_cell.ensures.ok;
-      kept = kept_then c.loop-i.invariant.kept c.in_ok-put_named_cell.ensures.cause.kept;
+          c.loop-i.invariant.puts c.in_ok-put_named_cell.ensures.put.ok;
+      kept = kept_then c.loop-i.invariant.kept c.in_ok-put_named_cell.ensures.kept.cause.kept;
     }
 
-pub returns-in_err-put_named_cell-clause-front : goal.returns-in_err-put_named_cell-clause-front
-returns-in_err-put_named_cell-clause-front g c =
+pub returns-in_err-put_named_cell-clause-put : goal.returns-in_err-put_named_cell-clause-put
+returns-in_err-put_named_cell-clause-put g c =
     let cells = cells_in (card_in (g.D.Device.fitted c.args.device.now)) in
     let registers = c.args.registers.now in
     let i = c.loop-i.i in
-    on_err c.from_residual.result
-    (part_failed (registers_text registers cells) (registers_text (drop i registers) (drop i cells)) (named_text c.bytes.result.now (all_hex_digits (get_or cells i [])))
+    put_failed c.from_residual.result c.from_residual.ensures.0
+    (part_failed (registers_text registers cells) (registers_text (drop i registers) (drop i cells))
+    (named_text c.bytes.result.now (all_hex_digits (get_or cells i [])))
     (registers_text (drop (i + 1) registers) (drop (i + 1) cells))
     (register_more registers cells i c.index-registers-i.result c.bytes.result.now (omega arith) c.requires.cells c.bytes.ensures.value)
-    c.loop-i.invariant.puts c.in_err-put_named_cell.ensures.front)
+    c.loop-i.invariant.puts c.in_err-put_named_cell.ensures.put.front)
 
-pub returns-clause-ok : goal.returns-clause-ok
-returns-clause-ok g c =
+pub returns-clause-put : goal.returns-clause-put
+returns-clause-put g c =
     let cells = cells_in (card_in (g.D.Device.fitted c.args.device.now)) in
     let registers = c.args.registers.now in
-    all_put (registers_text registers cells) (registers_text (drop c.loop-i.i registers) (drop c.loop-i.i cells))
-    (registers_end registers cells c.loop-i.i (omega arith)) c.loop-i.invariant.puts
+    put_done (all_put (registers_text registers cells) (registers_text (drop c.loop-i.i registers) (drop c.loop-i.i cells))
+    (registers_end registers cells c.loop-i.i (omega arith)) c.loop-i.invariant.puts)

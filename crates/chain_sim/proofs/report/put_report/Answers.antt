@@ -1,7 +1,7 @@
 use Rattle.std.proofs.Common.{rules, ◌+◌, map, drop, refl, arith}
 use Rattle.dev_card.specs.Sound.{card_in}
-use Rattle.tool_io.proofs.BytesLemmas.{on_err}
 use Rattle.tool_io.proofs.CauseLemmas.{kept_start, kept_then}
+use Rattle.tool_io.proofs.PutLemmas.{put_failed, put_done}
 use Rattle.chain_sim.specs.Places.{cards_at}
 use Rattle.chain_sim.specs.Reports.{line_in, report_in}
 use Rattle.chain_sim.proofs.PutParts.{nothing_put, part_put, part_failed, all_put}
@@ -24,15 +24,21 @@ bounds-places-i g c =
 
 pub offset_bounds-rack-place : goal.offset_bounds-rack-place
 offset_bounds-rack-place g c =
-    omega (arith, place_inside g.D.Device.fitted c.args.rack.now c.args.places.now c.args.descs.now c.loop-i.i c.index-descs-i.result c.requires.board (omega arith) c.index-descs-i.is)
+    omega (
+      arith,
+      place_inside g.D.Device.fitted c.args.rack.now c.args.places.now c.args.descs.now c.loop-i.i c.index-descs-i.result
+          c.requires.board (omega arith) c.index-descs-i.is,
+    )
 
 pub bounds-rack-place : goal.bounds-rack-place
 bounds-rack-place g c =
-    place_inside g.D.Device.fitted c.args.rack.now c.args.places.now c.args.descs.now c.loop-i.i c.index-descs-i.result c.requires.board (omega arith) c.index-descs-i.is
+    place_inside g.D.Device.fitted c.args.rack.now c.args.places.now c.args.descs.now c.loop-i.i c.index-descs-i.result
+    c.requires.board (omega arith) c.index-descs-i.is
 
 pub put_line-requires-clause-desc : goal.put_line-requires-clause-desc
 put_line-requires-clause-desc g c =
-    described_there g.D.Device.fitted c.args.rack.now c.args.places.now c.args.descs.now c.loop-i.i c.index-descs-i.result c.requires.board (omega arith) c.index-descs-i.is
+    described_there g.D.Device.fitted c.args.rack.now c.args.places.now c.args.descs.now c.loop-i.i c.index-descs-i.result
+    c.requires.board (omega arith) c.index-descs-i.is
     c.index-rack-place.result c.index-rack-place.is
 
 pub loop-i-preserved : goal.loop-i-preserved
@@ -43,26 +49,30 @@ loop-i-preserved g c =
     record {
       same_sink = search rules;
       whole = search rules;
-      puts = part_put (report_in (cards_at rack places)) (report_in (cards_at rack (drop i places))) (line_in (card_in (g.D.Device.fitted c.index-rack-place.result)))
+      puts = part_put (report_in (cards_at rack places)) (report_in (cards_at rack (drop i places)))
+          (line_in (card_in (g.D.Device.fitted c.index-rack-place.result)))
           (report_in (cards_at rack (drop (i + 1) places)))
           (line_more g.D.Device.fitted c.args.rack.now places c.args.descs.now i c.index-descs-i.result c.requires.board (omega arith) c.index-descs-i.is
-          c.index-rack-place.result c.index-rack-place.is) c.loop-i.invariant.puts c.in_ok-put_line.ensures.ok;
-      kept = kept_then c.loop-i.invariant.kept c.in_ok-put_line.ensures.cause.kept;
+          c.index-rack-place.result c.index-rack-place.is) c.loop-i.invariant.puts c.in_ok-put_line.ensures.put.ok;
+      kept = kept_then c.loop-i.invariant.kept c.in_ok-put_line.ensures.kept.cause.kept;
     }
 
-pub returns-in_err-put_line-clause-front : goal.returns-in_err-put_line-clause-front
-returns-in_err-put_line-clause-front g c =
+pub returns-in_err-put_line-clause-put : goal.returns-in_err-put_line-clause-put
+returns-in_err-put_line-clause-put g c =
     let rack = map g.D.Device.fitted c.args.rack.now in
     let places = c.args.places.now in
     let i = c.loop-i.i in
-    on_err c.from_residual.result
-    (part_failed (report_in (cards_at rack places)) (report_in (cards_at rack (drop i places))) (line_in (card_in (g.D.Device.fitted c.index-rack-place.result)))
+    put_failed c.from_residual.result c.from_residual.ensures.0
+    (part_failed (report_in (cards_at rack places)) (report_in (cards_at rack (drop i places)))
+    (line_in (card_in (g.D.Device.fitted c.index-rack-place.result)))
     (report_in (cards_at rack (drop (i + 1) places)))
     (line_more g.D.Device.fitted c.args.rack.now places c.args.descs.now i c.index-descs-i.result c.requires.board (omega arith) c.index-descs-i.is
-    c.index-rack-place.result c.index-rack-place.is) c.loop-i.invariant.puts c.in_err-put_line.ensures.front)
+    c.index-rack-place.result c.index-rack-place.is) c.loop-i.invariant.puts c.in_err-put_line.ensures.put.front)
 
-pub returns-clause-ok : goal.returns-clause-ok
-returns-clause-ok g c =
+pub returns-clause-put : goal.returns-clause-put
+returns-clause-put g c =
     let rack = map g.D.Device.fitted c.args.rack.now in
     let places = c.args.places.now in
-    all_put (report_in (cards_at rack places)) (report_in (cards_at rack (drop c.loop-i.i places))) (report_end rack places c.loop-i.i (omega (arith, same_count rack places c.args.descs.now c.requires.board))) c.loop-i.invariant.puts
+    put_done
+    (all_put (report_in (cards_at rack places)) (report_in (cards_at rack (drop c.loop-i.i places)))
+    (report_end rack places c.loop-i.i (omega (arith, same_count rack places c.args.descs.now c.requires.board))) c.loop-i.invariant.puts)

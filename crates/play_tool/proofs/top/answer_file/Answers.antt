@@ -1,27 +1,26 @@
-use Rattle.std.proofs.Common.{ap, Err}
-use Rattle.tool_io.specs.Files.{file_of}
-use Rattle.play_tool.proofs.AnswerLemmas.{long_file, some_long_answer, on_some}
-use Rattle.play_tool.proofs.WrittenLemmas.{wrote_as, wrote_front}
+use Rattle.std.proofs.Common.{ap, Err, Some}
+use Rattle.play_tool.proofs.FileLemmas.{source_file, long_refused, long_failed, not_read, no_room}
 use Rattle.play_tool.proofs.top.answer_file.Goals as goal
 
-pub returns-in_err-status-in-Err-TooLong-clause-front : goal.returns-in_err-status-in-Err-TooLong-clause-front
-returns-in_err-status-in-Err-TooLong-clause-front g c = λ e.
-    on_some (g.S.Shelf.told c.args.shelf.now)
-    (λ files long. wrote_front _ _ (long_file c.args.task.now.request.now c.args.task.now.devices.now (file_of files c.args.path.now) long) c.in_err-status-in-Err-TooLong.ensures.front)
+pub returns-in-Ok-clause-answers : goal.returns-in-Ok-clause-answers
+returns-in-Ok-clause-answers g c =
+    source_file g.K.Sink.written _ _ _ _ _ _ (g.S.Shelf.told c.args.shelf.now) c.args.path.now c.args.task.now.request.now c.args.task.now.devices.now c.in-Ok.bytes.items c.answer_source.result
+    c.in-Ok.ensures.whole (rw c.deref.ensures.value at c.answer_source.ensures.says) (rw c.deref.ensures.value at c.answer_source.ensures.rack)
+
+pub returns-in_err-status-in-Err-TooLong-clause-answers : goal.returns-in_err-status-in-Err-TooLong-clause-answers
+returns-in_err-status-in-Err-TooLong-clause-answers g c =
+    long_failed g.K.Sink.written _ _ _ _ _ (g.S.Shelf.told c.args.shelf.now) c.args.path.now c.args.task.now.request.now c.args.task.now.devices.now c.from_residual.result
     (rw c.source_limit.ensures at c.in-Err-TooLong.ensures.long (ap Err c.in-Err-TooLong.field-0-is))
+    c.from_residual.ensures.1 c.in_err-status-in-Err-TooLong.ensures.put.front
 
-pub returns-in_err-status-in-Err-TooLong-clause-some_text_front : goal.returns-in_err-status-in-Err-TooLong-clause-some_text_front
-returns-in_err-status-in-Err-TooLong-clause-some_text_front g c = λ e.
-    wrote_front _ _ (some_long_answer c.args.task.now.request.now c.args.task.now.devices.now) c.in_err-status-in-Err-TooLong.ensures.front
-
-pub returns-in_ok-status-in-Err-TooLong-clause-ok : goal.returns-in_ok-status-in-Err-TooLong-clause-ok
-returns-in_ok-status-in-Err-TooLong-clause-ok g c =
-    on_some (g.S.Shelf.told c.args.shelf.now)
-    (λ files long. wrote_as _ _ _ (long_file c.args.task.now.request.now c.args.task.now.devices.now (file_of files c.args.path.now) long)
-    c.in_ok-status-in-Err-TooLong.ensures.status c.in_ok-status-in-Err-TooLong.ensures.ok)
+pub returns-in_ok-status-in-Err-TooLong-clause-answers : goal.returns-in_ok-status-in-Err-TooLong-clause-answers
+returns-in_ok-status-in-Err-TooLong-clause-answers g c =
+    long_refused g.K.Sink.written _ _ _ _ _ (g.S.Shelf.told c.args.shelf.now) c.args.path.now c.args.task.now.request.now c.args.task.now.devices.now _
     (rw c.source_limit.ensures at c.in-Err-TooLong.ensures.long (ap Err c.in-Err-TooLong.field-0-is))
+    c.in_ok-status-in-Err-TooLong.ensures.status c.in_ok-status-in-Err-TooLong.ensures.put.ok
 
-pub returns-in_ok-status-in-Err-TooLong-clause-some_text : goal.returns-in_ok-status-in-Err-TooLong-clause-some_text
-returns-in_ok-status-in-Err-TooLong-clause-some_text g c =
-    wrote_as _ _ _ (some_long_answer c.args.task.now.request.now c.args.task.now.devices.now)
-    c.in_ok-status-in-Err-TooLong.ensures.status c.in_ok-status-in-Err-TooLong.ensures.ok
+pub returns-in-Err-ReadFault-clause-answers : goal.returns-in-Err-ReadFault-clause-answers
+returns-in-Err-ReadFault-clause-answers g c = not_read (g.S.Shelf.told c.args.shelf.now) (Some c.args.path.now) c.args.task.now.request.now c.args.task.now.devices.now
+
+pub returns-in-Err-Memory-clause-answers : goal.returns-in-Err-Memory-clause-answers
+returns-in-Err-Memory-clause-answers g c = no_room (g.S.Shelf.told c.args.shelf.now) (Some c.args.path.now) c.args.task.now.request.now c.args.task.now.devices.now

@@ -1,18 +1,33 @@
-use Rattle.play_tool.proofs.AnswerLemmas.{work_answers, answers_work, on_ok}
-use Rattle.play_tool.proofs.WrittenLemmas.{wrote_within, front_within, prefix_within}
+use Rattle.std.proofs.Common.{sym, subst}
+use Rattle.stapl_checker.specs.Answers.{IsCause}
+use Rattle.tool_answers.proofs.AnswerLemmas.{says_within, says_failed, said_text, said_front}
+use Rattle.code_plays.proofs.PlayLemmas.{rack_as}
+use Rattle.play_tool.specs.Answers.{refused}
+use Rattle.play_tool.proofs.AnswerLemmas.{work_answers, text_fault_is}
 use Rattle.play_tool.proofs.top.answer_text.Goals as goal
 
 pub work-requires-clause-program : goal.work-requires-clause-program
 work-requires-clause-program g c = rw c.in-Ok.ensures.text c.in-Ok.ensures.program
 
-pub returns-in-Ok-clause-ok : goal.returns-in-Ok-clause-ok
-returns-in-Ok-clause-ok g c =
-    on_ok c.work.result (λ status. wrote_within (work_answers c.args.task.now.request.now c.args.task.now.devices.now _ c.args.bytes.now _ c.in-Ok.ensures.text c.in-Ok.ensures.program)) c.work.ensures.ok
+pub returns-in-Ok-clause-says : goal.returns-in-Ok-clause-says
+returns-in-Ok-clause-says g c =
+    says_within _ _ _ _ _ c.work.result
+    (work_answers c.args.task.now.request.now c.args.task.now.devices.now _ c.args.bytes.now _ c.in-Ok.ensures.text c.in-Ok.ensures.program)
+    (λ z. z) c.work.ensures.says
 
-pub returns-in-Ok-clause-front : goal.returns-in-Ok-clause-front
-returns-in-Ok-clause-front g c = λ e.
-    front_within (work_answers c.args.task.now.request.now c.args.task.now.devices.now _ c.args.bytes.now _ c.in-Ok.ensures.text c.in-Ok.ensures.program) (c.work.ensures.front e)
+pub returns-in-Ok-clause-rack : goal.returns-in-Ok-clause-rack
+returns-in-Ok-clause-rack g c =
+    rack_as c.work.result (λ p. p) (λ p. p) (λ rack final. record { program = _; is = c.in-Ok.ensures.program; final = final }) c.work.ensures.rack
 
-pub returns-in-Ok-clause-memory : goal.returns-in-Ok-clause-memory
-returns-in-Ok-clause-memory g c = λ e.
-    prefix_within (answers_work c.args.task.now.request.now c.args.task.now.devices.now _ c.args.bytes.now _ c.in-Ok.ensures.text c.in-Ok.ensures.program) (c.work.ensures.memory e)
+pub returns-in_err-put_refusal-in-Err-Refused-clause-says : goal.returns-in_err-put_refusal-in-Err-Refused-clause-says
+returns-in_err-put_refusal-in-Err-Refused-clause-says g c =
+    says_failed _ _ _ _ _ c.from_residual.result c.from_residual.ensures.1
+    (said_front _ _ (refused _ _ _ (text_fault_is (sym c.in-Err-Refused.piece-is) (sym c.in-Err-Refused.line-is) (sym c.in-Err-Refused.reason-is)
+    (subst (IsCause c.args.bytes.now) c.in-Err-Refused.field-0-is c.in-Err-Refused.ensures.refused)))
+    c.in_err-put_refusal-in-Err-Refused.ensures.put.front)
+
+pub returns-in_ok-put_refusal-in-Err-Refused-clause-says : goal.returns-in_ok-put_refusal-in-Err-Refused-clause-says
+returns-in_ok-put_refusal-in-Err-Refused-clause-says g c =
+    said_text _ (refused _ _ _ (text_fault_is (sym c.in-Err-Refused.piece-is) (sym c.in-Err-Refused.line-is) (sym c.in-Err-Refused.reason-is)
+    (subst (IsCause c.args.bytes.now) c.in-Err-Refused.field-0-is c.in-Err-Refused.ensures.refused)))
+    c.in_ok-put_refusal-in-Err-Refused.ensures.put.ok

@@ -1,12 +1,29 @@
+use Rattle.std.proofs.Common.{sym, subst}
+use Rattle.play_status.specs.Statuses.{IsFault}
+use Rattle.tool_answers.proofs.AnswerLemmas.{wrote_within}
 use Rattle.play_tool.proofs.AloneLemmas.{answers_alone}
-use Rattle.play_tool.proofs.AnswerLemmas.{on_some}
 use Rattle.play_tool.proofs.CompiledLemmas.{answers_source}
-use Rattle.play_tool.proofs.WrittenLemmas.{wrote_within}
+use Rattle.play_tool.proofs.RequestLemmas.{of_words_as}
+use Rattle.play_tool.proofs.StatusLemmas.{answer_status}
 use Rattle.play_tool.proofs.top.run_tool.Goals as goal
 
-pub returns-in-Ok-clause-alone : goal.returns-in-Ok-clause-alone
-returns-in-Ok-clause-alone g c = λ works. on_some (g.S.Shelf.told c.args.shelf.now) (λ files w q. wrote_within (answers_alone q) w) c.in-Ok.ensures.ok
+pub returns-in-Ok-clause-answer : goal.returns-in-Ok-clause-answer
+returns-in-Ok-clause-answer g c = λ works.
+    of_words_as (λ contents a. record {
+      wrote = a.written;
+      leaves = λ playing played. a.rack.leaves playing played;
+      alone = λ q. wrote_within (answers_alone q) a.written;
+      compiled = λ q. wrote_within (answers_source c.programs_are_typed.ensures q) a.written;
+    }) c.in-Ok.ensures.ran
 
-pub returns-in-Ok-clause-compiled : goal.returns-in-Ok-clause-compiled
-returns-in-Ok-clause-compiled g c = λ works.
-    on_some (g.S.Shelf.told c.args.shelf.now) (λ files w q. wrote_within (answers_source c.programs_are_typed.ensures q) w) c.in-Ok.ensures.ok
+pub returns-in-Ok-clause-read : goal.returns-in-Ok-clause-read
+returns-in-Ok-clause-read g c = λ e. absurd (answer_status c.in-Ok.ensures.ran.holds.written.answer (subst IsFault (sym e) tt))
+
+pub returns-in-Ok-clause-nothing : goal.returns-in-Ok-clause-nothing
+returns-in-Ok-clause-nothing g c = λ e. absurd (answer_status c.in-Ok.ensures.ran.holds.written.answer (subst IsFault (sym e) tt))
+
+pub returns-in-Ok-clause-write : goal.returns-in-Ok-clause-write
+returns-in-Ok-clause-write g c = λ e. absurd (answer_status c.in-Ok.ensures.ran.holds.written.answer (subst IsFault (sym e) tt))
+
+pub returns-in-Ok-clause-memory : goal.returns-in-Ok-clause-memory
+returns-in-Ok-clause-memory g c = λ e. absurd (answer_status c.in-Ok.ensures.ran.holds.written.answer (subst IsFault (sym e) tt))

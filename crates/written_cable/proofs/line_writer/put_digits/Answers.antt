@@ -2,10 +2,10 @@ use Rattle.std.proofs.Common.{rules, ℕ, ◌-◌, ◌*◌, ◌/◌, ◌+◌, re
 use Rattle.base.specs.Bits.{low_bits}
 use Rattle.bit_list.specs.Ranges.{taken}
 use Rattle.bit_list.proofs.Splices.{length_taken}
-use Rattle.dev_card.specs.Hexadecimal.{all_hex_digits}
-use Rattle.dev_card.proofs.HexDigits.{word_fits}
-use Rattle.tool_io.proofs.BytesLemmas.{on_err}
+use Rattle.bit_list.specs.Hexadecimal.{all_hex_digits}
+use Rattle.bit_list.proofs.HexDigits.{word_fits}
 use Rattle.tool_io.proofs.CauseLemmas.{kept_start, kept_then}
+use Rattle.tool_io.proofs.PutLemmas.{put_failed, put_done}
 use Rattle.written_cable.proofs.DigitLemmas.{digits_of_word, no_word, word_more, word_front, digits_put}
 use Rattle.written_cable.proofs.line_writer.put_digits.Goals as goal
 
@@ -20,8 +20,8 @@ down-init g c =
       kept = kept_start _ _;
     }
 
-pub put_number-requires-clause-fits : goal.put_number-requires-clause-fits
-put_number-requires-clause-fits g c =
+pub put_hex-requires-clause-fits : goal.put_hex-requires-clause-fits
+put_hex-requires-clause-fits g c =
     let left : ℕ = c.down.left in let at : ℕ = (left - 1) / 64 * 64 in
     word_fits (c.args.span.low + at) (left - at) c.word.result c.args.bits.now (omega (arith, c.down.invariant.below, c.requires.inside)) c.word.ensures.value
 
@@ -36,18 +36,18 @@ down-preserved g c =
       puts = word_more (taken span.low span.count bits) left at (all_hex_digits (low_bits (left - at) c.word.result))
           (digits_of_word left at c.word.result span.low span.count bits c.requires.inside
           (omega arith) c.down.invariant.below (omega arith) c.word.ensures.value)
-          c.down.invariant.puts c.in_ok-put_number.ensures.ok;
-      kept = kept_then c.down.invariant.kept c.in_ok-put_number.ensures.cause.kept;
+          c.down.invariant.puts c.in_ok-put_hex.ensures.put.ok;
+      kept = kept_then c.down.invariant.kept c.in_ok-put_hex.ensures.kept.cause.kept;
     }
 
-pub returns-in_err-put_number-clause-front : goal.returns-in_err-put_number-clause-front
-returns-in_err-put_number-clause-front g c =
+pub returns-in_err-put_hex-clause-put : goal.returns-in_err-put_hex-clause-put
+returns-in_err-put_hex-clause-put g c =
     let span = c.args.span in let bits = c.args.bits.now in
     let left : ℕ = c.down.left in let at : ℕ = (left - 1) / 64 * 64 in
-    on_err c.from_residual.result
+    put_failed c.from_residual.result c.from_residual.ensures.0
     (word_front (taken span.low span.count bits) left at (all_hex_digits (low_bits (left - at) c.word.result))
     (digits_of_word left at c.word.result span.low span.count bits c.requires.inside (omega arith) c.down.invariant.below (omega arith) c.word.ensures.value)
-    c.down.invariant.puts c.in_err-put_number.ensures.front)
+    c.down.invariant.puts c.in_err-put_hex.ensures.put.front)
 
-pub returns-clause-ok : goal.returns-clause-ok
-returns-clause-ok g c = digits_put (taken c.args.span.low c.args.span.count c.args.bits.now) c.down.left (omega arith) c.down.invariant.puts
+pub returns-clause-put : goal.returns-clause-put
+returns-clause-put g c = put_done (digits_put (taken c.args.span.low c.args.span.count c.args.bits.now) c.down.left (omega arith) c.down.invariant.puts)

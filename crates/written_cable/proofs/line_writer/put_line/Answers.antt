@@ -1,39 +1,48 @@
 use Rattle.std.proofs.Common.{[], ◌∷◌}
 use Rattle.std.specs.Prelude.{codes}
-use Rattle.stapl_meaning.specs.Texts.{escaped, export_text}
-use Rattle.tool_io.proofs.BytesLemmas.{on_err}
-use Rattle.tool_io.proofs.PutLemmas.{put_then, put_then_front, front_with}
+use Rattle.stapl_meaning.specs.Texts.{export_text}
+use Rattle.tool_io.specs.Texts.{escaped}
+use Rattle.tool_io.proofs.PutLemmas.{put_then, put_then_front, front_with, put_failed, put_done}
 use Rattle.stapl_instructions.specs.Exports.{value_exported}
 use Rattle.written_cable.proofs.line_writer.put_line.Goals as goal
 
-pub returns-in_err-put-clause-front : goal.returns-in_err-put-clause-front
-returns-in_err-put-clause-front g c =
+pub returns-in_err-put-clause-put : goal.returns-in_err-put-clause-put
+returns-in_err-put-clause-put g c =
     let text = export_text (value_exported c.args.literals.now c.args.variables.now c.args.value) in
-    on_err c.from_residual.result
-    (front_with (10 ∷ []) (front_with text (front_with (codes " = ") (front_with (escaped c.args.key.now) c.in_err-put.ensures.front))))
+    put_failed c.from_residual.result c.from_residual.ensures.0
+    (front_with (10 ∷ []) (front_with text (front_with (codes " = ") (front_with (escaped c.args.key.now) c.in_err-put.ensures.put.front))))
 
-pub returns-in_err-put_escaped-clause-front : goal.returns-in_err-put_escaped-clause-front
-returns-in_err-put_escaped-clause-front g c =
+pub returns-in_err-put_escaped-clause-put : goal.returns-in_err-put_escaped-clause-put
+returns-in_err-put_escaped-clause-put g c =
     let text = export_text (value_exported c.args.literals.now c.args.variables.now c.args.value) in
-    on_err c.from_residual-in_err-put_escaped.result
-    (front_with (10 ∷ []) (front_with text (front_with (codes " = ") (put_then_front c.in_ok-put.ensures.ok c.in_err-put_escaped.ensures.front))))
+    put_failed c.from_residual-in_err-put_escaped.result c.from_residual-in_err-put_escaped.ensures.0
+    (front_with (10 ∷ []) (front_with text (front_with (codes " = ") (put_then_front c.in_ok-put.ensures.put.ok c.in_err-put_escaped.ensures.put.front))))
 
-pub returns-in_err-put-2-clause-front : goal.returns-in_err-put-2-clause-front
-returns-in_err-put-2-clause-front g c =
+pub returns-in_err-put-2-clause-put : goal.returns-in_err-put-2-clause-put
+returns-in_err-put-2-clause-put g c =
     let text = export_text (value_exported c.args.literals.now c.args.variables.now c.args.value) in
-    on_err c.from_residual-in_err-put-2.result
-    (front_with (10 ∷ []) (front_with text (put_then_front (put_then c.in_ok-put.ensures.ok c.in_ok-put_escaped.ensures.ok) c.in_err-put-2.ensures.front)))
+    put_failed c.from_residual-in_err-put-2.result c.from_residual-in_err-put-2.ensures.0
+    (front_with (10 ∷ []) (front_with text
+    (put_then_front (put_then c.in_ok-put.ensures.put.ok c.in_ok-put_escaped.ensures.put.ok) c.in_err-put-2.ensures.put.front)))
 
-pub returns-in_err-put_exported-clause-front : goal.returns-in_err-put_exported-clause-front
-returns-in_err-put_exported-clause-front g c =
-    on_err c.from_residual-in_err-put_exported.result
-    (front_with (10 ∷ []) (put_then_front (put_then (put_then c.in_ok-put.ensures.ok c.in_ok-put_escaped.ensures.ok) c.in_ok-put-2.ensures.ok) c.in_err-put_exported.ensures.front))
+pub returns-in_err-put_exported-clause-put : goal.returns-in_err-put_exported-clause-put
+returns-in_err-put_exported-clause-put g c =
+    put_failed c.from_residual-in_err-put_exported.result c.from_residual-in_err-put_exported.ensures.0
+    (front_with (10 ∷ [])
+    (put_then_front (put_then (put_then c.in_ok-put.ensures.put.ok c.in_ok-put_escaped.ensures.put.ok) c.in_ok-put-2.ensures.put.ok)
+    c.in_err-put_exported.ensures.put.front))
 
-pub returns-in_err-put-3-clause-front : goal.returns-in_err-put-3-clause-front
-returns-in_err-put-3-clause-front g c =
-    on_err c.from_residual-in_err-put-3.result
-    (put_then_front (put_then (put_then (put_then c.in_ok-put.ensures.ok c.in_ok-put_escaped.ensures.ok) c.in_ok-put-2.ensures.ok) c.in_ok-put_exported.ensures.ok) c.in_err-put-3.ensures.front)
+pub returns-in_err-put-3-clause-put : goal.returns-in_err-put-3-clause-put
+returns-in_err-put-3-clause-put g c =
+    put_failed c.from_residual-in_err-put-3.result c.from_residual-in_err-put-3.ensures.0
+    (put_then_front
+    (put_then (put_then (put_then c.in_ok-put.ensures.put.ok c.in_ok-put_escaped.ensures.put.ok) c.in_ok-put-2.ensures.put.ok)
+    c.in_ok-put_exported.ensures.put.ok)
+    c.in_err-put-3.ensures.put.front)
 
-pub returns-clause-ok : goal.returns-clause-ok
-returns-clause-ok g c =
-    put_then (put_then (put_then (put_then c.in_ok-put.ensures.ok c.in_ok-put_escaped.ensures.ok) c.in_ok-put-2.ensures.ok) c.in_ok-put_exported.ensures.ok) c.in_ok-put-3.ensures.ok
+pub returns-clause-put : goal.returns-clause-put
+returns-clause-put g c =
+    put_done (put_then
+    (put_then (put_then (put_then c.in_ok-put.ensures.put.ok c.in_ok-put_escaped.ensures.put.ok) c.in_ok-put-2.ensures.put.ok)
+    c.in_ok-put_exported.ensures.put.ok)
+    c.in_ok-put-3.ensures.put.ok)

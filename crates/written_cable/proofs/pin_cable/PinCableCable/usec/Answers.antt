@@ -1,6 +1,6 @@
 use Rattle.std.proofs.Common.{rules, refl, sym, ap, subst, ◌∙◌, [], ◌∷◌}
 use Rattle.tool_io.proofs.BytesLemmas.{on_err}
-use Rattle.scan_paths.specs.Cables.{Waits, whole, pins}
+use Rattle.scan_paths.specs.Cables.{Waits}
 use Rattle.stapl_meaning.specs.declared.events.Event.TheVariants.{Usec}
 use Rattle.written_cable.specs.Pins.{port_breakage}
 use Rattle.written_cable.proofs.SaidLemmas.{said_wholly, said_not, pins_failed, line_failed}

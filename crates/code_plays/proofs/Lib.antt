@@ -1,0 +1,3 @@
+pub mod PlayLemmas
+pub mod CodeLemmas
+pub mod FaultLines

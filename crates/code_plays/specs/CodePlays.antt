@@ -1,0 +1,71 @@
+-- What a play through the code of a program finds.
+use Rattle.std.specs.Prelude.{◌≡◌, ℕ, Bool, true, List, [], ◌++◌, map, Option, None, Some}
+use Rattle.tool_io.specs.Causes.{HasRisen}
+use Rattle.dev_card.specs.Card.{fresh}
+use Rattle.scan_paths.specs.Cables.{Signal}
+use Rattle.dev_card.specs.Padding.{BaseLengths}
+use Rattle.dev_card.specs.FarEnds.{FarEnd, Told}
+use Rattle.stapl_meaning.specs.declared.events.Ending.{Ending}
+use Rattle.stapl_meaning.specs.Choices.{Choice, chosen}
+use Rattle.stapl_meaning.specs.Plays.{Run, ending_of}
+use Rattle.stapl_meaning.specs.Texts.{events_text, asked_report, ending_line}
+use Rattle.stapl_code.specs.declared.raw.CodeLists.{CodeLists}
+use Rattle.stapl_player.specs.Plays.{whole_play}
+use Rattle.code_plays.specs.declared.playing.Task.{Task}
+use Rattle.play_words.specs.declared.words.Request.{Request}
+use Rattle.play_status.specs.declared.status.Status.{Status}
+use Rattle.code_plays.specs.Plays.{asked_text, base_at, reported_far, done_with}
+
+-- the base padding that a task asks for
+abbrev pub task_base : Task → BaseLengths
+task_base task = base_at task.devices.now task.request.now.place
+
+-- the play of a code that a task asks for, at a far end
+abbrev pub far_play : CodeLists → List ℕ → Task → FarEnd → Run
+far_play code procedures task far = whole_play code procedures task.request.now.turns (task_base task) far
+
+-- the same on the fresh devices of the task's board
+abbrev pub task_play : CodeLists → List ℕ → Task → Run
+task_play code procedures task = far_play code procedures task (Told (map fresh task.devices.now))
+
+-- no call on such a cable fails
+abbrev pub NeverRises : {C : Type 0} → (C → ℕ) → (C → Type 0) → Type 0
+NeverRises {C = C} faults is_last = (before after : C) → HasRisen faults is_last before after → ⊥
+
+-- some signals were made
+pub record WasClocked {C : Type 0} (makes : C → List Signal → C → Type 0) (old new : C) : Type 0 where
+  pub signals : List Signal
+  pub made : makes old signals new
+
+-- The run comes to an ending: it ends, or its turns are spent.
+pub record HasEnding (run : Run) : Type 0 where
+  pub ending : Ending
+  pub comes : ending_of run.outcome ≡ Some ending
+
+-- the line of an ending, if there is one
+abbrev pub line_of : Option Ending → List ℕ
+line_of None = []
+line_of (Some ending) = ending_line ending
+
+-- the lines of a run, as a request asks for it: those of its events, the report if it is asked for, and its ending
+abbrev pub run_lines : Request → Run → List ℕ
+run_lines request run =
+    events_text request.pins [] run.events ++ asked_report request.report (reported_far request.place run.chain.far)
+    ++ line_of (ending_of run.outcome)
+
+-- The run ends, or its turns are spent: its text, as a request asks for it, and the status.
+pub record Ends (request : Request) (run : Run) (text : List ℕ) (status : Status) : Type 0 where
+  pub ending : Ending
+  pub comes : ending_of run.outcome ≡ Some ending
+  pub text_is : text ≡ asked_text request run.events run.chain.far ending
+  pub status_is : status ≡ done_with ending
+
+-- The run has the events, the far end and the ending of the play of the procedures that are chosen, on a board that has
+-- the place.
+pub record IsPlayOf (choice : Choice) (placed : Bool) (plays : List ℕ → Run) (run : Run) : Type 0 where
+  pub procedures : List ℕ
+  pub are_chosen : choice ≡ chosen procedures
+  pub is_placed : placed ≡ true
+  pub same_events : run.events ≡ (plays procedures).events
+  pub same_far : run.chain.far ≡ (plays procedures).chain.far
+  pub same_ending : ending_of run.outcome ≡ ending_of (plays procedures).outcome

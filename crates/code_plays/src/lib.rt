@@ -1,0 +1,8 @@
+//! Plays of a code: of an action of it, on a board that is fitted into a rack of devices.
+#![tactic(auto)]
+
+mod endings;
+mod over_cable;
+mod playing;
+
+pub use playing::{Task, play_code};

@@ -1,0 +1,92 @@
+//! The play of a code over a cable that tells its board and never fails.
+ghost use Rattle.std.specs.Prelude.{◌≡◌, ◌≢◌, ◌<◌, [], true, length, map, Some, OnOk, IfOk};
+ghost use Rattle.tool_io.specs.Lines.{IsWhole, HasPut};
+ghost use Rattle.tool_answers.specs.Answers.{KeepsSink};
+ghost use Rattle.scan_paths.specs.Cables.{whole, cable_faults, IsCableLast};
+ghost use Rattle.scan_paths.specs.Scans.{lengths_of};
+ghost use Rattle.dev_card.specs.Card.{fresh};
+ghost use Rattle.dev_card.specs.FarEnds.{far_end};
+ghost use Rattle.stapl_meaning.specs.Plays.{ending_of};
+ghost use Rattle.stapl_meaning.specs.Texts.{events_text};
+ghost use Rattle.stapl_code.specs.Safe.{AllBelow};
+ghost use Rattle.written_cable.specs.declared.trouble.Trouble.TheVariants as troubles;
+ghost use Rattle.stapl_machine.specs.Machines.{IsPrepared};
+ghost use Rattle.code_plays.specs.Plays.{has_place};
+ghost use Rattle.board_text.specs.Boards.{CanBeFitted};
+ghost use Rattle.code_plays.specs.CodePlays.{task_base, task_play, NeverRises, WasClocked};
+
+use crate::playing::Task;
+use base::Steps;
+use scan_paths::{BasePads, Cable};
+use stapl_code::Code;
+use stapl_machine::Machine;
+use stapl_meaning::Ending;
+use stapl_player::{base_pads, play};
+use std::sync::ledger::{Blank, Ledger};
+use tool_io::{Failed, Lines, Sink};
+use written_cable::Trouble;
+
+// The failure of the lines that a trouble is which is none of the cable.
+fn failed(trouble: Trouble) -> Failed
+    requires { trouble ≢ troubles.CableFault }
+    ensures { trouble ≡ troubles.WriteFault }
+{
+    match trouble {
+        Trouble::WriteFault => Failed,
+        Trouble::CableFault => unreachable!(),
+    }
+}
+
+// The base padding that a task asks for: around the device at its place, if it names one.
+fn base_of(task: &Task) -> BasePads
+    requires placed { has_place task.now.request.now.place task.now.devices.now ≡ true }
+    requires devices { CanBeFitted task.now.devices.now }
+    ensures { lengths_of result ≡ task_base task.now }
+{
+    match task.request.place {
+        Some(place) => base_pads(task.devices, place, place),
+        None => BasePads::none(),
+    }
+}
+
+/// Plays the chosen procedures of a code, as a task asks for it, over a cable that tells the fresh board of the task
+/// and never fails, and puts the lines of the events. Its steps are counted in a ledger that nobody asks.
+pub fn play_over_cable<C: Cable, K: Sink, L: Ledger>(
+    machine: &mut Machine,
+    code: &Code,
+    chosen: &[u32],
+    task: &Task,
+    cable: &mut C,
+    lines: &mut Lines<K>,
+    blank: Blank,
+) -> Result<Ending, Failed>
+    requires name { blank.name ≡ L.name }
+    requires parts { blank.parts ≡ L.parts }
+    requires some { 0 < L.parts }
+    requires prepared { IsPrepared code.now machine.old }
+    requires below { AllBelow (length code.now.procedures) chosen.now }
+    requires placed { has_place task.now.request.now.place task.now.devices.now ≡ true }
+    requires devices { CanBeFitted task.now.devices.now }
+    requires told { C.board cable.old ≡ Some (map fresh task.now.devices.now) }
+    requires whole_cable { C.breakage cable.old ≡ whole }
+    requires sure { NeverRises (cable_faults C.line_faults C.pin_faults) (IsCableLast C.is_line_last C.is_pin_last) }
+    requires whole { IsWhole lines.old }
+    ensures put { HasPut K.written lines.old (events_text task.now.request.now.pins []
+        (task_play code.now chosen.now task.now).events) lines.new result }
+    ensures kept { KeepsSink K.faults K.is_last lines.old lines.new result }
+    ensures ended { IfOk result (λ ending.
+        ending_of (task_play code.now chosen.now task.now).outcome ≡ Some ending) }
+    ensures clocked { WasClocked C.made cable.old cable.new }
+    ensures far { OnOk result ((task_play code.now chosen.now task.now).chain.far
+        ≡ far_end (C.board cable.new) []) }
+{
+    let base = base_of(task);
+    let (pins, turns) = (task.request.pins, task.request.turns);
+    let mut steps = Steps::<L>::none(blank);
+    match play(
+        machine, code, chosen, &base, cable, lines, pins, turns, &mut steps,
+    ) {
+        Ok(ending) => Ok(ending),
+        Err(trouble) => Err(failed(trouble)),
+    }
+}

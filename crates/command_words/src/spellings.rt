@@ -1,0 +1,58 @@
+//! Values as they are spelled behind a key.
+ghost use Rattle.std.specs.Prelude.{◌≡◌, ℕ, Bool, IfSome, IfNone};
+ghost use Rattle.std.specs.List.{list_all};
+ghost use Rattle.stapl_lexer.specs.ReservedWords.{is_free_name};
+ghost use Rattle.command_words.specs.KeyedWords.{parts_between_commas, name_spelled, SpellsNumber, answer_word};
+
+use base::is_decimal;
+use stapl_lexer::Name;
+
+// Whether a text spells names, joined by commas.
+pub(crate) fn spells_names(spelling: &str) -> bool
+    ensures { result ≡ list_all is_free_name (parts_between_commas spelling.now) }
+{
+    spelling.split(',').all(|part| is_free_name(part))
+}
+
+// Whether a text spells a name that is not reserved.
+fn is_free_name(spelling: &str) -> bool
+    ensures { result ≡ is_free_name spelling.now }
+{
+    Name::read_free(spelling.as_bytes()).is_some()
+}
+
+// The name that a text spells, if it spells one that is not reserved.
+pub(crate) fn name_spelled(spelling: &str) -> Option<Name>
+    ensures { result ≡ name_spelled spelling.now }
+{
+    Name::read_free(spelling.as_bytes())
+}
+
+// The number that a text spells, if it lies between these two.
+pub(crate) fn spelled_number(spelling: &str, least: u32, most: u32) -> Option<u32>
+    ensures some { IfSome result (SpellsNumber least most spelling.now) }
+    ensures none { IfNone result ((n : ℕ) → SpellsNumber least most spelling.now n → ⊥) }
+{
+    if !is_decimal(spelling.as_bytes()) {
+        return None;
+    }
+    let Ok(number) = spelling.parse::<u32>() else {
+        return None;
+    };
+    if number < least || most < number {
+        return None;
+    }
+    Some(number)
+}
+
+// Whether a text is a yes or a no.
+pub(crate) fn answer_spelled(spelling: &str) -> Option<bool>
+    ensures some { IfSome result (λ answer. spelling.now ≡ answer_word answer) }
+    ensures none { IfNone result ((answer : Bool) → spelling.now ≡ answer_word answer → ⊥) }
+{
+    match spelling {
+        "yes" => Some(true),
+        "no" => Some(false),
+        _ => None,
+    }
+}

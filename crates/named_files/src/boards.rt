@@ -1,0 +1,93 @@
+//! Boards in files.
+ghost use Rattle.std.specs.Prelude.{◌≡◌, ◌≤◌, ℕ, List, Option, Some, IsSome, length, IfSome, IfOk, IsErrOf, Err};
+ghost use Rattle.tool_io.specs.Causes.{HasRisenAt, NoneFalls};
+ghost use Rattle.tool_io.specs.Files.{file_of};
+ghost use Rattle.board_text.specs.declared.reason.BoardReason.{BoardReason};
+ghost use Rattle.board_text.specs.Boards.{IsBoard, IsFirstFault, CanBeFitted};
+ghost use Rattle.named_files.specs.declared.boards.BoardNotRead.TheVariants as refusals;
+ghost use Rattle.named_files.specs.Boards.{ReadsBoard, ReadsBoardFault};
+
+use board_text::{BoardReason, BoardTextRefused, read_board};
+use command_words::FileName;
+use dev_card::Desc;
+use std::alloc::Global;
+use thiserror::Error;
+use tool_io::{ReadRefused, Shelf, read_whole};
+
+/// The most bytes of a board.
+const BOARD_LIMIT: u32 = 1_048_576;
+
+/// Why there is no board.
+#[derive(Clone, Copy, Debug, PartialEq, Eq, Error)]
+pub enum BoardNotRead {
+    /// The first faulty line, counted from 1, or 0 where the text is too long, and the smallest of its reasons.
+    #[error("line {line} of the board is refused: {reason:?}")]
+    At { line: u32, reason: BoardReason },
+    /// The file could not be read.
+    #[error("the board could not be read")]
+    Read,
+    /// There was no memory.
+    #[error("out of memory")]
+    Memory,
+}
+
+/// The devices of a board with these bytes.
+pub fn board_of(alloc: Global, bytes: &[u8]) -> Result<Vec<Desc>, BoardNotRead>
+    ensures board { IfOk result (λ devices. IsBoard bytes.now devices.items) }
+    ensures fitting { IfOk result (λ devices. CanBeFitted devices.items) }
+    ensures fault { (line : ℕ) (reason : BoardReason) → result ≡ Err (refusals.At line reason) →
+        IsFirstFault bytes.now line reason }
+    ensures told { IsErrOf result BoardNotRead.Read → ⊥ }
+{
+    match read_board(alloc, bytes) {
+        Ok(devices) => Ok(devices),
+        Err(BoardTextRefused::At { line, reason }) => Err(BoardNotRead::At { line, reason }),
+        Err(BoardTextRefused::Memory) => Err(BoardNotRead::Memory),
+    }
+}
+
+// The devices of the board in a file.
+fn board_in<S: Shelf>(alloc: Global, shelf: &mut S, path: &str) -> Result<Vec<Desc>, BoardNotRead>
+    ensures board { IfOk result (λ devices. ReadsBoard (S.told shelf.old) (Some path.now) devices.items) }
+    ensures fitting { IfOk result (λ devices. CanBeFitted devices.items) }
+    ensures fault { (line : ℕ) (reason : BoardReason) → result ≡ Err (refusals.At line reason) →
+        ReadsBoardFault (S.told shelf.old) (Some path.now) line reason }
+    ensures read { IsErrOf result BoardNotRead.Read → HasRisenAt S.faults S.is_last path.now shelf.old shelf.new }
+    ensures keeps { S.told shelf.new ≡ S.told shelf.old }
+    ensures later { NoneFalls S.faults S.is_last shelf.old shelf.new }
+{
+    match read_whole(alloc, shelf, path, BOARD_LIMIT) {
+        Ok(bytes) => board_of(alloc, &bytes),
+        Err(ReadRefused::TooLong) => Err(BoardNotRead::At {
+            line: 0,
+            reason: BoardReason::TooLong,
+        }),
+        Err(ReadRefused::ReadFault) => Err(BoardNotRead::Read),
+        Err(ReadRefused::Memory) => Err(BoardNotRead::Memory),
+    }
+}
+
+/// The devices of the board in the file of this name, in the order of its lines: the first is nearest TDO. There are
+/// none if no file is named.
+///
+/// `At` is the first fault of the bytes in the file. `Read` comes only if the count of the file rose, or stands at its
+/// last value; `Memory` is want of memory.
+pub fn board_named<S: Shelf>(
+    alloc: Global,
+    shelf: &mut S,
+    named: &Option<FileName>,
+) -> Result<Vec<Desc>, BoardNotRead>
+    ensures board { IfOk result (λ devices. ReadsBoard (S.told shelf.old) named.now devices.items) }
+    ensures fitting { IfOk result (λ devices. IsSome named.now → CanBeFitted devices.items) }
+    ensures fault { (line : ℕ) (reason : BoardReason) → result ≡ Err (refusals.At line reason) →
+        ReadsBoardFault (S.told shelf.old) named.now line reason }
+    ensures read { IsErrOf result BoardNotRead.Read → (path : List ℕ) × (named.now ≡ Some path)
+        × HasRisenAt S.faults S.is_last path shelf.old shelf.new }
+    ensures keeps { S.told shelf.new ≡ S.told shelf.old }
+    ensures later { NoneFalls S.faults S.is_last shelf.old shelf.new }
+{
+    match named {
+        Some(path) => board_in(alloc, shelf, path.as_str()),
+        None => Ok(Vec::new(alloc)),
+    }
+}

@@ -1,6 +1,0 @@
-use Rattle.std.proofs.Common.{Option, sym, ap, ◌∙◌, ℕ}
-use Rattle.play_tool.specs.Answers.{base_at}
-use Rattle.play_tool.proofs.told.base_of.Goals as goal
-
-pub returns-in-None : goal.returns-in-None
-returns-in-None c = c.none.ensures c.args.task.now.devices.now ∙ ap (λ (p : Option ℕ). base_at c.args.task.now.devices.now p) (sym c.in-None.is)

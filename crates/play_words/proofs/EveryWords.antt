@@ -1,0 +1,179 @@
+-- Each list of words is a request or has a usage number: the first word is that of a mode or of none, and each word
+-- behind it gives a part or gives none, whose key the mode takes or not, and which is given already or not.
+use Rattle.std.proofs.Common.{◌≡◌, ◌<◌, ◌+◌, ℕ, zero, suc, List, [], ◌∷◌, length, refl, sym, subst, arith, codes, Option, None, Some, Bool, true, false, ◌⊎◌, inl, inr}
+use Rattle.command_words.proofs.FoundOrNot.{IsFoundOrNot, path_or_not, free_name_or_not, list_or_not, number_or_not, answer_or_not, same_or_not}
+use Rattle.command_words.specs.KeyedWords.{NamesPath, NamesFreeName, NamesList, NamesNumber, SaysAnswer, names_or_none}
+use Rattle.play_words.specs.declared.mode.Mode.{Mode}
+use Rattle.play_words.specs.declared.mode.Mode.TheVariants as modes
+use Rattle.play_words.specs.declared.words.Request.{Request}
+use Rattle.play_words.specs.Words.{mode_word, takes, Part, BoardIn, ProgramIn, CodeIn, ActionNamed, NamesAsked, NamesSkipped, PlaceAsked, TurnsAtMost, PinsWritten, DevicesReported, SeedGiven, key_of, most_place, most_turns, most_seed, GivesPart, word_at, HasMode, IsRequest, IsFirstUnread, IsUsage, is_unread}
+use Rattle.play_words.specs.GivenParts.{Values, given_of, with_part, not_taken, given_already, AddsWord, AddsNothing, AreReadUpTo, is_complete, turns_or_usual, answer_or_no, HasValues}
+use Rattle.play_words.proofs.WordLemmas.{gives_no_part, adds_part, adds_refused, adds_no_part, no_mode_word, nothing_read, one_word_more, adds_nothing, request_read, key_lacks, no_mode}
+
+-- A word gives a part or gives none.
+
+part_among : (word : List ℕ) → IsFoundOrNot (NamesPath (codes "board=") word) → IsFoundOrNot (NamesPath (codes "program=") word) →
+    IsFoundOrNot (NamesPath (codes "code=") word) → IsFoundOrNot (NamesFreeName (codes "action=") word) →
+    IsFoundOrNot (NamesList (codes "do=") word) → IsFoundOrNot (NamesList (codes "skip=") word) →
+    IsFoundOrNot (NamesNumber (codes "place=") 1 most_place word) → IsFoundOrNot (NamesNumber (codes "turns=") 0 most_turns word) →
+    IsFoundOrNot (SaysAnswer (codes "pins=") word) → IsFoundOrNot (SaysAnswer (codes "report=") word) →
+    IsFoundOrNot (NamesNumber (codes "seed=") 0 most_seed word) → IsFoundOrNot (GivesPart word)
+part_among word (inl x) p k a d s l t w r e = inl (BoardIn x.0, x.1)
+part_among word (inr b) (inl x) k a d s l t w r e = inl (ProgramIn x.0, x.1)
+part_among word (inr b) (inr p) (inl x) a d s l t w r e = inl (CodeIn x.0, x.1)
+part_among word (inr b) (inr p) (inr k) (inl x) d s l t w r e = inl (ActionNamed x.0, x.1)
+part_among word (inr b) (inr p) (inr k) (inr a) (inl x) s l t w r e = inl (NamesAsked x.0, x.1)
+part_among word (inr b) (inr p) (inr k) (inr a) (inr d) (inl x) l t w r e = inl (NamesSkipped x.0, x.1)
+part_among word (inr b) (inr p) (inr k) (inr a) (inr d) (inr s) (inl x) t w r e = inl (PlaceAsked x.0, x.1)
+part_among word (inr b) (inr p) (inr k) (inr a) (inr d) (inr s) (inr l) (inl x) w r e = inl (TurnsAtMost x.0, x.1)
+part_among word (inr b) (inr p) (inr k) (inr a) (inr d) (inr s) (inr l) (inr t) (inl x) r e = inl (PinsWritten x.0, x.1)
+part_among word (inr b) (inr p) (inr k) (inr a) (inr d) (inr s) (inr l) (inr t) (inr w) (inl x) e = inl (DevicesReported x.0, x.1)
+part_among word (inr b) (inr p) (inr k) (inr a) (inr d) (inr s) (inr l) (inr t) (inr w) (inr r) (inl x) = inl (SeedGiven x.0, x.1)
+part_among word (inr b) (inr p) (inr k) (inr a) (inr d) (inr s) (inr l) (inr t) (inr w) (inr r) (inr e) = inr (gives_no_part b p k a d s l t w r e).none
+
+part_or_not : (word : List ℕ) → IsFoundOrNot (GivesPart word)
+part_or_not word =
+    part_among word (path_or_not (codes "board=") word) (path_or_not (codes "program=") word) (path_or_not (codes "code=") word)
+    (free_name_or_not (codes "action=") word) (list_or_not (codes "do=") word) (list_or_not (codes "skip=") word)
+    (number_or_not (codes "place=") 1 most_place word) (number_or_not (codes "turns=") 0 most_turns word)
+    (answer_or_not (codes "pins=") word) (answer_or_not (codes "report=") word) (number_or_not (codes "seed=") 0 most_seed word)
+
+-- A word is that of a mode or of none.
+
+mode_among : (word : List ℕ) → (word ≡ codes "play") ⊎ (word ≡ codes "play" → ⊥) → (word ≡ codes "check") ⊎ (word ≡ codes "check" → ⊥) →
+    (word ≡ codes "list") ⊎ (word ≡ codes "list" → ⊥) → (word ≡ codes "compile") ⊎ (word ≡ codes "compile" → ⊥) →
+    (word ≡ codes "run") ⊎ (word ≡ codes "run" → ⊥) → (word ≡ codes "soak") ⊎ (word ≡ codes "soak" → ⊥) → IsFoundOrNot (λ (mode : Mode). word ≡ mode_word mode)
+mode_among word (inl e) k l c r s = inl (modes.Play, e)
+mode_among word (inr p) (inl e) l c r s = inl (modes.Check, e)
+mode_among word (inr p) (inr k) (inl e) c r s = inl (modes.List, e)
+mode_among word (inr p) (inr k) (inr l) (inl e) r s = inl (modes.Compile, e)
+mode_among word (inr p) (inr k) (inr l) (inr c) (inl e) s = inl (modes.Run, e)
+mode_among word (inr p) (inr k) (inr l) (inr c) (inr r) (inl e) = inl (modes.Soak, e)
+mode_among word (inr p) (inr k) (inr l) (inr c) (inr r) (inr s) = inr (no_mode_word p k l c r s)
+
+mode_or_not : (word : List ℕ) → IsFoundOrNot (λ (mode : Mode). word ≡ mode_word mode)
+mode_or_not word =
+    mode_among word (same_or_not word (codes "play")) (same_or_not word (codes "check")) (same_or_not word (codes "list"))
+    (same_or_not word (codes "compile")) (same_or_not word (codes "run")) (same_or_not word (codes "soak"))
+
+-- A word adds a part or adds nothing.
+
+added_or_not : (values : Values) (word : List ℕ) → ((new : Values) × AddsWord values word new) ⊎ AddsNothing values word
+added_or_not values word = by_part (part_or_not word)
+  where
+    by_given : (part : Part) (found : Option Part) → given_of values (key_of part) ≡ found → GivesPart word part →
+        takes values.mode (key_of part) ≡ true → ((new : Values) × AddsWord values word new) ⊎ AddsNothing values word
+    by_given part None e gives taken =
+        inl (with_part values part, adds_part part gives (record { taken = taken; free = e; added = refl }))
+    by_given part (Some other) e gives taken = inr (adds_refused part gives (given_already other e))
+
+    by_key : (part : Part) (taken : Bool) → takes values.mode (key_of part) ≡ taken → GivesPart word part →
+        ((new : Values) × AddsWord values word new) ⊎ AddsNothing values word
+    by_key part true e gives = by_given part (given_of values (key_of part)) refl gives e
+    by_key part false e gives = inr (adds_refused part gives (not_taken e))
+
+    by_part : IsFoundOrNot (GivesPart word) → ((new : Values) × AddsWord values word new) ⊎ AddsNothing values word
+    by_part (inl found) = by_key found.0 (takes values.mode (key_of found.0)) refl found.1
+    by_part (inr none) = inr (adds_no_part values (record { none = none }))
+
+-- The first words are read, or one of them is the first that is not.
+
+abbrev nothing : Mode → Values
+nothing mode = record {
+  mode = mode;
+  board = None;
+  program = None;
+  code = None;
+  action = None;
+  todo = None;
+  skip = None;
+  place = None;
+  turns = None;
+  pins = None;
+  report = None;
+  seed = None;
+}
+
+abbrev IsReadOrNot : List (List ℕ) → ℕ → Type 0
+IsReadOrNot words n = ((values : Values) × AreReadUpTo words n values) ⊎ ((place : ℕ) × IsFirstUnread words place)
+
+one_more : (words : List (List ℕ)) (n : ℕ) (values : Values) → 0 < n → n < length words → AreReadUpTo words n values →
+    ((new : Values) × AddsWord values (word_at words n) new) ⊎ AddsNothing values (word_at words n) → IsReadOrNot words (n + 1)
+one_more words n values behind within r (inl adds) = inl (adds.0, one_word_more words n values adds.0 behind r adds.1)
+one_more words n values behind within r (inr none) = inr (n, adds_nothing words n values behind within r none)
+
+read_or_not : (words : List (List ℕ)) (mode : Mode) → HasMode words mode → (n : ℕ) → n < length words → IsReadOrNot words (n + 1)
+read_or_not words mode has zero within =
+    inl (nothing mode, nothing_read words (nothing mode) has refl refl refl refl refl refl refl refl refl refl refl)
+read_or_not words mode has (suc n) within = then_one (read_or_not words mode has n (omega arith))
+  where
+    then_one : IsReadOrNot words (n + 1) → IsReadOrNot words (suc n + 1)
+    then_one (inr unread) = inr unread
+    then_one (inl read) =
+        let next : suc n ≡ n + 1 = omega arith in
+        subst (λ (k : ℕ). IsReadOrNot words (k + 1)) (sym next)
+        (one_more words (n + 1) read.0 (omega arith) (omega arith) read.1 (added_or_not read.0 (word_at words (n + 1))))
+
+-- Words that are all read are a request, or a key is missing.
+
+abbrev request_of : Values → Request
+request_of values = record {
+  mode = values.mode;
+  board = values.board;
+  program = values.program;
+  code = values.code;
+  action = values.action;
+  todo = names_or_none values.todo;
+  skip = names_or_none values.skip;
+  place = values.place;
+  turns = turns_or_usual values.turns;
+  pins = answer_or_no values.pins;
+  report = answer_or_no values.report;
+  seed = values.seed;
+}
+
+has_values : (values : Values) → HasValues values (request_of values)
+has_values values = record {
+  mode = refl;
+  board = refl;
+  program = refl;
+  code = refl;
+  action_named = refl;
+  todo_are = refl;
+  skip_are = refl;
+  place = refl;
+  turns_are = refl;
+  pins_are = refl;
+  report_is = refl;
+  seed = refl;
+}
+
+abbrev IsRequestOrUsage : List (List ℕ) → Type 0
+IsRequestOrUsage words = ((request : Request) × IsRequest words request) ⊎ ((n : ℕ) × IsUsage words n)
+
+all_read : (words : List (List ℕ)) (values : Values) (complete : Bool) → is_complete values ≡ complete → AreReadUpTo words (length words) values →
+    IsRequestOrUsage words
+all_read words values true e r = inl (request_of values, request_read values r e (has_values values))
+all_read words values false e r = inr (length words + 1, key_lacks values r e)
+
+with_mode : (word : List ℕ) (words : List (List ℕ)) → IsFoundOrNot (λ (mode : Mode). word ≡ mode_word mode) → IsRequestOrUsage (word ∷ words)
+with_mode word words (inr none) = inr (1, no_mode (word ∷ words) none)
+with_mode word words (inl mode) = by_reading (read_or_not (word ∷ words) mode.0 mode.1 (length words) (omega arith))
+  where
+    by_reading : IsReadOrNot (word ∷ words) (length words + 1) → IsRequestOrUsage (word ∷ words)
+    by_reading (inl read) =
+        let all : length words + 1 ≡ length (word ∷ words) = omega arith in
+        all_read (word ∷ words) read.0 (is_complete read.0) refl (subst (λ (n : ℕ). AreReadUpTo (word ∷ words) n read.0) all read.1)
+    by_reading (inr unread) = inr (unread.0 + 1, is_unread unread.0 unread.1)
+
+pub request_or_usage : (words : List (List ℕ)) → IsRequestOrUsage words
+request_or_usage [] = inr (1, no_mode [] no_word)
+  where
+    no_word : (mode : Mode) → HasMode [] mode → ⊥
+    no_word modes.Play e = cc
+    no_word modes.Check e = cc
+    no_word modes.List e = cc
+    no_word modes.Compile e = cc
+    no_word modes.Run e = cc
+    no_word modes.Soak e = cc
+request_or_usage (word ∷ words) = with_mode word words (mode_or_not word)

@@ -1,0 +1,4 @@
+pub mod WordLemmas
+pub mod OneRequest
+pub mod RequestLemmas
+pub mod EveryWords

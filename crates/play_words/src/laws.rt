@@ -1,0 +1,25 @@
+//! Laws of the definitions.
+ghost use Rattle.std.specs.Prelude.{◌≡◌, ◌⊎◌, ℕ, List};
+ghost use Rattle.play_words.specs.declared.words.Request.{Request};
+ghost use Rattle.play_words.specs.Words.{IsRequest, IsUsage};
+
+/// Words are one request at most.
+pub fn one_request()
+    ensures { (words : List (List ℕ)) (a b : Request) → IsRequest words a → IsRequest words b → a ≡ b }
+{}
+
+/// Words have one usage number at most.
+pub fn one_usage()
+    ensures { (words : List (List ℕ)) (m n : ℕ) → IsUsage words m → IsUsage words n → m ≡ n }
+{}
+
+/// Words that are a request have no usage number.
+pub fn no_request_has_a_usage()
+    ensures { (words : List (List ℕ)) (request : Request) (n : ℕ) → IsRequest words request → IsUsage words n → ⊥ }
+{}
+
+/// Each list of words is a request, or has a usage number.
+pub fn words_are_a_request_or_have_a_usage()
+    ensures { (words : List (List ℕ)) → ((request : Request) × IsRequest words request)
+        ⊎ ((n : ℕ) × IsUsage words n) }
+{}

@@ -1,0 +1,85 @@
+//! What a command does with its words.
+ghost use Rattle.std.specs.Prelude.{◌≡◌, map, string_bytes, OnOk, OnErr};
+ghost use Rattle.tool_io.specs.Bytes.{then_bytes, MovesFront};
+ghost use Rattle.tool_io.specs.Causes.{HasCause, HasRisen, NeverFalls, NoneFalls};
+ghost use Rattle.tool_answers.specs.Answers.{WroteFront};
+ghost use Rattle.chain_sim.specs.Rack.{IsRack};
+ghost use Rattle.named_files.specs.Files.{HasReadCause};
+ghost use Rattle.play_status.specs.Statuses.{IsFault, ComesBeforeFitting};
+ghost use Rattle.play_tool.specs.Answers.{WordsAnswer};
+ghost use Rattle.play_tool.specs.ReadContents.{OfWords, IsReachedBy, AskForPlay, Answered};
+ghost use Rattle.tool_command.specs.Commands.{CommandAnswer};
+
+use crate::help::text_asked;
+use dev_card::Device;
+use play_status::Status;
+use play_tool::run_tool;
+use std::alloc::Global;
+use tool_io::{Failed, Lines, Shelf, Sink};
+
+// Writes a text and nothing else.
+#[tactic(auto, using(tool_io::proofs::PutLemmas::front_written, tool_io::proofs::PutLemmas::finish_front))]
+fn write_text<K: Sink>(out: &mut K, text: &[u8]) -> Result<(), Failed>
+    ensures ok { OnOk result (K.written out.new ≡ then_bytes (K.written out.old) text.now) }
+    ensures front { OnErr result (MovesFront (K.written out.old) text.now (K.written out.new)) }
+    ensures cause { HasCause K.faults K.is_last out.old out.new result }
+{
+    let mut lines = Lines::new(out);
+    lines.put(text)?;
+    lines.finish()?;
+    Ok(())
+}
+
+/// Writes the text that the words ask for, or does what they ask of the tool, with the devices of the rack. All that it
+/// says goes to the sink.
+pub fn run_command<S: Shelf, K: Sink>(
+    alloc: Global,
+    words: &[String],
+    shelf: &mut S,
+    rack: &mut Vec<Box<dyn Device>>,
+    out: &mut K,
+) -> Status
+    requires { IsRack (map kind_of rack.old.items) }
+
+    // Every status but those of faults and of want of memory is the answer's to the words and the contents of their
+    // files, as they were read in this call; its text is written and nothing else, and the rack holds what the play
+    // leaves. With a store that tells its files the contents are what it holds.
+    ensures answer { (IsFault result → ⊥) → OfWords (S.told shelf.old) (map string_bytes words.now) (λ contents.
+        Answered (CommandAnswer (WordsAnswer (map string_bytes words.now) (λ request. contents))
+        (map string_bytes words.now)) (map string_bytes words.now) contents (K.written out.old) (K.written out.new)
+        result (map fitted rack.new.items)) }
+
+    // A read fault comes only where the count of a file that the words name rose, of the program only if no told board
+    // is refused, and then nothing is written.
+    ensures read { result ≡ Status.ReadFault → HasReadCause S.faults S.is_last
+        (IsReachedBy (S.told shelf.old) (map string_bytes words.now)) shelf.old shelf.new }
+    ensures nothing { result ≡ Status.ReadFault → K.written out.new ≡ K.written out.old }
+
+    // A write fault comes only where the sink's count rose, and then a prefix of the text is written.
+    ensures write { result ≡ Status.WriteFault → HasRisen K.faults K.is_last out.old out.new }
+    ensures front { result ≡ Status.WriteFault → OfWords (S.told shelf.old) (map string_bytes words.now) (λ contents.
+        WroteFront (CommandAnswer (WordsAnswer (map string_bytes words.now) (λ request. contents))
+        (map string_bytes words.now)) (K.written out.old) (K.written out.new)) }
+
+    // After want of memory nothing is written.
+    ensures memory { result ≡ Status.Memory → K.written out.new ≡ K.written out.old }
+
+    // Whatever is answered, the files stay, and no count falls.
+    ensures keeps { S.told shelf.new ≡ S.told shelf.old }
+    ensures later { NoneFalls S.faults S.is_last shelf.old shelf.new }
+    ensures out_later { NeverFalls K.faults K.is_last out.old out.new }
+
+    // The rack stays as it was, if the cause of the status comes before the board is fitted, and if no play is asked
+    // for. In any case each of its devices keeps its kind.
+    ensures before { ComesBeforeFitting result → rack.new.items ≡ rack.old.items }
+    ensures other { (AskForPlay (map string_bytes words.now) → ⊥) → rack.new.items ≡ rack.old.items }
+    ensures kinds { map kind_of rack.new.items ≡ map kind_of rack.old.items }
+{
+    match text_asked(words) {
+        Some(text) => match write_text(out, text) {
+            Ok(()) => Status::Done(0),
+            Err(_) => Status::WriteFault,
+        },
+        None => run_tool(alloc, words, shelf, rack, out),
+    }
+}
