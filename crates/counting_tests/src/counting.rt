@@ -1,0 +1,84 @@
+//! The program.
+ghost use Rattle.tool_io.specs.Lines.{IsWhole, HasPut, KeepsLines};
+ghost use Rattle.tool_answers.specs.Answers.{Says, KeepsOutput};
+ghost use Rattle.counting_tests.specs.Counts.{count_line, Counts};
+
+use board_text::BoardReason;
+use command_words::{FileName, path_under};
+use dev_card::Desc;
+use named_files::{BoardNotRead, board_named, put_board_refusal, put_usage};
+use std::alloc::Global;
+use tool_answers::NoAnswer;
+use tool_io::{Failed, Lines, Shelf, Sink, put_number_line};
+
+/// How the program ends.
+#[derive(Clone, Copy, Debug, PartialEq, Eq)]
+pub enum Ending {
+    /// The devices of the board are counted.
+    Counted,
+    /// The board is refused: its first faulty line, and the reason.
+    Refused(u32, BoardReason),
+    /// The words are not `board=PATH` alone.
+    Usage,
+}
+
+// The path of the one word `board=PATH`.
+fn board_path(words: &[String]) -> Option<&str> {
+    match words {
+        [word] => path_under(word.as_str(), "board="),
+        _ => None,
+    }
+}
+
+// Puts how many devices a board has.
+fn put_devices<K: Sink>(lines: &mut Lines<K>, devices: &[Desc]) -> Result<(), Failed>
+    requires { IsWhole lines.old }
+    ensures put { HasPut K.written lines.old (count_line devices.now) lines.new result }
+    ensures kept { KeepsLines K.faults K.is_last lines.old lines.new result }
+{
+    put_number_line(lines, b"devices ", devices.len() as i64)
+}
+
+// Counts the devices of the board in a file, or says why it is refused.
+fn count_in<S: Shelf, K: Sink>(
+    alloc: Global,
+    path: &str,
+    shelf: &mut S,
+    lines: &mut Lines<K>,
+) -> Result<Ending, NoAnswer>
+    requires { IsWhole lines.old }
+    ensures says { Says K.written (Counts (S.told shelf.old)) (Unit {0}) lines.old lines.new result }
+    ensures keeps { KeepsOutput K.faults K.is_last lines.old lines.new result }
+{
+    let name = FileName::of(alloc, path)?;
+    match board_named(alloc, shelf, &Some(name)) {
+        Ok(devices) => {
+            put_devices(lines, &devices)?;
+            Ok(Ending::Counted)
+        }
+        Err(BoardNotRead::At { line, reason }) => {
+            put_board_refusal(lines, line, reason)?;
+            Ok(Ending::Refused(line, reason))
+        }
+        Err(BoardNotRead::Read) => Err(NoAnswer::Read),
+        Err(BoardNotRead::Memory) => Err(NoAnswer::Memory),
+    }
+}
+
+/// Counts the devices of the board that the one word `board=PATH` names.
+pub fn count_devices<S: Shelf, K: Sink>(
+    alloc: Global,
+    words: &[String],
+    shelf: &mut S,
+    lines: &mut Lines<K>,
+) -> Result<Ending, NoAnswer>
+    requires { IsWhole lines.old }
+    ensures says { Says K.written (Counts (S.told shelf.old)) (Unit {0}) lines.old lines.new result }
+    ensures keeps { KeepsOutput K.faults K.is_last lines.old lines.new result }
+{
+    let Some(path) = board_path(words) else {
+        put_usage(lines, 1)?;
+        return Ok(Ending::Usage);
+    };
+    count_in(alloc, path, shelf, lines)
+}
