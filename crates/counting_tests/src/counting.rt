@@ -1,7 +1,9 @@
 //! The program.
-ghost use Rattle.tool_io.specs.Lines.{IsWhole, HasPut, KeepsLines};
+ghost use Rattle.std.specs.Prelude.{◌≡◌, ℕ, List, map, string_bytes, IfSome, IfNone};
+ghost use Rattle.tool_io.specs.Lines.{IsWhole, IsSinkUntouched, HasPut, KeepsLines};
 ghost use Rattle.tool_answers.specs.Answers.{Says, KeepsOutput};
-ghost use Rattle.counting_tests.specs.Counts.{count_line, Counts};
+ghost use Rattle.named_files.specs.Files.{KeepsShelf};
+ghost use Rattle.counting_tests.specs.Counts.{NamesBoard, count_line, BoardAnswer, Counts};
 
 use board_text::BoardReason;
 use command_words::{FileName, path_under};
@@ -22,8 +24,11 @@ pub enum Ending {
     Usage,
 }
 
-// The path of the one word `board=PATH`.
-fn board_path(words: &[String]) -> Option<&str> {
+// The path that the one word `board=PATH` names.
+fn board_path(words: &[String]) -> Option<&str>
+    ensures some { IfSome result (λ path. NamesBoard (map string_bytes words.now) path.now) }
+    ensures none { IfNone result ((path : List ℕ) → NamesBoard (map string_bytes words.now) path → ⊥) }
+{
     match words {
         [word] => path_under(word.as_str(), "board="),
         _ => None,
@@ -47,8 +52,10 @@ fn count_in<S: Shelf, K: Sink>(
     lines: &mut Lines<K>,
 ) -> Result<Ending, NoAnswer>
     requires { IsWhole lines.old }
-    ensures says { Says K.written (Counts (S.told shelf.old)) (Unit {0}) lines.old lines.new result }
-    ensures keeps { KeepsOutput K.faults K.is_last lines.old lines.new result }
+    ensures says { Says K.written (BoardAnswer (S.told shelf.old) path.now) (IsSinkUntouched lines.old lines.new)
+        lines.old lines.new result }
+    ensures shelf { KeepsShelf S.told S.faults S.is_last (λ read. read ≡ path.now) shelf.old shelf.new result }
+    ensures output { KeepsOutput K.faults K.is_last lines.old lines.new result }
 {
     let name = FileName::of(alloc, path)?;
     match board_named(alloc, shelf, &Some(name)) {
@@ -65,7 +72,8 @@ fn count_in<S: Shelf, K: Sink>(
     }
 }
 
-/// Counts the devices of the board that the one word `board=PATH` names.
+/// Counts the devices of the board that the one word `board=PATH` names, or says why there is no board. After a read
+/// fault, which has its cause in that file, and after want of memory nothing has reached the sink.
 pub fn count_devices<S: Shelf, K: Sink>(
     alloc: Global,
     words: &[String],
@@ -73,8 +81,11 @@ pub fn count_devices<S: Shelf, K: Sink>(
     lines: &mut Lines<K>,
 ) -> Result<Ending, NoAnswer>
     requires { IsWhole lines.old }
-    ensures says { Says K.written (Counts (S.told shelf.old)) (Unit {0}) lines.old lines.new result }
-    ensures keeps { KeepsOutput K.faults K.is_last lines.old lines.new result }
+    ensures says { Says K.written (Counts (S.told shelf.old) (map string_bytes words.now))
+        (IsSinkUntouched lines.old lines.new) lines.old lines.new result }
+    ensures shelf { KeepsShelf S.told S.faults S.is_last (NamesBoard (map string_bytes words.now))
+        shelf.old shelf.new result }
+    ensures output { KeepsOutput K.faults K.is_last lines.old lines.new result }
 {
     let Some(path) = board_path(words) else {
         put_usage(lines, 1)?;
