@@ -17,7 +17,8 @@ use Rattle.board_text.specs.Reasons.{reason_number}
 use Rattle.board_text.specs.Lines.{words_of, is_skipped}
 use Rattle.board_text.specs.Contents.{DeviceLine, RegisterLine, Content, device, register, line_content}
 use Rattle.board_text.specs.Limits.{IsDeviceInRange, IsRegisterInRange}
-use Rattle.board_text.specs.Boards.{most_bytes, most_registers, open_device, devices_of, HasName, HasRegisterName, AwaitsRegister, RepeatsInBoard, RepeatsInDevice, IfSays, ReasonAgainst, HasReasonAt, IsSmallest, AreFaultless, IsUnfinished, IsBoard, IsFirstFault}
+use Rattle.board_text.specs.Boards.{most_bytes, most_registers, open_device, devices_of, HasName, HasRegisterName, AwaitsRegister, RepeatsInBoard, RepeatsInDevice, IfSays,
+    ReasonAgainst, HasReasonAt, IsSmallest, AreFaultless, IsUnfinished, IsBoard, IsFirstFault}
 use Rattle.board_text.proofs.Decisions.{IsDecided, not_or_yes, either_or_not, at_most_or_not, some_and_or_not, none_or_not, nil_or_not, any_or_not, contains_or_not, pairs_or_not, differs_or_not}
 use Rattle.board_text.proofs.RangeLemmas.{device_in_range_or_not, register_in_range_or_not}
 use Rattle.board_text.proofs.ReasonLemmas.{reason_with, told, number_with}
@@ -44,7 +45,8 @@ repeats_in_device_or_not : (r : RegDesc) (d : Desc) → IsDecided (RepeatsInDevi
 repeats_in_device_or_not r d = either_or_not (any_or_not (HasRegisterName r.name) (λ s. same_or_not s.name r.name) d.registers) (contains_or_not (opcodes_of d) r.op)
 
 -- what a line says
-says_or_not : (content : Option Content) (P : DeviceLine → Type 0) (Q : RegisterLine → Type 0) → ((l : DeviceLine) → IsDecided (P l)) → ((l : RegisterLine) → IsDecided (Q l)) → IsDecided (IfSays content P Q)
+says_or_not : (content : Option Content) (P : DeviceLine → Type 0) (Q : RegisterLine → Type 0) → ((l : DeviceLine) → IsDecided (P l)) →
+    ((l : RegisterLine) → IsDecided (Q l)) → IsDecided (IfSays content P Q)
 says_or_not None P Q p q = no_or_not
 says_or_not (Some (device l)) P Q p q = p l
 says_or_not (Some (register l)) P Q p q = q l

@@ -1,5 +1,6 @@
 -- What a faultless line describes is good, but for the registers that a Regs has still to get.
-use Rattle.std.proofs.Common.{◌≡◌, ◌≢◌, ◌<◌, ◌≤◌, ◌^◌, ◌++◌, ℕ, List, [], ◌∷◌, length, take, map, get_or, refl, sym, ap, subst, ◌∙◌, append_assoc, Bool, true, false, Option, Some, None, IsSomeAnd, All, arith, inl, inr}
+use Rattle.std.proofs.Common.{◌≡◌, ◌≢◌, ◌<◌, ◌≤◌, ◌^◌, ◌++◌, ℕ, List, [], ◌∷◌, length, take, map, get_or, refl, sym, ap, subst, ◌∙◌, append_assoc, Bool, true, false, Option,
+    Some, None, IsSomeAnd, All, arith, inl, inr}
 use Rattle.std.specs.Prelude.{AllPairs, ◌==◌}
 use Rattle.std.specs.Option.{ForSome, option_map}
 use Rattle.std.specs.Str.Parse.{digits_value}
@@ -83,7 +84,8 @@ line_identity true ws spelled id e =
     omega arith
 line_identity false ws spelled id e = absurd cc
 
-line_parts : (kind : Kind) (identified : Bool) (ws : List (List ℕ)) → ForSome (flash_of kind (last_words identified ws)) (λ (f : FlashDesc). IsMemoryInRange f (fill_of kind (last_words identified ws))) →
+line_parts : (kind : Kind) (identified : Bool) (ws : List (List ℕ)) →
+    ForSome (flash_of kind (last_words identified ws)) (λ (f : FlashDesc). IsMemoryInRange f (fill_of kind (last_words identified ws))) →
     HasBegunParts kind ((device_line kind identified ws).description)
 line_parts kinds.Plain identified ws memory = (refl, refl)
 line_parts kinds.Regs identified ws memory =

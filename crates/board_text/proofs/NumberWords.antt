@@ -8,16 +8,10 @@ use Rattle.std.proofs.Math.Nat.{pow-le-pow_right}
 use Rattle.std.specs.Char.{is_ascii_digit, is_ascii_hexdigit, digit_value}
 use Rattle.std.specs.List.{list_all}
 use Rattle.std.specs.Str.Parse.{digits_value, AllDigits}
-use Rattle.stapl_lexer.proofs.NumberLemmas.{passes_at}
+use Rattle.stapl_lexer.proofs.NumberLemmas.{passes_at, digit_value_is, capped}
 use Rattle.board_text.specs.Shapes.{are_hexadecimal}
 
 -- a value that is capped at each digit is the value, capped
-capped : (a v d limit : ℕ) → v ≡ min a limit → min (v * 10 + d) limit ≡ min (a * 10 + d) limit
-capped a v d limit e = omega arith
-
-digit_value_is : (b : ℕ) → is_ascii_digit b ≡ true → digit_value b ≡ b - 48
-digit_value_is b h = grind (arith, nat_tests, h)
-
 pub decimal_more : (limit : ℕ) (digits : List ℕ) (i v : ℕ) → list_all is_ascii_digit digits ≡ true → i < length digits →
     v ≡ min (digits_value 10 (take i digits)) limit → min (v * 10 + (get_or digits i 0 - 48)) limit ≡ min (digits_value 10 (take (i + 1) digits)) limit
 decimal_more limit digits i v all lt e =

@@ -13,7 +13,8 @@ use Rattle.scan_paths.specs.Cables.{Signal, pulsed, clocks_in, input_of, HasShif
 use Rattle.scan_paths.proofs.Signals.{clocks_in_pulsed}
 use Rattle.chain_sim.specs.Places.{card_at, joined, cards_at, IsAbsent, AreApart}
 use Rattle.chain_sim.specs.Runs.{HasRun}
-use Rattle.chain_sim.proofs.Clocking.{card_read, card_kept, cards_kept, first_is_some, rest_is_some, some_same}
+use Rattle.chain_sim.proofs.Clocking.{card_read, card_kept, cards_kept, first_is_some, rest_is_some, same_Some _ _}
+use Rattle.std.proofs.lemmas.Option.{same_Some}
 
 -- what is seen of the device at one place
 pub card_seen : {A T : Type 0} (f : A → Option SoundCard) (xs : List A) (i : ℕ) (x : A) (see : Card → T) (t : T) → i < length xs → x ≡ get_or xs i x →
@@ -41,7 +42,7 @@ joined_block : (o : Option Card) (os : Option (List Card)) (tdi n behind : ℕ) 
 joined_block None os tdi n behind last h e = absurd (false≢true h)
 joined_block (Some c) None tdi n behind last h e = absurd (false≢true h)
 joined_block (Some c) (Some cs) tdi n behind last h e =
-    ap (λ x. Some (card_after_block c x n last ∷ board_after_block cs tdi n last)) (sym (some_same e))
+    ap (λ x. Some (card_after_block c x n last ∷ board_after_block cs tdi n last)) (sym (same_Some _ _ e))
     ∙ ap Some (sym (shifts_card_by_card c cs tdi n last).board)
 
 joined_seen : (o : Option Card) (os : Option (List Card)) (tdi n behind r : ℕ) (last : Bool) → IsSome (joined o os) →
@@ -50,7 +51,7 @@ joined_seen : (o : Option Card) (os : Option (List Card)) (tdi n behind r : ℕ)
 joined_seen None os tdi n behind r last h e s = absurd (false≢true h)
 joined_seen (Some c) None tdi n behind r last h e s = absurd (false≢true h)
 joined_seen (Some c) (Some cs) tdi n behind r last h e s =
-    ap Some ((shifts_card_by_card c cs tdi n last).tdo) ∙ ap (λ x. Some (card_block c x n last)) (some_same e) ∙ s
+    ap Some ((shifts_card_by_card c cs tdi n last).tdo) ∙ ap (λ x. Some (card_block c x n last)) (same_Some _ _ e) ∙ s
 
 module _ {A : Type 0} (f : A → Option SoundCard) (rack next : List A) (places : List ℕ) (p : ℕ) (ps : List ℕ) where
   -- what the devices behind the first are to be
@@ -137,7 +138,7 @@ told_bits : (o : Option (List Card)) (is : List Input) (r : ℕ) → option_map 
     ≡ Some r → r ≡ number_of (tdos (told_clocks o is))
 unfolding told_clocks
 told_bits None is r e = absurd (let x : None ≡ Some r = e in cc)
-told_bits (Some cs) is r e = sym (some_same e)
+told_bits (Some cs) is r e = sym (same_Some _ _ e)
 
 pub chain_run : {X : Type 0} (fitted : X → Option SoundCard) (kind_of : X → Kind) (old new : List X) (places : List ℕ) (is : List Input) →
     map kind_of new ≡ map kind_of old → ((k : ℕ) → IsAbsent k places → slice_get new k ≡ slice_get old k) →

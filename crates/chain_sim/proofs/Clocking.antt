@@ -1,7 +1,8 @@
 -- One clock of the devices at some places, one after another.
-use Rattle.std.proofs.Common.{◌≡◌, ◌≢◌, ◌<◌, ℕ, suc, zero, Bool, true, false, not, ◌&&◌, ◌==◌, is_some, List, [], ◌∷◌, map, length, set, get_or, Option, Some, None, IsSome, slice_get, refl, sym, ap, ◌∙◌, subst, arith}
+use Rattle.std.proofs.Common.{◌≡◌, ◌≢◌, ◌<◌, ℕ, suc, zero, Bool, true, false, not, ◌&&◌, ◌==◌, is_some, List, [], ◌∷◌, map, length, set, get_or, Option, Some, None, IsSome,
+    slice_get, refl, sym, ap, ◌∙◌, subst, arith}
 use Rattle.std.specs.Option.{option_map}
-use Rattle.std.proofs.lemmas.Option.{slice_get-map, slice_get_read}
+use Rattle.std.proofs.lemmas.Option.{slice_get-map, slice_get_read, same_Some}
 use Rattle.std.proofs.lemmas.Bool.{false≢true}
 use Rattle.std.proofs.lemmas.Bool.Decides.{nat_tests}
 use Rattle.std.proofs.Math.Seq.{map-set_same}
@@ -10,6 +11,7 @@ use Rattle.dev_card.specs.Board.{board_tdo, board_step}
 use Rattle.dev_card.specs.Sound.{SoundCard, card_in}
 use Rattle.scan_paths.specs.Cables.{whole_if, whole}
 use Rattle.chain_sim.specs.Places.{inside_or_unfitted, card_at, joined, cards_at, IsAbsent, AreApart, is_absent, are_apart, is_some_place, is_chain}
+use Rattle.tap_states.proofs.Shortest.{both_first, both_second}
 
 -- The device at one place of a list.
 
@@ -58,9 +60,6 @@ cards_kept f xs ys p (q ∷ qs) h s =
 some_is : {X : Type 0} (x : X) → IsSome (Some x)
 some_is x = refl
 
-pub some_same : {X : Type 0} {x y : X} → Some x ≡ Some y → x ≡ y
-some_same e = cc
-
 pub first_is_some : (o : Option Card) (os : Option (List Card)) → IsSome (joined o os) → IsSome o
 first_is_some None os h = h
 first_is_some (Some c) os h = some_is c
@@ -87,7 +86,7 @@ step_joined : (o : Option Card) (os : Option (List Card)) (tms tdi bit : Bool) �
     joined (option_map (λ c. step c tms bit) o) (option_map (λ cs. board_step cs tms tdi) os) ≡ option_map (λ cs. board_step cs tms tdi) (joined o os)
 step_joined None os tms tdi bit h e = absurd (false≢true h)
 step_joined (Some c) None tms tdi bit h e = absurd (false≢true h)
-step_joined (Some c) (Some cs) tms tdi bit h e = ap (λ b. Some (step c tms b ∷ board_step cs tms tdi)) (sym (some_same e))
+step_joined (Some c) (Some cs) tms tdi bit h e = ap (λ b. Some (step c tms b ∷ board_step cs tms tdi)) (sym (same_Some _ _ e))
 
 -- after the first device was clocked the others are as they were
 pub rest_fitted : {A : Type 0} (f : A → Option SoundCard) (rack next : List A) (places : List ℕ) (p : ℕ) (ps : List ℕ) → places ≡ p ∷ ps → AreApart places →
@@ -118,14 +117,6 @@ all_clocked f rack next last places p ps tms tdi bit e a s others n d l stay =
     subst (λ z. cards_at (map f last) z ≡ option_map (λ cs. board_step cs tms tdi) (cards_at (map f rack) z)) (sym e) both
 
 -- The places of a chain differ.
-
-both_first : (a b : Bool) → (a && b) ≡ true → a ≡ true
-both_first true b h = refl
-both_first false b h = cc
-
-both_second : (a b : Bool) → (a && b) ≡ true → b ≡ true
-both_second true b h = h
-both_second false b h = cc
 
 absent_from_test : (p : ℕ) (ps : List ℕ) → is_absent p ps ≡ true → IsAbsent p ps
 absent_from_test p [] h = tt

@@ -1,8 +1,9 @@
 -- Fitting one device after another.
-use Rattle.std.proofs.Common.{◌≡◌, ◌≢◌, ◌<◌, ◌≤◌, ◌+◌, ◌*◌, ℕ, suc, zero, true, not, ◌&&◌, ◌==◌, is_some, List, [], ◌∷◌, ◌++◌, map, length, take, get_or, Option, Some, None, slice_get, refl, sym, ap, ◌∙◌, subst, arith}
+use Rattle.std.proofs.Common.{◌≡◌, ◌≢◌, ◌<◌, ◌≤◌, ◌+◌, ◌*◌, ℕ, suc, zero, true, not, ◌&&◌, ◌==◌, is_some, List, [], ◌∷◌, ◌++◌, map, length, take, get_or, Option, Some, None,
+    slice_get, refl, sym, ap, ◌∙◌, subst, arith}
 use Rattle.std.specs.Option.{option_map}
 use Rattle.std.proofs.lemmas.List.{take_more, length-take, map-append}
-use Rattle.std.proofs.lemmas.Option.{slice_get-map, slice_get_read}
+use Rattle.std.proofs.lemmas.Option.{slice_get-map, slice_get_read, same_Some}
 use Rattle.std.proofs.lemmas.Bool.Decides.{nat_tests}
 use Rattle.dev_card.specs.declared.desc.Kind.{Kind}
 use Rattle.dev_card.specs.declared.desc.Kind.TheVariants.{Plain, Regs, Flash}
@@ -15,13 +16,10 @@ use Rattle.chain_sim.specs.Places.{card_at, joined, cards_at, IsAbsent, is_absen
 use Rattle.chain_sim.specs.Rack.{IsRack, rack_kinds, kind_number, place_of, places_from, places_of}
 use Rattle.chain_sim.proofs.Clocking.{cards_kept}
 
-some_same : {X : Type 0} {x y : X} → Some x ≡ Some y → x ≡ y
-some_same e = cc
-
 -- the kind that was read at a place
 pub kind_read : {A : Type 0} (f : A → Kind) (xs : List A) (i : ℕ) (x : A) (k : Kind) → x ≡ get_or xs i x → i < length xs → slice_get (map f xs) i ≡ Some k → k ≡ f x
 kind_read f xs i x k e h s =
-    some_same (sym s ∙ slice_get-map f xs i ∙ ap (λ o. option_map f o) (slice_get_read xs (length xs) i x refl h e))
+    same_Some _ _ (sym s ∙ slice_get-map f xs i ∙ ap (λ o. option_map f o) (slice_get_read xs (length xs) i x refl h e))
 
 -- devices that were just fitted have the descriptions that they were given
 pub fresh_described : (ds : List Desc) → descriptions_of (map fresh ds) ≡ ds
@@ -89,11 +87,11 @@ joined_push : (o : Option Card) (os next : Option (List Card)) (cs : List Card) 
     ((xs : List Card) → os ≡ Some xs → next ≡ Some (xs ++ c ∷ [])) → joined o next ≡ Some (cs ++ c ∷ [])
 joined_push None os next cs c e f = cc
 joined_push (Some x) None next cs c e f = cc
-joined_push (Some x) (Some xs) next cs c e f = ap (joined (Some x)) (f xs refl) ∙ ap (λ ys. Some (ys ++ c ∷ [])) (some_same e)
+joined_push (Some x) (Some xs) next cs c e f = ap (joined (Some x)) (f xs refl) ∙ ap (λ ys. Some (ys ++ c ∷ [])) (same_Some _ _ e)
 
 cards_push : (rack : List (Option SoundCard)) (ps : List ℕ) (cs : List Card) (p : ℕ) (c : Card) → cards_at rack ps ≡ Some cs → card_at rack p ≡ Some c →
     cards_at rack (ps ++ p ∷ []) ≡ Some (cs ++ c ∷ [])
-cards_push rack [] cs p c e f = ap (λ o. joined o (Some [])) f ∙ ap (λ xs. Some (xs ++ c ∷ [])) (some_same e)
+cards_push rack [] cs p c e f = ap (λ o. joined o (Some [])) f ∙ ap (λ xs. Some (xs ++ c ∷ [])) (same_Some _ _ e)
 cards_push rack (q ∷ qs) cs p c e f =
     joined_push (card_at rack q) (cards_at rack qs) (cards_at rack (qs ++ p ∷ [])) cs c e (λ xs g. cards_push rack qs xs p c g f)
 

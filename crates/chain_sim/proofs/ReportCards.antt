@@ -18,13 +18,11 @@ use Rattle.dev_card.specs.Sound.{SoundCard, card_in, cell_lengths, flash_cell_le
 use Rattle.chain_sim.specs.Places.{card_at, joined, cards_at}
 use Rattle.chain_sim.proofs.Clocking.{card_read}
 use Rattle.chain_sim.specs.Reports.{cells_in, instruction_in, held_in, line_in, report_in}
+use Rattle.std.proofs.lemmas.Option.{same_Some}
 
 -- a device has this description
 abbrev pub IsDescribed : Option Card → Desc → Type 0
 IsDescribed card d = IsSomeAnd card (λ c. c.desc ≡ d)
-
-some_same : {X : Type 0} {x y : X} → Some x ≡ Some y → x ≡ y
-some_same e = cc
 
 -- The instruction in force.
 
@@ -32,14 +30,14 @@ pub instruction_fits : (f : Option SoundCard) (d : Desc) (n : ℕ) → IsDescrib
     (n < 2 ^ d.ir_len) × (d.ir_len ≤ 64)
 instruction_fits None d n h e = absurd h
 instruction_fits (Some s) d n h e =
-    let width : n < 2 ^ s.card.desc.ir_len = subst (λ (m : ℕ). m < 2 ^ s.card.desc.ir_len) (some_same e) s.sound.instruction_width in
+    let width : n < 2 ^ s.card.desc.ir_len = subst (λ (m : ℕ). m < 2 ^ s.card.desc.ir_len) (same_Some _ _ e) s.sound.instruction_width in
     (subst (λ (x : Desc). n < 2 ^ x.ir_len) h width, subst (λ (x : Desc). x.ir_len ≤ 64) h s.sound.good.longest)
 
 pub instruction_shown : (f : Option SoundCard) (d : Desc) (n : ℕ) → IsDescribed (card_in f) d → option_map (λ (c : Card). c.instruction) (card_in f) ≡ Some n →
     named_text (codes "ir") (all_hex_digits (low_bits d.ir_len n)) ≡ instruction_in (card_in f)
 instruction_shown None d n h e = absurd h
 instruction_shown (Some s) d n h e =
-    ap (λ (m : ℕ). named_text (codes "ir") (all_hex_digits (low_bits d.ir_len m))) (sym (some_same e))
+    ap (λ (m : ℕ). named_text (codes "ir") (all_hex_digits (low_bits d.ir_len m))) (sym (same_Some _ _ e))
     ∙ ap (λ (x : Desc). named_text (codes "ir") (all_hex_digits (low_bits x.ir_len s.card.instruction))) (sym h)
 
 -- The cells of each kind.

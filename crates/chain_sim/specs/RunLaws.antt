@@ -6,7 +6,7 @@ use Rattle.dev_card.specs.declared.desc.Kind.{Kind}
 use Rattle.dev_card.specs.Card.{Card}
 use Rattle.dev_card.specs.Board.{Clock, Input, clocks_of, board_after}
 use Rattle.dev_card.specs.Sound.{AllSound, SoundCard, card_in}
-use Rattle.dev_card.proofs.ScanLines.{after-append, clocks-append}
+use Rattle.dev_card.proofs.ScanLines.{after-append, clocks-append, after_none, after_both}
 use Rattle.scan_paths.specs.Cables.{Signal, clocks_in, input_of}
 use Rattle.scan_paths.proofs.Signals.{clocks_in_both}
 use Rattle.chain_sim.specs.Places.{inside_or_unfitted, joined, cards_at}
@@ -31,10 +31,6 @@ pub told_sound : (rack : List (Option SoundCard)) (places : List ℕ) (cs : List
     AllSound cs
 told_sound rack places cs told = subst IsToldSound told (sound_at rack places)
 
-after_none : (o : Option (List Card)) → o ≡ option_map (λ cs. board_after cs []) o
-after_none None = refl
-after_none (Some cs) = refl
-
 pub run_none : {X : Type 0} (fitted : X → Option SoundCard) (kind_of : X → Kind) (rack : List X) (places : List ℕ) →
     HasRun fitted kind_of rack rack places places []
 run_none fitted kind_of rack places = record {
@@ -44,12 +40,6 @@ run_none fitted kind_of rack places = record {
   cards = after_none (cards_at (map fitted rack) places);
   seen = λ cs e. refl;
 }
-
-after_both : (o : Option (List Card)) (xs ys : List Input) →
-    option_map (λ cs. board_after cs ys) (option_map (λ cs. board_after cs xs) o)
-    ≡ option_map (λ cs. board_after cs (xs ++ ys)) o
-after_both None xs ys = refl
-after_both (Some cs) xs ys = ap Some (sym (after-append xs ys cs))
 
 joined_runs : {X : Type 0} (fitted : X → Option SoundCard) (kind_of : X → Kind) (a b c : List X)
     (places mid_places new_places : List ℕ) (xs ys : List Clock) →

@@ -9,6 +9,7 @@ use Rattle.dev_card.specs.PaddedScan.{descriptions_of}
 use Rattle.dev_card.specs.Sound.{SoundCard}
 use Rattle.chain_sim.specs.Places.{cards_at}
 use Rattle.chain_sim.proofs.Fitting.{fresh_described}
+use Rattle.std.proofs.lemmas.Option.{same_Some}
 
 pub fresh_board : (rack : List (Option SoundCard)) (ps qs : List ℕ) (ds : List Desc) → ps ≡ qs → cards_at rack qs ≡ Some (map fresh ds) →
     IsSomeAnd (cards_at rack ps) (λ cs. descriptions_of cs ≡ ds)
@@ -19,9 +20,6 @@ all_fresh : (ds : List Desc) → AllIn Reset (map fresh ds)
 all_fresh [] = tt
 all_fresh (d ∷ ds) = (refl, all_fresh ds)
 
-some_same : {X : Type 0} {x y : X} → Some x ≡ Some y → x ≡ y
-some_same e = cc
-
 pub fresh_at : (rack : List (Option SoundCard)) (ps qs : List ℕ) (ds : List Desc) → ps ≡ qs → cards_at rack qs ≡ Some (map fresh ds) → (cs : List Card) → cards_at rack ps ≡ Some cs → AllIn Reset cs
 fresh_at rack ps qs ds e f cs t =
-    subst (λ x. AllIn Reset x) (some_same (sym (ap (cards_at rack) e ∙ f) ∙ t)) (all_fresh ds)
+    subst (λ x. AllIn Reset x) (same_Some _ _ (sym (ap (cards_at rack) e ∙ f) ∙ t)) (all_fresh ds)

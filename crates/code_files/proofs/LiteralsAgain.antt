@@ -1,5 +1,6 @@
 -- A literal that was written is read again.
-use Rattle.std.proofs.Common.{◌≡◌, ◌≤◌, ◌<◌, ◌+◌, ◌-◌, ◌*◌, ◌/◌, ◌%◌, ℕ, zero, suc, Bool, true, false, not, List, [], ◌∷◌, ◌++◌, length, take, drop, Ok, refl, sym, ap, ◌∙◌, append_assoc, arith, inl, inr, nat_eq}
+use Rattle.std.proofs.Common.{◌≡◌, ◌≤◌, ◌<◌, ◌+◌, ◌-◌, ◌*◌, ◌/◌, ◌%◌, ℕ, zero, suc, Bool, true, false, not, List, [], ◌∷◌, ◌++◌, length, take, drop, Ok, refl, sym, ap, ◌∙◌,
+    append_assoc, arith, inl, inr, nat_eq}
 use Rattle.std.specs.Prelude.{replicate}
 use Rattle.std.specs.List.{flat_map, list_all}
 use Rattle.std.proofs.lemmas.Bool.{cases_lt}
@@ -12,6 +13,7 @@ use Rattle.code_files.specs.ReadInstrs.{with_number_from}
 use Rattle.code_files.specs.ReadFiles.{is_padded, literal_at}
 use Rattle.code_files.proofs.FieldsAgain.{field_again, with_number_from_again}
 use Rattle.code_files.proofs.PartsAgain.{made_again, followed_again}
+use Rattle.stapl_code.proofs.SizeLemmas.{length_of_packed}
 
 half_of : (b : Bool) (k : ℕ) → (bit_value b + 2 * k) / 2 ≡ k
 half_of true k = omega arith
@@ -35,10 +37,6 @@ low_bits_padded (suc k) (b ∷ bits) few =
 replicate_more : (m n : ℕ) → replicate m false ++ replicate n false ≡ replicate (m + n) false
 replicate_more zero n = let same : 0 + n ≡ n = omega arith in rw same refl
 replicate_more (suc m) n = let more : suc m + n ≡ suc (m + n) = omega arith in rw more (ap (λ (z : List Bool). false ∷ z) (replicate_more m n))
-
-length-bytes_of_bits : (n : ℕ) (bits : List Bool) → length (bytes_of_bits n bits) ≡ n
-length-bytes_of_bits zero bits = refl
-length-bytes_of_bits (suc n) bits = ap suc (length-bytes_of_bits n (drop 8 bits))
 
 none_left : (bits : List Bool) → length bits ≤ 0 → bits ≡ []
 none_left [] few = refl
@@ -92,5 +90,5 @@ literal_again bits rest h =
     followed_again (with_number_from 1 16777217 (λ x. x)) _ (number (length bits) ++ (packed ++ rest)) (length bits) (packed ++ rest)
     (with_number_from_again 1 16777217 (λ x. x) (length bits) (packed ++ rest) (omega arith) h.some (omega (arith, h.few)))
     ∙ made_again (λ x. take (length bits) (flat_map (low_bits 8) x)) (field n (is_padded (length bits))) (packed ++ rest) packed rest
-    (field_again n (is_padded (length bits)) packed rest (length-bytes_of_bits n bits) padded)
+    (field_again n (is_padded (length bits)) packed rest (length_of_packed n bits) padded)
     ∙ ap (λ (y : List Bool). Ok (y, rest)) kept

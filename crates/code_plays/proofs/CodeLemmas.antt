@@ -19,23 +19,12 @@ use Rattle.play_words.specs.declared.words.Request.{Request}
 use Rattle.code_plays.specs.Plays.{has_place, code_play_on}
 use Rattle.code_plays.specs.CodePlays.{task_play, IsPlayOf}
 use Rattle.code_plays.specs.Racks.{AreLeft, CodeHoldsFinal}
+use Rattle.stapl_machine.proofs.Machines.{zeros_fit}
 
 -- The variables of a code in range begin with what they may hold.
 
-zero_fits : (kind size : ℕ) → kind ≤ 3 → Fits (record { kind = kind; size = size }) (zero_of (record { kind = kind; size = size }))
-zero_fits zero size le = refl
-zero_fits (suc zero) size le = refl
-zero_fits (suc (suc zero)) size le = (refl, length-replicate size (pos 0))
-zero_fits (suc (suc (suc zero))) size le = (refl, length-replicate size false)
-zero_fits (suc (suc (suc (suc kind)))) size le = absurd (omega arith)
-
-zeros_fit_all : (vs : List VarDef) → All IsVariable vs → AllFit vs (map zero_of vs)
-zeros_fit_all [] each = tt
-zeros_fit_all (v ∷ vs) each =
-    (zero_fits v.kind v.size (All-head IsVariable v vs each).kind, zeros_fit_all vs (All-tail IsVariable v vs each))
-
 pub zeros_of_code_fit : (code : CodeLists) → IsInRange code → AllFit code.variables (zeros_of_code code)
-zeros_of_code_fit code ranges = zeros_fit_all code.variables ranges.variables.each
+zeros_of_code_fit code ranges = zeros_fit code.variables ranges.variables.each
 
 -- What a choice comes to with some names, it comes to with the same names.
 pub code_comes_to : {a b : List (List ℕ)} (code : CodeLists) (choice : Choice) (name : List ℕ) (asked skipped : List (List ℕ)) → a ≡ asked → b ≡ skipped →

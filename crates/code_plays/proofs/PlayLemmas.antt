@@ -221,7 +221,8 @@ one_described rack places devices i n e described = by (cards_at rack places) re
         rw e (subst (λ (o : Option (List Card)). IsSomeAnd o (λ ks. descriptions_of ks ≡ take 1 (drop i devices))) (sym (cards_one rack places cs i is))
         (described_one cs i ∙ ap (λ (ds : List Desc). take 1 (drop i ds)) h))
 
-pub one_reported : (rack : List (Option SoundCard)) (places : List ℕ) (devices : List Desc) (place n : ℕ) → n ≡ 1 → IsSomeAnd (cards_at rack places) (λ cs. descriptions_of cs ≡ devices) →
+pub one_reported : (rack : List (Option SoundCard)) (places : List ℕ) (devices : List Desc) (place n : ℕ) → n ≡ 1 →
+    IsSomeAnd (cards_at rack places) (λ cs. descriptions_of cs ≡ devices) →
     report_in (cards_at rack (take n (drop (place - 1) places))) ≡ far_report (reported_far (Some place) (far_at rack places))
 one_reported rack places devices place n e described = by (cards_at rack places) refl described
   where
@@ -242,7 +243,8 @@ cards_count : (rack : List (Option SoundCard)) (places : List ℕ) (cards : List
 cards_count rack [] cards e = ap length (same_Some [] cards e)
 cards_count rack (p ∷ ps) cards e = by (λ cs b. cards_count rack ps cs b) (card_at rack p) (cards_at rack ps) refl e
   where
-    by : ((cs : List Card) → cards_at rack ps ≡ Some cs → length ps ≡ length cs) → (o : Option Card) (rest : Option (List Card)) → cards_at rack ps ≡ rest → joined o rest ≡ Some cards → length (p ∷ ps) ≡ length cards
+    by : ((cs : List Card) → cards_at rack ps ≡ Some cs → length ps ≡ length cs) → (o : Option Card) (rest : Option (List Card)) →
+        cards_at rack ps ≡ rest → joined o rest ≡ Some cards → length (p ∷ ps) ≡ length cards
     by more None rest b e = absurd cc
     by more (Some c) None b e = absurd cc
     by more (Some c) (Some cs) b e = ap suc (more cs b) ∙ ap length (same_Some (c ∷ cs) cards e)

@@ -315,7 +315,8 @@ pub fn play_code<K: Sink>(
     ensures says { Says K.written (PlaysCodeAction code.now action.now task.now.request.now task.now.devices.now) ⊥
         lines.old lines.new result }
     ensures output { KeepsOutput K.faults K.is_last lines.old lines.new result }
-    ensures rack { KeepsRack kind_of fitted (Unit {0}) (CodeHoldsFinal code.now task.now.request.now task.now.devices.now)
+    ensures rack { KeepsRack kind_of fitted (Unit {0})
+        (CodeHoldsFinal code.now task.now.request.now task.now.devices.now)
         rack.old.items rack.new.items result }
 {
     match choose_asked(alloc, code, action, task.request) {

@@ -9,7 +9,7 @@ use Rattle.tap_states.specs.Path.{walk}
 use Rattle.dev_card.specs.Card.{Card, during, entered, step, selected, selected_length}
 use Rattle.dev_card.specs.Board.{board_tdo, board_step, board_after, AllIn}
 use Rattle.dev_card.specs.Line.{AllShift, line_of, list_of, shift_state}
-use Rattle.dev_card.specs.Clocks.{with_zero, entry_tms, at_shift}
+use Rattle.dev_card.specs.Clocks.{with_zero, entry_tms, at_shift, rest_tms}
 use Rattle.dev_card.specs.Sound.{IsSound, AllSound, AllBypass, is_data_state, register_lengths}
 use Rattle.dev_card.proofs.Soundness.{sound_board_after}
 
@@ -79,3 +79,11 @@ bypass_line cs a h b = line_length false cs a h ∙ bypass_lengths cs b
 pub shift_reached : (at : Tap) (ir : Bool) (cs : List Card) → is_stable_state at ≡ true → AllIn at cs → AllSound cs → AllShift ir (at_shift at ir cs)
 shift_reached at ir cs e a h =
     all_shift ir (at_shift at ir cs) (subst (λ t. AllIn t (at_shift at ir cs)) (entry_leads at ir e) (walk_in at cs (entry_tms at ir) a)) (sound_board_after cs (with_zero (entry_tms at ir)) h)
+
+-- a stable state stays under its TMS
+pub rests : (s : Tap) → is_stable_state s ≡ true → next_of s (rest_tms s) ≡ s
+rests Reset h = refl
+rests Idle h = refl
+rests DrPause h = refl
+rests IrPause h = refl
+rests _ h = absurd (false≢true h)

@@ -1,5 +1,6 @@
 -- A whole scan by single clocks is the scan of the line, and leads to its stop.
-use Rattle.std.proofs.Common.{◌≡◌, ◌<◌, Bool, true, false, List, [], ◌∷◌, ◌++◌, length, map, refl, ap, subst, ◌∙◌}
+use Rattle.std.proofs.Common.{◌≡◌, ◌<◌, Bool, true, false, List, [], ◌∷◌, ◌++◌, length, map, Option, Some, None, refl, sym, ap, subst, ◌∙◌}
+use Rattle.std.specs.Option.{option_map}
 use Rattle.tap_states.specs.declared.Tap.{Tap}
 use Rattle.tap_states.specs.Tap.{next_of, is_stable_state}
 use Rattle.tap_states.specs.Path.{path_of}
@@ -19,6 +20,15 @@ after-append (i ∷ is) js cs = after-append is js (after_input cs i)
 pub clocks-append : (is js : List Input) (cs : List Card) → clocks_of cs (is ++ js) ≡ clocks_of cs is ++ clocks_of (board_after cs is) js
 clocks-append [] js cs = refl
 clocks-append (i ∷ is) js cs = ap (λ t. clock_at cs i ∷ t) (clocks-append is js (after_input cs i))
+
+pub after_none : (o : Option (List Card)) → o ≡ option_map (λ cs. board_after cs []) o
+after_none None = refl
+after_none (Some cs) = refl
+
+pub after_both : (o : Option (List Card)) (xs ys : List Input) →
+    option_map (λ cs. board_after cs ys) (option_map (λ cs. board_after cs xs) o) ≡ option_map (λ cs. board_after cs (xs ++ ys)) o
+after_both None xs ys = refl
+after_both (Some cs) xs ys = ap Some (sym (after-append xs ys cs))
 
 pub scans_as_line : (at : Tap) (ir : Bool) (stop : Tap) (cs : List Card) (bits : List Bool) → is_stable_state at ≡ true → 0 < length bits → AllIn at cs → AllSound cs → ScansAsLine at ir stop cs bits
 scans_as_line at ir stop cs bits st n a h =
@@ -43,7 +53,7 @@ all_in_state : (t : Tap) (cs : List Card) → AllIn t (map (in_state t) cs)
 all_in_state t [] = tt
 all_in_state t (c ∷ cs) = (refl, all_in_state t cs)
 
-pause_follows : (ir : Bool) → next_of (exit_state ir) false ≡ pause_state ir
+pub pause_follows : (ir : Bool) → next_of (exit_state ir) false ≡ pause_state ir
 pause_follows true = refl
 pause_follows false = refl
 

@@ -129,3 +129,6 @@ scan_of_run at before run after s st a h base =
           ∙ ap (λ z. at_data (without_base s.paddings) n (shifted_out (line_of s.ir (at_shift at s.ir run)) z))
           (sym (append-nil (program_bits s.paddings s.bits)));
     }
+
+pub some_bits : (s : BoardScan) → 0 < length s.bits → 0 < length (scan_bits s)
+some_bits s h = omega (arith, h, length_of_padded s.paddings s.bits)

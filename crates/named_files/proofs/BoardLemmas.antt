@@ -1,32 +1,14 @@
 -- On boards in files, and on the contents of files.
-use Rattle.std.proofs.Common.{◌≡◌, ◌<◌, ◌+◌, ℕ, List, [], length, Option, None, Some, IfSome, IsSomeAnd, refl, sym, ◌∙◌, subst, replicate, arith, inl}
+use Rattle.std.proofs.Common.{◌≡◌, ◌<◌, ◌+◌, ℕ, List, length, Option, None, Some, IfSome, IsSomeAnd, refl, sym, ◌∙◌, subst, replicate, arith, inl}
 use Rattle.std.proofs.lemmas.List.{length-replicate}
 use Rattle.tool_io.specs.Files.{file_of}
 use Rattle.dev_card.specs.declared.desc.Desc.{Desc}
 use Rattle.board_text.specs.declared.reason.BoardReason.TheVariants as reasons
 use Rattle.board_text.specs.declared.reason.BoardReason.{BoardReason}
-use Rattle.board_text.specs.Boards.{most_bytes, IsBoard, IsFirstFault}
+use Rattle.board_text.specs.Boards.{most_bytes, IsFirstFault}
 use Rattle.board_text.proofs.OneAnswer.{one_board, one_first_fault, no_board_has_a_fault}
 use Rattle.named_files.specs.Files.{file_named, AreRead, OfFile}
-use Rattle.named_files.specs.Boards.{HasBoard, HasBoardFault, ReadsBoard, ReadsBoardFault}
-
--- What was read, as it is told.
-
-are_read : (told : Option (List (List ℕ × List ℕ))) (path bytes : List ℕ) → IfSome told (λ files. file_of files path ≡ Some bytes) → AreRead told (Some path) (Some bytes)
-are_read told path bytes e = record { same = e }
-
-pub reads_board : (told : Option (List (List ℕ × List ℕ))) (path bytes : List ℕ) (devices : List Desc) → IfSome told (λ files. file_of files path ≡ Some bytes) →
-    IsBoard bytes devices → ReadsBoard told (Some path) devices
-reads_board told path bytes devices e board = record { held = Some bytes; read = are_read told path bytes e; board = board }
-
-pub reads_fault : (told : Option (List (List ℕ × List ℕ))) (path bytes : List ℕ) {line : ℕ} {reason : BoardReason} → IfSome told (λ files. file_of files path ≡ Some bytes) →
-    IsFirstFault bytes line reason → ReadsBoardFault told (Some path) line reason
-reads_fault told path bytes e fault = record { held = Some bytes; read = are_read told path bytes e; fault = fault }
-
--- A text is too long.
-
-too_long : (bytes : List ℕ) → most_bytes < length bytes → IsFirstFault bytes 0 reasons.TooLong
-too_long bytes long = inl (record { long = long; line_is = refl; reason_is = refl })
+use Rattle.named_files.specs.Boards.{HasBoard, HasBoardFault, ReadsBoardFault}
 
 -- there is a text of each length
 text_of_length : (n : ℕ) → (text : List ℕ) × (length text ≡ n)
@@ -35,48 +17,14 @@ text_of_length n = (replicate n 0, length-replicate n 0)
 is_longer : (text : List ℕ) (n : ℕ) → length text ≡ n + 1 → n < length text
 is_longer text n e = omega arith
 
--- and so one that is too long
+-- and so a longer one
 pub long_text : (n : ℕ) → (text : List ℕ) × (n < length text)
 long_text n = let t = text_of_length (n + 1) in (t.0, is_longer t.0 n t.1)
 
-long_held : (held : Option (List ℕ)) → IsSomeAnd held (λ bytes. most_bytes < length bytes) → IsSomeAnd held (λ bytes. IsFirstFault bytes 0 reasons.TooLong)
-long_held None long = long
-long_held (Some bytes) long = too_long bytes long
-
-pub reads_long : (told : Option (List (List ℕ × List ℕ))) (path : List ℕ) → IfSome told (λ files. IsSomeAnd (file_of files path) (λ bytes. most_bytes < length bytes)) →
-    ReadsBoardFault told (Some path) 0 reasons.TooLong
-reads_long None path long =
-    let t = long_text most_bytes in record { held = Some t.0; read = record { same = tt }; fault = too_long t.0 t.1 }
-reads_long (Some files) path long =
-    record { held = file_of files path; read = record { same = refl }; fault = long_held (file_of files path) long }
-
--- where no file is named
-pub reads_none : (told : Option (List (List ℕ × List ℕ))) → ReadsBoard told None []
-reads_none None = record { held = None; read = record { same = tt }; board = refl }
-reads_none (Some files) = record { held = None; read = record { same = refl }; board = refl }
-
--- There is one board, or one fault.
-
-pub one_held : (named held : Option (List ℕ)) (a b : List Desc) → HasBoard named held a → HasBoard named held b → a ≡ b
-one_held None held a b x y = x ∙ sym y
-one_held (Some path) None a b x y = absurd x
-one_held (Some path) (Some bytes) a b x y = one_board bytes a b x y
-
-pub one_fault : (named held : Option (List ℕ)) (m n : ℕ) (r s : BoardReason) → HasBoardFault named held m r → HasBoardFault named held n s → (m ≡ n) × (r ≡ s)
-one_fault None held m n r s x y = absurd x
-one_fault (Some path) None m n r s x y = absurd x
-one_fault (Some path) (Some bytes) m n r s x y = one_first_fault bytes m n r s x y
-
-pub board_or_fault : (named held : Option (List ℕ)) (devices : List Desc) (n : ℕ) (r : BoardReason) → HasBoard named held devices → HasBoardFault named held n r → ⊥
-board_or_fault None held devices n r x y = y
-board_or_fault (Some path) None devices n r x y = y
-board_or_fault (Some path) (Some bytes) devices n r x y = no_board_has_a_fault bytes devices n r x y
-
-pub fault_is : {told : Option (List (List ℕ × List ℕ))} {named : Option (List ℕ)} (m n : ℕ) (r s : BoardReason) → m ≡ n → r ≡ s → ReadsBoardFault told named m r →
-    ReadsBoardFault told named n s
-fault_is {told = told} {named = named} m n r s e f x = subst (λ (k : ℕ). ReadsBoardFault told named k s) e (subst (ReadsBoardFault told named m) f x)
-
 -- The contents of a file.
+
+are_read : (told : Option (List (List ℕ × List ℕ))) (path bytes : List ℕ) → IfSome told (λ files. file_of files path ≡ Some bytes) → AreRead told (Some path) (Some bytes)
+are_read told path bytes e = record { same = e }
 
 -- more that stands of the same contents
 pub of_file_as : {told : Option (List (List ℕ × List ℕ))} {named : Option (List ℕ)} {P Q : Option (List ℕ) → Type 0} →
@@ -100,3 +48,37 @@ pub of_long_file : (told : Option (List (List ℕ × List ℕ))) (path : List �
     OfFile told (Some path) (λ held. IsSomeAnd held (λ bytes. n < length bytes))
 of_long_file None path n long = let t = long_text n in record { held = Some t.0; read = record { same = tt }; holds = t.1 }
 of_long_file (Some files) path n long = record { held = file_of files path; read = record { same = refl }; holds = long }
+
+-- A text is too long.
+
+too_long : (bytes : List ℕ) → most_bytes < length bytes → IsFirstFault bytes 0 reasons.TooLong
+too_long bytes long = inl (record { long = long; line_is = refl; reason_is = refl })
+
+long_held : (held : Option (List ℕ)) → IsSomeAnd held (λ bytes. most_bytes < length bytes) → IsSomeAnd held (λ bytes. IsFirstFault bytes 0 reasons.TooLong)
+long_held None long = long
+long_held (Some bytes) long = too_long bytes long
+
+pub reads_long : (told : Option (List (List ℕ × List ℕ))) (path : List ℕ) → IfSome told (λ files. IsSomeAnd (file_of files path) (λ bytes. most_bytes < length bytes)) →
+    ReadsBoardFault told (Some path) 0 reasons.TooLong
+reads_long told path long = of_file_as long_held (of_long_file told path most_bytes long)
+
+-- There is one board, or one fault.
+
+pub one_held : (named held : Option (List ℕ)) (a b : List Desc) → HasBoard named held a → HasBoard named held b → a ≡ b
+one_held None held a b x y = x ∙ sym y
+one_held (Some path) None a b x y = absurd x
+one_held (Some path) (Some bytes) a b x y = one_board bytes a b x y
+
+pub one_fault : (named held : Option (List ℕ)) (m n : ℕ) (r s : BoardReason) → HasBoardFault named held m r → HasBoardFault named held n s → (m ≡ n) × (r ≡ s)
+one_fault None held m n r s x y = absurd x
+one_fault (Some path) None m n r s x y = absurd x
+one_fault (Some path) (Some bytes) m n r s x y = one_first_fault bytes m n r s x y
+
+pub board_or_fault : (named held : Option (List ℕ)) (devices : List Desc) (n : ℕ) (r : BoardReason) → HasBoard named held devices → HasBoardFault named held n r → ⊥
+board_or_fault None held devices n r x y = y
+board_or_fault (Some path) None devices n r x y = y
+board_or_fault (Some path) (Some bytes) devices n r x y = no_board_has_a_fault bytes devices n r x y
+
+pub fault_is : {told : Option (List (List ℕ × List ℕ))} {named : Option (List ℕ)} (m n : ℕ) (r s : BoardReason) → m ≡ n → r ≡ s → ReadsBoardFault told named m r →
+    ReadsBoardFault told named n s
+fault_is {told = told} {named = named} m n r s e f x = subst (λ (k : ℕ). ReadsBoardFault told named k s) e (subst (ReadsBoardFault told named m) f x)

@@ -3,7 +3,7 @@ use Rattle.std.specs.Prelude.{◌≡◌, ℕ, List, [], Option, None, Some, IsSo
 use Rattle.dev_card.specs.declared.desc.Desc.{Desc}
 use Rattle.board_text.specs.declared.reason.BoardReason.{BoardReason}
 use Rattle.board_text.specs.Boards.{IsBoard, IsFirstFault}
-use Rattle.named_files.specs.Files.{AreRead}
+use Rattle.named_files.specs.Files.{OfFile}
 
 -- Some bytes are held, and they are the board of these devices. Where no file is named there is no device.
 abbrev pub HasBoard : Option (List ℕ) → Option (List ℕ) → List Desc → Type 0
@@ -16,13 +16,9 @@ HasBoardFault None held line reason = ⊥
 HasBoardFault (Some path) held line reason = IsSomeAnd held (λ bytes. IsFirstFault bytes line reason)
 
 -- The bytes that were read are the board of these devices.
-pub record ReadsBoard (told : Option (List (List ℕ × List ℕ))) (named : Option (List ℕ)) (devices : List Desc) : Type 0 where
-  pub held : Option (List ℕ)
-  pub read : AreRead told named held
-  pub board : HasBoard named held devices
+abbrev pub ReadsBoard : Option (List (List ℕ × List ℕ)) → Option (List ℕ) → List Desc → Type 0
+ReadsBoard told named devices = OfFile told named (λ held. HasBoard named held devices)
 
 -- The bytes that were read are no board, and this is their first fault.
-pub record ReadsBoardFault (told : Option (List (List ℕ × List ℕ))) (named : Option (List ℕ)) (line : ℕ) (reason : BoardReason) : Type 0 where
-  pub held : Option (List ℕ)
-  pub read : AreRead told named held
-  pub fault : HasBoardFault named held line reason
+abbrev pub ReadsBoardFault : Option (List (List ℕ × List ℕ)) → Option (List ℕ) → ℕ → BoardReason → Type 0
+ReadsBoardFault told named line reason = OfFile told named (λ held. HasBoardFault named held line reason)

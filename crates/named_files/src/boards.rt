@@ -31,13 +31,13 @@ pub enum BoardNotRead {
     Memory,
 }
 
-/// The devices of a board with these bytes.
+/// The devices of a board with these bytes. It answers no `Read`.
 pub fn board_of(alloc: Global, bytes: &[u8]) -> Result<Vec<Desc>, BoardNotRead>
     ensures board { IfOk result (λ devices. IsBoard bytes.now devices.items) }
     ensures fitting { IfOk result (λ devices. CanBeFitted devices.items) }
     ensures fault { (line : ℕ) (reason : BoardReason) → result ≡ Err (refusals.At line reason) →
         IsFirstFault bytes.now line reason }
-    ensures told { IsErrOf result BoardNotRead.Read → ⊥ }
+    ensures no_read { IsErrOf result BoardNotRead.Read → ⊥ }
 {
     match read_board(alloc, bytes) {
         Ok(devices) => Ok(devices),

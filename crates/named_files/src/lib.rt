@@ -1,5 +1,5 @@
-//! Files that the words of a command name: the board in one, and what is written of a board, a program or words that are
-//! refused.
+//! Files that the words of a command name: the board in one, and what is written of a board, a program or words that
+//! are refused.
 #![tactic(auto)]
 
 mod boards;

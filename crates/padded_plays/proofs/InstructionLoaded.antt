@@ -12,7 +12,7 @@ use Rattle.dev_card.specs.Line.{shift_state, exit_state, pause_state}
 use Rattle.dev_card.specs.Padding.{program_bits}
 use Rattle.dev_card.specs.Clocks.{with_zero, rest_tms, entry_inputs, shift_inputs, pause_inputs, stop_inputs}
 use Rattle.dev_card.specs.Scans.{BoardScan, scan_bits, inputs_of_scan}
-use Rattle.padded_boards.specs.QuietClocks.{loaded_at, loaded_after}
+use Rattle.padded_plays.specs.QuietClocks.{loaded_at, loaded_after}
 use Rattle.dev_card.specs.declared.desc.Desc.{Desc}
 use Rattle.stapl_meaning.specs.Deeds.{Deed, Says, Goes, Stays, Scans, Chain, based, deed_chain, deeds_chain, captured_on}
 use Rattle.stapl_meaning.specs.States.{State, Turned, Leads, Over, Broken, Scanning, NoTurn}
@@ -23,6 +23,7 @@ use Rattle.padded_plays.specs.QuietPlays.{IsQuietDeed, loaded_by_deed, AreQuietD
 use Rattle.padded_plays.specs.LoadedDeeds.{deed_inputs, StaysOutOfReset, StayOutOfReset, IsWholeScan, AreWholeScans, WasLoaded, IsQuietAfter, EachIsQuiet}
 use Rattle.padded_plays.proofs.StableStays.{StayInStable, TurnStays, turn_stays, beginning_stays}
 use Rattle.padded_plays.proofs.QuietTurns.{quiet_parts}
+use Rattle.dev_card.proofs.Scanning.{some_bits}
 
 -- ---- walks
 
@@ -91,13 +92,6 @@ shift_is_out false (b ∷ c ∷ bs) h = let r = shift_is_out false (c ∷ bs) (o
 pause_is_out : (ir : Bool) → StaysOutOfReset (exit_state ir) pause_inputs × (led_by (exit_state ir) pause_inputs ≡ pause_state ir)
 pause_is_out true = ((λ x. cc, tt), refl)
 pause_is_out false = ((λ x. cc, tt), refl)
-
-some_bits : (s : BoardScan) → 0 < length s.bits → 0 < length (scan_bits s)
-some_bits s h =
-    let M : List Bool = program_bits s.paddings s.bits in
-    let last : List Bool = replicate s.paddings.base_post true in
-    let first : List Bool = replicate s.paddings.base_pre true in
-    omega (arith, h, length-append first (M ++ last), length-append M last, length-append s.paddings.pre (s.bits ++ s.paddings.post), length-append s.bits s.paddings.post)
 
 rest_is_out : (ir : Bool) (stop : Tap) → StaysOutOfReset (pause_state ir) (stop_inputs ir stop) → StaysOutOfReset (exit_state ir) (pause_inputs ++ stop_inputs ir stop)
 rest_is_out ir stop h =

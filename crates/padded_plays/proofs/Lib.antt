@@ -1,3 +1,6 @@
+pub mod KeptWalks
+pub mod KeptScans
+pub mod FirstRuns
 pub mod StableStays
 pub mod QuietTurns
 pub mod SameDeeds

@@ -10,10 +10,10 @@ use Rattle.dev_card.specs.Clocks.{move_inputs, stay_inputs, rest_tms}
 use Rattle.dev_card.specs.Padding.{base_around, base_pre_of, base_post_of}
 use Rattle.dev_card.specs.FarEnds.{Told}
 use Rattle.dev_card.specs.Scans.{BoardScan, inputs_of_scan, captured_from, scan_alone}
-use Rattle.padded_boards.specs.QuietClocks.{IsQuietScan, loaded_after, loaded_by_scan}
-use Rattle.padded_boards.specs.PaddedRuns.{IsPaddedRun, KeepsPaddedRun}
-use Rattle.padded_boards.proofs.KeptWalks.{move_keeps, stay_keeps}
-use Rattle.padded_boards.proofs.KeptScans.{scan_keeps}
+use Rattle.padded_plays.specs.QuietClocks.{IsQuietScan, loaded_after, loaded_by_scan}
+use Rattle.padded_plays.specs.PaddedRuns.{IsPaddedRun, KeepsPaddedRun}
+use Rattle.padded_plays.proofs.KeptWalks.{move_keeps, stay_keeps}
+use Rattle.padded_plays.proofs.KeptScans.{scan_keeps}
 use Rattle.stapl_meaning.specs.declared.events.Event.{Event}
 use Rattle.stapl_meaning.specs.declared.events.Event.TheVariants.{Print, Export, Usec, Hertz}
 use Rattle.stapl_meaning.specs.declared.events.Event.TheVariants as events
@@ -101,7 +101,8 @@ module _ (before run after : List Desc) where
     pub kept : IsPaddedRun before run after (loaded_by_deeds loaded (chain_alone at alone) ds) tap_then board_then alone_then
     pub same_events : without_clocks (deeds_events (padded_chain at board) ds) ≡ without_clocks (deeds_events (chain_alone at alone) ds)
 
-  pub deeds_are_same : (ds : List Deed) (b loaded : Bool) (at : Tap) (board alone : List Card) → (b ≡ true → is_stable_state at ≡ true) → StayInStable b ds → AreQuietDeeds loaded (chain_alone at alone) ds
+  pub deeds_are_same : (ds : List Deed) (b loaded : Bool) (at : Tap) (board alone : List Card) → (b ≡ true → is_stable_state at ≡ true) → StayInStable b ds →
+      AreQuietDeeds loaded (chain_alone at alone) ds
       → IsPaddedRun before run after loaded at board alone → AreSameDeeds loaded at board alone ds
   deeds_are_same [] b loaded at board alone st w q h =
       record { tap_then = at; board_then = board; alone_then = alone; board_is = refl; alone_is = refl; kept = h; same_events = refl }
@@ -127,7 +128,8 @@ module _ (before run after : List Desc) where
         board_is = k.board_is;
         alone_is = k.alone_is;
         kept = k.kept;
-        same_events = same_both (pulses (clocks_of board (move_inputs at to))) (pulses (clocks_of alone (move_inputs at to))) (deeds_events (padded_chain to board1) ds) (deeds_events (chain_alone to alone1) ds)
+        same_events = same_both (pulses (clocks_of board (move_inputs at to))) (pulses (clocks_of alone (move_inputs at to))) (deeds_events (padded_chain to board1) ds)
+            (deeds_events (chain_alone to alone1) ds)
             (same_pulses (clocks_of board (move_inputs at to)) (clocks_of alone (move_inputs at to))) k.same_events;
       }
   deeds_are_same (Stays n ∷ ds) b loaded at board alone st w q h =
@@ -141,7 +143,8 @@ module _ (before run after : List Desc) where
         board_is = k.board_is;
         alone_is = k.alone_is;
         kept = k.kept;
-        same_events = same_both (pulses (clocks_of board (stay_inputs at n))) (pulses (clocks_of alone (stay_inputs at n))) (deeds_events (padded_chain at board1) ds) (deeds_events (chain_alone at alone1) ds)
+        same_events = same_both (pulses (clocks_of board (stay_inputs at n))) (pulses (clocks_of alone (stay_inputs at n))) (deeds_events (padded_chain at board1) ds)
+            (deeds_events (chain_alone at alone1) ds)
             (same_pulses (clocks_of board (stay_inputs at n)) (clocks_of alone (stay_inputs at n))) k.same_events;
       }
   deeds_are_same (Scans scan ∷ ds) b loaded at board alone st w q h = absurd w

@@ -11,7 +11,7 @@ use Rattle.dev_card.specs.Padding.{base_lengths, only}
 use Rattle.dev_card.proofs.RunsOfNeighbours.{around_place}
 use Rattle.dev_card.specs.PaddedScan.{descriptions_of}
 use Rattle.dev_card.specs.Reports.{report_of}
-use Rattle.padded_boards.specs.PaddedRuns.{fresh_board}
+use Rattle.padded_plays.specs.PaddedRuns.{fresh_board}
 use Rattle.stapl_meaning.specs.declared.events.Event.{Event}
 use Rattle.stapl_meaning.specs.declared.events.Event.TheVariants.{Print, Export, Clock, Usec, Hertz}
 use Rattle.stapl_meaning.specs.Scopes.{Played}

@@ -13,9 +13,9 @@ use Rattle.dev_card.specs.Clocks.{with_zero}
 use Rattle.dev_card.specs.Padding.{base_around}
 use Rattle.dev_card.specs.FarEnds.{Told}
 use Rattle.dev_card.specs.Scans.{inputs_of_scan}
-use Rattle.padded_boards.specs.QuietClocks.{IsQuietScan, loaded_by_scan}
-use Rattle.padded_boards.specs.PaddedRuns.{IsPaddedRun, fresh_board}
-use Rattle.padded_boards.proofs.FirstRuns.{reset_is_padded}
+use Rattle.padded_plays.specs.QuietClocks.{IsQuietScan, loaded_by_scan}
+use Rattle.padded_plays.specs.PaddedRuns.{IsPaddedRun, fresh_board}
+use Rattle.padded_plays.proofs.FirstRuns.{reset_is_padded}
 use Rattle.stapl_meaning.specs.declared.events.Event.{Event}
 use Rattle.stapl_meaning.specs.Deeds.{Scans, Chain, based, deed_events, deed_chain, deeds_events, deeds_chain, captured_on}
 use Rattle.stapl_meaning.specs.States.{State, Turned, Leads, Over, Broken, Scanning, NoTurn, Happened, Lacks, with_events, scanned_on, happens}
@@ -100,7 +100,8 @@ module _ (before run_devices after_run : List Desc) where
     turns_are_same (Scanning ds scan rest) loaded at board alone w h q =
         let K : Chain = padded_chain before run_devices after_run at board in
         let L : Chain = chain_alone at alone in
-        let d : AreSameDeeds before run_devices after_run loaded at board alone ds = deeds_are_same before run_devices after_run ds false loaded at board alone (λ e. absurd (false≢true e)) w.0 q.0 h in
+        let d : AreSameDeeds before run_devices after_run loaded at board alone ds = deeds_are_same before run_devices after_run ds false loaded at board alone
+            (λ e. absurd (false≢true e)) w.0 q.0 h in
         let m : Bool = loaded_by_deeds loaded L ds in
         let t1 : Tap = d.tap_then in
         let K1 : Chain = padded_chain before run_devices after_run t1 d.board_then in

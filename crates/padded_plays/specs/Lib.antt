@@ -1,3 +1,5 @@
+pub mod QuietClocks
+pub mod PaddedRuns
 pub mod QuietPlays
 pub mod SamePlays
 pub mod LoadedDeeds

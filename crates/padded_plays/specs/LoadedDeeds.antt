@@ -11,7 +11,7 @@ use Rattle.dev_card.specs.Padding.{program_bits}
 use Rattle.dev_card.specs.Sound.{register_lengths}
 use Rattle.dev_card.specs.Clocks.{at_shift, rest_tms, move_inputs, stay_inputs, pause_inputs, stop_inputs}
 use Rattle.dev_card.specs.Scans.{BoardScan, inputs_of_scan}
-use Rattle.padded_boards.specs.QuietClocks.{IsQuietWalk}
+use Rattle.padded_plays.specs.QuietClocks.{IsQuietWalk}
 use Rattle.stapl_meaning.specs.Deeds.{Deed, Says, Goes, Stays, Scans, Chain, based, deed_chain, deeds_chain}
 use Rattle.padded_plays.specs.QuietPlays.{told_cards}
 

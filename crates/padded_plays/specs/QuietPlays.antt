@@ -8,8 +8,8 @@ use Rattle.dev_card.specs.Card.{Card}
 use Rattle.dev_card.specs.Padding.{BaseLengths, base_around}
 use Rattle.dev_card.specs.Clocks.{rest_tms}
 use Rattle.dev_card.specs.FarEnds.{FarEnd, Told, Heard}
-use Rattle.padded_boards.specs.QuietClocks.{IsQuietWalk, IsQuietScan, loaded_after, loaded_by_scan}
-use Rattle.padded_boards.specs.PaddedRuns.{fresh_board}
+use Rattle.padded_plays.specs.QuietClocks.{IsQuietWalk, IsQuietScan, loaded_after, loaded_by_scan}
+use Rattle.padded_plays.specs.PaddedRuns.{fresh_board}
 use Rattle.stapl_meaning.specs.Deeds.{Deed, Says, Goes, Stays, Scans, Chain, deed_chain, deeds_chain, captured_on}
 use Rattle.stapl_meaning.specs.States.{State, Turned, Leads, Over, Broken, Scanning, NoTurn}
 use Rattle.stapl_meaning.specs.Scopes.{Played, zeros_of}

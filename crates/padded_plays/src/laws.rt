@@ -1,14 +1,20 @@
 //! Laws of the definitions.
-ghost use Rattle.std.specs.Prelude.{◌≡◌, ◌<◌, ◌≤◌, ◌-◌, ℕ, Bool, true, false, List, [], ◌∷◌, ◌++◌, All, Option};
-ghost use Rattle.std.specs.Prelude.{Some, length, slice_get};
+ghost use Rattle.std.specs.Prelude.{◌≡◌, ◌<◌, ℕ, Bool, true, false, List, ◌++◌, All, length, replicate, ◌≤◌, ◌-◌, []};
+ghost use Rattle.std.specs.Prelude.{◌∷◌, Option, Some, slice_get};
 ghost use Rattle.tap_states.specs.declared.Tap.{Tap};
+ghost use Rattle.tap_states.specs.declared.Tap.TheVariants.{Reset};
 ghost use Rattle.tap_states.specs.Tap.{is_stable_state};
+ghost use Rattle.tap_states.specs.Path.{walk, five_ones, path_of};
 ghost use Rattle.dev_card.specs.declared.desc.Desc.{Desc};
 ghost use Rattle.dev_card.specs.Descriptions.{IsGood};
-ghost use Rattle.dev_card.specs.Clocks.{entry_inputs};
+ghost use Rattle.dev_card.specs.Card.{Card};
+ghost use Rattle.dev_card.specs.Board.{board_after};
+ghost use Rattle.dev_card.specs.Clocks.{with_zero, rest_tms, move_inputs, stay_inputs, entry_inputs};
+ghost use Rattle.dev_card.specs.Scans.{BoardScan};
 ghost use Rattle.dev_card.specs.FarEnds.{FarEnd, Told};
 ghost use Rattle.dev_card.specs.Padding.{BaseLengths, base_lengths, only};
-ghost use Rattle.padded_boards.specs.PaddedRuns.{fresh_board};
+ghost use Rattle.padded_plays.specs.QuietClocks.{IsQuietWalk, IsQuietScan, loaded_after};
+ghost use Rattle.padded_plays.specs.PaddedRuns.{IsPaddedRun, IsPaddedFor, KeepsPaddedRun, fresh_board};
 ghost use Rattle.stapl_meaning.specs.Deeds.{Deed, Chain, deeds_events};
 ghost use Rattle.stapl_meaning.specs.Scopes.{Played};
 ghost use Rattle.stapl_meaning.specs.Plays.{play, chain_reset, reset_events};
@@ -18,6 +24,46 @@ ghost use Rattle.padded_plays.specs.QuietPlays.{IsQuietPlay, play_alone, padded_
 ghost use Rattle.padded_plays.specs.QuietExamples.{example_chain, quiet_deeds, without_instruction, reset_between};
 ghost use Rattle.padded_plays.specs.QuietExamples.{too_long, into_the_shift};
 ghost use Rattle.padded_plays.specs.SamePlays.{IsSamePlay, IsSameText};
+
+/// A quiet walk keeps a padded run.
+pub fn a_quiet_walk_keeps_a_padded_run()
+    ensures { (before run after : List Desc) (loaded : Bool) (at : Tap) (board alone : List Card) (ms : List Bool) →
+        IsQuietWalk at ms → IsPaddedRun before run after loaded at board alone →
+        IsPaddedRun before run after (loaded_after at ms loaded) (walk at ms)
+        (board_after board (with_zero ms)) (board_after alone (with_zero ms)) }
+{}
+
+/// A quiet move keeps a padded run.
+pub fn a_quiet_move_keeps_a_padded_run()
+    ensures { (before run after : List Desc) (loaded : Bool) (at to : Tap) (board alone : List Card) →
+        IsQuietWalk at (path_of at to) → IsPaddedRun before run after loaded at board alone →
+        IsPaddedRun before run after (loaded_after at (path_of at to) loaded) to
+        (board_after board (move_inputs at to)) (board_after alone (move_inputs at to)) }
+{}
+
+/// A stay in a stable state keeps a padded run.
+pub fn a_stay_keeps_a_padded_run()
+    ensures { (before run after : List Desc) (loaded : Bool) (at : Tap) (n : ℕ) (board alone : List Card) →
+        is_stable_state at ≡ true → IsPaddedRun before run after loaded at board alone →
+        IsPaddedRun before run after (loaded_after at (replicate n (rest_tms at)) loaded) at
+        (board_after board (stay_inputs at n)) (board_after alone (stay_inputs at n)) }
+{}
+
+/// A quiet scan keeps a padded run, and captures what it captures of the run alone.
+pub fn a_quiet_scan_keeps_a_padded_run()
+    ensures { (before run after : List Desc) (loaded : Bool) (at : Tap) (board alone : List Card) (s : BoardScan) →
+        0 < length run → is_stable_state at ≡ true → IsPaddedFor before after s → IsQuietScan loaded at alone s →
+        IsPaddedRun before run after loaded at board alone →
+        KeepsPaddedRun before run after loaded at board alone s }
+{}
+
+/// A run of new devices of good descriptions is padded after the five clocks that bring them to reset.
+pub fn a_reset_run_is_padded()
+    ensures { (before run after : List Desc) → All IsGood (before ++ (run ++ after)) →
+        IsPaddedRun before run after false Reset
+        (board_after (fresh_board (before ++ (run ++ after))) (with_zero five_ones))
+        (board_after (fresh_board run) (with_zero five_ones)) }
+{}
 
 /// If the play on a run of devices alone is quiet for n turns, then after each number of turns up to n it is the same
 /// play in a board with base padding around the run, whatever devices stand before and after it. It has the same

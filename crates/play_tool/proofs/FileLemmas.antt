@@ -34,8 +34,8 @@ long_not_played true p = p
 long_not_played false p = p
 
 -- what is answered
-abbrev pub FileSays : {K D Kind : Type 0} → (K → Option (List ℕ)) → (D → Kind) → (D → Option SoundCard) → Type 0 → Option (List (List ℕ × List ℕ)) → List ℕ → Request → List Desc →
-    Lines K → Lines K → List D → List D → Result Status NoAnswer → Type 0
+abbrev pub FileSays : {K D Kind : Type 0} → (K → Option (List ℕ)) → (D → Kind) → (D → Option SoundCard) → Type 0 →
+    Option (List (List ℕ × List ℕ)) → List ℕ → Request → List Desc → Lines K → Lines K → List D → List D → Result Status NoAnswer → Type 0
 FileSays written kind_of fitted P told path request devices old new olds news r = OfFile told (Some path) (λ held.
     Answers written kind_of fitted P (FileAnswer request devices held) (IsUntouched old new olds news) (HeldFinal held request devices) old new olds news r)
 
@@ -77,10 +77,12 @@ long_refused written kind_of fitted old new items told path request devices stat
 -- it could not be read, or there was no room for it
 pub not_read : {K D Kind P : Type 0} {written : K → Option (List ℕ)} {kind_of : D → Kind} {fitted : D → Option SoundCard} {lines : Lines K} {items : List D}
     (told : Option (List (List ℕ × List ℕ))) (named : Option (List ℕ)) (request : Request) (devices : List Desc) →
-    OfFile told named (λ held. Answers written kind_of fitted P (FileAnswer request devices held) (IsUntouched lines lines items items) (HeldFinal held request devices) lines lines items items (Err Read))
+    OfFile told named (λ held. Answers written kind_of fitted P (FileAnswer request devices held) (IsUntouched lines lines items items)
+    (HeldFinal held request devices) lines lines items items (Err Read))
 not_read told named request devices = of_any_file told named (λ held. record { says = record { sink = refl; rack = refl }; rack = rack_unread Read })
 
 pub no_room : {K D Kind P : Type 0} {written : K → Option (List ℕ)} {kind_of : D → Kind} {fitted : D → Option SoundCard} {lines : Lines K} {items : List D}
     (told : Option (List (List ℕ × List ℕ))) (named : Option (List ℕ)) (request : Request) (devices : List Desc) →
-    OfFile told named (λ held. Answers written kind_of fitted P (FileAnswer request devices held) (IsUntouched lines lines items items) (HeldFinal held request devices) lines lines items items (Err Memory))
+    OfFile told named (λ held. Answers written kind_of fitted P (FileAnswer request devices held) (IsUntouched lines lines items items)
+    (HeldFinal held request devices) lines lines items items (Err Memory))
 no_room told named request devices = of_any_file told named (λ held. record { says = refl; rack = rack_unread Memory })

@@ -24,7 +24,8 @@ use Rattle.code_files.specs.declared.fault.CodeReason.{CodeReason}
 use Rattle.code_files.proofs.FileFaults.{one_alone}
 use Rattle.code_files.proofs.FileFaults as code_faults
 use Rattle.play_words.specs.Words.{reads_text, soaks}
-use Rattle.play_tool.specs.Answers.{PlaysAction, PlaysAsked, IsDone, Compiles, Work, TextAnswer, refused, accepted, PlaysCodeAsked, CodeAnswer, code_refused, code_accepted, SourceAnswer, FileAnswer, Contents, RequestAnswer, board_refused, board_read, soak_request, soak_contents, soak_head, SoakAnswer, ModeAnswer, WordsAnswer, Answer, usage, asked}
+use Rattle.play_tool.specs.Answers.{PlaysAction, PlaysAsked, IsDone, Compiles, Work, TextAnswer, refused, accepted, PlaysCodeAsked, CodeAnswer, code_refused, code_accepted,
+    SourceAnswer, FileAnswer, Contents, RequestAnswer, board_refused, board_read, soak_request, soak_contents, soak_head, SoakAnswer, ModeAnswer, WordsAnswer, Answer, usage, asked}
 use Rattle.named_files.proofs.BoardLemmas.{one_held, one_fault, board_or_fault}
 use Rattle.play_tool.proofs.RequestLemmas.{words_request}
 use Rattle.program_reports.proofs.CheckLemmas.{one_check_text}
@@ -130,7 +131,8 @@ one_text {bytes = bytes} (refused p l r f) (refused q m s g) =
 one_text (refused p l r f) (accepted program text status is w) = absurd (no_fault program is f)
 one_text (accepted program text status is w) (refused p l r f) = absurd (no_fault program is f)
 one_text {request = request} {devices = devices} {bytes = bytes} (accepted program text status is w) (accepted other text' status' is' w') =
-    one_work request devices bytes program text text' status status' request.mode w (subst (λ (z : List StmtTree). Work request devices bytes z request.mode text' status') (sym (one_program bytes program other is is')) w')
+    one_work request devices bytes program text text' status status' request.mode w
+    (subst (λ (z : List StmtTree). Work request devices bytes z request.mode text' status') (sym (one_program bytes program other is is')) w')
 
 same_line : (n m : ℕ) → n ≡ m → said (usage_line n) (Usage n) ≡ said (usage_line m) (Usage m)
 same_line n m e = rw e refl
@@ -208,5 +210,6 @@ one_said (asked request text status asks a) (usage n u) = absurd (no_usage asks 
 one_said {contents_of = contents_of} (asked request text status asks a) (asked other text2 status2 others b) =
     one_mode_answer request (contents_of request) (soaks request.mode) a ((words_request {contents_of = contents_of} asks).to text2 status2 (asked other text2 status2 others b))
 
-pub one_answer_lem : (words : List (List ℕ)) (files : List (List ℕ × List ℕ)) (xs ys : List ℕ) (s t : Status) → Answer words files xs s → Answer words files ys t → (xs ≡ ys) × (s ≡ t)
+pub one_answer_lem : (words : List (List ℕ)) (files : List (List ℕ × List ℕ)) (xs ys : List ℕ) (s t : Status) →
+    Answer words files xs s → Answer words files ys t → (xs ≡ ys) × (s ≡ t)
 one_answer_lem words files xs ys s t a b = let e = one_said a b in (ap (λ (z : Said). z.text) e, ap (λ (z : Said). z.status) e)

@@ -144,7 +144,8 @@ module _ (program : List StmtTree) (code : CodeLists) (action : List ℕ) (reque
   program_to_code = record { to = to_code }
 
 -- and so the devices are left
-pub program_final : {program : List StmtTree} {code : CodeLists} {request : Request} {devices : List Desc} {rack : List (Option SoundCard)} → IsTyped (as_played program) → IsCodeOf (as_played program) code →
+pub program_final : {program : List StmtTree} {code : CodeLists} {request : Request} {devices : List Desc} {rack : List (Option SoundCard)} →
+    IsTyped (as_played program) → IsCodeOf (as_played program) code →
     CodeHoldsFinal code request devices rack → HoldsFinal program request devices rack
 program_final {program = program} {code = code} {request = request} {devices = devices} {rack = rack} typed is final = record {
   action = final.action;

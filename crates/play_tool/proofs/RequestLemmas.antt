@@ -51,7 +51,7 @@ told_board : (request : Request) (devices : List Desc) (told : Option (List (Lis
     IfSome told (λ files. HasBoard request.board (file_named files request.board) devices)
 told_board request devices None reads = tt
 told_board request devices (Some files) reads =
-    held_board request.board reads.held (file_named files request.board) devices (reads.read).same reads.board
+    held_board request.board reads.held (file_named files request.board) devices (reads.read).same reads.holds
 
 holds_board : (request : Request) (devices : List Desc) (told : Option (List (List ℕ × List ℕ))) → ReadsBoard told request.board devices → IfSome told (HoldsBoard request)
 holds_board request devices None reads = tt
@@ -217,8 +217,8 @@ request_of_file written kind_of fitted old new olds news told request r devices 
     of_both_files told request reads.held reads.read
     (subst (λ (named : Option (List ℕ)). OfFile told named (λ held. Answers written kind_of fitted (IsPlaying request.mode) (FileAnswer request devices held)
     (IsUntouched old new olds news) (HeldFinal held request devices) old new olds news r)) (sym e) o)
-    (λ source. answers_as written kind_of fitted r (file_within request devices (both reads.held source) source refl reads.board) (λ p. p) (λ p. p) (λ u. u)
-    (λ rack final. record { devices = devices; board = reads.board; final = final }))
+    (λ source. answers_as written kind_of fitted r (file_within request devices (both reads.held source) source refl reads.holds) (λ p. p) (λ p. p) (λ u. u)
+    (λ rack final. record { devices = devices; board = reads.holds; final = final }))
 
 -- the request is no soak, or it is one
 pub mode_of_request_says : {K D Kind : Type 0} (written : K → Option (List ℕ)) (kind_of : D → Kind) (fitted : D → Option SoundCard) (old new : Lines K) (olds news : List D)
@@ -249,8 +249,9 @@ words_of_mode written kind_of fitted old new olds news told {words = words} requ
     (λ u. u) (λ rack final. record { request = request; asked = asks; final = final }))
 
 -- A file of the request that was reached is one of the words.
-pub reached_by : {S : Type 0} {faults : S → List ℕ → ℕ} {is_last : S → List ℕ → Type 0} {before after : S} {told : Option (List (List ℕ × List ℕ))} {words : List (List ℕ)} {request : Request} →
-    IsRequest words request → HasReadCause faults is_last (IsReached told request) before after → HasReadCause faults is_last (IsReachedBy told words) before after
+pub reached_by : {S : Type 0} {faults : S → List ℕ → ℕ} {is_last : S → List ℕ → Type 0} {before after : S}
+    {told : Option (List (List ℕ × List ℕ))} {words : List (List ℕ)} {request : Request} → IsRequest words request →
+        HasReadCause faults is_last (IsReached told request) before after → HasReadCause faults is_last (IsReachedBy told words) before after
 reached_by {request = request} asks c = record { path = c.path; is_reached = record { request = request; asked = asks; reached = c.is_reached }; rose = c.rose }
 
 -- The board is refused.
@@ -260,13 +261,14 @@ refused_in : (request : Request) {line : ℕ} {reason : BoardReason} (board sour
 refused_in request {line = line} {reason = reason} board source fault = board_refused line reason fault
 
 module _ {K D Kind : Type 0} {written : K → Option (List ℕ)} {kind_of : D → Kind} {fitted : D → Option SoundCard} {old new : Lines K} {items : List D}
-    (told : Option (List (List ℕ × List ℕ))) (request : Request) {line : ℕ} {reason : BoardReason} (reads : ReadsBoardFault told request.board line reason) where
+    (told : Option (List (List ℕ × List ℕ))) (request : Request) (line : ℕ) (reason : BoardReason)
+    (reads : ReadsBoardFault told request.board line reason) where
   pub board_failed : (r : Result Status NoAnswer) → IsErrAnd r (λ e. e ≡ Write) → PutsFront written old (board_refusal_line line reason) new →
       OfContents told request (λ contents. Answers written kind_of fitted (IsPlaying request.mode) (RequestAnswer request contents)
       (IsUntouched old new items items) (RequestHoldsFinal request contents) old new items items r)
   board_failed r is front = of_board told request reads.held reads.read (λ source. record {
     says = says_failed written (RequestAnswer request (both reads.held source)) _ old new r is
-        (said_front (board_refusal_line line reason) (BoardRefused line reason) (refused_in request reads.held source reads.fault) front);
+        (said_front (board_refusal_line line reason) (BoardRefused line reason) (refused_in request reads.held source reads.holds) front);
     rack = rack_failed r is;
   })
 
@@ -274,7 +276,7 @@ module _ {K D Kind : Type 0} {written : K → Option (List ℕ)} {kind_of : D �
       OfContents told request (λ contents. Answers written kind_of fitted (IsPlaying request.mode) (RequestAnswer request contents)
       (IsUntouched old new items items) (RequestHoldsFinal request contents) old new items items (Ok (BoardRefused line reason)))
   board_is_refused put = of_board told request reads.held reads.read (λ source. record {
-    says = said_text (board_refusal_line line reason) (refused_in request reads.held source reads.fault) put;
+    says = said_text (board_refusal_line line reason) (refused_in request reads.held source reads.holds) put;
     rack = rack_refused (BoardRefused line reason) (λ p. p);
   })
 

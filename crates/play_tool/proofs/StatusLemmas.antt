@@ -11,7 +11,8 @@ use Rattle.play_words.specs.declared.mode.Mode.TheVariants as modes
 use Rattle.play_words.specs.declared.words.Request.{Request}
 use Rattle.play_status.specs.declared.status.Status.{Status}
 use Rattle.play_words.specs.Words.{reads_text, soaks}
-use Rattle.play_tool.specs.Answers.{IsDone, Work, TextAnswer, refused, accepted, CodeAnswer, code_refused, code_accepted, SourceAnswer, Contents, RequestAnswer, board_refused, board_read, ModeAnswer, WordsAnswer, usage, asked}
+use Rattle.play_tool.specs.Answers.{IsDone, Work, TextAnswer, refused, accepted, CodeAnswer, code_refused, code_accepted, SourceAnswer, Contents, RequestAnswer,
+    board_refused, board_read, ModeAnswer, WordsAnswer, usage, asked}
 use Rattle.play_status.specs.Statuses.{IsFault}
 use Rattle.code_plays.specs.Plays.{done_with, Plays, no_action, bad_choice, bad_place, played}
 
@@ -20,7 +21,8 @@ ending_status (endings.Exit code) p = p
 ending_status (endings.Fault k piece) p = p
 ending_status endings.Spent p = p
 
-play_status : {choice : Choice} {placed : Bool} {plays : List ℕ → Run} {request : Request} {text : List ℕ} {status : Status} → Plays choice placed plays request text status → IsFault status → ⊥
+play_status : {choice : Choice} {placed : Bool} {plays : List ℕ → Run} {request : Request} {text : List ℕ} {status : Status} →
+    Plays choice placed plays request text status → IsFault status → ⊥
 play_status (no_action e) p = p
 play_status (bad_choice e) p = p
 play_status (bad_place chosen e f) p = p

@@ -85,7 +85,8 @@ pub record Ran {D Kind : Type 0} (kind_of : D → Kind) (fitted : D → Option S
 -- What is written of a play for one device of a board, and its status, are those of the play on that device alone, if
 -- this is quiet for all its turns and no clocks are asked for; and those of a play of a code that a program was compiled
 -- to are those of the play of that program.
-pub record Answered (answers : List ℕ → Status → Type 0) (words : List (List ℕ)) (contents : Contents) (before after : Option (List ℕ)) (status : Status) (rack : List (Option SoundCard)) : Type 0 where
+pub record Answered (answers : List ℕ → Status → Type 0) (words : List (List ℕ)) (contents : Contents)
+    (before after : Option (List ℕ)) (status : Status) (rack : List (Option SoundCard)) : Type 0 where
   pub wrote : Wrote answers before after status
   pub leaves : AskForPlay words → IsPlayed status → WordsHoldFinal words contents rack
   pub alone : (q : IsQuietAlone words (λ request. contents)) → Wrote (PlaysAlone q) before after status

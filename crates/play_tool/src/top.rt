@@ -317,8 +317,9 @@ fn answer_words<S: Shelf, K: Sink>(
     requires rack { IsRack (map kind_of rack.old.items) }
     requires whole { IsWhole lines.old }
     requires empty { gathered lines.old ≡ [] }
-    ensures answers { OfWords (S.told shelf.old) (map string_bytes words.now) (λ contents. Answers K.written kind_of fitted
-        (AskForPlay (map string_bytes words.now)) (WordsAnswer (map string_bytes words.now) (λ request. contents))
+    ensures answers { OfWords (S.told shelf.old) (map string_bytes words.now) (λ contents. Answers
+        K.written kind_of fitted (AskForPlay (map string_bytes words.now))
+        (WordsAnswer (map string_bytes words.now) (λ request. contents))
         (IsUntouched lines.old lines.new rack.old.items rack.new.items)
         (WordsHoldFinal (map string_bytes words.now) contents)
         lines.old lines.new rack.old.items rack.new.items result) }

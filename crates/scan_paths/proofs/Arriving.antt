@@ -10,10 +10,11 @@ use Rattle.tap_states.specs.Path.{walk, five_ones}
 use Rattle.dev_card.specs.Card.{Card}
 use Rattle.dev_card.specs.Board.{board_after, AllIn}
 use Rattle.dev_card.specs.Clocks.{with_zero, rest_tms, move_inputs}
-use Rattle.dev_card.proofs.Reaching.{walk_in}
+use Rattle.dev_card.proofs.Reaching.{walk_in, rests}
 use Rattle.dev_card.proofs.Resetting.{five_ones_reset}
 use Rattle.dev_card.proofs.ScanLines.{move_leads}
 use Rattle.scan_paths.specs.Cables.{WhereTold}
+use Rattle.std.proofs.lemmas.Option.{same_Some}
 
 pub minus_zero : (n : ℕ) → n ≡ n - 0
 minus_zero n = omega arith
@@ -43,14 +44,11 @@ none_same n k b h = let e : n - k ≡ 0 = omega arith in ap (λ m. with_zero (re
 none≢some : {X : Type 0} {x : X} → None ≡ Some x → ⊥
 none≢some e = cc
 
-some_same : {X : Type 0} {x y : X} → Some x ≡ Some y → x ≡ y
-some_same e = cc
-
 -- a fact of the board after some clocks, where the board is told
 pub told_then : (old new : Option (List Card)) (change : List Card → List Card) (P Q : List Card → Type 0) → new ≡ option_map change old →
     WhereTold old P → ((cs : List Card) → P cs → Q (change cs)) → WhereTold new Q
 told_then None new change P Q e h f cs t = absurd (none≢some (sym e ∙ t))
-told_then (Some bs) new change P Q e h f cs t = subst Q (some_same (sym e ∙ t)) (f bs (h bs refl))
+told_then (Some bs) new change P Q e h f cs t = subst Q (same_Some _ _ (sym e ∙ t)) (f bs (h bs refl))
 
 -- after a move
 pub told_moved : (old new : Option (List Card)) (at to : Tap) → new ≡ option_map (λ cs. board_after cs (move_inputs at to)) old →
@@ -60,13 +58,6 @@ told_moved old new at to e h = told_then old new (λ cs. board_after cs (move_in
 -- after five clocks with TMS 1, whatever is known before
 pub told_reset : (old new : Option (List Card)) → new ≡ option_map (λ cs. board_after cs (with_zero five_ones)) old → WhereTold new (AllIn Reset)
 told_reset old new e = told_then old new (λ cs. board_after cs (with_zero five_ones)) (λ cs. Unit {0}) (AllIn Reset) e (λ cs t. tt) (λ cs a. five_ones_reset cs)
-
-rests : (s : Tap) → is_stable_state s ≡ true → next_of s (rest_tms s) ≡ s
-rests Reset h = refl
-rests Idle h = refl
-rests DrPause h = refl
-rests IrPause h = refl
-rests _ h = absurd (false≢true h)
 
 rests_long : (s : Tap) (n : ℕ) → next_of s (rest_tms s) ≡ s → walk s (replicate n (rest_tms s)) ≡ s
 rests_long s zero h = refl

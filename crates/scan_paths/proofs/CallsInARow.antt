@@ -5,17 +5,8 @@ use Rattle.std.proofs.lemmas.List.{map-append}
 use Rattle.std.specs.Option.{option_map}
 use Rattle.dev_card.specs.Card.{Card}
 use Rattle.dev_card.specs.Board.{Clock, Input, clock_with, clocks_of, board_after}
-use Rattle.dev_card.proofs.ScanLines.{after-append, clocks-append}
+use Rattle.dev_card.proofs.ScanLines.{after-append, clocks-append, after_none, after_both}
 use Rattle.scan_paths.specs.Cables.{Signal, Pulses, pulsed, input_of, IsClocked, HasBrokenOff, IsClockedOrNot, HasMadeClocks, HasMade, HasMadeFront}
-
-after_none : (o : Option (List Card)) → o ≡ option_map (λ cs. board_after cs []) o
-after_none None = refl
-after_none (Some cs) = refl
-
-after_both : (o : Option (List Card)) (xs ys : List Input) →
-    option_map (λ cs. board_after cs ys) (option_map (λ cs. board_after cs xs) o) ≡ option_map (λ cs. board_after cs (xs ++ ys)) o
-after_both None xs ys = refl
-after_both (Some cs) xs ys = ap Some (sym (after-append xs ys cs))
 
 inputs_both : (ks ls : List Clock) (xs ys : List Input) → map input_of ks ≡ xs → map input_of ls ≡ ys → map input_of (ks ++ ls) ≡ xs ++ ys
 inputs_both ks ls xs ys p q = map-append input_of ks ls ∙ ap (λ z. z ++ map input_of ls) p ∙ ap (λ z. xs ++ z) q

@@ -14,7 +14,7 @@ use Rattle.dev_card.specs.Sound.{AllSound}
 use Rattle.dev_card.specs.Scans.{BoardScan, scan_bits, inputs_of_scan, board_after_scan, captured_bits, captured_from, IsScanOfRun, IsScanOfEachRun}
 use Rattle.dev_card.proofs.Reaching.{steps_in, entry_leads}
 use Rattle.dev_card.proofs.ScanLines.{scans_as_line, clocks-append}
-use Rattle.dev_card.proofs.Scanning.{inputs_of_whole, captured_is_seen, length_of_padded, scan_of_run}
+use Rattle.dev_card.proofs.Scanning.{inputs_of_whole, captured_is_seen, length_of_padded, scan_of_run, some_bits}
 use Rattle.scan_paths.specs.Cables.{Signal, HasMade, HasMadeFront, WhereTold}
 use Rattle.scan_paths.specs.Scans.{HasSeen, HasScanned, HasScannedFront}
 use Rattle.scan_paths.proofs.CallsInARow.{made_both, front_longer, front_after}
@@ -105,9 +105,6 @@ cut_out front captured back e p n h k =
 
 pub some_taken : (n : ℕ) (bits : List Bool) → 1 ≤ n → n ≤ length bits → 0 < length (take n bits)
 some_taken n bits h k = omega (arith, length-take-le n bits k, h)
-
-some_bits : (s : BoardScan) → 0 < length s.bits → 0 < length (scan_bits s)
-some_bits s h = omega (arith, h, length_of_padded s.paddings s.bits)
 
 told_same : (o : Option (List Card)) (f h : List Card → List Card) → ((cs : List Card) → o ≡ Some cs → f cs ≡ h cs) → option_map f o ≡ option_map h o
 told_same None f h e = refl

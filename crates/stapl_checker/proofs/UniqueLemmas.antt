@@ -12,13 +12,7 @@ use Rattle.stapl_syntax.specs.Programs.{IsReadAs, AreReadAs, line_of_index}
 use Rattle.stapl_syntax.specs.Programs.{SmallestReasonAt, NoneBefore, IsProgram, FirstFault, is_too_long, is_first}
 use Rattle.stapl_lexer.proofs.ReasonLemmas.{same_number}
 use Rattle.stapl_grammar.proofs.LawLemmas.{one_piece_statement}
-
-one_smallest_reason_at : {text : List ℕ} {read : List (Option StmtTree)} {i : ℕ} {at : Option Piece} {r s : Reason} →
-    SmallestReasonAt text read i at r → SmallestReasonAt text read i at s → r ≡ s
-one_smallest_reason_at {r = r} {s = s} a b =
-    let le : reason_number r ≤ reason_number s = a.least s b.holds in
-    let ge : reason_number s ≤ reason_number r = b.least r a.holds in
-    same_number r s (omega (arith, le, ge))
+use Rattle.stapl_syntax.proofs.ReasonLemmas.{one_smallest_reason_at}
 
 one_read : (text : List ℕ) (piece : Piece) (a b : Option StmtTree) → IsReadAs text piece a → IsReadAs text piece b → a ≡ b
 one_read text piece None None x y = refl

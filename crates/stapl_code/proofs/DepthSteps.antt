@@ -16,7 +16,8 @@ module _ (variables : List VarDef) (instrs : List Instr) (i : ℕ) (x : Instr) (
   pub grown : (ks after : List ValueKind) (found : Bool) → kinds_behind variables x ks ≡ (if found then Some after else None) → found ≡ true → length after ≤ suc (length ks)
   grown ks after found e f = one_more variables x ks after (found_kinds ks after found e f)
 
-  pub rest_is : (ks after : List ValueKind) (found : Bool) → kinds_behind variables x ks ≡ (if found then Some after else None) → found ≡ true → deepest variables ks (drop i instrs) ≡ max (length ks) (deepest variables after (drop (i + 1) instrs))
+  pub rest_is : (ks after : List ValueKind) (found : Bool) → kinds_behind variables x ks ≡ (if found then Some after else None) → found ≡ true →
+      deepest variables ks (drop i instrs) ≡ max (length ks) (deepest variables after (drop (i + 1) instrs))
   rest_is ks after found e f =
       let here : drop i instrs ≡ x ∷ drop (i + 1) instrs = drop_more instrs i x inside ∙ ap (λ y. y ∷ drop (i + 1) instrs) (sym is) in
       let behind = ap (λ (o : Option (List ValueKind)). max (length ks) (on_kinds o (λ after. deepest variables after (drop (i + 1) instrs)))) (found_kinds ks after found e f) in

@@ -18,3 +18,5 @@ pub mod RoomLemmas
 pub mod ValidRooms
 pub mod StepCounts
 pub mod TakenIntegers
+pub mod PutOn
+pub mod Heads

@@ -4,7 +4,8 @@ use Rattle.std.specs.Prelude.{All, AllPairs}
 use Rattle.std.proofs.lemmas.List.{take_more, get_or-take}
 use Rattle.std.proofs.lemmas.List.Quantifiers.{all_pairs_push}
 
-pub pairs_more : {X : Type 0} (R : X → X → Type 0) (xs : List X) (i : ℕ) (y : X) → i < length xs → y ≡ get_or xs i y → AllPairs R (take i xs) → All (λ x. R x y) (take i xs) → AllPairs R (take (i + 1) xs)
+pub pairs_more : {X : Type 0} (R : X → X → Type 0) (xs : List X) (i : ℕ) (y : X) → i < length xs → y ≡ get_or xs i y → AllPairs R (take i xs) →
+    All (λ x. R x y) (take i xs) → AllPairs R (take (i + 1) xs)
 pairs_more R xs i y h is pairs all =
     subst (AllPairs R) (sym (take_more xs i y h ∙ ap (λ z. take i xs ++ z ∷ []) (sym is))) (all_pairs_push R (take i xs) y pairs all)
 

@@ -12,7 +12,7 @@ use Rattle.stapl_code.specs.Instrs.{state, instr}
 use Rattle.stapl_code.specs.Files.{head, variable, procedure, item, action, file, most_bytes, IsShort}
 use Rattle.stapl_code.specs.Sizes.{Takes, bytes_of}
 
-length_of_packed : (n : ℕ) (bits : List Bool) → length (bytes_of_bits n bits) ≡ n
+pub length_of_packed : (n : ℕ) (bits : List Bool) → length (bytes_of_bits n bits) ≡ n
 length_of_packed zero bits = refl
 length_of_packed (suc n) bits = let more = length_of_packed n (drop 8 bits) in omega arith
 

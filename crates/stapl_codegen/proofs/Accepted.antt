@@ -6,7 +6,9 @@ use Rattle.std.proofs.lemmas.List.{append-nil}
 use Rattle.std.proofs.lemmas.List.Elements.{All-nil, All-cons, All-head, All-tail, All-append, All-weaker}
 use Rattle.std.proofs.lemmas.List.Sums.{sum_by-cons}
 use Rattle.stapl_lexer.specs.Pieces.{text_limit}
-use Rattle.stapl_syntax.specs.Trees.{ArrayTree, literal, PartTree, string, value, character, CompareTree, BodyTree, end_data, boolean, boolean_array, integer, integer_array, assign, assign_element, assign_array, assign_range, if_then, for_loop, push, pop, print, exported_value, exported_array, export, exit, scan, pad, scalar, element, wait_cycles, wait_usec, frequency, StmtTree}
+use Rattle.stapl_syntax.specs.Trees.{ArrayTree, literal, PartTree, string, value, character, CompareTree, BodyTree, end_data, boolean, boolean_array, integer, integer_array,
+    assign, assign_element, assign_array, assign_range, if_then, for_loop, push, pop, print, exported_value, exported_array, export, exit, scan, pad, scalar, element,
+    wait_cycles, wait_usec, frequency, StmtTree}
 use Rattle.stapl_shapes.specs.Shapes.{is_outer_shape, is_inner_shape, HasShape}
 use Rattle.stapl_syntax.specs.Programs.{IsProgram}
 use Rattle.stapl_shapes.specs.Sizes.{body_size, statements_size}
@@ -16,7 +18,8 @@ use Rattle.stapl_meaning.specs.Scopes.{data_behind, plays, idle, pieces_from, ha
 use Rattle.stapl_meaning.specs.Typed.{IsTypedPreset, IsTyped}
 use Rattle.stapl_meaning.proofs.Blocks.{preset_in}
 use Rattle.stapl_code.specs.Ranges.{IsLiteral}
-use Rattle.stapl_codegen.specs.Emit.{part_texts, array_literals, given_literals, compare_literals, row_texts, row_literals, rows_items, presets_items, statements_items, program_items, texts_of, literals_of}
+use Rattle.stapl_codegen.specs.Emit.{part_texts, array_literals, given_literals, compare_literals, row_texts, row_literals, rows_items, presets_items, statements_items,
+    program_items, texts_of, literals_of}
 use Rattle.stapl_codegen.specs.Accepted.{IsAccepted}
 use Rattle.stapl_codegen.proofs.Drafts.{one_row}
 
@@ -133,7 +136,8 @@ module _ (P : BodyTree → Type 0) where
 
 -- the same of the items of rows
 module _ {A : Type 0} (of : BodyTree → List A) (P : A → Type 0) (Q : BodyTree → Type 0) (row : (b : BodyTree) → Q b → All P (rows_items of (rows b))) where
-  items_of_presets : (presets : List Preset) → All (λ (preset : Preset). has_initial_value preset.body ≡ true) presets → All (λ (preset : Preset). Q preset.body) presets → All P (presets_items of presets)
+  items_of_presets : (presets : List Preset) → All (λ (preset : Preset). has_initial_value preset.body ≡ true) presets →
+      All (λ (preset : Preset). Q preset.body) presets → All P (presets_items of presets)
   items_of_presets [] starts each = All-nil P
   items_of_presets (preset ∷ presets) starts each =
       let one : rows preset.body ≡ preset.body ∷ [] = one_row preset.body (All-head (λ (preset : Preset). has_initial_value preset.body ≡ true) preset presets starts) in
@@ -216,7 +220,8 @@ inner_start (integer name start) starts shaped = shaped
 inner_start (integer_array name size start) starts shaped = shaped
 inner_start _ starts shaped = absurd (true≢false (sym starts))
 
-presets_inner : (program : Played) (presets : List Preset) → All (IsTypedPreset program) presets → All (λ (preset : Preset). (is_outer_shape preset.body || is_inner_shape preset.body) ≡ true) presets →
+presets_inner : (program : Played) (presets : List Preset) → All (IsTypedPreset program) presets →
+    All (λ (preset : Preset). (is_outer_shape preset.body || is_inner_shape preset.body) ≡ true) presets →
     All (λ (preset : Preset). is_inner_shape preset.body ≡ true) presets
 presets_inner program presets typed shaped = λ k d below. inner_start (get_or presets k d).body (typed k d below).starts (shaped k d below)
 

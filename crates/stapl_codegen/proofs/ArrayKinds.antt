@@ -17,7 +17,8 @@ use Rattle.stapl_meaning.specs.Operands.{Operand, an_index, array_operands, give
 use Rattle.stapl_code.specs.declared.instr.Cell.TheVariants as cells
 use Rattle.stapl_code.specs.declared.instr.Source.TheVariants as sources
 use Rattle.stapl_code.specs.declared.raw.VarDef.{VarDef}
-use Rattle.stapl_code.specs.Machine.{Slot, Want, source_slots, source_wants, given_slots, given_wants, target_slots, target_wants, cell_slots, cell_want, compare_slots, compare_wants, scan_slots, scan_wants}
+use Rattle.stapl_code.specs.Machine.{Slot, Want, source_slots, source_wants, given_slots, given_wants, target_slots, target_wants, cell_slots, cell_want, compare_slots,
+    compare_wants, scan_slots, scan_wants}
 use Rattle.stapl_code.specs.Kinds.{then_kinds, is_met, all_off}
 use Rattle.stapl_code.proofs.ScanKinds.{off_both, all_both}
 use Rattle.stapl_codegen.specs.Emit.{past, array_literals, source_code, given_code, target_code, compare_code, scan_code}
@@ -234,7 +235,8 @@ module _ (variables : List VarDef) (look : Lookup) where
     compare_typed ks (Some (expected, (mask, abs e))) h = tt
     compare_typed ks (Some (expected, (mask, int a))) h = tt
 
-    pub scan_met : (first : ℕ) (register : Register) (source : ArrayTree) (target : Option ArrayTree) (compare : Option CompareTree) (count : ExprTree) → IsScanned look.kind count source target compare →
+    pub scan_met : (first : ℕ) (register : Register) (source : ArrayTree) (target : Option ArrayTree) (compare : Option CompareTree) (count : ExprTree) →
+        IsScanned look.kind count source target compare →
         AreMet (scan_wants (scan_code look first register source target compare))
     scan_met first register source target compare count is =
         let next : ℕ = past first (array_literals source) in

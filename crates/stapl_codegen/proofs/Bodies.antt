@@ -2,7 +2,9 @@
 use Rattle.std.proofs.Common.{◌≡◌, ℕ, suc, ◌-◌, Bool, true, false, List, [], ◌∷◌, ◌++◌, length, Option, Some, None, refl, sym, ap, subst, ◌∙◌, arith, length-append}
 use Rattle.std.specs.Prelude.{ℤ, nat_abs, is_some, map, slice_get, slice_set}
 use Rattle.std.proofs.lemmas.Bool.{true≢false}
-use Rattle.stapl_syntax.specs.Trees.{ExprTree, BodyTree, scalar, element, end_procedure, boolean, boolean_array, integer, integer_array, assign, assign_element, assign_array, assign_range, call, goto, if_then, for_loop, next, push, pop, print, exported_value, exported_array, export, exit, scan, stop, pad, state_list, wait_cycles, wait_usec, frequency}
+use Rattle.stapl_syntax.specs.Trees.{ExprTree, BodyTree, scalar, element, end_procedure, boolean, boolean_array, integer, integer_array, assign, assign_element, assign_array,
+    assign_range, call, goto, if_then, for_loop, next, push, pop, print, exported_value, exported_array, export, exit, scan, stop, pad, state_list, wait_cycles, wait_usec,
+    frequency}
 use Rattle.stapl_syntax.specs.Kinds.{expr_kind}
 use Rattle.stapl_meaning.specs.Deeds.{Deed, Chain, deeds_events, deeds_chain}
 use Rattle.stapl_meaning.specs.declared.events.RunFault.{RunFault}
@@ -18,22 +20,25 @@ use Rattle.stapl_meaning.specs.declared.values.ValueKind.TheVariants as kinds
 use Rattle.stapl_meaning.specs.Values.{Got, Known, Faults, Stuck, then_get, is_index, passed, index_held, Lookup, value_of}
 use Rattle.stapl_meaning.specs.Operands.{an_index, values_of, given_kind, printed_kind}
 use Rattle.stapl_meaning.specs.States.{State, Did, Falls, Jumps, Resumes, Returns, Ends, Turned, Captures, Leads, with_got, preceded, next_chosen, led, Happened, Led, happens, with_events, scanned_on}
-use Rattle.stapl_meaning.specs.Effects.{with_scalar, replaced, scalar_written, written, assigned, with_element, element_written, element_assigned, IntoWhole, IntoRange, copied, with_records, value_as, topmost, popped, called, returned_from, printed, exported, bits_exported}
+use Rattle.stapl_meaning.specs.Effects.{with_scalar, replaced, scalar_written, written, assigned, with_element, element_written, element_assigned, IntoWhole, IntoRange,
+    copied, with_records, value_as, topmost, popped, called, returned_from, printed, exported, bits_exported}
 use Rattle.stapl_meaning.specs.Scans.{scanned, surrounded}
 use Rattle.stapl_meaning.specs.Scopes.{Scope}
 use Rattle.stapl_meaning.specs.Turns.{kind_of_wait, integer_given, operands, effect, target, rows, carried, rows_done, done}
 use Rattle.stapl_code.specs.declared.instr.Instr.{Instr}
 use Rattle.stapl_code.specs.declared.instr.Instr.TheVariants.{Store, StoreAt, PopRecord, EndProc}
-use Rattle.stapl_code.specs.Machine.{Constants, Step, Does, does, two, unrecorded, export_slots, known_literal, known_source, known_text, part_exported, wait_slots, frequency_slots, takes, lands, made, on_taken, taken, on_made, continues, stretch, entry_of}
+use Rattle.stapl_code.specs.Machine.{Constants, Step, Does, does, two, unrecorded, export_slots, known_literal, known_source, known_text, part_exported, wait_slots,
+    frequency_slots, takes, lands, made, on_taken, taken, on_made, continues, stretch, entry_of}
 use Rattle.stapl_code.proofs.Preceded.{with_nothing, happens_behind, scan_alike}
 use Rattle.stapl_codegen.specs.Emit.{Firsts, last, between, source_code, export_part, row_texts, row_literals, behind_row, rows_items, body_texts, body_literals, row_code, rows_code, body_code}
 use Rattle.stapl_codegen.specs.Correct.{falls, placed_record, placed_state}
 use Rattle.stapl_codegen.proofs.Constants.{HasConstants, row_has, others_have, item_known, source_known, source_count}
-use Rattle.stapl_codegen.proofs.Exprs.{got_on, with_known, onto, taken-onto, operands_follow, one_each}
+use Rattle.stapl_codegen.proofs.Exprs.{got_on, with_known, operands_follow, one_each}
 use Rattle.stapl_codegen.proofs.Placed.{placed_did, placed_got, placed_scope, effect_placed, assigned_placed, element_placed, placed, target_placed, preceded_placed, jump_placed}
 use Rattle.stapl_codegen.proofs.ScanConstants.{given_known, given_count, scan_known, scan_count}
 use Rattle.stapl_codegen.proofs.Prints.{parts_are_joined, parts_count}
 use Rattle.stapl_codegen.proofs.Rows.{is_call, CallsLast, calls_last}
+use Rattle.stapl_code.proofs.PutOn.{onto, taken_back}
 
 pub with_placed : {A : Type 0} (place : ℕ → ℕ) (g : Got A) (s : State) (chain : Chain) (k : A → Turned) →
     got_on g (placed_state place s) chain (λ x. happens chain (placed place (k x))) ≡ happens chain (placed place (with_got g s k))
@@ -210,7 +215,7 @@ module _ (place : ℕ → ℕ) (entries : List ℕ) (constants : Constants) (tot
       let here : ℕ = total - suc (length rest) in
       let made_of : List Value → List Value → Step = λ ws below. on_made entries (lands entries here i) below (placed_state place s) (made entries constants here i ws (placed_state place s)) in
       ap (λ n. continues k (on_taken (taken n (onto vs [])) made_of) (stretch entries constants total rest)) so.count
-      ∙ ap (λ o. continues k (on_taken o made_of) (stretch entries constants total rest)) (taken-onto vs [])
+      ∙ ap (λ o. continues k (on_taken o made_of) (stretch entries constants total rest)) (taken_back vs [])
       ∙ ap (λ g. continues k (on_made entries (lands entries here i) [] (placed_state place s) g) (stretch entries constants total rest)) so.same
       ∙ ap (λ to. continues k (on_made entries to [] (placed_state place s) (does (placed_got place g))) (stretch entries constants total rest)) so.leads
       ∙ did_follows to g s k rest go entry_is more
@@ -275,7 +280,8 @@ module _ (place : ℕ → ℕ) (entries : List ℕ) (constants : Constants) (tot
       leads_on did = led scope.entry None did go
 
       by : (records : List Record) →
-          continues k (on_made entries None (onto vs []) (placed_state place s) (unrecorded (topmost kind (map (placed_record place) records)) (placed_state place s))) (stretch entries constants total (i ∷ rest))
+          continues k (on_made entries None (onto vs []) (placed_state place s) (unrecorded (topmost kind (map (placed_record place) records)) (placed_state place s)))
+              (stretch entries constants total (i ∷ rest))
           ≡ happens k (placed place (with_got (then_get (topmost kind records) (λ top. assigns (vs ++ top.0 ∷ []) (with_records s top.1))) s (λ did. led scope.entry None did go)))
       by [] = refl
       by (Called i ∷ records) = refl
@@ -444,7 +450,8 @@ module _ (place : ℕ → ℕ) (entries : List ℕ) (constants : Constants) (tot
   abbrev Follows : State → Chain → Firsts → BodyTree → List Instr → Type 0
   Follows s k first b rest = stretch entries constants total (body_code scope place first b rest) [] (placed_state place s) k ≡ happens k (placed place (done scope s b))
 
-  pub body_follows : (s : State) (k : Chain) (first : Firsts) (b : BodyTree) (rest : List Instr) → EntriesAre → (falls b ≡ true → Behind rest) → HasConstants constants first (body_texts b) (body_literals b) →
+  pub body_follows : (s : State) (k : Chain) (first : Firsts) (b : BodyTree) (rest : List Instr) → EntriesAre → (falls b ≡ true → Behind rest) →
+      HasConstants constants first (body_texts b) (body_literals b) →
       Follows s k first b rest
   body_follows s k first b rest entry_is behind has = by (falls b) refl
     where

@@ -6,7 +6,7 @@ use Rattle.stapl_meaning.specs.Values.{Known, Lookup, source_of}
 use Rattle.stapl_meaning.specs.Operands.{array_operands}
 use Rattle.stapl_code.specs.Machine.{Constants, source_slots, known_literal, known_source}
 use Rattle.stapl_codegen.specs.Emit.{source_code, array_literals, Firsts, past}
-use Rattle.stapl_codegen.proofs.Heads.{head_of, get_head, drop_tail}
+use Rattle.stapl_code.proofs.Heads.{head_of, get_head, drop_tail}
 
 -- the list has these items from a number on
 pub record HasItems {A : Type 0} (all : List A) (n : ℕ) (some : List A) : Type 0 where
@@ -32,7 +32,8 @@ module _ {A : Type 0} (all : List A) where
       record { more = has.more; from = drop_more n xs (ys ++ has.more) (has.from ∙ append_assoc xs ys has.more) }
 
 -- of the constants of a row and of others, those of the row, and those of the others
-module _ (constants : Constants) (first : Firsts) (row_texts texts : List (List ℕ)) (row_literals literals : List (List Bool)) (has : HasConstants constants first (row_texts ++ texts) (row_literals ++ literals)) where
+module _ (constants : Constants) (first : Firsts) (row_texts texts : List (List ℕ)) (row_literals literals : List (List Bool))
+    (has : HasConstants constants first (row_texts ++ texts) (row_literals ++ literals)) where
   pub row_has : HasConstants constants first row_texts row_literals
   row_has = record {
     texts = has_front constants.texts first.text row_texts texts has.texts;

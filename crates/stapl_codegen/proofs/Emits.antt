@@ -31,7 +31,8 @@ one_longer (y ∷ xs) x = ap suc (one_longer xs x)
 
 -- a part, and then the others
 module _ (part : PartTree) (rest : List PartTree) where
-  operands_first : (part : PartTree) (look : Lookup) → operands_code look (part_operands look (part ∷ rest)) [] ≡ operands_code look (part_operands look (part ∷ [])) [] ++ operands_code look (part_operands look rest) []
+  operands_first : (part : PartTree) (look : Lookup) → operands_code look (part_operands look (part ∷ rest)) [] ≡ operands_code look
+      (part_operands look (part ∷ [])) [] ++ operands_code look (part_operands look rest) []
   operands_first (string bytes) look = refl
   operands_first (value e) look = expr_append look _ e [] (operands_code look (part_operands look rest) [])
   operands_first (character e) look = expr_append look _ e (CheckChar ∷ []) (operands_code look (part_operands look rest) [])
@@ -41,7 +42,8 @@ module _ (part : PartTree) (rest : List PartTree) where
   texts_first (value e) = refl
   texts_first (character e) = refl
 
-  printed_first : (look : Lookup) (part : PartTree) (texts texts' : List (List ℕ)) → texts' ≡ texts ++ part_texts (part ∷ []) → print_parts look (length texts) (part ∷ rest) ≡ print_parts look (length texts) (part ∷ []) ++ print_parts look (length texts') rest
+  printed_first : (look : Lookup) (part : PartTree) (texts texts' : List (List ℕ)) → texts' ≡ texts ++ part_texts (part ∷ []) →
+      print_parts look (length texts) (part ∷ rest) ≡ print_parts look (length texts) (part ∷ []) ++ print_parts look (length texts') rest
   printed_first look (string bytes) texts texts' is = ap (λ n. print_parts look (length texts) (string bytes ∷ []) ++ print_parts look n rest) (sym (ap length is ∙ one_longer texts bytes))
   printed_first look (value e) texts texts' is = ap (λ n. print_parts look (length texts) (value e ∷ []) ++ print_parts look n rest) (sym (ap length (is ∙ append-nil texts)))
   printed_first look (character e) texts texts' is = ap (λ n. print_parts look (length texts) (character e ∷ []) ++ print_parts look n rest) (sym (ap length (is ∙ append-nil texts)))

@@ -11,7 +11,8 @@ use Rattle.stapl_meaning.specs.declared.values.ValueKind.{ValueKind}
 use Rattle.stapl_meaning.specs.declared.values.ValueKind.TheVariants as kinds
 use Rattle.stapl_meaning.specs.declared.values.Value.{Value}
 use Rattle.stapl_meaning.specs.declared.values.Held.{Held}
-use Rattle.stapl_meaning.specs.Values.{Got, Known, Faults, Stuck, then_get, combined, signed, absolute, scalar_of, element_of, index_held, bits_held, range_held, Span, span_of, Whole, Range, OfInt, source_integer, literal, unary_side, Lookup, sides, source_of, value_of, source_values}
+use Rattle.stapl_meaning.specs.Values.{Got, Known, Faults, Stuck, then_get, combined, signed, absolute, scalar_of, element_of, index_held, bits_held, range_held, Span,
+    span_of, Whole, Range, OfInt, source_integer, literal, unary_side, Lookup, sides, source_of, value_of, source_values}
 use Rattle.stapl_meaning.specs.Operands.{Test, Plain, Character, Operand, character_of, tested, operand_value, values_behind, values_of}
 use Rattle.stapl_meaning.specs.Operands as tests
 use Rattle.stapl_meaning.specs.Deeds.{Chain}
@@ -21,7 +22,8 @@ use Rattle.stapl_code.specs.declared.instr.Instr.TheVariants.{LoadAt, Unary, Bin
 use Rattle.stapl_code.specs.declared.instr.Source.TheVariants as sources
 use Rattle.stapl_code.specs.Machine.{Constants, PutsTwo, puts, kept, on_made, continues, stretch, taken, taken_onto}
 use Rattle.stapl_codegen.specs.Emit.{operator_number, sign_number, absolute_number, literal_code, test_code, expr_code, int_code, operands_code}
-use Rattle.stapl_codegen.proofs.Heads.{head_of}
+use Rattle.stapl_code.proofs.Heads.{head_of}
+use Rattle.stapl_code.proofs.PutOn.{onto}
 
 -- goes on on a chain with what was asked for; a fault leaves the state and the chain as they are
 abbrev pub got_on : {A : Type 0} → Got A → State → Chain → (A → Happened) → Happened
@@ -44,23 +46,7 @@ with_then (Known x) h s chain k = refl
 with_then (Faults f) h s chain k = refl
 with_then Stuck h s chain k = refl
 
--- operands with these values put on, the last one on top
-abbrev pub onto : List Value → List Value → List Value
-onto [] ops = ops
-onto (v ∷ vs) ops = onto vs (v ∷ ops)
-
 -- what was put on is taken off again
-taken_more : (vs : List Value) (n : ℕ) (done ops : List Value) → taken_onto (length vs + n) done (onto vs ops) ≡ taken_onto n (vs ++ done) ops
-taken_more [] n done ops = ap (λ m. taken_onto m done ops) (omega arith)
-taken_more (v ∷ vs) n done ops =
-    let e : length (v ∷ vs) + n ≡ length vs + suc n = omega arith in
-    ap (λ m. taken_onto m done (onto vs (v ∷ ops))) e ∙ taken_more vs (suc n) done (v ∷ ops)
-
-pub taken-onto : (vs ops : List Value) → taken (length vs) (onto vs ops) ≡ Some (vs, ops)
-taken-onto vs ops =
-    let e : length vs ≡ length vs + 0 = omega arith in
-    ap (λ m. taken m (onto vs ops)) e ∙ taken_more vs 0 [] ops ∙ ap (λ l. Some (l, ops)) (append-nil vs)
-
 module _ (entries : List ℕ) (constants : Constants) (total : ℕ) (s : State) (chain : Chain) where
   -- an instruction that puts a value on
   put_follows : (g : Got Value) (to : Option ℕ) (below : List Value) (go : List Value → State → Chain → Happened) →

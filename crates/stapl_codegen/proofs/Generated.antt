@@ -20,7 +20,7 @@ use Rattle.stapl_codegen.specs.Emit.{body_code, at_first, firsts_at, literals_of
 use Rattle.stapl_codegen.specs.Correct.{AllStart}
 use Rattle.stapl_codegen.specs.Accepted.{IsAccepted}
 use Rattle.stapl_codegen.specs.Generated.{lists_of, IsCodeOf}
-use Rattle.stapl_codegen.proofs.Heads.{head_of, get_head, drop_tail}
+use Rattle.stapl_code.proofs.Heads.{head_of, get_head, drop_tail}
 use Rattle.stapl_codegen.proofs.Texts.{texts_below, literals_below, presets_below}
 use Rattle.stapl_codegen.proofs.Lists.{presets_before}
 use Rattle.stapl_codegen.proofs.PrologueFine.{presets_range}
@@ -63,13 +63,15 @@ module _ (program : Played) (shaped : All HasShape program.pieces) (typed : IsTy
       after = pieces_code program (start_of program) (i + 1) rest
 
       by : (b : Bool) → is_outer st.body ≡ b → InRange defs (length (literals_of program)) (length (texts_of program)) (length (procedures_of program)) after →
-          InRange defs (length (literals_of program)) (length (texts_of program)) (length (procedures_of program)) (cond b after (Turn (i + 1) ∷ body_code (scope_at program i) (start_of program) (firsts_at program i) st.body after))
+          InRange defs (length (literals_of program)) (length (texts_of program)) (length (procedures_of program))
+              (cond b after (Turn (i + 1) ∷ body_code (scope_at program i) (start_of program) (firsts_at program i) st.body after))
       by true outer more = more
       by false inner more =
           let at = get_head i program.pieces ∙ ap head_of e in
           let t = typed.statements i st at inner in (
             (omega arith, omega (arith, few)),
-            body_range defs (length (literals_of program)) (length (texts_of program)) (length (procedures_of program)) (scope_at program i) (agrees_from program.names (block_at program.pieces i)) (start_of program) (firsts_at program i) st.body after
+            body_range defs (length (literals_of program)) (length (texts_of program)) (length (procedures_of program)) (scope_at program i)
+                (agrees_from program.names (block_at program.pieces i)) (start_of program) (firsts_at program i) st.body after
                 (inner_has_shape st (all_at HasShape program.pieces i st shaped at) inner) t.suits (defined t.block (declaration st.body) t.declares) t.few_values
                 (record {
                   few_texts = texts_below i program st rest e;
@@ -113,7 +115,8 @@ module _ (program : Played) (accepted : IsAccepted program) where
   instrs_range =
       let limit = accepted.typed.few in
       let few = presets_below program in
-      presets_range program (start_of program) (length (literals_of program)) (length (texts_of program)) (length (procedures_of program)) at_first program.presets (pieces_code program (start_of program) 0 program.pieces)
+      presets_range program (start_of program) (length (literals_of program)) (length (texts_of program)) (length (procedures_of program)) at_first program.presets
+          (pieces_code program (start_of program) 0 program.pieces)
       accepted.typed.presets accepted.presets_shaped (omega (arith, few.0)) (omega (arith, few.1))
       (pieces_range program accepted.shaped accepted.typed program.pieces 0 refl (omega (arith, limit)))
 

@@ -21,7 +21,8 @@ module _ (program : Played) where
   total_is = sym (length-map (code_to program (λ j. j)) (retarget (start_of program))) ∙ ap length (code_retarget program (start_of program))
 
   -- the place of a piece of a procedure counts back from the end
-  pub start_is : (i : ℕ) (st : StmtTree) → slice_get program.pieces i ≡ Some st → is_outer st.body ≡ false → start_of program i ≡ length (program_code program) - length (pieces_code program (start_of program) i (drop i program.pieces))
+  pub start_is : (i : ℕ) (st : StmtTree) → slice_get program.pieces i ≡ Some st → is_outer st.body ≡ false →
+      start_of program i ≡ length (program_code program) - length (pieces_code program (start_of program) i (drop i program.pieces))
   start_is i st at inner =
       ap (start_in program i) at
       ∙ ap (λ b. if b then nowhere else total_of program - length (pieces_code program (λ j. j) i (drop i program.pieces))) inner
@@ -41,7 +42,8 @@ module _ (program : Played) where
       ap (drop (length code - length suffix)) e ∙ drop_at before suffix _ n
 
   -- what stands at the place of a piece
-  pub code_from : (i : ℕ) (st : StmtTree) → slice_get program.pieces i ≡ Some st → is_outer st.body ≡ false → drop (start_of program i) (program_code program) ≡ pieces_code program (start_of program) i (drop i program.pieces)
+  pub code_from : (i : ℕ) (st : StmtTree) → slice_get program.pieces i ≡ Some st → is_outer st.body ≡ false →
+      drop (start_of program i) (program_code program) ≡ pieces_code program (start_of program) i (drop i program.pieces)
   code_from i st at inner =
       let r = code_split program (start_of program) i in
       ap (λ n. drop n (program_code program)) (start_is i st at inner)

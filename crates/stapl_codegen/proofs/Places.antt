@@ -2,7 +2,7 @@
 use Rattle.std.proofs.Common.{◌≡◌, ℕ, ◌+◌, List, ◌∷◌, drop, None, Option, refl, sym, ap, ◌∙◌, add-one, if◌then◌else◌}
 use Rattle.stapl_syntax.specs.Trees.{StmtTree}
 use Rattle.stapl_meaning.specs.Scopes.{data_behind, plays, idle, pieces_from}
-use Rattle.stapl_codegen.proofs.Heads.{drop_tail}
+use Rattle.stapl_code.proofs.Heads.{drop_tail}
 
 -- this DATA block is open before a place: the pieces from there on are those of the statements
 pub record IsOpenAt (sts : List StmtTree) (i : ℕ) (block : Option (List ℕ)) : Type 0 where

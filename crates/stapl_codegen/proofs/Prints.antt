@@ -13,7 +13,7 @@ use Rattle.stapl_code.specs.declared.instr.PrintPart.{PrintPart}
 use Rattle.stapl_code.specs.Machine.{Constants, part_slots, known_text, parts_text}
 use Rattle.stapl_codegen.specs.Emit.{shown_part, print_parts, part_texts}
 use Rattle.stapl_codegen.proofs.Constants.{HasItems}
-use Rattle.stapl_codegen.proofs.Heads.{head_of, get_head, drop_tail}
+use Rattle.stapl_code.proofs.Heads.{head_of, get_head, drop_tail}
 
 module _ (entries : List ℕ) (constants : Constants) (look : Lookup) where
   -- a part that shows a value shows it as the value is

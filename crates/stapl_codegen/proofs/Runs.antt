@@ -2,7 +2,8 @@
 use Rattle.std.proofs.Common.{◌≡◌, ◌≢◌, ℕ, zero, suc, ◌+◌, ◌-◌, ◌≤◌, Bool, true, false, cond, List, [], ◌∷◌, length, drop, Some, None, refl, sym, ap, subst, ◌∙◌, add-one, arith, length-append}
 use Rattle.std.specs.Prelude.{slice_get}
 use Rattle.std.proofs.lemmas.List.{drop_all}
-use Rattle.stapl_syntax.specs.Trees.{BodyTree, end_procedure, boolean, boolean_array, integer, integer_array, assign, assign_element, assign_array, assign_range, call, goto, if_then, for_loop, next, push, pop, print, export, exit, scan, stop, pad, state_list, wait_cycles, wait_usec, frequency, StmtTree}
+use Rattle.stapl_syntax.specs.Trees.{BodyTree, end_procedure, boolean, boolean_array, integer, integer_array, assign, assign_element, assign_array, assign_range, call, goto,
+    if_then, for_loop, next, push, pop, print, export, exit, scan, stop, pad, state_list, wait_cycles, wait_usec, frequency, StmtTree}
 use Rattle.stapl_syntax.specs.Statements.{is_outer}
 use Rattle.stapl_meaning.specs.declared.events.Event.{Event}
 use Rattle.stapl_meaning.specs.Deeds.{Chain, deeds_events, deeds_chain}
@@ -16,7 +17,7 @@ use Rattle.stapl_code.specs.Machine.{Constants, nowhere, stretch, begins, code_t
 use Rattle.stapl_code.proofs.Preceded.{scan_alike, scan_through, happens_in_piece}
 use Rattle.stapl_codegen.specs.Emit.{body_code, at_first, firsts_at, constants_in, pieces_code, program_code, start_of, program_entries}
 use Rattle.stapl_codegen.specs.Correct.{GoesOn, IsClosed, placed_state, placed_run, AllStart, Stands}
-use Rattle.stapl_codegen.proofs.Heads.{head_of, get_head, drop_tail}
+use Rattle.stapl_code.proofs.Heads.{head_of, get_head, drop_tail}
 use Rattle.stapl_codegen.proofs.Lists.{body_before, code_split}
 use Rattle.stapl_codegen.proofs.Texts.{presets_known, constants_at}
 use Rattle.stapl_codegen.proofs.Bodies.{Behind, body_follows}
@@ -114,7 +115,8 @@ pieces_begin program i (st ∷ rest) e some =
       is = refl;
       starts = start_is program i st (get_head i program.pieces ∙ ap head_of e) is
           ∙ ap (λ l. length (program_code program) - length (pieces_code program (start_of program) i l)) e
-          ∙ ap (λ b. length (program_code program) - length (cond b (pieces_code program (start_of program) (i + 1) rest) (piece_before program i st (pieces_code program (start_of program) (i + 1) rest)))) is;
+          ∙ ap (λ b. length (program_code program) - length (cond b (pieces_code program (start_of program) (i + 1) rest)
+              (piece_before program i st (pieces_code program (start_of program) (i + 1) rest)))) is;
     }
 
 module _ (program : Played) where

@@ -5,7 +5,8 @@ use Rattle.std.proofs.lemmas.List.{drop_at}
 use Rattle.stapl_syntax.specs.Trees.{BodyTree, StmtTree}
 use Rattle.stapl_meaning.specs.Turns.{rows}
 use Rattle.stapl_meaning.specs.Scopes.{Played}
-use Rattle.stapl_codegen.specs.Emit.{rows_items, presets_items, statements_items, program_items, items_before, row_texts, row_literals, body_texts, body_literals, texts_of, literals_of, constants_in, at_first, firsts_at}
+use Rattle.stapl_codegen.specs.Emit.{rows_items, presets_items, statements_items, program_items, items_before, row_texts, row_literals, body_texts, body_literals, texts_of,
+    literals_of, constants_in, at_first, firsts_at}
 use Rattle.stapl_codegen.proofs.Constants.{HasItems, HasConstants}
 
 module _ {A : Type 0} (of : BodyTree → List A) where
@@ -62,7 +63,8 @@ presets_known program = record {
   literals = record { more = statements_items row_literals program.pieces; from = refl };
 }
 
-pub presets_below : (program : Played) → (length (presets_items row_texts program.presets) ≤ length (texts_of program)) × (length (presets_items row_literals program.presets) ≤ length (literals_of program))
+pub presets_below : (program : Played) → (length (presets_items row_texts program.presets) ≤ length (texts_of program)) ×
+    (length (presets_items row_literals program.presets) ≤ length (literals_of program))
 presets_below program = (
   omega (arith, length-append (presets_items row_texts program.presets) (statements_items row_texts program.pieces)),
   omega (arith, length-append (presets_items row_literals program.presets) (statements_items row_literals program.pieces)),

@@ -1,5 +1,6 @@
 -- The code of a procedure of an accepted program breaks no rule.
-use Rattle.std.proofs.Common.{◌≡◌, ℕ, zero, suc, ◌+◌, ◌-◌, ◌<◌, ◌≤◌, Bool, true, false, cond, ◌&&◌, List, [], ◌∷◌, ◌++◌, length, length-append, map, drop, Option, Some, None, arith, refl, sym, ap, subst, ◌∙◌, add-one, nat_lt, true≢false}
+use Rattle.std.proofs.Common.{◌≡◌, ℕ, zero, suc, ◌+◌, ◌-◌, ◌<◌, ◌≤◌, Bool, true, false, cond, ◌&&◌, List, [], ◌∷◌, ◌++◌, length, length-append, map, drop, Option, Some, None,
+    arith, refl, sym, ap, subst, ◌∙◌, add-one, nat_lt, true≢false}
 use Rattle.std.specs.Prelude.{slice_get, All, IfSome, nat_le}
 use Rattle.std.proofs.lemmas.List.{drop_at}
 use Rattle.std.proofs.lemmas.Bool.{le-leb, ltb-true, ltb-false}
@@ -23,7 +24,8 @@ use Rattle.stapl_code.specs.declared.instr.Instr.TheVariants.{Turn, EndProc}
 use Rattle.stapl_code.specs.declared.raw.VarDef.{VarDef}
 use Rattle.stapl_code.specs.Valid.{is_turn, is_last, is_target, procedure_break}
 use Rattle.stapl_codegen.specs.Emit.{body_code, firsts_at, pieces_code, program_code, start_of}
-use Rattle.stapl_codegen.proofs.Heads.{head_of, get_head, drop_tail, drop_front}
+use Rattle.stapl_code.proofs.Heads.{head_of, get_head, drop_tail}
+use Rattle.stapl_codegen.proofs.Heads.{drop_front}
 use Rattle.stapl_codegen.proofs.Lists.{pieces_split, code_split, pieces_append}
 use Rattle.stapl_codegen.proofs.Drafts.{inside_more}
 use Rattle.stapl_codegen.proofs.Ordered.{AreOwn}
@@ -244,7 +246,8 @@ module _ (program : Played) (shaped : All HasShape program.pieces) (typed : IsTy
       pub below : index < length own
       pub is : j ≡ h + 1 + index
 
-    not_past : (j : ℕ) → IsInBlock program name j → h < j → ((k : ℕ) (st : StmtTree) → suc h ≤ k → k < j → slice_get program.pieces k ≡ Some st → ends_procedure st.body ≡ false) → j < h + 1 + length own
+    not_past : (j : ℕ) → IsInBlock program name j → h < j → ((k : ℕ) (st : StmtTree) → suc h ≤ k → k < j → slice_get program.pieces k ≡ Some st →
+        ends_procedure st.body ≡ false) → j < h + 1 + length own
     not_past j in_block above none = by (nat_lt j (h + 1 + length own)) refl
       where
         by : (b : Bool) → nat_lt j (h + 1 + length own) ≡ b → j < h + 1 + length own
@@ -256,7 +259,8 @@ module _ (program : Played) (shaped : All HasShape program.pieces) (typed : IsTy
             let long = fewer (length own - 1) own s.item s.rest s.is in
             let last : s.rest ≡ [] = no_items s.rest (omega (arith, long, some)) in
             let ends : s.item.body ≡ end_procedure = own_ends own (length own - 1) s.item are (s.is ∙ ap (λ l. s.item ∷ l) last) in
-            absurd (true≢false (sym (ap ends_procedure ends) ∙ none (h + 1 + (length own - 1)) s.item (omega arith) (omega (arith, past, some)) (got (length own - 1) (h + 1 + (length own - 1)) s.item s.rest refl s.is)))
+            absurd (true≢false (sym (ap ends_procedure ends) ∙ none (h + 1 + (length own - 1)) s.item (omega arith) (omega (arith, past, some))
+                (got (length own - 1) (h + 1 + (length own - 1)) s.item s.rest refl s.is)))
 
     own_place : (j : ℕ) → IsInBlock program name j → IsOwnPlace j
     own_place j in_block =
@@ -283,7 +287,8 @@ module _ (program : Played) (shaped : All HasShape program.pieces) (typed : IsTy
       leads : AllByRecursion (Leads j) (labels_named st.body)
       declares : IfSome (declaration st.body) (λ (d : Declaration). (scope_at program j).look.kind d.name ≡ Some d.kind)
 
-    kind_declared : (j : ℕ) (block : List ℕ) (o : Option Declaration) → IfSome o (IsDeclared program (scope_at program j).look (1 + j) block) → IfSome o (λ (d : Declaration). (scope_at program j).look.kind d.name ≡ Some d.kind)
+    kind_declared : (j : ℕ) (block : List ℕ) (o : Option Declaration) → IfSome o (IsDeclared program (scope_at program j).look (1 + j) block) →
+        IfSome o (λ (d : Declaration). (scope_at program j).look.kind d.name ≡ Some d.kind)
     kind_declared j block None is = tt
     kind_declared j block (Some d) is = is.kind
 

@@ -10,12 +10,15 @@ use Rattle.stapl_syntax.specs.declared.names.Kind.{Kind}
 use Rattle.stapl_syntax.specs.declared.names.Kind.TheVariants.{Int, Either}
 use Rattle.stapl_syntax.specs.declared.names.VarKind.{VarKind}
 use Rattle.stapl_syntax.specs.declared.names.VarKind.TheVariants as variables
-use Rattle.stapl_syntax.specs.Kinds.{expr_kind, is_array, is_int, is_bit, is_bit_array, is_integer, number_kind, scalar_kind, element_kind, indexed_kind, VarKinds, wants_int, suits, if_given, operands_suit}
+use Rattle.stapl_syntax.specs.Kinds.{expr_kind, is_array, is_int, is_bit, is_bit_array, is_integer, number_kind, scalar_kind, element_kind, indexed_kind, VarKinds, wants_int,
+    suits, if_given, operands_suit}
 use Rattle.stapl_syntax.specs.Mentions.{labels_named}
 use Rattle.stapl_syntax.specs.Rules.{stops_unstable}
 use Rattle.stapl_syntax.specs.Names.{declaration}
 use Rattle.stapl_syntax.specs.Statements.{ends_procedure}
-use Rattle.stapl_syntax.specs.Trees.{ExprTree, number, ArrayTree, CompareTree, BodyTree, boolean, boolean_array, integer, integer_array, assign, assign_element, assign_array, assign_range, call, goto, if_then, for_loop, next, push, scalar, element, pop, print, exported_value, exported_array, export, exit, scan, stop, pad, state_list, wait_cycles, wait_usec, frequency}
+use Rattle.stapl_syntax.specs.Trees.{ExprTree, number, ArrayTree, CompareTree, BodyTree, boolean, boolean_array, integer, integer_array, assign, assign_element, assign_array,
+    assign_range, call, goto, if_then, for_loop, next, push, scalar, element, pop, print, exported_value, exported_array, export, exit, scan, stop, pad, state_list,
+    wait_cycles, wait_usec, frequency}
 use Rattle.stapl_shapes.specs.Shapes.{is_simple_shape, is_inner_shape}
 use Rattle.stapl_meaning.specs.declared.values.ValueKind.{ValueKind}
 use Rattle.stapl_meaning.specs.declared.values.ValueKind.TheVariants as kinds
@@ -36,7 +39,8 @@ use Rattle.stapl_codegen.proofs.ArrayKinds as arrays
 use Rattle.stapl_codegen.proofs.ArrayKinds.{source_off, source_met, scan_suits, given_off, given_met, scan_off, scan_met, scan_typed}
 use Rattle.stapl_codegen.proofs.Stable.{one_stable, last_stable, both_stable}
 use Rattle.stapl_codegen.proofs.Sides.{fits, held_kind, item_kind}
-use Rattle.stapl_codegen.proofs.WellKinded.{kinds_onto, Agrees, scalar_agrees, element_agrees, bits_agree, integer_agrees, integers_agree, printed_fits, AllTyped, one_typed, parts_typed, range_typed, array_typed, parts_off, Fine, Follows, IsGood, row_fine, pop_fine, rows_last}
+use Rattle.stapl_codegen.proofs.WellKinded.{kinds_onto, Agrees, scalar_agrees, element_agrees, bits_agree, integer_agrees, integers_agree, printed_fits, AllTyped, one_typed,
+    parts_typed, range_typed, array_typed, parts_off, Fine, Follows, IsGood, row_fine, pop_fine, rows_last}
 
 -- what is given to a scalar fits the kind that the scalar holds
 pub given_fits : (v : Option VarKind) (k : Option Kind) → suits (scalar_kind v) k ≡ true → (fits (given_kind v) k ≡ true) × (held_kind v ≡ Some (given_kind v))
@@ -137,7 +141,8 @@ module _ (variables : List VarDef) (entry : ℕ) (code : List Instr) where
   turn_stands true piece last some = rw some refl
   turn_stands false piece last some = rw some refl
 
-  module _ (Leads : List ℕ → Type 0) (scope : Scope) (place : ℕ → ℕ) (agrees : Agrees variables scope.look) (target : (name : List ℕ) → Leads name → is_target entry code (place (scope.label name)) ≡ true) (onward : is_target entry code (place scope.follow) ≡ true) where
+  module _ (Leads : List ℕ → Type 0) (scope : Scope) (place : ℕ → ℕ) (agrees : Agrees variables scope.look)
+      (target : (name : List ℕ) → Leads name → is_target entry code (place (scope.label name)) ≡ true) (onward : is_target entry code (place scope.follow) ≡ true) where
     pub body_last : (first : Firsts) (b : BodyTree) (rest : List Instr) → is_last rest ≡ false → is_last (body_code scope place first b rest) ≡ false
     body_last first b rest some = rows_last scope place first (rows b) rest some
 
@@ -158,21 +163,24 @@ module _ (variables : List VarDef) (entry : ℕ) (code : List Instr) where
         let t = and_parts (is_bit_array (scope.look.kind name)) (is_array scope.look.kind a) suit in
         let copy : Instr = last scope place first (assign_array name a) in
         let met : list_all (is_met variables) (wants copy) ≡ true =
-        ap (λ b. b && list_all (is_met variables) (source_wants (source_code scope.look first.literal a))) (bits_agree variables scope.look agrees name t.0) ∙ source_met variables scope.look agrees first.literal a t.1 in
+        ap (λ b. b && list_all (is_met variables) (source_wants (source_code scope.look first.literal a)))
+            (bits_agree variables scope.look agrees name t.0) ∙ source_met variables scope.look agrees first.literal a t.1 in
         record {
           typed = array_typed variables scope.look agrees [] a t.1;
           finds = wanted variables copy (kinds_onto (array_operands scope.look a) []) [] met (ap (λ o. then_kinds o Some) (source_off variables scope.look first.literal a []));
           stands = refl;
         }
 
-    range_good : (first : Firsts) (name : List ℕ) (high low : ExprTree) (a : ArrayTree) → operands_suit scope.look.kind (assign_range name high low a) ≡ true → Good first (assign_range name high low a)
+    range_good : (first : Firsts) (name : List ℕ) (high low : ExprTree) (a : ArrayTree) → operands_suit scope.look.kind (assign_range name high low a) ≡ true →
+        Good first (assign_range name high low a)
     range_good first name high low a suit =
         let t = and_parts (is_bit_array (scope.look.kind name) && is_int (expr_kind scope.look.kind high) && is_int (expr_kind scope.look.kind low)) (is_array scope.look.kind a) suit in
         let u = and_parts (is_bit_array (scope.look.kind name) && is_int (expr_kind scope.look.kind high)) (is_int (expr_kind scope.look.kind low)) t.0 in
         let v = and_parts (is_bit_array (scope.look.kind name)) (is_int (expr_kind scope.look.kind high)) u.0 in
         let copy : Instr = last scope place first (assign_range name high low a) in
         let met : list_all (is_met variables) (wants copy) ≡ true =
-        ap (λ b. b && list_all (is_met variables) (source_wants (source_code scope.look first.literal a))) (bits_agree variables scope.look agrees name v.0) ∙ source_met variables scope.look agrees first.literal a t.1 in
+        ap (λ b. b && list_all (is_met variables) (source_wants (source_code scope.look first.literal a)))
+            (bits_agree variables scope.look agrees name v.0) ∙ source_met variables scope.look agrees first.literal a t.1 in
         let both : List ValueKind = kinds.Int ∷ kinds.Int ∷ [] in
         record {
           typed = range_typed variables scope.look agrees [] name high low (array_operands scope.look a) v.0 v.1 u.1 (array_typed variables scope.look agrees both a t.1);
@@ -201,7 +209,8 @@ module _ (variables : List VarDef) (entry : ℕ) (code : List Instr) where
         let x : Instr = last scope place first (export key (exported_array a)) in
         record {
           typed = array_typed variables scope.look agrees [] a suit;
-          finds = wanted variables x (kinds_onto (array_operands scope.look a) []) [] (source_met variables scope.look agrees first.literal a suit) (ap (λ o. then_kinds o Some) (source_off variables scope.look first.literal a []));
+          finds = wanted variables x (kinds_onto (array_operands scope.look a) []) [] (source_met variables scope.look agrees first.literal a suit)
+              (ap (λ o. then_kinds o Some) (source_off variables scope.look first.literal a []));
           stands = refl;
         }
 
@@ -230,7 +239,8 @@ module _ (variables : List VarDef) (entry : ℕ) (code : List Instr) where
         }
 
     -- a statement that may stand after THEN
-    simple_fine : (first : Firsts) (b : BodyTree) (rest : List Instr) → is_simple_shape b ≡ true → operands_suit scope.look.kind b ≡ true → stops_unstable b ≡ false → AllByRecursion Leads (labels_named b) →
+    simple_fine : (first : Firsts) (b : BodyTree) (rest : List Instr) → is_simple_shape b ≡ true → operands_suit scope.look.kind b ≡ true → stops_unstable b ≡ false →
+        AllByRecursion Leads (labels_named b) →
         Follows variables entry code rest → Fine variables entry code false [] (body_code scope place first b rest)
     simple_fine first (assign name e) rest shaped suit stable leads follows =
         let t = given_fits (scope.look.kind name) (expr_kind scope.look.kind e) suit in
@@ -340,7 +350,8 @@ module _ (variables : List VarDef) (entry : ℕ) (code : List Instr) where
     simple_fine first _ rest shaped suit stable leads follows = absurd cc
 
     -- a statement other than ENDPROC
-    inner_fine : (first : Firsts) (b : BodyTree) → IsInner b → (rest : List Instr) → operands_suit scope.look.kind b ≡ true → stops_unstable b ≡ false → AllByRecursion Leads (labels_named b) → IsDeclared b → ends_procedure b ≡ false →
+    inner_fine : (first : Firsts) (b : BodyTree) → IsInner b → (rest : List Instr) → operands_suit scope.look.kind b ≡ true → stops_unstable b ≡ false →
+        AllByRecursion Leads (labels_named b) → IsDeclared b → ends_procedure b ≡ false →
         Follows variables entry code rest → Fine variables entry code false [] (body_code scope place first b rest)
     inner_fine first _ an_end rest suit stable leads is between follows = absurd cc
     inner_fine first _ (a_bit name None) rest suit stable leads is between follows = follows.fine false
@@ -373,6 +384,7 @@ module _ (variables : List VarDef) (entry : ℕ) (code : List Instr) where
         row_fine variables entry code scope place first (integer_array name size (Some zs)) rest agrees (λ l. refl) good follows.some (follows.fine false)
     inner_fine first _ (a_simple b shaped) rest suit stable leads is between follows = simple_fine first b rest shaped suit stable leads follows
 
-    pub body_fine : (first : Firsts) (b : BodyTree) (rest : List Instr) → is_inner_shape b ≡ true → operands_suit scope.look.kind b ≡ true → stops_unstable b ≡ false → AllByRecursion Leads (labels_named b) → IsDeclared b → ends_procedure b ≡ false →
+    pub body_fine : (first : Firsts) (b : BodyTree) (rest : List Instr) → is_inner_shape b ≡ true → operands_suit scope.look.kind b ≡ true → stops_unstable b ≡ false →
+        AllByRecursion Leads (labels_named b) → IsDeclared b → ends_procedure b ≡ false →
         Follows variables entry code rest → Fine variables entry code false [] (body_code scope place first b rest)
     body_fine first b rest shaped = inner_fine first b (inner_view b shaped) rest

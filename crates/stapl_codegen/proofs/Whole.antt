@@ -1,5 +1,6 @@
 -- The code of an accepted program is valid: one procedure after the other breaks no rule, and their entries rise.
-use Rattle.std.proofs.Common.{◌≡◌, ℕ, suc, ◌+◌, ◌-◌, ◌<◌, ◌≤◌, true, false, cond, List, [], ◌∷◌, ◌++◌, length, length-append, drop, take, Option, Some, None, arith, refl, sym, ap, subst, ◌∙◌, nat_lt, add-one}
+use Rattle.std.proofs.Common.{◌≡◌, ℕ, suc, ◌+◌, ◌-◌, ◌<◌, ◌≤◌, true, false, cond, List, [], ◌∷◌, ◌++◌, length, length-append, drop, take, Option, Some, None, arith, refl,
+    sym, ap, subst, ◌∙◌, nat_lt, add-one}
 use Rattle.std.specs.Prelude.{All, slice_range, if◌then◌else◌}
 use Rattle.std.specs.List.{list_all}
 use Rattle.std.proofs.lemmas.List.{take_at, drop_all}
@@ -16,7 +17,8 @@ use Rattle.stapl_code.specs.declared.raw.ProcDef.{ProcDef}
 use Rattle.stapl_code.specs.Valid.{next_entry, procedure_break, procedures_break, prologue_break, entry_break, first_of, IsValid}
 use Rattle.stapl_codegen.specs.Emit.{body_code, at_first, firsts_at, presets_code, procedure_def, procedures_from, procedures_of, pieces_code, program_code, start_of}
 use Rattle.stapl_codegen.specs.Generated.{lists_of}
-use Rattle.stapl_codegen.proofs.Heads.{drop_tail, drop_front}
+use Rattle.stapl_code.proofs.Heads.{drop_tail}
+use Rattle.stapl_codegen.proofs.Heads.{drop_front}
 use Rattle.stapl_codegen.proofs.Lists.{presets_before, pieces_append}
 use Rattle.stapl_codegen.proofs.Ordered.{AreOwn, Part, ArePartsOf, IsOwnOf, statements_in, cut}
 use Rattle.stapl_codegen.proofs.Opened.{IsProcedure}

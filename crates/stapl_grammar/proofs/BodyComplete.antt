@@ -8,20 +8,26 @@ use Rattle.stapl_lexer.specs.declared.terminal.JoinWord.TheVariants as joins
 use Rattle.stapl_syntax.specs.declared.signs.Sign.{Sign}
 use Rattle.stapl_syntax.specs.declared.signs.Sign.TheVariants as signs
 use Rattle.stapl_syntax.specs.Symbols.{Symbol, Plain, sign_of}
-use Rattle.stapl_syntax.specs.Trees.{ExprTree, ArrayTree, BodyTree, note, action, procedure, data_block, end_data, crc, end_procedure, boolean, boolean_array, integer, integer_array, assign, assign_element, assign_array, assign_range, call, goto, if_then, for_loop, next, push, pop, print, export, exit, scan, stop, pad, state_list, wait_cycles, wait_usec, frequency}
+use Rattle.stapl_syntax.specs.Trees.{ExprTree, ArrayTree, BodyTree, note, action, procedure, data_block, end_data, crc, end_procedure, boolean, boolean_array, integer,
+    integer_array, assign, assign_element, assign_array, assign_range, call, goto, if_then, for_loop, next, push, pop, print, export, exit, scan, stop, pad, state_list,
+    wait_cycles, wait_usec, frequency}
 use Rattle.stapl_syntax.specs.Expressions.{name, mark}
-use Rattle.stapl_syntax.specs.Parts.{IsPart, a_name, a_state, a_check_word, an_expr, a_cell, some_states, both, join, note_part, action_part, procedure_part, for_part, print_part, export_part, scan_part, pad_part, frequency_part}
+use Rattle.stapl_syntax.specs.Parts.{IsPart, a_name, a_state, a_check_word, an_expr, a_cell, some_states, both, join, note_part, action_part, procedure_part, for_part,
+    print_part, export_part, scan_part, pad_part, frequency_part}
 use Rattle.stapl_syntax.specs.Statements.{is_outer, is_unconditional, IsBody, IsLabelled}
 use Rattle.stapl_grammar.specs.Looks.{after_mark, after_join, is_mark, mark_number, begins_anything}
 use Rattle.stapl_grammar.specs.Reading.{Reader, next_sign, name_at, name_of, next_operator, operator_of, expr}
 use Rattle.stapl_grammar.specs.PartReading.{part_at}
-use Rattle.stapl_grammar.specs.BodyReading.{mapped, outer_from, boolean_part, integer_part, inner_from, assign_part, assign_of, if_from, simple_word_from, wait_part, port_from, simple_from, simple_by, simple_in, simple_at, labelled_from, labelled_at, any_from, any_at, label_at, behind_label_at, statement_of}
+use Rattle.stapl_grammar.specs.BodyReading.{mapped, outer_from, boolean_part, integer_part, inner_from, assign_part, assign_of, if_from, simple_word_from, wait_part,
+    port_from, simple_from, simple_by, simple_in, simple_at, labelled_from, labelled_at, any_from, any_at, label_at, behind_label_at, statement_of}
 use Rattle.stapl_grammar.proofs.Tools.{by_step, some_is, by_test, after_mark_some, after_join_some, after_join_here}
 use Rattle.stapl_grammar.proofs.Steps.{bind_same}
 use Rattle.stapl_grammar.proofs.Complete.{shorter, expr_read}
 use Rattle.stapl_grammar.proofs.LeafLaws.{name_some}
 use Rattle.stapl_grammar.proofs.PartLaws.{part_sound, part_whole}
-use Rattle.stapl_grammar.proofs.ApartLaws.{note_apart, action_apart, action_end, procedure_apart, procedure_end, boolean_apart, boolean_end, integer_apart, integer_end, assign_apart, assign_end, for_apart, for_end, print_apart, print_end, export_apart, export_end, scan_apart, scan_end, pad_apart, pad_end, wait_apart, wait_end, frequency_apart, frequency_end, states_end, nothing_ends, no_bracket}
+use Rattle.stapl_grammar.proofs.ApartLaws.{note_apart, action_apart, action_end, procedure_apart, procedure_end, boolean_apart, boolean_end, integer_apart, integer_end,
+    assign_apart, assign_end, for_apart, for_end, print_apart, print_end, export_apart, export_end, scan_apart, scan_end, pad_apart, pad_end, wait_apart, wait_end,
+    frequency_apart, frequency_end, states_end, nothing_ends, no_bracket}
 use Rattle.stapl_grammar.proofs.BodySound.{any_sound, labelled_sound}
 
 -- ---- one equation for the reader of what stands behind THEN
@@ -79,7 +85,8 @@ IsReadAs true declaration b s = any_at s ≡ Some (b, [])
 IsReadAs false true b s = labelled_at s ≡ Some (b, [])
 IsReadAs false false b s = simple_at s ≡ Some (b, [])
 
-assigned : (v : List ℕ) (y : ExprTree ⊎ (ArrayTree ⊎ (ExprTree × ((ExprTree × ArrayTree) ⊎ ExprTree)))) (s : List Symbol) → IsPart (both a_name assign_part) (v, y) s → simple_at s ≡ Some (assign_of v y, [])
+assigned : (v : List ℕ) (y : ExprTree ⊎ (ArrayTree ⊎ (ExprTree × ((ExprTree × ArrayTree) ⊎ ExprTree)))) (s : List Symbol) → IsPart (both a_name assign_part) (v, y) s →
+    simple_at s ≡ Some (assign_of v y, [])
 unfolding next_sign simple_from
 assigned v y s m =
     let shape : s ≡ name v ∷ m.1 = rw (m.2, m.3) refl in
@@ -163,11 +170,13 @@ label_shape : (s : List Symbol) → LabelShape (label_at s).0 s (label_at s).1
 unfolding label_at LabelShape
 label_shape s = go (name_at s) refl
   where
-    behind : (v : List ℕ × List Symbol) → s ≡ name v.0 ∷ v.1 → (p : Option (List Symbol)) → after_mark marks.Colon v.1 ≡ p → let l : Option (List ℕ) × List Symbol = option_map_or (λ r. (Some v.0, r)) p (None, s) in LabelShape l.0 s l.1
+    behind : (v : List ℕ × List Symbol) → s ≡ name v.0 ∷ v.1 → (p : Option (List Symbol)) → after_mark marks.Colon v.1 ≡ p → let l : Option (List ℕ) ×
+        List Symbol = option_map_or (λ r. (Some v.0, r)) p (None, s) in LabelShape l.0 s l.1
     behind v shape None e = refl
     behind v shape (Some r) e = shape ∙ ap (λ (l : List Symbol). name v.0 ∷ l) (after_mark_some marks.Colon v.1 r e)
 
-    go : (q : Option (List ℕ × List Symbol)) → name_at s ≡ q → let l : Option (List ℕ) × List Symbol = option_map_or (λ v. option_map_or (λ r. (Some v.0, r)) (after_mark marks.Colon v.1) (None, s)) q (None, s) in LabelShape l.0 s l.1
+    go : (q : Option (List ℕ × List Symbol)) → name_at s ≡ q → let l : Option (List ℕ) ×
+        List Symbol = option_map_or (λ v. option_map_or (λ r. (Some v.0, r)) (after_mark marks.Colon v.1) (None, s)) q (None, s) in LabelShape l.0 s l.1
     go None e = refl
     go (Some v) e = behind v (name_some s v e) (after_mark marks.Colon v.1) refl
 

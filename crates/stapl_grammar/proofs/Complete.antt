@@ -6,9 +6,12 @@ use Rattle.stapl_lexer.specs.declared.terminal.Mark.{Mark}
 use Rattle.stapl_lexer.specs.declared.terminal.Mark.TheVariants as marks
 use Rattle.stapl_syntax.specs.Symbols.{Symbol}
 use Rattle.stapl_syntax.specs.Trees.{ExprTree, ArrayTree, binary, range}
-use Rattle.stapl_syntax.specs.Expressions.{level_of, operator, mark, IsExpr, IsUnary, IsPrimary, IsCell, IsTarget, IsArray, of_unary, negation, complement, negated, tighter, of_binary, of_primary, of_number, of_cell, of_scalar, of_element, of_brackets, of_abs, of_array, of_literal, of_target, of_whole, of_range, of_expr, right_square, left_round, right_round, dots}
+use Rattle.stapl_syntax.specs.Expressions.{level_of, operator, mark, IsExpr, IsUnary, IsPrimary, IsCell, IsTarget, IsArray, of_unary, negation, complement, negated, tighter,
+    of_binary, of_primary, of_number, of_cell, of_scalar, of_element, of_brackets, of_abs, of_array, of_literal, of_target, of_whole, of_range, of_expr, right_square,
+    left_round, right_round, dots}
 use Rattle.stapl_grammar.specs.Looks.{after_mark, is_mark, mark_number}
-use Rattle.stapl_grammar.specs.Reading.{◌>>=◌, Reader, next_sign, name_at, name_of, literal_at, operator_of, next_operator, closed_by, bracketed_by, named_by, range_by, target_from, target_by, bool_from, array_from, array_by, brackets_from, function_from, primary_from, unary_of, unary_by, expr, climb}
+use Rattle.stapl_grammar.specs.Reading.{◌>>=◌, Reader, next_sign, name_at, name_of, literal_at, operator_of, next_operator, closed_by, bracketed_by, named_by, range_by,
+    target_from, target_by, bool_from, array_from, array_by, brackets_from, function_from, primary_from, unary_of, unary_by, expr, climb}
 use Rattle.stapl_grammar.proofs.Tools.{AtLeastLevel, some_is, after_mark_some, after_mark_here, next_operator_some, next_operator_here, next_operator_quiet, next_operator_none}
 use Rattle.stapl_grammar.proofs.Steps.{bind_same, expr-is, climb-is, expr_shorter}
 
@@ -37,7 +40,8 @@ climb_layered : (k n : ℕ) (e : ExprTree) (s : List Symbol) → length s < k �
 climb_layered zero n e s lt = absurd (omega arith)
 climb_layered (suc k) n e s lt = go (next_operator n s) refl (λ f t l. climb_layered k n f t l)
   where
-    go : (q : Option (BinOp × List Symbol)) → next_operator n s ≡ q → ((f : ExprTree) (t : List Symbol) → length t < k → climb (suc n) f t ≡ (climb n f t >>= λ x. climb (suc n) x.0 x.1)) → climb (suc n) e s ≡ (climb n e s >>= λ x. climb (suc n) x.0 x.1)
+    go : (q : Option (BinOp × List Symbol)) → next_operator n s ≡ q →
+        ((f : ExprTree) (t : List Symbol) → length t < k → climb (suc n) f t ≡ (climb n f t >>= λ x. climb (suc n) x.0 x.1)) → climb (suc n) e s ≡ (climb n e s >>= λ x. climb (suc n) x.0 x.1)
     go None h ih = rw (climb_stops n e s h)
     go (Some o) h ih =
         let first = ap length (next_operator_some n s o h).0 in
@@ -79,7 +83,8 @@ closed_complete : {A : Type 0} (m : Mark) (read : Reader A) (s r : List Symbol) 
 unfolding closed_by
 closed_complete m read s r x h = rw (append_assoc s (mark m ∷ []) r, h, after_mark_here m r)
 
-pub bracketed_complete : {A : Type 0} (read : Reader A) (s r : List Symbol) (x : A) → read (s ++ (right_round ∷ r)) ≡ Some (x, right_round ∷ r) → bracketed_by read (left_round ∷ ((s ++ (right_round ∷ [])) ++ r)) ≡ Some (x, r)
+pub bracketed_complete : {A : Type 0} (read : Reader A) (s r : List Symbol) (x : A) → read (s ++ (right_round ∷ r)) ≡ Some (x, right_round ∷ r) →
+    bracketed_by read (left_round ∷ ((s ++ (right_round ∷ [])) ++ r)) ≡ Some (x, r)
 unfolding bracketed_by
 bracketed_complete read s r x h = rw (after_mark_here marks.LeftRound ((s ++ (right_round ∷ [])) ++ r), closed_complete marks.RightRound read s r x h)
 
@@ -129,12 +134,14 @@ not_closing s x h = go (after_mark marks.RightSquare s) refl
         let none : expr 10 s ≡ None = rw s-is (closing_none t) in
         absurd cc
 
-range_complete : (v : List ℕ) (a : List Symbol) (x : ExprTree) (s : List Symbol) (y : ExprTree) (r : List Symbol) → expr 10 (a ++ (dots ∷ s)) ≡ Some (x, dots ∷ s) → closed_by marks.RightSquare (expr 10) s ≡ Some (y, r) → target_from (expr 10) v (a ++ (dots ∷ s)) ≡ Some (range v x y, r)
+range_complete : (v : List ℕ) (a : List Symbol) (x : ExprTree) (s : List Symbol) (y : ExprTree) (r : List Symbol) → expr 10 (a ++ (dots ∷ s)) ≡ Some (x, dots ∷ s) →
+    closed_by marks.RightSquare (expr 10) s ≡ Some (y, r) → target_from (expr 10) v (a ++ (dots ∷ s)) ≡ Some (range v x y, r)
 unfolding target_from range_by
 range_complete v a x s y r h l = rw (not_closing (a ++ (dots ∷ s)) (x, dots ∷ s) h, h, after_mark_here marks.Dots s, l)
 
 mutual
-  unfolding unary_by unary_of primary_by primary_from brackets_from function_from named_by array_by array_from bool_from literal_at next_sign name_at name_of behind_name target_by target_from range_by after_mark is_mark mark_number
+  unfolding unary_by unary_of primary_by primary_from brackets_from function_from named_by array_by array_from bool_from literal_at next_sign name_at name_of behind_name
+      target_by target_from range_by after_mark is_mark mark_number
 
   pub expr_complete : {n : ℕ} {a : List Symbol} {e : ExprTree} → IsExpr n a e → (r : List Symbol) → Ends n r → expr n (a ++ r) ≡ climb n e r
   expr_complete (of_unary m) r ends = expr-is 0 _ ∙ ap (λ (q : Option (ExprTree × List Symbol)). q >>= λ x. climb 0 x.0 x.1) (unary_complete m r ends.bracket)
@@ -159,13 +166,16 @@ mutual
   pub primary_complete : {a : List Symbol} {e : ExprTree} → IsPrimary a e → (r : List Symbol) → after_mark marks.LeftSquare r ≡ None → primary_by (a ++ r) ≡ Some (e, r)
   primary_complete of_number r h = refl
   primary_complete (of_cell m) r h = cell_primary m r ∙ cell_complete m r h
-  primary_complete (of_brackets {s = s} {e = e} m) r h = closed_complete marks.RightRound (expr 10) s r e (whole_from s e marks.RightRound r (expr_complete m (right_round ∷ r) (ends_mark 10 marks.RightRound r refl)))
-  primary_complete (of_abs {s = s} {e = e} m) r h = rw (bracketed_complete (expr 10) s r e (whole_from s e marks.RightRound r (expr_complete m (right_round ∷ r) (ends_mark 10 marks.RightRound r refl))))
+  primary_complete (of_brackets {s = s} {e = e} m) r h = closed_complete marks.RightRound (expr 10) s r e
+      (whole_from s e marks.RightRound r (expr_complete m (right_round ∷ r) (ends_mark 10 marks.RightRound r refl)))
+  primary_complete (of_abs {s = s} {e = e} m) r h = rw (bracketed_complete (expr 10) s r e
+      (whole_from s e marks.RightRound r (expr_complete m (right_round ∷ r) (ends_mark 10 marks.RightRound r refl))))
   primary_complete (of_array {s = s} {a = a} m) r h = rw (bracketed_complete (array_by (expr 10)) s r a (array_complete m (right_round ∷ r)))
 
   pub cell_complete : {a : List Symbol} {e : ExprTree} → IsCell a e → (r : List Symbol) → after_mark marks.LeftSquare r ≡ None → behind_name (named_by (expr 10)) (a ++ r) ≡ Some (e, r)
   cell_complete of_scalar r h = rw h
-  cell_complete (of_element {s = s} {e = e} m) r h = rw (closed_complete marks.RightSquare (expr 10) s r e (whole_from s e marks.RightSquare r (expr_complete m (right_square ∷ r) (ends_mark 10 marks.RightSquare r refl))))
+  cell_complete (of_element {s = s} {e = e} m) r h = rw (closed_complete marks.RightSquare (expr 10) s r e
+      (whole_from s e marks.RightSquare r (expr_complete m (right_square ∷ r) (ends_mark 10 marks.RightSquare r refl))))
 
   pub target_complete : {a : List Symbol} {x : ArrayTree} → IsTarget a x → (r : List Symbol) → behind_name (target_by (expr 10)) (a ++ r) ≡ Some (x, r)
   target_complete of_whole r = refl

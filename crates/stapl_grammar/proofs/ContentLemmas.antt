@@ -13,17 +13,15 @@ use Rattle.bit_list.specs.Digits.{IsDigit, IsFirstBadDigit}
 use Rattle.stapl_lexer.specs.declared.token.TokenKind.{TokenKind}
 use Rattle.stapl_lexer.specs.declared.token.TokenKind.TheVariants as kinds
 use Rattle.stapl_lexer.specs.PieceTokens.{is_literal_digit}
+use Rattle.bit_list.proofs.Steps.{value_of_digit}
 
 -- what `to_digit` reads is the value of the digit
-value_of_digit : (read : Option ℕ) (P : Type 0) (value x : ℕ) → SomeIff read P value → read ≡ Some x → x ≡ value
-value_of_digit None P value x h e = cc
-value_of_digit (Some y) P value x h e = let f : y ≡ value = h.1 in cc
-
 one_more : (a number value : ℕ) → number ≡ a % 65536 → (number * 16 + value) % 65536 ≡ (a * 16 + value) % 65536
 one_more a number value e = omega arith
 
 -- the number with one more digit
-pub number_more : (digits : List ℕ) (i number value c : ℕ) (read : Option ℕ) (P : Type 0) → i < length digits → number ≡ digits_value 16 (take i digits) % 65536 → SomeIff read P (digit_value c) → read ≡ Some value → c ≡ get_or digits i 0 → (number * 16 + value) % 65536 ≡ digits_value 16 (take (i + 1) digits) % 65536
+pub number_more : (digits : List ℕ) (i number value c : ℕ) (read : Option ℕ) (P : Type 0) → i < length digits → number ≡ digits_value 16 (take i digits) % 65536 →
+    SomeIff read P (digit_value c) → read ≡ Some value → c ≡ get_or digits i 0 → (number * 16 + value) % 65536 ≡ digits_value 16 (take (i + 1) digits) % 65536
 number_more digits i number value c read P lt e reads got here =
     one_more (digits_value 16 (take i digits)) number value e
     ∙ ap (λ (d : ℕ). (digits_value 16 (take i digits) * 16 + d) % 65536) (value_of_digit read P _ value reads got ∙ ap digit_value here)

@@ -60,12 +60,14 @@ unfolding listed_by
 list_starts_not read t s Memory h = tt
 list_starts_not read t s Syntax h = rw h
 
-pub list_goes_on : {A : Type 0} (read : Reader A) (t : Symbol) → Shortens read → (front : List A) (s r : List Symbol) (x : A) (u : List Symbol) → after_symbol t s ≡ Some r → read r ≡ Some (x, u) → with_front (front ++ (x ∷ [])) (more_by read t u) ≡ with_front front (more_by read t s)
+pub list_goes_on : {A : Type 0} (read : Reader A) (t : Symbol) → Shortens read → (front : List A) (s r : List Symbol) (x : A) (u : List Symbol) →
+    after_symbol t s ≡ Some r → read r ≡ Some (x, u) → with_front (front ++ (x ∷ [])) (more_by read t u) ≡ with_front front (more_by read t s)
 list_goes_on read t short front s r x u h g =
     let one : more_by read t s ≡ with_front (x ∷ []) (more_by read t u) = more_is read t short s ∙ rw h (sym (list_starts read t r x u g)) in
     rw one (sym (front_front front (x ∷ []) (more_by read t u)))
 
-pub list_goes_on_not : {A : Type 0} (read : Reader A) (t : Symbol) → Shortens read → (front : List A) (s r : List Symbol) (e : Refused) → after_symbol t s ≡ Some r → Fails e (read r) → Fails e (with_front front (more_by read t s))
+pub list_goes_on_not : {A : Type 0} (read : Reader A) (t : Symbol) → Shortens read → (front : List A) (s r : List Symbol) (e : Refused) → after_symbol t s ≡ Some r →
+    Fails e (read r) → Fails e (with_front front (more_by read t s))
 list_goes_on_not read t short front s r Memory h g = tt
 list_goes_on_not read t short front s r Syntax h g = rw (more_is read t short s, h, list_starts_not read t r Syntax g)
 
@@ -73,13 +75,16 @@ pub list_is_done : {A : Type 0} (read : Reader A) (t : Symbol) → Shortens read
 list_is_done {A} read t short front s h = rw (more_is read t short s, h) (ap (λ (l : List A). Some (l, s)) (append-nil front))
 
 -- one more item behind those that the loop has
-pub list_kept : {X A : Type 0} (read : Reader A) (t : Symbol) → Shortens read → (view : X → A) (old new : List X) (s r : List Symbol) (x : X) (u : List Symbol) (total : Option (List A × List Symbol)) → new ≡ old ++ (x ∷ []) → after_symbol t s ≡ Some r → read r ≡ Some (view x, u) → with_front (map view old) (more_by read t s) ≡ total → with_front (map view new) (more_by read t u) ≡ total
+pub list_kept : {X A : Type 0} (read : Reader A) (t : Symbol) → Shortens read →
+    (view : X → A) (old new : List X) (s r : List Symbol) (x : X) (u : List Symbol) (total : Option (List A × List Symbol)) → new ≡ old ++ (x ∷ []) →
+        after_symbol t s ≡ Some r → read r ≡ Some (view x, u) → with_front (map view old) (more_by read t s) ≡ total → with_front (map view new) (more_by read t u) ≡ total
 list_kept read t short view old new s r x u total n h g so_far =
     rw (n, map-append view old (x ∷ [])) (list_goes_on read t short (map view old) s r (view x) u h g ∙ so_far)
 
 -- ---- what is read is a list of parts
 
-more_sound : {A : Type 0} (P : A → List Symbol → Type 0) (read : Reader A) (t : Symbol) → ((s : List Symbol) (x : A × List Symbol) → read s ≡ Some x → Front P s x) → (f : ℕ) (x : A) (a s : List Symbol) (y : List A × List Symbol) → P x a → more_in f read t s ≡ Some y → (b : List Symbol) × (s ≡ b ++ y.1) × Separated P t (x ∷ y.0) (a ++ b)
+more_sound : {A : Type 0} (P : A → List Symbol → Type 0) (read : Reader A) (t : Symbol) → ((s : List Symbol) (x : A × List Symbol) → read s ≡ Some x → Front P s x) →
+    (f : ℕ) (x : A) (a s : List Symbol) (y : List A × List Symbol) → P x a → more_in f read t s ≡ Some y → (b : List Symbol) × (s ≡ b ++ y.1) × Separated P t (x ∷ y.0) (a ++ b)
 unfolding more_in
 more_sound P read t sound zero x a s y m e = absurd cc
 more_sound {A} P read t sound (suc f) x a s y m e =
@@ -96,7 +101,8 @@ more_sound {A} P read t sound (suc f) x a s y m e =
       (a, g.taken ++ rest.0, refl, m, rest.2),
     ))
 
-pub list_sound : {A : Type 0} (P : A → List Symbol → Type 0) (read : Reader A) (t : Symbol) → ((s : List Symbol) (x : A × List Symbol) → read s ≡ Some x → Front P s x) → (s : List Symbol) (x : List A × List Symbol) → listed_by read t s ≡ Some x → Front (Separated P t) s x
+pub list_sound : {A : Type 0} (P : A → List Symbol → Type 0) (read : Reader A) (t : Symbol) → ((s : List Symbol) (x : A × List Symbol) → read s ≡ Some x → Front P s x) →
+    (s : List Symbol) (x : List A × List Symbol) → listed_by read t s ≡ Some x → Front (Separated P t) s x
 unfolding listed_by more_by
 list_sound {A} P read t sound s x e =
     by_step (read s) _ x e λ u u-is e1.
@@ -111,7 +117,8 @@ list_sound {A} P read t sound s x e =
 
 -- ---- a list of parts is read
 
-pub list_complete : {A : Type 0} (P : A → List Symbol → Type 0) (read : Reader A) (t : Symbol) → Shortens read → IsSign t → (Stops : List Symbol → Type 0) → ((x : A) (s r : List Symbol) → P x s → Stops r → read (s ++ r) ≡ Some (x, r)) → ((r : List Symbol) → Stops (t ∷ r))
+pub list_complete : {A : Type 0} (P : A → List Symbol → Type 0) (read : Reader A) (t : Symbol) → Shortens read → IsSign t → (Stops : List Symbol → Type 0) →
+    ((x : A) (s r : List Symbol) → P x s → Stops r → read (s ++ r) ≡ Some (x, r)) → ((r : List Symbol) → Stops (t ∷ r))
     → (xs : List A) (s r : List Symbol) → Separated P t xs s → Stops r → after_symbol t r ≡ None → listed_by read t (s ++ r) ≡ Some (xs, r)
 list_complete P read t short sign Stops reads stops [] s r m h none = absurd m
 list_complete {A} P read t short sign Stops reads stops (x ∷ []) s r m h none =
@@ -120,6 +127,7 @@ list_complete {A} P read t short sign Stops reads stops (x ∷ y ∷ ys) s r m h
     let a = m.0 in
     let b = m.1 in
     let rest = list_complete P read t short sign Stops reads stops (y ∷ ys) b r m.4 h none in
-    let one : listed_by read t (a ++ (t ∷ (b ++ r))) ≡ with_front (x ∷ []) (more_by read t (t ∷ (b ++ r))) = sym (list_starts read t (a ++ (t ∷ (b ++ r))) x (t ∷ (b ++ r)) (reads x a (t ∷ (b ++ r)) m.3 (stops (b ++ r)))) in
+    let one : listed_by read t (a ++ (t ∷ (b ++ r))) ≡ with_front (x ∷ []) (more_by read t (t ∷ (b ++ r))) =
+        sym (list_starts read t (a ++ (t ∷ (b ++ r))) x (t ∷ (b ++ r)) (reads x a (t ∷ (b ++ r)) m.3 (stops (b ++ r)))) in
     let two : more_by read t (t ∷ (b ++ r)) ≡ Some (y ∷ ys, r) = rw (more_is read t short (t ∷ (b ++ r)), sign (b ++ r)) rest in
     rw (m.2, append_assoc a (t ∷ b) r, one, two) refl

@@ -40,7 +40,8 @@ name_starts s x r h = list_starts name_at comma s x r h
 pub name_starts_not : (s : List Symbol) (e : Refused) → Fails e (name_at s) → Fails e (listed_by name_at comma s)
 name_starts_not s e h = list_starts_not name_at comma s e h
 
-pub name_goes_on : (front : List (List ℕ)) (s r : List Symbol) (x : List ℕ) (u : List Symbol) → after_mark marks.Comma s ≡ Some r → name_at r ≡ Some (x, u) → with_front (front ++ (x ∷ [])) (more_by name_at comma u) ≡ with_front front (more_by name_at comma s)
+pub name_goes_on : (front : List (List ℕ)) (s r : List Symbol) (x : List ℕ) (u : List Symbol) → after_mark marks.Comma s ≡ Some r → name_at r ≡ Some (x, u) →
+    with_front (front ++ (x ∷ [])) (more_by name_at comma u) ≡ with_front front (more_by name_at comma s)
 name_goes_on front s r x u h g = list_goes_on name_at comma name_short front s r x u h g
 
 pub name_goes_on_not : (front : List (List ℕ)) (s r : List Symbol) (e : Refused) → after_mark marks.Comma s ≡ Some r → Fails e (name_at r) → Fails e (with_front front (more_by name_at comma s))
@@ -49,16 +50,19 @@ name_goes_on_not front s r e h g = list_goes_on_not name_at comma name_short fro
 pub name_is_done : (front : List (List ℕ)) (s : List Symbol) → after_mark marks.Comma s ≡ None → with_front front (more_by name_at comma s) ≡ Some (front, s)
 name_is_done front s h = list_is_done name_at comma name_short front s h
 
-pub item_starts : (s : List Symbol) (x : ItemTree) (r : List Symbol) → part_at item_part s ≡ Some (x, r) → with_front (x ∷ []) (more_by (part_at item_part) comma r) ≡ listed_by (part_at item_part) comma s
+pub item_starts : (s : List Symbol) (x : ItemTree) (r : List Symbol) → part_at item_part s ≡ Some (x, r) →
+    with_front (x ∷ []) (more_by (part_at item_part) comma r) ≡ listed_by (part_at item_part) comma s
 item_starts s x r h = list_starts (part_at item_part) comma s x r h
 
 pub item_starts_not : (s : List Symbol) (e : Refused) → Fails e (part_at item_part s) → Fails e (listed_by (part_at item_part) comma s)
 item_starts_not s e h = list_starts_not (part_at item_part) comma s e h
 
-pub item_goes_on : (front : List (ItemTree)) (s r : List Symbol) (x : ItemTree) (u : List Symbol) → after_mark marks.Comma s ≡ Some r → part_at item_part r ≡ Some (x, u) → with_front (front ++ (x ∷ [])) (more_by (part_at item_part) comma u) ≡ with_front front (more_by (part_at item_part) comma s)
+pub item_goes_on : (front : List (ItemTree)) (s r : List Symbol) (x : ItemTree) (u : List Symbol) → after_mark marks.Comma s ≡ Some r →
+    part_at item_part r ≡ Some (x, u) → with_front (front ++ (x ∷ [])) (more_by (part_at item_part) comma u) ≡ with_front front (more_by (part_at item_part) comma s)
 item_goes_on front s r x u h g = list_goes_on (part_at item_part) comma item_short front s r x u h g
 
-pub item_goes_on_not : (front : List (ItemTree)) (s r : List Symbol) (e : Refused) → after_mark marks.Comma s ≡ Some r → Fails e (part_at item_part r) → Fails e (with_front front (more_by (part_at item_part) comma s))
+pub item_goes_on_not : (front : List (ItemTree)) (s r : List Symbol) (e : Refused) → after_mark marks.Comma s ≡ Some r → Fails e (part_at item_part r) →
+    Fails e (with_front front (more_by (part_at item_part) comma s))
 item_goes_on_not front s r e h g = list_goes_on_not (part_at item_part) comma item_short front s r e h g
 
 pub item_is_done : (front : List (ItemTree)) (s : List Symbol) → after_mark marks.Comma s ≡ None → with_front front (more_by (part_at item_part) comma s) ≡ Some (front, s)
@@ -70,7 +74,8 @@ signed_starts s x r h = list_starts signed_at comma s x r h
 pub signed_starts_not : (s : List Symbol) (e : Refused) → Fails e (signed_at s) → Fails e (listed_by signed_at comma s)
 signed_starts_not s e h = list_starts_not signed_at comma s e h
 
-pub signed_goes_on : (front : List (ℤ)) (s r : List Symbol) (x : ℤ) (u : List Symbol) → after_mark marks.Comma s ≡ Some r → signed_at r ≡ Some (x, u) → with_front (front ++ (x ∷ [])) (more_by signed_at comma u) ≡ with_front front (more_by signed_at comma s)
+pub signed_goes_on : (front : List (ℤ)) (s r : List Symbol) (x : ℤ) (u : List Symbol) → after_mark marks.Comma s ≡ Some r → signed_at r ≡ Some (x, u) →
+    with_front (front ++ (x ∷ [])) (more_by signed_at comma u) ≡ with_front front (more_by signed_at comma s)
 signed_goes_on front s r x u h g = list_goes_on signed_at comma signed_short front s r x u h g
 
 pub signed_goes_on_not : (front : List (ℤ)) (s r : List Symbol) (e : Refused) → after_mark marks.Comma s ≡ Some r → Fails e (signed_at r) → Fails e (with_front front (more_by signed_at comma s))
@@ -85,10 +90,12 @@ part_starts s x r h = list_starts print_part_at comma s x r h
 pub part_starts_not : (s : List Symbol) (e : Refused) → Fails e (print_part_at s) → Fails e (listed_by print_part_at comma s)
 part_starts_not s e h = list_starts_not print_part_at comma s e h
 
-pub part_goes_on : (front : List (PartTree)) (s r : List Symbol) (x : PartTree) (u : List Symbol) → after_mark marks.Comma s ≡ Some r → print_part_at r ≡ Some (x, u) → with_front (front ++ (x ∷ [])) (more_by print_part_at comma u) ≡ with_front front (more_by print_part_at comma s)
+pub part_goes_on : (front : List (PartTree)) (s r : List Symbol) (x : PartTree) (u : List Symbol) → after_mark marks.Comma s ≡ Some r → print_part_at r ≡ Some (x, u) →
+    with_front (front ++ (x ∷ [])) (more_by print_part_at comma u) ≡ with_front front (more_by print_part_at comma s)
 part_goes_on front s r x u h g = list_goes_on print_part_at comma part_short front s r x u h g
 
-pub part_goes_on_not : (front : List (PartTree)) (s r : List Symbol) (e : Refused) → after_mark marks.Comma s ≡ Some r → Fails e (print_part_at r) → Fails e (with_front front (more_by print_part_at comma s))
+pub part_goes_on_not : (front : List (PartTree)) (s r : List Symbol) (e : Refused) → after_mark marks.Comma s ≡ Some r → Fails e (print_part_at r) →
+    Fails e (with_front front (more_by print_part_at comma s))
 part_goes_on_not front s r e h g = list_goes_on_not print_part_at comma part_short front s r e h g
 
 pub part_is_done : (front : List (PartTree)) (s : List Symbol) → after_mark marks.Comma s ≡ None → with_front front (more_by print_part_at comma s) ≡ Some (front, s)
@@ -147,7 +154,8 @@ front_front : (a b : List ℕ) (o : Option (List ℕ × List Symbol)) → with_f
 front_front a b None = refl
 front_front a b (Some x) = ap (λ (l : List ℕ). Some (l, x.1)) (sym (append_assoc a b x.0))
 
-pub states_go_on : (front : List ℕ) (s : List Symbol) (k : ℕ) (u : List Symbol) → more_states_at s ≡ with_front (k ∷ []) (more_states_at u) → with_front (front ++ (k ∷ [])) (more_states_at u) ≡ with_front front (more_states_at s)
+pub states_go_on : (front : List ℕ) (s : List Symbol) (k : ℕ) (u : List Symbol) → more_states_at s ≡ with_front (k ∷ []) (more_states_at u) →
+    with_front (front ++ (k ∷ [])) (more_states_at u) ≡ with_front front (more_states_at s)
 states_go_on front s k u h = rw h (sym (front_front front (k ∷ []) (more_states_at u)))
 
 pub states_fail : (front : List ℕ) (s : List Symbol) (e : Refused) → Fails e (more_states_at s) → Fails e (with_front front (more_states_at s))

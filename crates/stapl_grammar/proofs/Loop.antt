@@ -20,7 +20,8 @@ pub starts_not : (n : ℕ) (s : List Symbol) (e : Refused) → Fails e (unary_by
 starts_not n s Memory h = tt
 starts_not n s Syntax h = rw (expr-is n s, h)
 
-pub goes_on : (n : ℕ) (e : ExprTree) (s : List Symbol) (op : BinOp) (r : List Symbol) (y : ExprTree) (t : List Symbol) → next_operator n s ≡ Some (op, r) → expr (level_of op - 1) r ≡ Some (y, t) → climb n (binary op e y) t ≡ climb n e s
+pub goes_on : (n : ℕ) (e : ExprTree) (s : List Symbol) (op : BinOp) (r : List Symbol) (y : ExprTree) (t : List Symbol) → next_operator n s ≡ Some (op, r) →
+    expr (level_of op - 1) r ≡ Some (y, t) → climb n (binary op e y) t ≡ climb n e s
 goes_on n e s op r y t h g = rw (climb_some n e s (op, r) h, g)
 
 pub goes_on_not : (n : ℕ) (e : ExprTree) (s : List Symbol) (op : BinOp) (r : List Symbol) (d : Refused) → next_operator n s ≡ Some (op, r) → Fails d (expr (level_of op - 1) r) → Fails d (climb n e s)
@@ -32,7 +33,8 @@ is_done n e s h = climb_stops n e s h
 
 -- ---- an operand, by its first sign
 
-pub has_operator : (s r : List Symbol) (g : Sign) (op : UnOp) (e : ExprTree) (u : List Symbol) → next_sign s ≡ Some (g, r) → unary_of g ≡ Some op → unary_by (expr 10) r ≡ Some (e, u) → unary_by (expr 10) s ≡ Some (unary op e, u)
+pub has_operator : (s r : List Symbol) (g : Sign) (op : UnOp) (e : ExprTree) (u : List Symbol) → next_sign s ≡ Some (g, r) → unary_of g ≡ Some op →
+    unary_by (expr 10) r ≡ Some (e, u) → unary_by (expr 10) s ≡ Some (unary op e, u)
 has_operator s r g op e u n o h = rw (unary_is (expr 10) g s r n, o, h)
 
 pub has_operator_not : (s r : List Symbol) (g : Sign) (op : UnOp) (d : Refused) → next_sign s ≡ Some (g, r) → unary_of g ≡ Some op → Fails d (unary_by (expr 10) r) → Fails d (unary_by (expr 10) s)

@@ -34,7 +34,8 @@ unfolding seen seen_as
 seen_is text [] = refl
 seen_is text (t ∷ tokens) = ap (λ (s : List Symbol). seen_as text t ∷ s) (seen_is text tokens)
 
-pub parsed_ok : (text : List ℕ) (piece : Piece) (tokens : List Token) (result : Result Stmt ParseRefused) → AreTokens text piece tokens → AnswersFor (seen text tokens) result → IfOk result (λ st. IsPieceStatement text piece (stmt_tree st))
+pub parsed_ok : (text : List ℕ) (piece : Piece) (tokens : List Token) (result : Result Stmt ParseRefused) → AreTokens text piece tokens →
+    AnswersFor (seen text tokens) result → IfOk result (λ st. IsPieceStatement text piece (stmt_tree st))
 parsed_ok text piece tokens (Ok st) are answer = record {
   tokens = tokens;
   are = are;
@@ -114,7 +115,8 @@ module _ (text : List ℕ) (piece : Piece) (list : List Token) (are : AreTokens 
   pub smallest_in_grammar : SmallestReason text piece (reason_of (symbols_of text list))
   smallest_in_grammar = record { holds = holds_in_grammar; least = least_in_grammar }
 
-pub parsed_because : (text : List ℕ) (piece : Piece) (tokens : List Token) (result : Result Stmt ParseRefused) → AreTokens text piece tokens → AnswersFor (seen text tokens) result → (reason : Reason) → result ≡ Err (Because reason) → SmallestReason text piece reason
+pub parsed_because : (text : List ℕ) (piece : Piece) (tokens : List Token) (result : Result Stmt ParseRefused) → AreTokens text piece tokens →
+    AnswersFor (seen text tokens) result → (reason : Reason) → result ≡ Err (Because reason) → SmallestReason text piece reason
 parsed_because text piece tokens result are answer reason e =
     let refused : IsRefused (seen text tokens) reason = subst (AnswersFor (seen text tokens)) e answer in
     let refused_so : IsRefused (symbols_of text tokens) reason = subst (λ (s : List Symbol). IsRefused s reason) (seen_is text tokens) refused in

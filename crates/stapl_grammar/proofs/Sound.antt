@@ -11,9 +11,12 @@ use Rattle.stapl_syntax.specs.declared.signs.Sign.{Sign}
 use Rattle.stapl_syntax.specs.declared.signs.Sign.TheVariants as signs
 use Rattle.stapl_syntax.specs.Symbols.{Symbol, Plain, Text, Literal, CheckWord, sign_of}
 use Rattle.stapl_syntax.specs.Trees.{ExprTree, ArrayTree, number, scalar, element, unary, binary, abs, int, literal, whole, range, of_int}
-use Rattle.stapl_syntax.specs.Expressions.{level_of, operator, mark, function, name, IsExpr, IsUnary, IsPrimary, IsCell, IsTarget, IsArray, of_unary, negation, complement, negated, tighter, of_binary, of_primary, of_number, of_cell, of_scalar, of_element, of_brackets, of_abs, of_array, of_literal, of_target, of_whole, of_range, of_expr, left_square, right_square, left_round, right_round, dots}
+use Rattle.stapl_syntax.specs.Expressions.{level_of, operator, mark, function, name, IsExpr, IsUnary, IsPrimary, IsCell, IsTarget, IsArray, of_unary, negation, complement,
+    negated, tighter, of_binary, of_primary, of_number, of_cell, of_scalar, of_element, of_brackets, of_abs, of_array, of_literal, of_target, of_whole, of_range, of_expr,
+    left_square, right_square, left_round, right_round, dots}
 use Rattle.stapl_grammar.specs.Looks.{after_mark}
-use Rattle.stapl_grammar.specs.Reading.{◌>>=◌, Reader, next_sign, literal_at, next_operator, closed_by, bracketed_by, named_by, range_by, target_from, target_by, bool_from, array_from, array_by, brackets_from, function_from, primary_from, unary_of, unary_by, expr_in, climb_in}
+use Rattle.stapl_grammar.specs.Reading.{◌>>=◌, Reader, next_sign, literal_at, next_operator, closed_by, bracketed_by, named_by, range_by, target_from, target_by, bool_from,
+    array_from, array_by, brackets_from, function_from, primary_from, unary_of, unary_by, expr_in, climb_in}
 use Rattle.stapl_grammar.proofs.Tools.{by_step, some_is, choice_some, after_mark_some, next_operator_some, next_operator_none, level_suc, AtLeastLevel}
 
 -- a front of the symbols is what P says, and the rest stands behind it
@@ -32,11 +35,13 @@ abbrev pub Closed : {A : Type 0} → Mark → (List Symbol → A → Type 0) →
 Closed m P s x = (inner : List Symbol) × (s ≡ inner ++ (mark m ∷ [])) × P inner x
 
 -- one more symbol before a front
-pub front_cons : {A B : Type 0} {P : List Symbol → A → Type 0} {Q : List Symbol → B → Type 0} {s : List Symbol} {x : A × List Symbol} (t : Symbol) (g : A → B) → ((a : List Symbol) → P a x.0 → Q (t ∷ a) (g x.0)) → IsFront P s x → IsFront Q (t ∷ s) (g x.0, x.1)
+pub front_cons : {A B : Type 0} {P : List Symbol → A → Type 0} {Q : List Symbol → B → Type 0} {s : List Symbol} {x : A × List Symbol} (t : Symbol) (g : A → B) →
+    ((a : List Symbol) → P a x.0 → Q (t ∷ a) (g x.0)) → IsFront P s x → IsFront Q (t ∷ s) (g x.0, x.1)
 front_cons t g step f = record { taken = t ∷ f.taken; parts = ap (λ (l : List Symbol). t ∷ l) f.parts; meant = step f.taken f.meant; shorter = omega (arith, f.shorter) }
 
 -- the same front, of something else
-pub front_as : {A B : Type 0} {P : List Symbol → A → Type 0} {Q : List Symbol → B → Type 0} {s : List Symbol} {x : A × List Symbol} (g : A → B) → ((a : List Symbol) → P a x.0 → Q a (g x.0)) → IsFront P s x → IsFront Q s (g x.0, x.1)
+pub front_as : {A B : Type 0} {P : List Symbol → A → Type 0} {Q : List Symbol → B → Type 0} {s : List Symbol} {x : A × List Symbol} (g : A → B) →
+    ((a : List Symbol) → P a x.0 → Q a (g x.0)) → IsFront P s x → IsFront Q s (g x.0, x.1)
 front_as g step f = record { taken = f.taken; parts = f.parts; meant = step f.taken f.meant; shorter = f.shorter }
 
 pub closed_sound : {A : Type 0} (m : Mark) (P : List Symbol → A → Type 0) (read : Reader A) → IsSound P read → IsSound (Closed m P) (closed_by m read)
@@ -66,7 +71,9 @@ bracketed_sound P read sound s x e =
     subst (λ (l : List Symbol). IsFront (Bracketed P) l x) (sym s-is) (front_cons left_round (λ y. y) (λ a m. (m.0, ap (λ (l : List Symbol). left_round ∷ l) m.1, m.2)) f)
 
 -- a symbol and then round brackets
-pub word_sound : {A B : Type 0} (t : Symbol) (P : List Symbol → A → Type 0) (Q : List Symbol → B → Type 0) (g : A → B) → ((a : List Symbol) (y : A) → P a y → Q (t ∷ left_round ∷ (a ++ (right_round ∷ []))) (g y)) → (read : Reader A) → IsSound P read → (s : List Symbol) (x : B × List Symbol) → (bracketed_by read s >>= λ y. Some (g y.0, y.1)) ≡ Some x → IsFront Q (t ∷ s) x
+pub word_sound : {A B : Type 0} (t : Symbol) (P : List Symbol → A → Type 0) (Q : List Symbol → B → Type 0) (g : A → B) →
+    ((a : List Symbol) (y : A) → P a y → Q (t ∷ left_round ∷ (a ++ (right_round ∷ []))) (g y)) → (read : Reader A) → IsSound P read →
+        (s : List Symbol) (x : B × List Symbol) → (bracketed_by read s >>= λ y. Some (g y.0, y.1)) ≡ Some x → IsFront Q (t ∷ s) x
 unfolding Bracketed
 word_sound t P Q g step read sound s x e =
     by_step (bracketed_by read s) _ x e λ b b-is e1.
@@ -90,7 +97,8 @@ named_sound v read sound s x e =
     } in
     subst (λ (l : List Symbol). IsFront IsCell (name v ∷ l) x) (sym s-is) (subst (IsFront IsCell (name v ∷ left_square ∷ r)) (some_is (element v b.0, b.1) x e1) g))
 
-range_sound : (v : List ℕ) (read : Reader ExprTree) → IsSound (IsExpr 10) read → (s : List Symbol) (x : ArrayTree × List Symbol) → range_by read v s ≡ Some x → IsFront IsTarget (name v ∷ left_square ∷ s) x
+range_sound : (v : List ℕ) (read : Reader ExprTree) → IsSound (IsExpr 10) read → (s : List Symbol) (x : ArrayTree × List Symbol) → range_by read v s ≡ Some x →
+    IsFront IsTarget (name v ∷ left_square ∷ s) x
 unfolding range_by
 range_sound v read sound s x e =
     by_step (read s) _ x e λ h h-is e1.
@@ -102,13 +110,15 @@ range_sound v read sound s x e =
     let inner = g.meant.0 in
     subst (IsFront IsTarget (name v ∷ left_square ∷ s)) (some_is (range v h.0 l.0, l.1) x e3) (record {
       taken = name v ∷ left_square ∷ (f.taken ++ (dots ∷ g.taken));
-      parts = ap (λ (t : List Symbol). name v ∷ left_square ∷ t) (f.parts ∙ ap (λ (t : List Symbol). f.taken ++ t) (h-rest ∙ ap (λ (t : List Symbol). dots ∷ t) g.parts) ∙ sym (append_assoc f.taken (dots ∷ g.taken) l.1));
+      parts = ap (λ (t : List Symbol). name v ∷ left_square ∷ t)
+          (f.parts ∙ ap (λ (t : List Symbol). f.taken ++ t) (h-rest ∙ ap (λ (t : List Symbol). dots ∷ t) g.parts) ∙ sym (append_assoc f.taken (dots ∷ g.taken) l.1));
       meant = subst (λ (t : List Symbol). IsTarget (name v ∷ left_square ∷ (f.taken ++ (dots ∷ t))) (range v h.0 l.0)) (sym g.meant.1) (of_range f.meant g.meant.2);
       shorter = omega (arith, f.shorter, g.shorter, ap length h-rest);
     })
 
 -- behind a name and its bracket
-target_from_sound : (v : List ℕ) (read : Reader ExprTree) → IsSound (IsExpr 10) read → (s : List Symbol) (x : ArrayTree × List Symbol) → target_from read v s ≡ Some x → IsFront IsTarget (name v ∷ left_square ∷ s) x
+target_from_sound : (v : List ℕ) (read : Reader ExprTree) → IsSound (IsExpr 10) read → (s : List Symbol) (x : ArrayTree × List Symbol) → target_from read v s ≡ Some x →
+    IsFront IsTarget (name v ∷ left_square ∷ s) x
 unfolding target_from
 target_from_sound v read sound s x e =
     choice_some (after_mark marks.RightSquare s) _ _ x e
@@ -144,7 +154,8 @@ array_sound read sound (Plain g ∷ s) x e = array_from_sound read sound g s x e
 array_sound read sound (Text bytes ∷ s) x e = absurd cc
 array_sound read sound (CheckWord n ∷ s) x e = absurd cc
 
-primary_from_sound : (read : Reader ExprTree) → IsSound (IsExpr 10) read → (g : Sign) (s : List Symbol) (x : ExprTree × List Symbol) → primary_from read g s ≡ Some x → IsFront IsPrimary (Plain g ∷ s) x
+primary_from_sound : (read : Reader ExprTree) → IsSound (IsExpr 10) read → (g : Sign) (s : List Symbol) (x : ExprTree × List Symbol) → primary_from read g s ≡ Some x →
+    IsFront IsPrimary (Plain g ∷ s) x
 unfolding primary_from brackets_from function_from
 primary_from_sound read sound (signs.Number z) s x e =
     subst (IsFront IsPrimary (Plain (signs.Number z) ∷ s)) (some_is (number z, s) x e) (record { taken = Plain (signs.Number z) ∷ []; parts = refl; meant = of_number; shorter = omega arith })
@@ -155,7 +166,8 @@ primary_from_sound read sound (signs.Function functions.Abs) s x e = word_sound 
 primary_from_sound read sound (signs.Function functions.Int) s x e = word_sound (function functions.Int) IsArray IsPrimary int (λ a y m. of_array m) (array_by read) (array_sound read sound) s x e
 primary_from_sound read sound _ s x e = absurd cc
 
-primary_sound : (read : Reader ExprTree) → IsSound (IsExpr 10) read → (t : Symbol) (s : List Symbol) (x : ExprTree × List Symbol) → primary_from read (sign_of t) s ≡ Some x → IsFront IsPrimary (t ∷ s) x
+primary_sound : (read : Reader ExprTree) → IsSound (IsExpr 10) read → (t : Symbol) (s : List Symbol) (x : ExprTree × List Symbol) →
+    primary_from read (sign_of t) s ≡ Some x → IsFront IsPrimary (t ∷ s) x
 unfolding primary_from brackets_from function_from
 primary_sound read sound (Plain g) s x e = primary_from_sound read sound g s x e
 primary_sound read sound (Text bytes) s x e = absurd cc

@@ -10,7 +10,8 @@ use Rattle.stapl_syntax.specs.Symbols.{Symbol, Plain, Text, Literal, CheckWord, 
 use Rattle.stapl_syntax.specs.Trees.{ExprTree, unary, binary}
 use Rattle.stapl_syntax.specs.Expressions.{level_of}
 use Rattle.stapl_grammar.specs.Looks.{after_mark}
-use Rattle.stapl_grammar.specs.Reading.{◌>>=◌, Reader, next_sign, literal_at, next_operator, closed_by, bracketed_by, named_by, range_by, target_from, target_by, bool_from, array_from, array_by, brackets_from, function_from, primary_from, unary_of, unary_by, expr_in, climb_in, expr, climb}
+use Rattle.stapl_grammar.specs.Reading.{◌>>=◌, Reader, next_sign, literal_at, next_operator, closed_by, bracketed_by, named_by, range_by, target_from, target_by, bool_from,
+    array_from, array_by, brackets_from, function_from, primary_from, unary_of, unary_by, expr_in, climb_in, expr, climb}
 use Rattle.stapl_grammar.proofs.Tools.{after_mark_some, next_operator_some}
 use Rattle.stapl_grammar.proofs.Sound.{expr_sound, unary_sound}
 
@@ -141,7 +142,8 @@ climb-is n e s =
     refl
 
 -- an operand, by its first sign
-pub unary_is : (read : Reader ExprTree) (g : Sign) (s r : List Symbol) → next_sign s ≡ Some (g, r) → unary_by read s ≡ option_map_or (λ op. unary_by read r >>= λ x. Some (unary op x.0, x.1)) (unary_of g) (primary_from read g r)
+pub unary_is : (read : Reader ExprTree) (g : Sign) (s r : List Symbol) → next_sign s ≡ Some (g, r) →
+    unary_by read s ≡ option_map_or (λ op. unary_by read r >>= λ x. Some (unary op x.0, x.1)) (unary_of g) (primary_from read g r)
 unfolding unary_by next_sign
 unary_is read g [] r h = absurd cc
 unary_is read g (t ∷ s) r h =

@@ -4,7 +4,8 @@ use Rattle.std.specs.Prelude.{nat_le}
 use Rattle.std.specs.Option.{option_map_or}
 use Rattle.std.proofs.lemmas.Bool.{eqb-true, eq-eqb, leb-true, le-leb, lt-leb, cases_lt}
 use Rattle.stapl_lexer.specs.declared.terminal.BinOp.{BinOp}
-use Rattle.stapl_lexer.specs.declared.terminal.BinOp.TheVariants.{Multiply, Divide, Remainder, Add, Subtract, ShiftLeft, ShiftRight, Less, AtMost, Greater, AtLeast, Equal, NotEqual, BitAnd, BitXor, BitOr, And, Or}
+use Rattle.stapl_lexer.specs.declared.terminal.BinOp.TheVariants.{Multiply, Divide, Remainder, Add, Subtract, ShiftLeft, ShiftRight, Less, AtMost, Greater, AtLeast, Equal,
+    NotEqual, BitAnd, BitXor, BitOr, And, Or}
 use Rattle.stapl_lexer.specs.declared.terminal.Mark.{Mark}
 use Rattle.stapl_lexer.specs.declared.terminal.Mark.TheVariants.{Tilde, Exclamation, LeftRound, RightRound, LeftSquare, RightSquare, Dots, Comma, Equals, Colon}
 use Rattle.stapl_lexer.specs.declared.terminal.JoinWord.{JoinWord}
@@ -30,7 +31,8 @@ pub some_is : {A : Type 0} (x y : A) → Some x ≡ Some y → x ≡ y
 some_is x y e = cc
 
 -- which way a choice went
-pub choice_some : {A B : Type 0} {P : Type 0} (o : Option A) (f : A → Option B) (d : Option B) (y : B) → option_map_or f o d ≡ Some y → (o ≡ None → d ≡ Some y → P) → ((x : A) → o ≡ Some x → f x ≡ Some y → P) → P
+pub choice_some : {A B : Type 0} {P : Type 0} (o : Option A) (f : A → Option B) (d : Option B) (y : B) → option_map_or f o d ≡ Some y → (o ≡ None → d ≡ Some y → P) →
+    ((x : A) → o ≡ Some x → f x ≡ Some y → P) → P
 choice_some None f d y e n s = n refl e
 choice_some (Some x) f d y e n s = s x refl e
 

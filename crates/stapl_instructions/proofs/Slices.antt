@@ -17,22 +17,7 @@ use Rattle.stapl_instructions.specs.declared.effects.Made.TheVariants as mades
 use Rattle.stapl_instructions.specs.declared.act.Workspace.{Workspace}
 use Rattle.stapl_instructions.specs.Jobs.{job_scan, job_lands}
 use Rattle.stapl_instructions.specs.Acts.{IsMade, IsActed, RestsAfter, told_by, deeds_told, operands_of, state_of, step_of, stepped}
-
--- these values put on one after another
-abbrev onto : List Value → List Value → List Value
-onto [] ops = ops
-onto (v ∷ vs) ops = onto vs (v ∷ ops)
-
-taken_more : (vs : List Value) (n : ℕ) (done ops : List Value) → taken_onto (length vs + n) done (onto vs ops) ≡ taken_onto n (vs ++ done) ops
-taken_more [] n done ops = ap (λ m. taken_onto m done ops) (omega arith)
-taken_more (v ∷ vs) n done ops =
-    let e : length (v ∷ vs) + n ≡ length vs + suc n = omega arith in
-    ap (λ m. taken_onto m done (onto vs (v ∷ ops))) e ∙ taken_more vs (suc n) done (v ∷ ops)
-
-taken_back : (vs ops : List Value) → taken (length vs) (onto vs ops) ≡ Some (vs, ops)
-taken_back vs ops =
-    let e : length vs ≡ length vs + 0 = omega arith in
-    ap (λ m. taken m (onto vs ops)) e ∙ taken_more vs 0 [] ops ∙ ap (λ l. Some (l, ops)) (append-nil vs)
+use Rattle.stapl_code.proofs.PutOn.{onto, taken_back}
 
 turned : (front back : List Value) → reverse (front ++ back) ≡ onto back (reverse front)
 turned front [] = ap reverse (append-nil front)

@@ -1,5 +1,6 @@
 -- On the depth rule: brackets are counted from the front, and the count falls to 0 and not below.
-use Rattle.std.proofs.Common.{◌≡◌, ◌≤◌, ◌<◌, ◌+◌, ◌-◌, ℕ, List, [], ◌∷◌, ◌++◌, length, drop, get_or, refl, sym, ap, ◌∙◌, Bool, true, false, ◌||◌, arith, suc, add-one, nat_lt, if◌then◌else◌, Option, Some, inl, inr, ◌⊎◌}
+use Rattle.std.proofs.Common.{◌≡◌, ◌≤◌, ◌<◌, ◌+◌, ◌-◌, ℕ, List, [], ◌∷◌, ◌++◌, length, drop, get_or, refl, sym, ap, ◌∙◌, Bool, true, false, ◌||◌, arith, suc, add-one, nat_lt,
+    if◌then◌else◌, Option, Some, inl, inr, ◌⊎◌}
 use Rattle.std.proofs.Math.ListN.{drop_of_length-le}
 use Rattle.std.proofs.Math.Seq.{drop-cons}
 use Rattle.std.proofs.lemmas.List.Sums.{sum_by-cons}
@@ -140,9 +141,12 @@ module _ (n : ℕ) (token : Token) (tokens : List Token) where
       count_of is_closing front + 32 < open_after token.terminal n + count_of is_opening front
   unfolding opened
   passed front lt = elim (bracket token.terminal) [
-    | inl is ↦ let e : open_after token.terminal n ≡ n + 1 = λ j. opened (is.0 j) (is.1 j) in omega (arith, lt, count_first is_opening token front true is.0, count_first is_closing token front false is.1, e)
-    | inr (inl is) ↦ let e : open_after token.terminal n ≡ n - 1 = λ j. opened (is.0 j) (is.1 j) in omega (arith, lt, count_first is_opening token front false is.0, count_first is_closing token front true is.1, e)
-    | inr (inr is) ↦ let e : open_after token.terminal n ≡ n = λ j. opened (is.0 j) (is.1 j) in omega (arith, lt, count_first is_opening token front false is.0, count_first is_closing token front false is.1, e)
+    | inl is ↦ let e : open_after token.terminal n ≡ n + 1 = λ j. opened (is.0 j) (is.1 j) in omega
+        (arith, lt, count_first is_opening token front true is.0, count_first is_closing token front false is.1, e)
+    | inr (inl is) ↦ let e : open_after token.terminal n ≡ n - 1 =
+        λ j. opened (is.0 j) (is.1 j) in omega (arith, lt, count_first is_opening token front false is.0, count_first is_closing token front true is.1, e)
+    | inr (inr is) ↦ let e : open_after token.terminal n ≡ n =
+        λ j. opened (is.0 j) (is.1 j) in omega (arith, lt, count_first is_opening token front false is.0, count_first is_closing token front false is.1, e)
   ]
 
 -- what the count finds is there

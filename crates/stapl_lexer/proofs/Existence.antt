@@ -1,5 +1,6 @@
 -- Each text has pieces, and the bytes between two places have tokens, good and bad.
-use Rattle.std.proofs.Common.{◌≡◌, ◌≤◌, ◌<◌, ◌+◌, ℕ, List, [], ◌∷◌, ◌++◌, length, take, drop, get_or, refl, sym, ap, ◌∙◌, Bool, true, false, ◌&&◌, ◌||◌, ◌==◌, not, arith, subst, zero, suc, append_assoc, append-nil, slice_index, slice_range, Option, None, Some, nat_le, codes, if◌then◌else◌, ◌⊎◌, inl, inr}
+use Rattle.std.proofs.Common.{◌≡◌, ◌≤◌, ◌<◌, ◌+◌, ℕ, List, [], ◌∷◌, ◌++◌, length, take, drop, get_or, refl, sym, ap, ◌∙◌, Bool, true, false, ◌&&◌, ◌||◌, ◌==◌, not, arith,
+    subst, zero, suc, append_assoc, append-nil, slice_index, slice_range, Option, None, Some, nat_le, codes, if◌then◌else◌, ◌⊎◌, inl, inr}
 use Rattle.std.proofs.Math.Seq.{take-append_seam, drop-append_seam}
 use Rattle.std.proofs.lemmas.Bool.{and_parts, cases_eq, eqb-true}
 use Rattle.std.proofs.lemmas.Bool.Decides.{nat_tests}
@@ -16,13 +17,15 @@ use Rattle.stapl_lexer.specs.Runs.{StartsWithout, IsSolid, IsDigits}
 use Rattle.stapl_lexer.specs.Marks.{is_mark_spelling}
 use Rattle.stapl_lexer.specs.ReservedWords.{spells_word}
 use Rattle.stapl_lexer.specs.Segments.{Segment, Plain, Closed, Open, Comment, spelled, IsSegment, Divides}
-use Rattle.stapl_lexer.specs.PieceTokens.{AreBlanks, is_exponent_mark, begins_exponent, IsExponent, is_literal_digit, SpacedDigits, IsLiteral, is_closed, Spells, kind_at, first_word, value_of, terminal_of, Lexeme, HasLexemes}
+use Rattle.stapl_lexer.specs.PieceTokens.{AreBlanks, is_exponent_mark, begins_exponent, IsExponent, is_literal_digit, SpacedDigits, IsLiteral, is_closed, Spells, kind_at,
+    first_word, value_of, terminal_of, Lexeme, HasLexemes}
 use Rattle.stapl_lexer.proofs.Dividing.{divided}
 use Rattle.stapl_lexer.proofs.LexemeLemmas.{range_first}
 use Rattle.stapl_lexer.proofs.PieceTokenLemmas.{clash, same_blanks, same_spaced, range_behind, range_front, range_length}
 use Rattle.stapl_lexer.proofs.RunLemmas.{both_true}
 use Rattle.stapl_lexer.proofs.SpellingLemmas.{no_zero_mark}
 use Rattle.stapl_lexer.proofs.CutLemmas.{head_is, blank_by_head}
+use Rattle.stapl_lexer.proofs.NameLemmas.{letter_name}
 
 -- each text has pieces
 pub cut_exists : (text : List ℕ) → (pieces : List Piece) × IsCut text pieces
@@ -342,9 +345,6 @@ pub mark_exists : (a : ℕ) (bs : List ℕ) → TokenInFront kinds.Mark (a ∷ b
 mark_exists a bs = mark_with a bs (is_mark_spelling (a ∷ slice_index bs 0 ∷ [])) refl
 
 -- any token
-letter_name : (b : ℕ) → is_ascii_alphabetic b ≡ true → is_name_byte b ≡ true
-letter_name b h = grind (arith, nat_tests, h)
-
 of_kind : (b : ℕ) (bs : List ℕ) (letter digit quote hash dollar : Bool) → is_ascii_alphabetic b ≡ letter → is_ascii_digit b ≡ digit →
     TokenInFront (if letter then kinds.Word else if digit then kinds.Number else if quote then kinds.Text
     else if hash then kinds.Binary else if dollar then kinds.Hexadecimal else kinds.Mark) (b ∷ bs)

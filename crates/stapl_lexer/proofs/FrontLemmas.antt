@@ -1,5 +1,6 @@
 -- On the token in front of some bytes.
-use Rattle.std.proofs.Common.{◌≡◌, ◌≤◌, ◌<◌, ◌+◌, ◌-◌, ℕ, List, [], ◌∷◌, ◌++◌, length, take, drop, get_or, refl, sym, ap, ◌∙◌, Bool, true, false, ◌&&◌, ◌==◌, not, arith, subst, zero, suc, add-one, append-nil, append_assoc, nat_le, codes}
+use Rattle.std.proofs.Common.{◌≡◌, ◌≤◌, ◌<◌, ◌+◌, ◌-◌, ℕ, List, [], ◌∷◌, ◌++◌, length, take, drop, get_or, refl, sym, ap, ◌∙◌, Bool, true, false, ◌&&◌, ◌==◌, not, arith,
+    subst, zero, suc, add-one, append-nil, append_assoc, nat_le, codes}
 use Rattle.std.proofs.Math.ListN.{drop_of_length-le}
 use Rattle.std.proofs.Math.Seq.{take-suc, take-length}
 use Rattle.std.proofs.lemmas.Bool.{and_parts}
@@ -19,11 +20,9 @@ use Rattle.stapl_lexer.proofs.RunLemmas.{run_has}
 use Rattle.stapl_lexer.proofs.PieceTokenLemmas.{clash, same_spaced, same_blanks}
 use Rattle.stapl_lexer.proofs.SpellingLemmas.{no_zero_mark}
 use Rattle.stapl_lexer.proofs.NumberLemmas.{passes_at}
+use Rattle.stapl_lexer.proofs.NameLemmas.{letter_name}
 
 -- words
-letter_name : (b : ℕ) → is_ascii_alphabetic b ≡ true → is_name_byte b ≡ true
-letter_name b h = grind (arith, nat_tests, h)
-
 letter_has : (bytes : List ℕ) → is_ascii_alphabetic (get_or bytes 0 0) ≡ true → 0 < length bytes
 letter_has [] h = absurd cc
 letter_has (b ∷ bs) h = omega arith

@@ -1,5 +1,6 @@
 -- On names in upper case.
-use Rattle.std.proofs.Common.{◌≡◌, ◌<◌, ◌≤◌, ◌+◌, ◌-◌, ℕ, List, [], ◌∷◌, ◌++◌, length, take, get_or, map, refl, sym, ap, ◌∙◌, true, false, Bool, ◌&&◌, nat_le, Option, Some, None, arith, slice_set, subst, add-one, suc, append_assoc}
+use Rattle.std.proofs.Common.{◌≡◌, ◌<◌, ◌≤◌, ◌+◌, ◌-◌, ℕ, List, [], ◌∷◌, ◌++◌, length, take, get_or, map, refl, sym, ap, ◌∙◌, true, false, Bool, ◌&&◌, nat_le, Option, Some,
+    None, arith, slice_set, subst, add-one, suc, append_assoc}
 use Rattle.std.proofs.lemmas.Bool.{and_parts, leb-true}
 use Rattle.std.proofs.lemmas.Bool.Decides.{nat_tests}
 use Rattle.std.proofs.lemmas.Grind.{common_steps}
@@ -14,6 +15,9 @@ use Rattle.stapl_lexer.specs.declared.terminal.Terminal.{Terminal}
 use Rattle.stapl_lexer.specs.ReservedWords.{reserved_words, spells_word, word_terminal, is_reserved_word}
 use Rattle.stapl_lexer.specs.Terminals.{terminal_in}
 use Rattle.stapl_lexer.specs.Names.{is_name_byte, is_name, IsUpperName, IsStored}
+
+pub letter_name : (b : ℕ) → is_ascii_alphabetic b ≡ true → is_name_byte b ≡ true
+letter_name b h = grind (arith, nat_tests, h)
 
 -- one more byte of a name is stored
 stored_more : (room name : List ℕ) (i b : ℕ) → i < length name → length name ≤ 32 → b ≡ get_or name i 0 →

@@ -1,5 +1,6 @@
 -- On numbers in front of some bytes.
-use Rattle.std.proofs.Common.{◌≡◌, ◌≢◌, ◌≤◌, ◌<◌, ◌+◌, ◌*◌, ◌^◌, ◌-◌, ℕ, min, List, [], ◌∷◌, ◌++◌, length, take, drop, get_or, refl, sym, ap, ◌∙◌, Bool, true, false, arith, subst, zero, suc, append-nil, add-one, inl, inr}
+use Rattle.std.proofs.Common.{◌≡◌, ◌≢◌, ◌≤◌, ◌<◌, ◌+◌, ◌*◌, ◌^◌, ◌-◌, ℕ, min, List, [], ◌∷◌, ◌++◌, length, take, drop, get_or, refl, sym, ap, ◌∙◌, Bool, true, false, arith,
+    subst, zero, suc, append-nil, add-one, inl, inr}
 use Rattle.std.proofs.Math.Seq.{take-add, drop-append_seam}
 use Rattle.std.proofs.lemmas.Bool.{and_parts, cases_order}
 use Rattle.std.proofs.lemmas.Bool.Decides.{nat_tests}
@@ -16,10 +17,10 @@ use Rattle.stapl_lexer.proofs.RunLemmas.{run_has}
 use Rattle.stapl_lexer.proofs.PieceTokenLemmas.{mark_no_digit}
 
 -- a value that is capped at each digit is the value, capped
-capped : (a v d limit : ℕ) → v ≡ min a limit → min (v * 10 + d) limit ≡ min (a * 10 + d) limit
+pub capped : (a v d limit : ℕ) → v ≡ min a limit → min (v * 10 + d) limit ≡ min (a * 10 + d) limit
 capped a v d limit e = omega arith
 
-digit_value_is : (b : ℕ) → is_ascii_digit b ≡ true → digit_value b ≡ b - 48
+pub digit_value_is : (b : ℕ) → is_ascii_digit b ≡ true → digit_value b ≡ b - 48
 digit_value_is b h = grind (arith, nat_tests, h)
 
 pub passes_at : (test : ℕ → Bool) (bytes : List ℕ) (i : ℕ) → list_all test bytes ≡ true → i < length bytes → test (get_or bytes i 0) ≡ true

@@ -109,7 +109,8 @@ module _ {C O : Type 0} (breakage : PinCable C O → Breakage) (board : C → Op
   }
 
   -- the whole, by another name
-  pub to_same : (a b : PinCable C O) (all other : Chain → Run) (count counted : Chain → ℕ) (steps now : ℕ) (ending : Option Ending) (u : State) → ((k : Chain) → all k ≡ other k) → ((k : Chain) → count k ≡ counted k) →
+  pub to_same : (a b : PinCable C O) (all other : Chain → Run) (count counted : Chain → ℕ) (steps now : ℕ) (ending : Option Ending) (u : State) →
+      ((k : Chain) → all k ≡ other k) → ((k : Chain) → count k ≡ counted k) →
       RunsTo breakage board makes shown all count a steps ending u b now → RunsTo breakage board makes shown other counted a steps ending u b now
   to_same a b all other count counted steps now ending u e n r = record {
     events = r.events;
@@ -169,7 +170,8 @@ module _ {C O : Type 0} (breakage : PinCable C O → Breakage) (board : C → Op
         opened_count k ∙ ap (λ (n : ℕ). turn_count k + n) (ap (λ (h : Happened). counted_then h counts) e ∙ counted_with events rest counts)
 
     -- what was counted before the turn
-    counted_so : (clocks : List Clock) (more : List Bool) → then + here_count (chain_before breakage board makes shown b clocks more) ≡ steps + count (chain_before breakage board makes shown a (first.clocks ++ clocks) more)
+    counted_so : (clocks : List Clock) (more : List Bool) → then + here_count (chain_before breakage board makes shown b clocks more) ≡ steps + count
+        (chain_before breakage board makes shown a (first.clocks ++ clocks) more)
     counted_so clocks more = first.ticked (tdos clocks ++ more) ∙ ap (λ (k : Chain). steps + count k) (sym (before_both breakage board makes shown both a first.clocks clocks more))
 
     -- the turn leads on
@@ -247,7 +249,8 @@ module _ {C O : Type 0} (breakage : PinCable C O → Breakage) (board : C → Op
         let k = λ (more : List Bool). chain_before breakage board makes shown b d.clocks (mid more) in
         let l = λ (more : List Bool). chain_before breakage board makes shown c r.clocks more in
         let whole_clocks : List Clock = (first.clocks ++ d.clocks) ++ r.clocks in
-        let opened_whole = λ (more : List Bool). ap all (before_both breakage board makes shown both a (first.clocks ++ d.clocks) r.clocks more) ∙ all_is (w (l more)) d.events d.clocks (mid more) (d.does (mid more)) in
+        let opened_whole = λ (more : List Bool). ap all (before_both breakage board makes shown both a (first.clocks ++ d.clocks) r.clocks more) ∙ all_is
+            (w (l more)) d.events d.clocks (mid more) (d.does (mid more)) in
         let same = λ (more : List Bool). is (l more) in
         record {
           events = (first.events ++ d.events) ++ r.events;
@@ -290,7 +293,8 @@ module _ {C O : Type 0} (breakage : PinCable C O → Breakage) (board : C → Op
         let mid = λ (more : List Bool). tdos r.clocks ++ more in
         let k = λ (more : List Bool). chain_before breakage board makes shown b d.clocks (mid more) in
         let l = λ (more : List Bool). chain_before breakage board makes shown c r.clocks more in
-        let opened_whole = λ (more : List Bool). ap all (before_both breakage board makes shown both a (first.clocks ++ d.clocks) r.clocks more) ∙ all_is (w (l more)) d.events d.clocks (mid more) (d.does (mid more)) in
+        let opened_whole = λ (more : List Bool). ap all (before_both breakage board makes shown both a (first.clocks ++ d.clocks) r.clocks more) ∙ all_is
+            (w (l more)) d.events d.clocks (mid more) (d.does (mid more)) in
         record {
           events = (first.events ++ d.events) ++ r.events;
           clocks = (first.clocks ++ d.clocks) ++ r.clocks;

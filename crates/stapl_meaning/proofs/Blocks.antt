@@ -1,6 +1,7 @@
 -- Which pieces of a program play, and which block is open before them: the blocks of DATA are put out, and all others
 -- are as in the program.
-use Rattle.std.proofs.Common.{◌≡◌, ℕ, zero, suc, ◌+◌, Bool, true, false, not, ◌&&◌, ◌||◌, if◌then◌else◌, List, [], ◌∷◌, length, take, map, slice_get, Option, Some, None, is_some, refl, sym, ap, subst, ◌∙◌, All}
+use Rattle.std.proofs.Common.{◌≡◌, ℕ, zero, suc, ◌+◌, Bool, true, false, not, ◌&&◌, ◌||◌, if◌then◌else◌, List, [], ◌∷◌, length, take, map, slice_get, Option, Some, None,
+    is_some, refl, sym, ap, subst, ◌∙◌, All}
 use Rattle.std.specs.List.{cons_option}
 use Rattle.std.specs.Map.{lookup}
 use Rattle.std.specs.Str.{bytes_eq}
@@ -50,7 +51,8 @@ same_count now [] = refl
 same_count now (st ∷ rest) = ap suc (same_count (data_behind now st.body) rest)
 
 -- no DATA is left, and what holds of each statement and of an idle one holds of each piece
-pub all_pieces : (P : StmtTree → Type 0) → P idle → ((now : Option (List ℕ)) (st : StmtTree) → plays now st.body ≡ true → P st) → (now : Option (List ℕ)) (rest : List StmtTree) → All P (pieces_from now rest)
+pub all_pieces : (P : StmtTree → Type 0) → P idle → ((now : Option (List ℕ)) (st : StmtTree) → plays now st.body ≡ true → P st) →
+    (now : Option (List ℕ)) (rest : List StmtTree) → All P (pieces_from now rest)
 all_pieces P none each now [] = All-nil P
 all_pieces P none each now (st ∷ rest) =
     All-cons P (if plays now st.body then st else idle) (pieces_from (data_behind now st.body) rest) (by (plays now st.body) refl) (all_pieces P none each (data_behind now st.body) rest)

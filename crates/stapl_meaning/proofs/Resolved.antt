@@ -1,5 +1,6 @@
 -- What a statement of a program names is there: its variables, its labels, and the procedures of an ACTION.
-use Rattle.std.proofs.Common.{◌≡◌, ℕ, zero, suc, ◌+◌, ◌-◌, ◌<◌, Bool, true, false, not, ◌||◌, if◌then◌else◌, List, [], ◌∷◌, ◌++◌, length, map, slice_get, Option, Some, None, is_some, is_none, refl, sym, ap, subst, ◌∙◌, arith, All, IfSome}
+use Rattle.std.proofs.Common.{◌≡◌, ℕ, zero, suc, ◌+◌, ◌-◌, ◌<◌, Bool, true, false, not, ◌||◌, if◌then◌else◌, List, [], ◌∷◌, ◌++◌, length, map, slice_get, Option, Some, None,
+    is_some, is_none, refl, sym, ap, subst, ◌∙◌, arith, All, IfSome}
 use Rattle.std.specs.List.{list_any, list_all, AllByRecursion}
 use Rattle.std.specs.Option.{option_map_or}
 use Rattle.std.specs.Map.{lookup}
@@ -19,7 +20,8 @@ use Rattle.stapl_syntax.specs.Names.{numbered, block_of, block_of_body, label_of
 use Rattle.stapl_syntax.specs.Mentions.{variables_named, item_name, procedures_named, blocks_used, labels_named}
 use Rattle.stapl_syntax.specs.Rules.{is_absent, is_data_block, Known, known_from, names_undefined, is_well_kinded, has_too_many_values}
 use Rattle.stapl_syntax.specs.Kinds.{operands_suit}
-use Rattle.stapl_meaning.specs.Scopes.{plays, pieces_from, Preset, preset_of, presets_from, program_names, as_played, block_at, lookup_from, label_from, procedures_in, procedure_before, procedure_number}
+use Rattle.stapl_meaning.specs.Scopes.{plays, pieces_from, Preset, preset_of, presets_from, program_names, as_played, block_at, lookup_from, label_from, procedures_in,
+    procedure_before, procedure_number}
 use Rattle.stapl_meaning.specs.Typed.{IsInBlock, IsDeclared, IsTypedAt, IsTypedPreset, NamesProcedure, NamesProcedures}
 use Rattle.stapl_meaning.proofs.Entries.{name_same, key_same, all_from_each, all_declared, all_firsts, found_holds}
 use Rattle.stapl_meaning.proofs.Sound.{IsSound}
@@ -67,7 +69,8 @@ module _ (program : List StmtTree) (sound : IsSound program) where
       all_firsts key_eq (StandsAs program) (declared label_of (numbered (map Some program)))
       (all_declared label_of (StandsAs program) program None 1 (λ i st e at is. label_stands program sound i st e at is))
 
-  label_there : (none : ℕ) (block name : List ℕ) → has_label (program_names program) (Some block) name ≡ true → IsInBlock (as_played program) block (label_from (program_names program) none (Some block) name)
+  label_there : (none : ℕ) (block name : List ℕ) → has_label (program_names program) (Some block) name ≡ true →
+      IsInBlock (as_played program) block (label_from (program_names program) none (Some block) name)
   label_there none block name has = by (lookup (key_eq (key_in block name)) (program_names program).labels) refl has
     where
       by : (o : Option ℕ) → lookup (key_eq (key_in block name)) (program_names program).labels ≡ o → is_some o ≡ true → IsInBlock (as_played program) block (option_map_or (λ piece. piece - 1) o none)
@@ -107,15 +110,18 @@ module _ (program : List StmtTree) (sound : IsSound program) where
           let names = program_names program in
           let count = length (pieces_from None program) in
           let known = known_parts (known_from names (block_at program i)) st.body (sound.keeps i st reasons.Undefined own.at) in
-          let labels = labels_there program sound count block (labels_named st.body) (subst (λ inside. list_any (λ name. not (has_label names inside name)) (labels_named st.body) ≡ false) e known.2) in
+          let labels = labels_there program sound count block (labels_named st.body)
+              (subst (λ inside. list_any (λ name. not (has_label names inside name)) (labels_named st.body) ≡ false) e known.2) in
           let kinded = not-false (is_well_kinded (known_from names (block_at program i)) st.body) (sound.keeps i st reasons.TypeMismatch own.at) in
           let procedures = list_all (λ name. not (is_data_block (block_named names name))) (procedures_named st.body) in
           record {
             block = block;
             inside = own.inside ∙ e;
-            suits = subst (λ inside. operands_suit (lookup_from names inside).kind st.body ≡ true) (sym own.inside) (and_parts procedures (operands_suit (lookup_from names (block_at program i)).kind st.body) kinded).1;
+            suits = subst (λ inside. operands_suit (lookup_from names inside).kind st.body ≡ true) (sym own.inside)
+                (and_parts procedures (operands_suit (lookup_from names (block_at program i)).kind st.body) kinded).1;
             leads = subst (λ inside. AllByRecursion (λ name. IsInBlock (as_played program) block (label_from names count inside name)) (labels_named st.body)) (sym (own.inside ∙ e)) labels;
-            declares = subst (λ inside. IfSome (declaration st.body) (IsDeclared (as_played program) (lookup_from names inside) (1 + i) block)) (sym own.inside) (declared_at program sound i st own.at block e);
+            declares = subst (λ inside. IfSome (declaration st.body) (IsDeclared (as_played program) (lookup_from names inside) (1 + i) block)) (sym own.inside)
+                (declared_at program sound i st own.at block e);
             few_values = few_values_at program sound i st own.at;
             stable = sound.keeps i st reasons.NotStable own.at;
           }
@@ -138,7 +144,8 @@ module _ (program : List StmtTree) (sound : IsSound program) where
         piece = 1 + i;
         starts = p.starts;
         declares = subst (λ b. IfSome (declaration b) (IsDeclared (as_played program) (lookup_from (program_names program) (Some preset.block)) (1 + i) preset.block)) (sym p.is)
-            (subst (λ o. IfSome (declaration st.body) (IsDeclared (as_played program) (lookup_from (program_names program) o) (1 + i) preset.block)) inside (declared_at program sound i st at preset.block inside));
+            (subst (λ o. IfSome (declaration st.body) (IsDeclared (as_played program) (lookup_from (program_names program) o) (1 + i) preset.block)) inside
+                (declared_at program sound i st at preset.block inside));
         few_values = ap has_too_many_values p.is ∙ few_values_at program sound i st at;
       }
 
@@ -163,7 +170,8 @@ number_below (s ∷ rest) zero n st e at plain is =
     by _ plain is = absurd (none-some e is)
 number_below (s ∷ rest) (suc i) n st e at plain is = by s.body (number_below rest i n st e at plain is)
   where
-    by : (b : BodyTree) → procedure_number rest e.0 < procedures_in rest → procedure_before b e.0 (procedure_number rest e.0) < (if begins_procedure b then suc (procedures_in rest) else procedures_in rest)
+    by : (b : BodyTree) → procedure_number rest e.0 < procedures_in rest →
+        procedure_before b e.0 (procedure_number rest e.0) < (if begins_procedure b then suc (procedures_in rest) else procedures_in rest)
     by (procedure name uses) below = more (bytes_eq e.0 name)
       where
         more : (b : Bool) → (if b then 0 else suc (procedure_number rest e.0)) < suc (procedures_in rest)

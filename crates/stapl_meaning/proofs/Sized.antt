@@ -1,5 +1,6 @@
 -- The variables of a program keep the limits, since no declaration passes one.
-use Rattle.std.proofs.Common.{◌≡◌, ℕ, zero, suc, ◌+◌, ◌≤◌, Bool, true, false, ◌||◌, if◌then◌else◌, List, [], ◌∷◌, ◌++◌, take, map, slice_get, Option, Some, None, IfSome, is_some, sum_by, nat_lt, nat_eq, nat_abs, refl, subst, arith}
+use Rattle.std.proofs.Common.{◌≡◌, ℕ, zero, suc, ◌+◌, ◌≤◌, Bool, true, false, ◌||◌, if◌then◌else◌, List, [], ◌∷◌, ◌++◌, take, map, slice_get, Option, Some, None, IfSome,
+    is_some, sum_by, nat_lt, nat_eq, nat_abs, refl, subst, arith}
 use Rattle.std.specs.List.{cons_option}
 use Rattle.std.specs.Map.{lookup}
 use Rattle.std.specs.Option.{option_map_or}
@@ -11,7 +12,8 @@ use Rattle.stapl_syntax.specs.declared.names.Declaration.{Declaration}
 use Rattle.stapl_syntax.specs.declared.names.Key.{Key}
 use Rattle.stapl_syntax.specs.declared.names.Variable.{Variable}
 use Rattle.stapl_syntax.specs.Trees.{BodyTree, boolean, boolean_array, integer, integer_array, StmtTree}
-use Rattle.stapl_syntax.specs.Names.{Numbered, numbered_from, numbered, inside_behind, declaration, variable_entry, variable_in, variable_of, declared_from, declared, put_first, firsts_behind, firsts, key_eq}
+use Rattle.stapl_syntax.specs.Names.{Numbered, numbered_from, numbered, inside_behind, declaration, variable_entry, variable_in, variable_of, declared_from, declared,
+    put_first, firsts_behind, firsts, key_eq}
 use Rattle.stapl_syntax.specs.Rules.{is_boolean, Totals, totals_of, boolean_limit, booleans_limit, integers_limit, is_too_large, has_too_many_values}
 use Rattle.stapl_meaning.specs.Scopes.{program_names, block_at}
 use Rattle.stapl_meaning.specs.Typed.{HasSize, IsSized, integers_of, booleans_of, AreSized}
@@ -53,7 +55,8 @@ integers_kept : (before : Totals) (o : Option Declaration) → option_map_or (is
 integers_kept before None small within = omega (arith, within)
 integers_kept before (Some d) small within = by (is_boolean d.kind) (or_parts (nat_eq (nat_abs d.size) 0) _ small).1
   where
-    by : (b : Bool) → (if b then nat_lt boolean_limit (nat_abs d.size) || nat_lt booleans_limit (before.booleans + nat_abs d.size) else nat_lt integers_limit (before.integers + nat_abs d.size)) ≡ false →
+    by : (b : Bool) → (if b then nat_lt boolean_limit (nat_abs d.size) || nat_lt booleans_limit (before.booleans + nat_abs d.size) else nat_lt integers_limit
+        (before.integers + nat_abs d.size)) ≡ false →
         before.integers + (if b then 0 else nat_abs d.size) ≤ integers_limit
     by true small = omega (arith, within)
     by false small = ltb-false integers_limit (before.integers + nat_abs d.size) small
@@ -63,7 +66,8 @@ booleans_kept : (before : Totals) (o : Option Declaration) → option_map_or (is
 booleans_kept before None small within = omega (arith, within)
 booleans_kept before (Some d) small within = by (is_boolean d.kind) (or_parts (nat_eq (nat_abs d.size) 0) _ small).1
   where
-    by : (b : Bool) → (if b then nat_lt boolean_limit (nat_abs d.size) || nat_lt booleans_limit (before.booleans + nat_abs d.size) else nat_lt integers_limit (before.integers + nat_abs d.size)) ≡ false →
+    by : (b : Bool) → (if b then nat_lt boolean_limit (nat_abs d.size) || nat_lt booleans_limit (before.booleans + nat_abs d.size) else nat_lt integers_limit
+        (before.integers + nat_abs d.size)) ≡ false →
         before.booleans + (if b then nat_abs d.size else 0) ≤ booleans_limit
     by true small = ltb-false booleans_limit (before.booleans + nat_abs d.size) (or_parts (nat_lt boolean_limit (nat_abs d.size)) (nat_lt booleans_limit (before.booleans + nat_abs d.size)) small).1
     by false small = omega (arith, within)

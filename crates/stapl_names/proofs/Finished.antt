@@ -8,7 +8,8 @@ use Rattle.std.proofs.lemmas.List.Elements.{All-nil, All-cons, All-push, All-hea
 use Rattle.stapl_syntax.specs.declared.names.Declaration.{Declaration}
 use Rattle.stapl_syntax.specs.declared.statement.Stmt.{Stmt}
 use Rattle.stapl_syntax.specs.Trees.{BodyTree, procedure, data_block, StmtTree, stmt_tree}
-use Rattle.stapl_syntax.specs.Names.{Numbered, with_numbers, inside_behind, key_eq, put_first, firsts, firsts_behind, declared, declared_from, declaration, block_of, block_of_body, variable_of, variable_in, names_of}
+use Rattle.stapl_syntax.specs.Names.{Numbered, with_numbers, inside_behind, key_eq, put_first, firsts, firsts_behind, declared, declared_from, declaration, block_of,
+    block_of_body, variable_of, variable_in, names_of}
 use Rattle.stapl_names.specs.declared.tables.Tables.{Tables}
 use Rattle.stapl_names.specs.Tables.{AreUsed, AreSpelled, BearsName, BearsKey, AreFinished, names_in}
 
@@ -97,7 +98,8 @@ variable_keyed_so now n st = by now (declaration st.body)
     by None d = tt
 
 -- the tables of all names are finished
-pub tables_finished : (t : Tables) (ns : List ℕ) (sts : List Stmt) → AreUsed t.blocks → AreSpelled t.variables → names_in t ≡ names_of (with_numbers ns (map stmt_tree sts)) → length sts < 2 ^ 32 → AreFinished t
+pub tables_finished : (t : Tables) (ns : List ℕ) (sts : List Stmt) → AreUsed t.blocks → AreSpelled t.variables →
+    names_in t ≡ names_of (with_numbers ns (map stmt_tree sts)) → length sts < 2 ^ 32 → AreFinished t
 tables_finished t ns sts used spelled are few =
     let all : List Numbered = with_numbers ns (map stmt_tree sts) in
     let same : length (map stmt_tree sts) ≡ length sts = length-map sts stmt_tree in

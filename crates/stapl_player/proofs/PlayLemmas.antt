@@ -151,6 +151,7 @@ module _ {C O : Type 0} (board : C → Option (List Card)) (makes : C → List S
   }
 
 -- a fault of the second part is one of both
-pub fault_after : (a b c : ℕ) (last_a last_b last_c lines : Type 0) (trouble : Trouble) → CountKept a b last_a last_b → IfFault trouble (CountRose b c last_c) lines → IfFault trouble (CountRose a c last_c) lines
+pub fault_after : (a b c : ℕ) (last_a last_b last_c lines : Type 0) (trouble : Trouble) → CountKept a b last_a last_b → IfFault trouble (CountRose b c last_c) lines →
+    IfFault trouble (CountRose a c last_c) lines
 fault_after a b c last_a last_b last_c lines CableFault kept h = rose_after kept h
 fault_after a b c last_a last_b last_c lines WriteFault kept h = h

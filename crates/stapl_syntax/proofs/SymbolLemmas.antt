@@ -23,8 +23,10 @@ use Rattle.stapl_syntax.specs.declared.signs.Sign.{Sign}
 use Rattle.stapl_syntax.specs.declared.signs.Sign.TheVariants as signs
 use Rattle.stapl_syntax.specs.Symbols.{Symbol, Plain, Text, Literal, terminal_sign, word_sign, mark_sign, symbol_as, symbols_of}
 use Rattle.stapl_syntax.specs.Expressions.{IsArray, of_literal, of_target, of_whole, of_range, of_expr, name}
-use Rattle.stapl_syntax.specs.Trees.{ArrayTree, PartTree, exported_array, CompareTree, BodyTree, action, procedure, boolean_array, assign_array, assign_range, if_then, print, export, scan, pad, StmtTree}
-use Rattle.stapl_syntax.specs.Parts.{IsPart, Separated, IsPrintPart, of_string, of_value, of_character, IsExported, of_exported_array, a_print_part, item_part, bits_part, an_array, after, maybe, compare_part, comma, join}
+use Rattle.stapl_syntax.specs.Trees.{ArrayTree, PartTree, exported_array, CompareTree, BodyTree, action, procedure, boolean_array, assign_array, assign_range, if_then, print,
+    export, scan, pad, StmtTree}
+use Rattle.stapl_syntax.specs.Parts.{IsPart, Separated, IsPrintPart, of_string, of_value, of_character, IsExported, of_exported_array, a_print_part, item_part, bits_part,
+    an_array, after, maybe, compare_part, comma, join}
 use Rattle.stapl_syntax.specs.Statements.{IsBody, IsLabelled}
 use Rattle.stapl_syntax.specs.Programs.{AreReadAs, IsProgram}
 use Rattle.stapl_syntax.specs.Contents.{IsFreeName, IsWellNamed, IsShortPart, PrintsShortStrings, AreLiteralBits, HoldsLiteral, HoldsBoth, HoldsLiterals}
@@ -79,7 +81,8 @@ name_sign_of own v is =
     ∙ ap (λ (b : Bool). if b then signs.Name (str_to_ascii_uppercase own) else signs.Other) (upper_is_name own ∙ is.name_spelled)
     ∙ ap signs.Name (sym is.upper)
 
-pub seen_as_name : (own v : List ℕ) → (word_sign (word_terminal own) own ≡ signs.Name v) ↔ ((is_name own ≡ true) × (is_reserved_word (str_to_ascii_uppercase own) ≡ false) × (v ≡ str_to_ascii_uppercase own))
+pub seen_as_name : (own v : List ℕ) → (word_sign (word_terminal own) own ≡ signs.Name v) ↔
+    ((is_name own ≡ true) × (is_reserved_word (str_to_ascii_uppercase own) ≡ false) × (v ≡ str_to_ascii_uppercase own))
 seen_as_name own v = (
   (λ e. let is = sign_name own v e in (is.name_spelled, is.free, is.upper)),
   (λ is. name_sign_of own v (record { name_spelled = is.0; free = is.1; upper = is.2 })),

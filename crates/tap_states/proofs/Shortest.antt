@@ -43,11 +43,11 @@ is_short s = list_all (λ t. has_short_len s t && has_no_more_bits s t) taps
 all_short : list_all is_short taps ≡ true
 all_short = refl
 
-both_first : (a b : Bool) → (a && b) ≡ true → a ≡ true
+pub both_first : (a b : Bool) → (a && b) ≡ true → a ≡ true
 both_first true b h = refl
 both_first false b h = cc
 
-both_second : (a b : Bool) → (a && b) ≡ true → b ≡ true
+pub both_second : (a b : Bool) → (a && b) ≡ true → b ≡ true
 both_second true b h = h
 both_second false b h = cc
 

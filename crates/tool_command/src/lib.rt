@@ -1,4 +1,5 @@
-//! What a command does with its words, over any store and any sink: the texts of `--help` and `--version`, and the tool.
+//! What a command does with its words, over any store and any sink: it writes the text of `--help` or `--version`, or
+//! calls the tool.
 #![tactic(auto)]
 
 mod command;

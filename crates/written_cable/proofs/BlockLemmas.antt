@@ -1,5 +1,6 @@
 -- The clocks of a block, and their digits.
-use Rattle.std.proofs.Common.{◌≡◌, ◌≢◌, inl, inr, ◌<◌, ◌≤◌, ◌+◌, ◌-◌, ◌*◌, ◌^◌, ◌/◌, ◌%◌, ◌&&◌, ℕ, zero, suc, nat_eq, Bool, true, false, List, [], ◌∷◌, ◌++◌, map, length, take, drop, get_or, Option, Some, refl, sym, ap, ap₂, subst, ◌∙◌, append_assoc, arith}
+use Rattle.std.proofs.Common.{◌≡◌, ◌≢◌, inl, inr, ◌<◌, ◌≤◌, ◌+◌, ◌-◌, ◌*◌, ◌^◌, ◌/◌, ◌%◌, ◌&&◌, ℕ, zero, suc, nat_eq, Bool, true, false, List, [], ◌∷◌, ◌++◌, map, length,
+    take, drop, get_or, Option, Some, refl, sym, ap, ap₂, subst, ◌∙◌, append_assoc, arith}
 use Rattle.std.proofs.lemmas.Bool.Decides.{nat_tests}
 use Rattle.std.specs.Prelude.{if◌then◌else◌, slice_index}
 use Rattle.std.specs.Int.{bit_at}
@@ -26,9 +27,7 @@ use Rattle.written_cable.specs.PaperLaws.{puts_nothing}
 use Rattle.written_cable.specs.PinLaws.{front_nothing}
 use Rattle.written_cable.proofs.SignalLemmas.{events_in_pulsed}
 use Rattle.written_cable.specs.Pins.{cable_of, lines_of, tap_of, digits_of, writes_pins, IsSamePort, PutsEvents, HasPut, HasMadePins}
-
-some_is : {X : Type 0} {x y : X} → Some x ≡ Some y → x ≡ y
-some_is e = cc
+use Rattle.std.proofs.lemmas.Option.{same_Some}
 
 own_clocks : (ks : List Clock) → clocks_with (map input_of ks) (tdos ks) ≡ ks
 own_clocks [] = refl
@@ -195,7 +194,7 @@ quiet_waiting digits (k ∷ ks) = quiet_waiting digits ks
 after_told : (before now : Option (List Card)) (is : List Input) (cs after : List Card) →
     now ≡ option_map (λ ks. board_after ks is) before → before ≡ Some cs → now ≡ Some after →
     after ≡ board_after cs is
-after_told before now is cs after e t u = some_is (sym u ∙ e ∙ ap (λ o. option_map (λ ks. board_after ks is) o) t)
+after_told before now is cs after e t u = same_Some _ _ (sym u ∙ e ∙ ap (λ o. option_map (λ ks. board_after ks is) o) t)
 
 -- A block over a cable whose clocks are written.
 module _ {C O : Type 0} (breakage : PinCable C O → Breakage) (shown : O → Shown) (board : C → Option (List Card))

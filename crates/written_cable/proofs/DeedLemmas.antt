@@ -1,5 +1,6 @@
 -- Deeds over a cable whose clocks are written, one after another.
-use Rattle.std.proofs.Common.{◌≡◌, ◌≢◌, ◌⊎◌, inl, inr, ◌<◌, ◌≤◌, ◌+◌, length, drop, slice_index_or, ℕ, Bool, true, false, List, [], ◌∷◌, ◌++◌, map, Option, Some, refl, sym, ap, subst, ◌∙◌, append_assoc}
+use Rattle.std.proofs.Common.{◌≡◌, ◌≢◌, ◌⊎◌, inl, inr, ◌<◌, ◌≤◌, ◌+◌, length, drop, slice_index_or, ℕ, Bool, true, false, List, [], ◌∷◌, ◌++◌, map, Option, Some, refl, sym,
+    ap, subst, ◌∙◌, append_assoc}
 use Rattle.std.proofs.lemmas.List.{map-append, drop_more, drop_all, append-nil}
 use Rattle.tap_states.specs.declared.Tap.{Tap}
 use Rattle.dev_card.specs.Card.{Card}
@@ -144,7 +145,8 @@ module _ {C O : Type 0} (breakage : PinCable C O → Breakage) (board : C → Op
       put = events_both breakage shown a b c xs ys p.same.pins p.put q.put;
     }
 
-    pub passes_both_front : (a b c : PinCable C O) (xs ys : List Event) (front back : List Clock) → Passes breakage board makes shown a xs front b → PassesFront breakage board makes shown b ys back c →
+    pub passes_both_front : (a b c : PinCable C O) (xs ys : List Event) (front back : List Clock) → Passes breakage board makes shown a xs front b →
+        PassesFront breakage board makes shown b ys back c →
         PassesFront breakage board makes shown a (xs ++ ys) (front ++ back) c
     passes_both_front a b c xs ys front back p q = record {
       made = rw (signals_both xs ys) (both (cable_of a) (cable_of b) (cable_of c) (signals_of xs)
@@ -154,7 +156,8 @@ module _ {C O : Type 0} (breakage : PinCable C O → Breakage) (board : C → Op
     }
 
     -- the chain before the clocks of both
-    pub before_both : (a : PinCable C O) (front back : List Clock) (more : List Bool) → chain_before breakage board makes shown a (front ++ back) more ≡ chain_before breakage board makes shown a front (tdos back ++ more)
+    pub before_both : (a : PinCable C O) (front back : List Clock) (more : List Bool) →
+        chain_before breakage board makes shown a (front ++ back) more ≡ chain_before breakage board makes shown a front (tdos back ++ more)
     before_both a front back more = ap (λ (bs : List Bool). port_chain board a bs) (heard_both front back more)
 
     pub did_both : (a b c : PinCable C O) (all middle rest : List Deed) →
@@ -308,7 +311,8 @@ module _ {C O : Type 0} (breakage : PinCable C O → Breakage) (board : C → Op
 
   module _ (old new : PinCable C O) (to : Tap) (d : Deed) (inputs : List Input)
       (events_are : (far : FarEnd) → deed_events (record { tap = tap_of old; base = base_of old; far = far }) d ≡ pulses (far_clocks far inputs))
-      (chain_is : (far : FarEnd) → deed_chain (record { tap = tap_of old; base = base_of old; far = far }) d ≡ (let k : Chain = record { tap = to; base = base_of old; far = far_after far inputs } in k)) (rest : List Deed) where
+      (chain_is : (far : FarEnd) → deed_chain (record { tap = tap_of old; base = base_of old; far = far }) d ≡
+          (let k : Chain = record { tap = to; base = base_of old; far = far_after far inputs } in k)) (rest : List Deed) where
     abbrev far_before : List Clock → List Bool → FarEnd
     far_before clocks more = far_end (board (cable_of old)) (tdos clocks ++ more)
 
@@ -367,7 +371,8 @@ module _ {C O : Type 0} (breakage : PinCable C O → Breakage) (board : C → Op
     pub scan_did : (clocks : List Clock) (captured : List Bool) → tap_of new ≡ s.stop → IsSamePort old new →
         makes (cable_of old) (pulsed clocks) (cable_of new) → PutsEvents breakage shown old (pulses clocks) new →
         map input_of clocks ≡ inputs_of_scan (tap_of old) whole_scan → ((cs : List Card) → board (cable_of old) ≡ Some cs → clocks ≡ clocks_of cs (inputs_of_scan (tap_of old) whole_scan)) →
-        board (cable_of new) ≡ option_map (λ cs. board_after cs (inputs_of_scan (tap_of old) whole_scan)) (board (cable_of old)) → captured ≡ captured_from (tap_of old) whole_scan clocks → DidScan breakage board makes shown s captured old new
+        board (cable_of new) ≡ option_map (λ cs. board_after cs (inputs_of_scan (tap_of old) whole_scan)) (board (cable_of old)) →
+            captured ≡ captured_from (tap_of old) whole_scan clocks → DidScan breakage board makes shown s captured old new
     unfolding one_did
     scan_did clocks captured tap same made put went_in seen cards is =
         let went = went_in ∙ same_inputs in

@@ -4,7 +4,7 @@ use Rattle.std.proofs.lemmas.List.{append-nil, map-append}
 use Rattle.std.specs.Option.{option_map}
 use Rattle.dev_card.specs.Card.{Card}
 use Rattle.dev_card.specs.Board.{Clock, Input, clocks_of, board_after}
-use Rattle.dev_card.proofs.ScanLines.{after-append, clocks-append}
+use Rattle.dev_card.proofs.ScanLines.{after-append, clocks-append, after_none, after_both}
 use Rattle.scan_paths.specs.Cables.{Signal, Pulses, pulsed, input_of, IsClocked}
 use Rattle.scan_paths.proofs.Way.{IsUnderWay}
 use Rattle.dev_card.specs.FarEnds.{FarEnd, Told, Heard, far_clocks}
@@ -20,15 +20,6 @@ keeps_text true (Told cs) events = refl
 keeps_text true (Heard bs) events = refl
 keeps_text false (Told cs) events = refl
 keeps_text false (Heard bs) events = refl
-
-after_none : (o : Option (List Card)) → o ≡ option_map (λ cs. board_after cs []) o
-after_none None = refl
-after_none (Some cs) = refl
-
-after_both : (o : Option (List Card)) (xs ys : List Input) →
-    option_map (λ cs. board_after cs ys) (option_map (λ cs. board_after cs xs) o) ≡ option_map (λ cs. board_after cs (xs ++ ys)) o
-after_both None xs ys = refl
-after_both (Some cs) xs ys = ap Some (sym (after-append xs ys cs))
 
 -- one clock with TMS 1
 abbrev pub one : Input

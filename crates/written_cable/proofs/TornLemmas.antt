@@ -10,12 +10,10 @@ use Rattle.stapl_meaning.specs.Texts.{bytes_of, full_line}
 use Rattle.written_cable.specs.declared.pin_cable.PinCable.{PinCable}
 use Rattle.written_cable.specs.Papers.{Shown, PutsFront, IsOverSame}
 use Rattle.written_cable.specs.Pins.{cable_of, lines_of, tap_of, digits_of, writes_pins, IsSamePort, HasMadePins}
+use Rattle.std.proofs.lemmas.Option.{same_Some}
 
 pub pins≢whole : pins ≡ whole → ⊥
 pins≢whole e = cc
-
-some_same : {X : Type 0} {x y : X} → Some x ≡ Some y → x ≡ y
-some_same e = cc
 
 clock_bytes : (p : Bool) (ds : List ℕ) (k : Clock) → p ≡ true → full_line ds ≡ bytes_of p ds (pulse k ∷ [])
 clock_bytes true ds k e = sym (append-nil (full_line ds))
@@ -49,7 +47,7 @@ module _ {C O : Type 0} (breakage : PinCable C O → Breakage) (board : C → Op
         went_in = refl;
         seen = λ cs t. ap (λ (bit : Bool). let one : Clock = record { tms = tms; tdi = tdi; tdo = bit } in
             one ∷ []) (c.seen cs t);
-        cards = λ cs after t u. some_same (sym u ∙ c.cards
+        cards = λ cs after t u. same_Some _ _ (sym u ∙ c.cards
             ∙ ap (λ (o : Option (List Card)). option_map (λ cs. board_step cs tms tdi) o) t);
         untold = λ t. c.cards ∙ ap (λ (o : Option (List Card)). option_map (λ cs. board_step cs tms tdi) o) t;
       })

@@ -172,7 +172,8 @@ module _ {C O : Type 0} (breakage : PinCable C O → Breakage) (board : C → Op
     pub most : (more : List Bool) → now ≤ steps + count (chain_before old clocks more)
 
 -- What a call keeps of a port, with its answer: nothing is broken where it did not fail, and a failure has its cause.
-pub record Keeps {C O A : Type 0} (breakage : PinCable C O → Breakage) (board : C → Option (List Card)) (line_faults : C → ℕ) (is_line_last : C → Type 0) (pin_faults : C → ℕ) (is_pin_last : C → Type 0)
+pub record Keeps {C O A : Type 0} (breakage : PinCable C O → Breakage) (board : C → Option (List Card)) (line_faults : C → ℕ) (is_line_last : C → Type 0)
+    (pin_faults : C → ℕ) (is_pin_last : C → Type 0)
     (shown : O → Shown) (faults : O → ℕ) (is_last : O → Type 0) (old new : PinCable C O) (result : Result A Trouble) : Type 0 where
   pub kept : IsKept breakage line_faults is_line_last pin_faults is_pin_last shown faults is_last old new
   pub whole_now : OnOk result (breakage new ≡ whole)

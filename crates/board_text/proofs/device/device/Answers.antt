@@ -19,7 +19,8 @@ last_words-requires c =
     omega (arith, device_words c.args.kind c.args.identified (texts c.args.words.now) c.requires, length-map c.args.words.now (λ (w : Bor (List ℕ)). w.now))
 
 pub own_memory-requires : goal.own_memory-requires
-own_memory-requires c = λ flash. subst (λ (ws : List (List ℕ)). fits memory_places ws ≡ true) (sym c.last_words.ensures) (device_memory c.args.kind c.args.identified (texts c.args.words.now) c.requires flash)
+own_memory-requires c = λ flash. subst (λ (ws : List (List ℕ)). fits memory_places ws ≡ true) (sym c.last_words.ensures)
+    (device_memory c.args.kind c.args.identified (texts c.args.words.now) c.requires flash)
 
 pub name_at-requires : goal.name_at-requires
 name_at-requires c = device_name c.args.kind c.args.identified (texts c.args.words.now) c.requires

@@ -17,7 +17,8 @@ returns-then-not-are_opcodes-clause-fault c = λ r e.
     let l : DeviceLine = device_line c.args.kind c.args.identified (texts c.args.words.now) in
     let same : reasons.Range ≡ r = cc in
     subst (λ (x : BoardReason). IsSmallest (ReasonAgainst earlier (Some (device l))) x) same (device_range earlier l
-    (λ good. refuted c.are_opcodes.result c.are_opcodes.ensures.1 c.if-not-are_opcodes.true (in_range_opcodes l c.in-Some.device c.deref.result.now c.in-Ok.opcodes.items c.in-Some.ensures.1 c.deref.ensures.value c.in-Ok.ensures good)))
+    (λ good. refuted c.are_opcodes.result c.are_opcodes.ensures.1 c.if-not-are_opcodes.true
+        (in_range_opcodes l c.in-Some.device c.deref.result.now c.in-Ok.opcodes.items c.in-Some.ensures.1 c.deref.ensures.value c.in-Ok.ensures good)))
 
 pub returns-then-repeats_in_board-clause-fault : goal.returns-then-repeats_in_board-clause-fault
 returns-then-repeats_in_board-clause-fault c = λ r e.
@@ -39,7 +40,8 @@ returns-then-awaits_register-clause-fault c = λ r e.
     opcodes_in_range l c.in-Some.device c.deref.result.now c.in-Ok.opcodes.items c.in-Some.ensures.1 c.deref.ensures.value c.in-Ok.ensures c.in-Some.ensures.0
     (c.are_opcodes.ensures.0 c.if-not-are_opcodes.false) in
     let new : RepeatsInBoard earlier l.description → ⊥ =
-    λ h. refuted c.repeats_in_board.result c.repeats_in_board.ensures.1 c.if-repeats_in_board.false (repeats_there earlier c.deref-3.result.now l.description c.in-Some.device (sym c.deref-3.ensures.value) (sym c.in-Some.ensures.1) h) in
+    λ h. refuted c.repeats_in_board.result c.repeats_in_board.ensures.1 c.if-repeats_in_board.false
+        (repeats_there earlier c.deref-3.result.now l.description c.in-Some.device (sym c.deref-3.ensures.value) (sym c.in-Some.ensures.1) h) in
     let awaits : AwaitsRegister earlier = awaits_there c.deref-4.result.now earlier c.deref-4.ensures.value (c.awaits_register.ensures.0 c.if-awaits_register.true) in
     let same : reasons.Empty ≡ r = cc in
     subst (λ (x : BoardReason). IsSmallest (ReasonAgainst earlier (Some (device l))) x) same (device_empty earlier l good new awaits)
@@ -52,7 +54,8 @@ returns-then-len-ge-MOST_DEVICES-clause-fault c = λ r e.
     opcodes_in_range l c.in-Some.device c.deref.result.now c.in-Ok.opcodes.items c.in-Some.ensures.1 c.deref.ensures.value c.in-Ok.ensures c.in-Some.ensures.0
     (c.are_opcodes.ensures.0 c.if-not-are_opcodes.false) in
     let new : RepeatsInBoard earlier l.description → ⊥ =
-    λ h. refuted c.repeats_in_board.result c.repeats_in_board.ensures.1 c.if-repeats_in_board.false (repeats_there earlier c.deref-3.result.now l.description c.in-Some.device (sym c.deref-3.ensures.value) (sym c.in-Some.ensures.1) h) in
+    λ h. refuted c.repeats_in_board.result c.repeats_in_board.ensures.1 c.if-repeats_in_board.false
+        (repeats_there earlier c.deref-3.result.now l.description c.in-Some.device (sym c.deref-3.ensures.value) (sym c.in-Some.ensures.1) h) in
     let whole : AwaitsRegister earlier → ⊥ =
     λ h. refuted c.awaits_register.result c.awaits_register.ensures.1 c.if-awaits_register.false (awaits_there earlier c.deref-4.result.now (sym c.deref-4.ensures.value) h) in
     let many : most_devices ≤ length earlier = grind (arith, common_steps) in
@@ -67,7 +70,8 @@ returns-clause-added c =
     opcodes_in_range l c.in-Some.device c.deref.result.now c.in-Ok.opcodes.items c.in-Some.ensures.1 c.deref.ensures.value c.in-Ok.ensures c.in-Some.ensures.0
     (c.are_opcodes.ensures.0 c.if-not-are_opcodes.false) in
     let new : RepeatsInBoard earlier l.description → ⊥ =
-    λ h. refuted c.repeats_in_board.result c.repeats_in_board.ensures.1 c.if-repeats_in_board.false (repeats_there earlier c.deref-3.result.now l.description c.in-Some.device (sym c.deref-3.ensures.value) (sym c.in-Some.ensures.1) h) in
+    λ h. refuted c.repeats_in_board.result c.repeats_in_board.ensures.1 c.if-repeats_in_board.false
+        (repeats_there earlier c.deref-3.result.now l.description c.in-Some.device (sym c.deref-3.ensures.value) (sym c.in-Some.ensures.1) h) in
     let whole : AwaitsRegister earlier → ⊥ =
     λ h. refuted c.awaits_register.result c.awaits_register.ensures.1 c.if-awaits_register.false (awaits_there earlier c.deref-4.result.now (sym c.deref-4.ensures.value) h) in
     let few : length earlier < most_devices = grind (arith, common_steps) in

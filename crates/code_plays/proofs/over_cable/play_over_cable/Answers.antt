@@ -40,7 +40,8 @@ returns-clause-put g c =
     record {
       ok = tt;
       front = puts_front_back w c.args.lines.now c.play.new.out (events_text c.args.task.now.request.now.pins [] (task_play c.args.code.now c.args.chosen.now c.args.task.now).events)
-          (subst (λ far. PutsFront (shown_of w) c.args.lines.now (events_text c.args.task.now.request.now.pins [] (far_play c.args.code.now c.args.chosen.now c.args.task.now far).events) c.play.new.out)
+          (subst (λ far. PutsFront (shown_of w) c.args.lines.now
+          (events_text c.args.task.now.request.now.pins [] (far_play c.args.code.now c.args.chosen.now c.args.task.now far).events) c.play.new.out)
           (on_board c.requires.told (tdos p.clocks ++ [])) (p.front []));
     }
 

@@ -12,9 +12,11 @@ pub returns-in_err-put_check-clause-says : goal.returns-in_err-put_check-clause-
 returns-in_err-put_check-clause-says g c =
     says_failed _ _ _ _ _ c.from_residual-in_err-put_check.result c.from_residual-in_err-put_check.ensures.1
     (said_front (check_text (trees_of c.args.program.now) c.in_ok-words.words) (Done (pos 0))
-    (record { said = checked c.in_ok-words.words (rw (c.text.ensures.text, c.statements.ensures.statements) at c.in_ok-words.ensures); done = refl }) (rw c.statements-2.ensures.statements at c.in_err-put_check.ensures.put.front))
+    (record { said = checked c.in_ok-words.words (rw (c.text.ensures.text, c.statements.ensures.statements) at c.in_ok-words.ensures); done = refl })
+    (rw c.statements-2.ensures.statements at c.in_err-put_check.ensures.put.front))
 
 pub returns-clause-says : goal.returns-clause-says
 returns-clause-says g c =
     said_text (check_text (trees_of c.args.program.now) c.in_ok-words.words)
-    (record { said = checked c.in_ok-words.words (rw (c.text.ensures.text, c.statements.ensures.statements) at c.in_ok-words.ensures); done = refl }) (rw c.statements-2.ensures.statements at c.in_ok-put_check.ensures.put.ok)
+    (record { said = checked c.in_ok-words.words (rw (c.text.ensures.text, c.statements.ensures.statements) at c.in_ok-words.ensures); done = refl })
+    (rw c.statements-2.ensures.statements at c.in_ok-put_check.ensures.put.ok)

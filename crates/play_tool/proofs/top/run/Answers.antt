@@ -7,7 +7,8 @@ use Rattle.play_tool.proofs.top.run.Goals as goal
 pub returns-in_err-status-clause-ran : goal.returns-in_err-status-clause-ran
 returns-in_err-status-clause-ran g c =
     of_words_as (λ contents a. record {
-      written = not_answered g.K.Sink.written (WordsAnswer (map (string_bytes {Z = Global}) c.args.words.now) (λ request. contents)) _ _ c.in_err-status.field-0.0 c.from_residual.result c.from_residual.ensures.1
+      written = not_answered g.K.Sink.written (WordsAnswer (map (string_bytes {Z = Global}) c.args.words.now) (λ request. contents)) _ _ c.in_err-status.field-0.0
+          c.from_residual.result c.from_residual.ensures.1
           c.new-lines.ensures.empty (search rules) (search rules) (λ u. u.sink) a.says;
       rack = search rules;
       unread = search rules;

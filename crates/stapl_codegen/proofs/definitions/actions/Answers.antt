@@ -5,7 +5,8 @@ use Rattle.stapl_meaning.specs.Typed.{NamesProcedures}
 use Rattle.stapl_meaning.proofs.Blocks.{body_of}
 use Rattle.stapl_meaning.proofs.Entries.{all_at}
 use Rattle.stapl_codegen.specs.Emit.{action_def}
-use Rattle.stapl_codegen.proofs.Heads.{head_of, get_head, mapped_more}
+use Rattle.stapl_code.proofs.Heads.{head_of, get_head}
+use Rattle.stapl_codegen.proofs.Heads.{mapped_more}
 use Rattle.stapl_codegen.proofs.Places.{at_start, piece, piece_first, next}
 use Rattle.stapl_codegen.proofs.DefinitionSteps.{actions_more}
 use Rattle.stapl_codegen.proofs.definitions.actions.Goals as goal

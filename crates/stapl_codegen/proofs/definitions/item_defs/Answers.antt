@@ -4,7 +4,8 @@ use Rattle.stapl_meaning.specs.Scopes.{as_played}
 use Rattle.stapl_codegen.specs.Emit.{item_def}
 use Rattle.stapl_meaning.specs.Typed.{NamesProcedure}
 use Rattle.stapl_meaning.proofs.Entries.{all_at}
-use Rattle.stapl_codegen.proofs.Heads.{head_of, get_head, mapped_more}
+use Rattle.stapl_code.proofs.Heads.{head_of, get_head}
+use Rattle.stapl_codegen.proofs.Heads.{mapped_more}
 use Rattle.stapl_codegen.proofs.DefinitionSteps.{one_more}
 use Rattle.stapl_codegen.proofs.definitions.item_defs.Goals as goal
 

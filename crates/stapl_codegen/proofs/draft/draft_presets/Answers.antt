@@ -27,7 +27,8 @@ loop-st-preserved c =
     let left = subst (λ l. ArePresetsLeft program c.loop-st.emitter (presets_from block l)) is c.loop-st.invariant in
     let ensures = c.in_ok-draft_preset.ensures in
     rw c.data_behind-block.ensures
-    (preset_more program c.loop-st.emitter c.draft_preset.new.emitter _ (preset_of block (body_tree st.body)) (starts block (body_tree st.body)) left ensures.code ensures.texts ensures.literals ensures.site)
+    (preset_more program c.loop-st.emitter c.draft_preset.new.emitter _ (preset_of block (body_tree st.body))
+        (starts block (body_tree st.body)) left ensures.code ensures.texts ensures.literals ensures.site)
 
 pub returns : goal.returns
 returns c =

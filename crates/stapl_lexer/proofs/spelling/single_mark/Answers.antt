@@ -6,4 +6,6 @@ pub returns-in_default : goal.returns-in_default
 returns-in_default c =
     let o = c.in_default in
     sym (no_single_mark c.args.byte
-    (omega arith, (omega arith, (omega arith, (omega arith, (omega arith, (omega arith, (omega arith, (omega arith, (omega arith, (omega arith, (omega arith, (omega arith, (omega arith, (omega arith, (omega arith, (omega arith, (omega arith, (omega arith, (omega arith, tt))))))))))))))))))))
+    (omega arith, (omega arith, (omega arith, (omega arith, (omega arith,
+        (omega arith, (omega arith, (omega arith, (omega arith,
+            (omega arith, (omega arith, (omega arith, (omega arith, (omega arith, (omega arith, (omega arith, (omega arith, (omega arith, (omega arith, tt))))))))))))))))))))

@@ -16,7 +16,8 @@ invariant-loop-turn g l =
       room : HasRoom l.code l.work;
       none : l.work.operands.items ≡ [];
       within : l._turn ≤ l.turns;
-      runs : Runs b m.board m.made g.O.Paper.shown (run_of l.code l.turns l.start (state_of l.chosen l.fn.work)) (run_ticks_of l.code l.turns l.start (state_of l.chosen l.fn.work)) l.fn.port l.fn.steps
+      runs : Runs b m.board m.made g.O.Paper.shown (run_of l.code l.turns l.start (state_of l.chosen l.fn.work))
+          (run_ticks_of l.code l.turns l.start (state_of l.chosen l.fn.work)) l.fn.port l.fn.steps
           (run_of l.code (l.turns - l._turn) l.place (state_of l.chosen l.work)) (run_ticks_of l.code (l.turns - l._turn) l.place (state_of l.chosen l.work)) l.port l.steps;
       kept : IsKept b m.line_faults m.is_line_last m.pin_faults m.is_pin_last g.O.Paper.shown g.O.Paper.faults g.O.Paper.is_last l.fn.port l.port;
     }

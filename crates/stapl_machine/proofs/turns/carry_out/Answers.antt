@@ -60,7 +60,8 @@ returns-then-not-is_stable-clause-does g c =
     let old = c.args.work.now in let new = c.advance.new.work in let x = c.index-as_slice-i.result in let is : x ≡ get_or code.instrs i x = search rules in
     let job = c.in-Scans.job in let s = state_of chosen new in
     does_lack b m.board m.made g.O.Paper.shown c.args.port.now c.args.port.now (job_scan new.memory.shifted job s) (job_lands new.memory.shifted job s)
-    (rest_of code i chosen old) (ticks_from code i chosen old) (λ u k. happened_in_piece new.piece (behind code i (operands_of new) u k)) (λ u k. ticks_after code i (operands_of new) u k) c.args.steps.now c.count.new.steps
+    (rest_of code i chosen old) (ticks_from code i chosen old) (λ u k. happened_in_piece new.piece (behind code i (operands_of new) u k))
+        (λ u k. ticks_after code i (operands_of new) u k) c.args.steps.now c.count.new.steps
     (goes code i chosen old x c.requires.inside is new c.advance.result (Scans job) c.in-Scans.is c.advance.ensures.leads)
     (counts code i chosen old x c.requires.inside is new c.advance.result (Scans job) c.in-Scans.is c.advance.ensures.ticks c.args.steps.now c.count.new.steps c.count.ensures)
     (sym c.is_stable.ensures ∙ c.if-not-is_stable.true) (g.met.C.Cable.none_made c.args.port.now.cable.now) c.requires.whole
@@ -71,7 +72,8 @@ returns-in-Ok-capture-clause-does g c =
     let old = c.args.work.now in let new = c.advance.new.work in let x = c.index-as_slice-i.result in let is : x ≡ get_or code.instrs i x = search rules in
     let job = c.in-Scans.job in let s = state_of chosen new in
     does_scan b m.board m.made g.O.Paper.shown c.args.port.now c.capture.new.port (job_scan new.memory.shifted job s) (job_lands new.memory.shifted job s)
-    (rest_of code i chosen old) (ticks_from code i chosen old) (λ u k. happened_in_piece new.piece (behind code i (operands_of new) u k)) (λ u k. ticks_after code i (operands_of new) u k) c.args.steps.now c.count.new.steps
+    (rest_of code i chosen old) (ticks_from code i chosen old) (λ u k. happened_in_piece new.piece (behind code i (operands_of new) u k))
+        (λ u k. ticks_after code i (operands_of new) u k) c.args.steps.now c.count.new.steps
     (goes code i chosen old x c.requires.inside is new c.advance.result (Scans job) c.in-Scans.is c.advance.ensures.leads)
     (counts code i chosen old x c.requires.inside is new c.advance.result (Scans job) c.in-Scans.is c.advance.ensures.ticks c.args.steps.now c.count.new.steps c.count.ensures)
     (sym c.is_stable.ensures ∙ c.if-not-is_stable.false) (state_in (drop new.next chosen) c.capture.new.memory) (c.in-Ok-capture.ensures.captured (drop new.next chosen))
@@ -82,7 +84,8 @@ returns-in-Err-capture-clause-does g c =
     let old = c.args.work.now in let new = c.advance.new.work in let x = c.index-as_slice-i.result in let is : x ≡ get_or code.instrs i x = search rules in
     let job = c.in-Scans.job in let s = state_of chosen new in
     does_scan_front b m.board m.made g.O.Paper.shown c.args.port.now c.capture.new.port (job_scan new.memory.shifted job s) (job_lands new.memory.shifted job s)
-    (rest_of code i chosen old) (ticks_from code i chosen old) (λ u k. happened_in_piece new.piece (behind code i (operands_of new) u k)) (λ u k. ticks_after code i (operands_of new) u k) c.args.steps.now c.count.new.steps
+    (rest_of code i chosen old) (ticks_from code i chosen old) (λ u k. happened_in_piece new.piece (behind code i (operands_of new) u k))
+        (λ u k. ticks_after code i (operands_of new) u k) c.args.steps.now c.count.new.steps
     (goes code i chosen old x c.requires.inside is new c.advance.result (Scans job) c.in-Scans.is c.advance.ensures.leads)
     (counts code i chosen old x c.requires.inside is new c.advance.result (Scans job) c.in-Scans.is c.advance.ensures.ticks c.args.steps.now c.count.new.steps c.count.ensures)
     (sym c.is_stable.ensures ∙ c.if-not-is_stable.false) (c.in-Err-capture.ensures.front (drop new.next chosen))

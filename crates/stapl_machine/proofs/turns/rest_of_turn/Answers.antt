@@ -19,14 +19,16 @@ parts-init g c =
       room = c.requires.room;
       kept_room = (omega arith, omega arith);
       few = c.requires.few;
-      does = does_still b m.board m.made g.O.Paper.shown c.args.port.now turn turn count count c.args.steps.now c.args.steps.now (g.met.C.Cable.none_made c.args.port.now.cable.now) c.requires.whole (λ k. refl) (λ k. refl);
+      does = does_still b m.board m.made g.O.Paper.shown c.args.port.now turn turn count count c.args.steps.now c.args.steps.now
+          (g.met.C.Cable.none_made c.args.port.now.cable.now) c.requires.whole (λ k. refl) (λ k. refl);
       kept = kept_none c.args.port.now c.requires.whole;
     }
 
 pub parts-preserved : goal.parts-preserved
 parts-preserved g c =
     let m = g.C.Cable in let b = port_breakage m.breakage g.O.Paper.failed in let s = g.O.Paper.shown in
-    let code = c.args.code.now in let chosen = c.args.chosen.now in let i = c.in-Within.i in let first = c.args.work.now in let old = c.parts.work in let mid = c.carry_out_common.new.work in let new = c.carry_out.new.work in
+    let code = c.args.code.now in let chosen = c.args.chosen.now in let i = c.in-Within.i in let first = c.args.work.now in let old = c.parts.work in let mid =
+        c.carry_out_common.new.work in let new = c.carry_out.new.work in
     record {
       whole = c.in-Ok-None.ensures.keeps.whole_now;
       in_step = c.in-Ok-None.ensures.keeps.in_step;
@@ -37,8 +39,10 @@ parts-preserved g c =
       );
       few = subst (λ e. IsCleanBehind code i e new) c.in-Ok-None.field-0-is c.in-Ok-None.ensures.clean;
       does =
-          does_both b m.board m.made s g.met.C.Cable.both_made c.args.port.now c.parts.port c.carry_out.new.port (rest_of code c.args.from chosen first) (rest_of code c.parts.place chosen old) (rest_of code (i + 1) chosen new)
-          (ticks_from code c.args.from chosen first) (ticks_from code c.parts.place chosen old) (ticks_from code (i + 1) chosen new) c.args.steps.now c.parts.steps c.carry_out.new.steps c.parts.invariant.does
+          does_both b m.board m.made s g.met.C.Cable.both_made c.args.port.now c.parts.port c.carry_out.new.port (rest_of code c.args.from chosen first)
+              (rest_of code c.parts.place chosen old) (rest_of code (i + 1) chosen new)
+          (ticks_from code c.args.from chosen first) (ticks_from code c.parts.place chosen old)
+              (ticks_from code (i + 1) chosen new) c.args.steps.now c.parts.steps c.carry_out.new.steps c.parts.invariant.does
           (does_of b m.board m.made s c.parts.port c.carry_out.new.port (rest_of code i chosen mid) (rest_of code c.parts.place chosen old) (rest_of code (i + 1) chosen new)
           (ticks_from code i chosen mid) (ticks_from code c.parts.place chosen old) (ticks_from code (i + 1) chosen new) c.parts.steps c.carry_out_common.new.steps c.carry_out.new.steps
           (c.in-Within.ensures.does chosen) (c.in-Within.ensures.ticks chosen)
@@ -70,7 +74,8 @@ returns-in-End-clause-does g c =
 pub returns-in-Ok-Some-clause-does : goal.returns-in-Ok-Some-clause-does
 returns-in-Ok-Some-clause-does g c =
     let m = g.C.Cable in let b = port_breakage m.breakage g.O.Paper.failed in let s = g.O.Paper.shown in
-    let code = c.args.code.now in let chosen = c.args.chosen.now in let i = c.in-Within.i in let first = c.args.work.now in let old = c.parts.work in let mid = c.carry_out_common.new.work in let new = c.carry_out.new.work in
+    let code = c.args.code.now in let chosen = c.args.chosen.now in let i = c.in-Within.i in let first = c.args.work.now in let old = c.parts.work in let mid =
+        c.carry_out_common.new.work in let new = c.carry_out.new.work in
     let led = led_on c.in-Ok-Some.went (state_of chosen new) in
     does_both b m.board m.made s g.met.C.Cable.both_made c.args.port.now c.parts.port c.carry_out.new.port (rest_of code c.args.from chosen first) (rest_of code c.parts.place chosen old) led
     (ticks_from code c.args.from chosen first) (ticks_from code c.parts.place chosen old) no_ticks c.args.steps.now c.parts.steps c.carry_out.new.steps c.parts.invariant.does
@@ -86,7 +91,8 @@ returns-in-Err-clause-does g c =
     let code = c.args.code.now in let chosen = c.args.chosen.now in let i = c.in-Within.i in let first = c.args.work.now in let old = c.parts.work in let mid = c.carry_out_common.new.work in
     does_both_front b m.board m.made s g.met.C.Cable.both_made c.args.port.now c.parts.port c.carry_out.new.port (rest_of code c.args.from chosen first) (rest_of code c.parts.place chosen old)
     (ticks_from code c.args.from chosen first) (ticks_from code c.parts.place chosen old) c.args.steps.now c.parts.steps c.carry_out.new.steps c.parts.invariant.does
-    (front_of b m.board m.made s c.parts.port c.carry_out.new.port (rest_of code i chosen mid) (rest_of code c.parts.place chosen old) (ticks_from code i chosen mid) (ticks_from code c.parts.place chosen old)
+    (front_of b m.board m.made s c.parts.port c.carry_out.new.port (rest_of code i chosen mid) (rest_of code c.parts.place chosen old) (ticks_from code i chosen mid)
+        (ticks_from code c.parts.place chosen old)
     c.parts.steps c.carry_out_common.new.steps c.carry_out.new.steps (c.in-Within.ensures.does chosen) (c.in-Within.ensures.ticks chosen) c.in-Err.ensures.does)
 
 pub carry_out-requires-clause-room : goal.carry_out-requires-clause-room

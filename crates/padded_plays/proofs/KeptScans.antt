@@ -20,13 +20,13 @@ use Rattle.dev_card.proofs.Unnamed.{all_ones_selects_bypass}
 use Rattle.dev_card.proofs.Soundness.{sound_board_step, sound_board_after}
 use Rattle.dev_card.proofs.Reaching.{steps_in, walk_in, entry_leads, shift_reached, line_length, bypass_line}
 use Rattle.dev_card.proofs.LastClock.{shifts_as_line}
-use Rattle.dev_card.proofs.ScanLines.{after-append, scans_as_line}
+use Rattle.dev_card.proofs.ScanLines.{after-append, scans_as_line, pause_follows}
 use Rattle.dev_card.proofs.PaddedLines.{suc_plus, padded_scan_is_same}
 use Rattle.dev_card.proofs.Scanning.{captured_is_seen}
 use Rattle.dev_card.proofs.OneScan.{is_shift, parts, descriptions_of_step, each_left, each_right, pad_of, pre_is_pad, post_is_pad, instruction_width}
-use Rattle.padded_boards.specs.QuietClocks.{IsQuietWalk, loaded_after, IsQuietScan, loaded_by_scan}
-use Rattle.padded_boards.specs.PaddedRuns.{is_between_scans, IsPassing, IsPaddedRun, IsPaddedFor, KeepsPaddedRun}
-use Rattle.padded_boards.proofs.KeptWalks.{walk_keeps, move_keeps}
+use Rattle.padded_plays.specs.QuietClocks.{IsQuietWalk, loaded_after, IsQuietScan, loaded_by_scan}
+use Rattle.padded_plays.specs.PaddedRuns.{is_between_scans, IsPassing, IsPaddedRun, IsPaddedFor, KeepsPaddedRun}
+use Rattle.padded_plays.proofs.KeptWalks.{walk_keeps, move_keeps}
 
 -- ---- the way of a scan to its shift
 
@@ -218,10 +218,6 @@ exit_is_no_shift false = refl
 pause_is_between : (ir : Bool) → is_between_scans (pause_state ir) ≡ true
 pause_is_between true = refl
 pause_is_between false = refl
-
-pause_follows : (ir : Bool) → next_of (exit_state ir) false ≡ pause_state ir
-pause_follows true = refl
-pause_follows false = refl
 
 run_is_paused : (ir : Bool) (cs : List Card) (b : Bool) → AllIn (pause_state ir) (paused ir cs b)
 run_is_paused ir cs b = subst (λ t. AllIn t (paused ir cs b)) (pause_follows ir) (steps_in (exit_state ir) (map (in_state (exit_state ir)) cs) false b (all_in_exit ir cs))

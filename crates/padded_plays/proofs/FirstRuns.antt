@@ -13,8 +13,8 @@ use Rattle.dev_card.specs.Clocks.{with_zero}
 use Rattle.dev_card.specs.PaddedScan.{descriptions_of}
 use Rattle.dev_card.specs.Sound.{AllSound}
 use Rattle.dev_card.proofs.Soundness.{fresh_sound}
-use Rattle.padded_boards.specs.PaddedRuns.{IsPassing, IsPaddedRun, fresh_board}
-use Rattle.padded_boards.proofs.KeptWalks.{walk_keeps}
+use Rattle.padded_plays.specs.PaddedRuns.{IsPassing, IsPaddedRun, fresh_board}
+use Rattle.padded_plays.proofs.KeptWalks.{walk_keeps}
 
 fresh_passes : (ds : List Desc) → EachCard (IsPassing false Reset) (fresh_board ds)
 fresh_passes [] = tt

@@ -10,7 +10,7 @@ use Rattle.dev_card.specs.PaddedScan.{descriptions_of}
 use Rattle.dev_card.specs.Padding.{base_around, base_pre_of, base_post_of}
 use Rattle.dev_card.specs.Scans.{BoardScan, inputs_of_scan, captured_from, scan_alone}
 use Rattle.dev_card.specs.Sound.{AllSound}
-use Rattle.padded_boards.specs.QuietClocks.{loaded_by_scan}
+use Rattle.padded_plays.specs.QuietClocks.{loaded_by_scan}
 
 -- the states in which a board stands between scans: none into which only a scan leads, and not Exit1-IR after them
 abbrev pub is_between_scans : Tap → Bool

@@ -13,11 +13,11 @@ use Rattle.dev_card.specs.declared.desc.Desc.{Desc}
 use Rattle.dev_card.specs.Card.{Card, step, during, entered}
 use Rattle.dev_card.specs.Board.{board_tdo, board_step, board_after, EachCard}
 use Rattle.dev_card.specs.Clocks.{with_zero, rest_tms, move_inputs, stay_inputs}
-use Rattle.dev_card.proofs.Reaching.{steps_in}
+use Rattle.dev_card.proofs.Reaching.{steps_in, rests}
 use Rattle.dev_card.proofs.Soundness.{sound_board_step}
 use Rattle.dev_card.proofs.OneScan.{is_shift, parts, descriptions_of_step}
-use Rattle.padded_boards.specs.QuietClocks.{is_scan_state, IsQuietWalk, loaded_at, loaded_after}
-use Rattle.padded_boards.specs.PaddedRuns.{is_between_scans, IsPassing, IsPaddedRun}
+use Rattle.padded_plays.specs.QuietClocks.{is_scan_state, IsQuietWalk, loaded_at, loaded_after}
+use Rattle.padded_plays.specs.PaddedRuns.{is_between_scans, IsPassing, IsPaddedRun}
 
 power_above : (n : ℕ) → 1 ≤ 2 ^ n
 power_above zero = omega arith
@@ -153,13 +153,6 @@ module _ (before run after : List Desc) where
       let ms : List Bool = path_of at to in
       subst (λ t. IsPaddedRun before run after (loaded_after at ms loaded) t (board_after board (with_zero ms)) (board_after alone (with_zero ms)))
       (path_leads at to ms (is_path at to)) (walk_keeps loaded at board alone ms q h)
-
-rests : (s : Tap) → is_stable_state s ≡ true → next_of s (rest_tms s) ≡ s
-rests Reset e = refl
-rests Idle e = refl
-rests DrPause e = refl
-rests IrPause e = refl
-rests _ e = absurd (false≢true e)
 
 stable_is_no_scan_state : (s : Tap) → is_stable_state s ≡ true → is_scan_state s ≡ false
 stable_is_no_scan_state Reset e = refl

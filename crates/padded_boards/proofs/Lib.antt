@@ -1,3 +1,0 @@
-pub mod KeptWalks
-pub mod KeptScans
-pub mod FirstRuns

@@ -1,5 +1,0 @@
-use Rattle.padded_boards.proofs.KeptWalks.{move_keeps}
-use Rattle.padded_boards.proofs.laws.a_quiet_move_keeps_a_padded_run.Goals as goal
-
-pub returns : goal.returns
-returns c = move_keeps

@@ -1,5 +1,0 @@
-use Rattle.padded_boards.proofs.FirstRuns.{reset_is_padded}
-use Rattle.padded_boards.proofs.laws.a_reset_run_is_padded.Goals as goal
-
-pub returns : goal.returns
-returns c = reset_is_padded

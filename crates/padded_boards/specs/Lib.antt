@@ -1,2 +1,0 @@
-pub mod QuietClocks
-pub mod PaddedRuns

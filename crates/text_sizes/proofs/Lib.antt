@@ -1,2 +1,0 @@
-pub mod SymbolBytes
-pub mod TextLemmas

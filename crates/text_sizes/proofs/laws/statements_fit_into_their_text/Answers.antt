@@ -1,5 +1,0 @@
-use Rattle.text_sizes.proofs.TextLemmas.{program_fits}
-use Rattle.text_sizes.proofs.laws.statements_fit_into_their_text.Goals as goal
-
-pub returns : goal.returns
-returns c = program_fits
