@@ -1,6 +1,5 @@
 -- The reader's steps: one more line, the first fault, and the end.
-use Rattle.std.proofs.Common.{◌≡◌, ◌<◌, ◌≤◌, ◌+◌, ◌-◌, ◌++◌, ℕ, List, [], ◌∷◌, length, take, drop, get_or, refl, sym, ap, subst, ◌∙◌, Bool, true, false, cond, Option, Some,
-    None, IsSome, All, arith, add-one, inl, inr, Bor}
+use Rattle.std.proofs.Common.{◌≡◌, ◌<◌, ◌≤◌, ◌+◌, ◌-◌, ◌++◌, ℕ, List, [], ◌∷◌, length, take, drop, get_or, refl, sym, ap, subst, ◌∙◌, Bool, true, false, cond, Option, Some, None, IsSome, All, arith, add-one, inl, inr, Bor}
 use Rattle.std.specs.Prelude.{option_to_list}
 use Rattle.std.specs.Option.{option_map, option_map_or}
 use Rattle.std.specs.Str.Lines.{lines}
@@ -17,8 +16,7 @@ use Rattle.board_text.specs.declared.shapes.Shape.{Shape}
 use Rattle.board_text.specs.Lines.{words_of, is_skipped, texts}
 use Rattle.board_text.specs.Shapes.{shape_of}
 use Rattle.board_text.specs.Contents.{content_of, line_content}
-use Rattle.board_text.specs.Boards.{most_bytes, open_device, with_register, with_last_register, devices_after, devices_of, devices_with, HasReason, HasReasonAt, IsSmallest,
-    AreFaultless, IsUnfinished, IsBoard, IsFirstFault}
+use Rattle.board_text.specs.Boards.{most_bytes, open_device, with_register, with_last_register, devices_after, devices_of, devices_with, HasReason, HasReasonAt, IsSmallest, AreFaultless, IsUnfinished, IsBoard, IsFirstFault}
 use Rattle.board_text.specs.Reading.{IsNarrow, LeadsTo, IsReadUpTo}
 use Rattle.board_text.proofs.GoodDevices.{begun_good}
 use Rattle.board_text.proofs.Faultless.{AreBegun, IsLast, last_device, take_front, all_whole}

@@ -17,8 +17,7 @@ use Rattle.board_text.specs.Reasons.{reason_number}
 use Rattle.board_text.specs.Lines.{words_of, is_skipped}
 use Rattle.board_text.specs.Contents.{DeviceLine, RegisterLine, Content, device, register, line_content}
 use Rattle.board_text.specs.Limits.{IsDeviceInRange, IsRegisterInRange}
-use Rattle.board_text.specs.Boards.{most_bytes, most_registers, open_device, devices_of, HasName, HasRegisterName, AwaitsRegister, RepeatsInBoard, RepeatsInDevice, IfSays,
-    ReasonAgainst, HasReasonAt, IsSmallest, AreFaultless, IsUnfinished, IsBoard, IsFirstFault}
+use Rattle.board_text.specs.Boards.{most_bytes, most_registers, open_device, devices_of, HasName, HasRegisterName, AwaitsRegister, RepeatsInBoard, RepeatsInDevice, IfSays, ReasonAgainst, HasReasonAt, IsSmallest, AreFaultless, IsUnfinished, IsBoard, IsFirstFault}
 use Rattle.board_text.proofs.Decisions.{IsDecided, not_or_yes, either_or_not, at_most_or_not, some_and_or_not, none_or_not, nil_or_not, any_or_not, contains_or_not, pairs_or_not, differs_or_not}
 use Rattle.board_text.proofs.RangeLemmas.{device_in_range_or_not, register_in_range_or_not}
 use Rattle.board_text.proofs.ReasonLemmas.{reason_with, told, number_with}

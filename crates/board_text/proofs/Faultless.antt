@@ -73,7 +73,7 @@ all_whole ds whole none k e lt = elim (cases_lt k (length ds - 1)) [
     | inl some ↦ some
     | inr nil ↦
         absurd (none (owner_and (open_device ds) (λ (d : Desc). d.registers ≡ []) (get_or ds k e) (open_last ds k e lt (omega arith) kind_is)
-            (nil_from_length (get_or ds k e).registers (omega arith))))
+        (nil_from_length (get_or ds k e).registers (omega arith))))
   ])
 ]
 

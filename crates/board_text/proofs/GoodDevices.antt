@@ -1,6 +1,5 @@
 -- What a faultless line describes is good, but for the registers that a Regs has still to get.
-use Rattle.std.proofs.Common.{◌≡◌, ◌≢◌, ◌<◌, ◌≤◌, ◌^◌, ◌++◌, ℕ, List, [], ◌∷◌, length, take, map, get_or, refl, sym, ap, subst, ◌∙◌, append_assoc, Bool, true, false, Option,
-    Some, None, IsSomeAnd, All, arith, inl, inr}
+use Rattle.std.proofs.Common.{◌≡◌, ◌≢◌, ◌<◌, ◌≤◌, ◌^◌, ◌++◌, ℕ, List, [], ◌∷◌, length, take, map, get_or, refl, sym, ap, subst, ◌∙◌, append_assoc, Bool, true, false, Option, Some, None, IsSomeAnd, All, arith, inl, inr}
 use Rattle.std.specs.Prelude.{AllPairs, ◌==◌}
 use Rattle.std.specs.Option.{ForSome, option_map}
 use Rattle.std.specs.Str.Parse.{digits_value}

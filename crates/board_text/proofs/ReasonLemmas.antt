@@ -156,7 +156,7 @@ awaits_there xs ys p h = subst AwaitsRegister p h
 pub reason_with : ℕ → BoardReason
 reason_with n =
     cond (n == 1) reasons.Form (cond (n == 2) reasons.Range (cond (n == 3) reasons.Duplicate
-        (cond (n == 4) reasons.Misplaced (cond (n == 5) reasons.Empty (cond (n == 6) reasons.TooMany reasons.TooLong)))))
+    (cond (n == 4) reasons.Misplaced (cond (n == 5) reasons.Empty (cond (n == 6) reasons.TooMany reasons.TooLong)))))
 
 pub told : (reason : BoardReason) → reason_with (reason_number reason) ≡ reason
 unfolding reason_with

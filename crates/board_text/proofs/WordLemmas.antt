@@ -49,7 +49,7 @@ split_whole xs ge =
     let end : n ≡ length xs = omega (arith, prefix_len-le-length (λ (x : ℕ). not (is_blank x)) xs) in
     let whole : IsSplit xs (length xs) =
     rw (take-length xs, drop-length xs) (ap (filter (λ part. not (length part == 0)))
-        (slice_split_none is_blank xs (λ k d lt. not-true _ (prefix_len_passes (λ (x : ℕ). not (is_blank x)) xs k d (omega arith))))) in
+    (slice_split_none is_blank xs (λ k d lt. not-true _ (prefix_len_passes (λ (x : ℕ). not (is_blank x)) xs k d (omega arith))))) in
     subst (IsSplit xs) (sym end) whole
 
 split_at_blank : (xs : List ℕ) → IsSplit xs (position_or_len is_blank xs)

@@ -1,7 +1,6 @@
 -- Boards as texts: the devices that a text describes, or its first faulty line with the smallest of its reasons. The
 -- notation is this profile's.
-use Rattle.std.specs.Prelude.{◌≡◌, ◌≢◌, ◌<◌, ◌≤◌, ◌+◌, ◌-◌, ◌++◌, ℕ, false, List, [], ◌∷◌, length, take, fold, slice_get, slice_index_or, Option, Some, None, IsSomeAnd, All,
-    AllPairs, Contains, ◌⊎◌, if◌then◌else◌, option_and_then}
+use Rattle.std.specs.Prelude.{◌≡◌, ◌≢◌, ◌<◌, ◌≤◌, ◌+◌, ◌-◌, ◌++◌, ℕ, false, List, [], ◌∷◌, length, take, fold, slice_get, slice_index_or, Option, Some, None, IsSomeAnd, All, AllPairs, Contains, ◌⊎◌, if◌then◌else◌, option_and_then}
 use Rattle.std.specs.List.{Any}
 use Rattle.std.specs.Option.{option_map_or}
 use Rattle.std.specs.Str.Lines.{lines}

@@ -13,7 +13,7 @@ use Rattle.scan_paths.specs.Cables.{Signal, pulsed, clocks_in, input_of, HasShif
 use Rattle.scan_paths.proofs.Signals.{clocks_in_pulsed}
 use Rattle.chain_sim.specs.Places.{card_at, joined, cards_at, IsAbsent, AreApart}
 use Rattle.chain_sim.specs.Runs.{HasRun}
-use Rattle.chain_sim.proofs.Clocking.{card_read, card_kept, cards_kept, first_is_some, rest_is_some, same_Some _ _}
+use Rattle.chain_sim.proofs.Clocking.{card_read, card_kept, cards_kept, first_is_some, rest_is_some}
 use Rattle.std.proofs.lemmas.Option.{same_Some}
 
 -- what is seen of the device at one place

@@ -1,6 +1,5 @@
 -- Fitting one device after another.
-use Rattle.std.proofs.Common.{◌≡◌, ◌≢◌, ◌<◌, ◌≤◌, ◌+◌, ◌*◌, ℕ, suc, zero, true, not, ◌&&◌, ◌==◌, is_some, List, [], ◌∷◌, ◌++◌, map, length, take, get_or, Option, Some, None,
-    slice_get, refl, sym, ap, ◌∙◌, subst, arith}
+use Rattle.std.proofs.Common.{◌≡◌, ◌≢◌, ◌<◌, ◌≤◌, ◌+◌, ◌*◌, ℕ, suc, zero, true, not, ◌&&◌, ◌==◌, is_some, List, [], ◌∷◌, ◌++◌, map, length, take, get_or, Option, Some, None, slice_get, refl, sym, ap, ◌∙◌, subst, arith}
 use Rattle.std.specs.Option.{option_map}
 use Rattle.std.proofs.lemmas.List.{take_more, length-take, map-append}
 use Rattle.std.proofs.lemmas.Option.{slice_get-map, slice_get_read, same_Some}

@@ -20,8 +20,7 @@ use Rattle.code_files.proofs.FieldsTaken.{Takes, IsRead, IsFrom, IsField, AreEac
 use Rattle.code_files.proofs.PartsTaken.{Any}
 use Rattle.code_files.proofs.InstrsTaken.{IsGood, instr_takes}
 use Rattle.code_files.proofs.LiteralsTaken.{literal_takes}
-use Rattle.code_files.proofs.ListsTaken.{KeepLimits, limits_kept, size_small, variable_takes, IsText, text_takes, pairs_of, no_pairs, StartsAfter, procedure_takes, in_order,
-    none_below, ActsBehind, action_takes}
+use Rattle.code_files.proofs.ListsTaken.{KeepLimits, limits_kept, size_small, variable_takes, IsText, text_takes, pairs_of, no_pairs, StartsAfter, procedure_takes, in_order, none_below, ActsBehind, action_takes}
 
 -- a code whose fields are in range
 pub record IsWhole (code : CodeLists) : Type 0 where

@@ -1,6 +1,5 @@
 -- Bytes are the file of a valid code, or they have a fault, and one alone.
-use Rattle.std.proofs.Common.{◌≡◌, ◌≢◌, ◌≤◌, ◌<◌, ◌-◌, ◌⊎◌, ℕ, true, false, cond, ◌==◌, List, [], ◌∷◌, length, drop, Option, Some, None, Result, Ok, Err, All, ltb, refl, sym,
-    ap, subst, ◌∙◌, arith, inl, inr}
+use Rattle.std.proofs.Common.{◌≡◌, ◌≢◌, ◌≤◌, ◌<◌, ◌-◌, ◌⊎◌, ℕ, true, false, cond, ◌==◌, List, [], ◌∷◌, length, drop, Option, Some, None, Result, Ok, Err, All, ltb, refl, sym, ap, subst, ◌∙◌, arith, inl, inr}
 use Rattle.std.specs.List.{flat_map}
 use Rattle.std.proofs.lemmas.Bool.{cases_lt, le-ltb, lt-ltb}
 use Rattle.std.proofs.lemmas.Bool.Decides.{nat_tests}

@@ -8,15 +8,11 @@ use Rattle.stapl_code.specs.Ranges.{IsPart, IsInstr, size_of}
 use Rattle.stapl_code.specs.Fields.{number, integer, counted}
 use Rattle.stapl_code.specs.Instrs.{source, dest, part, export_part, register_number, kind_number, wait_number, flag_number, if_given, given, scan, padding, state, instr, IsCountableInstr, FitsInstr}
 use Rattle.code_files.specs.Reading.{listed_in, any_end}
-use Rattle.code_files.specs.ReadInstrs.{with_number, row, register_at, padding_at, kind_at, wait_at, flag_at, state_at, integer_at, given_at, part_at, source_at, dest_at,
-    export_part_at, scan_at, instr_table, instr_at}
+use Rattle.code_files.specs.ReadInstrs.{with_number, row, register_at, padding_at, kind_at, wait_at, flag_at, state_at, integer_at, given_at, part_at, source_at, dest_at, export_part_at, scan_at, instr_table, instr_at}
 use Rattle.code_files.proofs.FieldsAgain.{with_number_from_again, with_number_again, with_byte_again, tagged_again}
-use Rattle.code_files.proofs.PartsAgain.{made_again, followed_again, each_again, integer_again, register_again, padding_again, kind_again, wait_again, flag_again,
-    state_again, part_again, source_again, dest_again, export_again, given_source_again, scan_again}
+use Rattle.code_files.proofs.PartsAgain.{made_again, followed_again, each_again, integer_again, register_again, padding_again, kind_again, wait_again, flag_again, state_again, part_again, source_again, dest_again, export_again, given_source_again, scan_again}
 use Rattle.stapl_code.specs.declared.instr.Instr.{Instr}
-use Rattle.stapl_code.specs.declared.instr.Instr.TheVariants.{Turn, Push, PushBit, Load, LoadAt, CheckIndex, CheckRange, Store, StoreAt, Unary, Binary, ToInt, CopyBits,
-    SetBits, SetInts, For, Next, PushRecord, PopRecord, Call, Jump, JumpIfZero, EndProc, Print, Export, CheckChar, Exit, Scan as Scans, Stop, Pad, State as GoThrough, Wait,
-    Frequency}
+use Rattle.stapl_code.specs.declared.instr.Instr.TheVariants.{Turn, Push, PushBit, Load, LoadAt, CheckIndex, CheckRange, Store, StoreAt, Unary, Binary, ToInt, CopyBits, SetBits, SetInts, For, Next, PushRecord, PopRecord, Call, Jump, JumpIfZero, EndProc, Print, Export, CheckChar, Exit, Scan as Scans, Stop, Pad, State as GoThrough, Wait, Frequency}
 use Rattle.stapl_code.specs.declared.raw.VarDef.{VarDef}
 
 -- the lists of a code are short enough that their items are named by four bytes
@@ -51,13 +47,13 @@ module _ (variables : List VarDef) (literals texts procedures : ℕ) (few : AreF
   instr_again (SetBits n literal) rest h counted_few fits =
       tagged_again 1 _ 14 (number n ++ (number literal ++ rest)) refl
       ∙ followed_again (with_number (length variables) (λ n. n)) _ (number n ++ (number literal ++ rest)) n (number literal ++ rest)
-          (with_number_again (length variables) (λ n. n) n (number literal ++ rest) few.few_variables h.0)
+      (with_number_again (length variables) (λ n. n) n (number literal ++ rest) few.few_variables h.0)
       ∙ with_number_again literals (SetBits n) literal rest few.few_literals h.1
   instr_again (SetInts n values) rest h counted_few fits =
       let end = size_of (slice_get variables n) + 1 in
       tagged_again 1 _ 15 (number n ++ (counted integer values ++ rest)) refl
       ∙ followed_again (with_number (length variables) (λ n. n)) _ (number n ++ (counted integer values ++ rest)) n (counted integer values ++ rest)
-          (with_number_again (length variables) (λ n. n) n (counted integer values ++ rest) few.few_variables h.0)
+      (with_number_again (length variables) (λ n. n) n (counted integer values ++ rest) few.few_variables h.0)
       ∙ made_again (SetInts n) (listed_in (λ _. integer_at) 1 end) (counted integer values ++ rest) values rest
       (each_again integer_at integer (FitsSigned w32) integer_again 1 end values rest (omega (arith, few.few_sizes n)) h.1 (omega (arith, h.2)) fits)
   instr_again (Jump to) rest h counted_few fits = tagged_again 1 _ 16 (number to ++ rest) refl ∙ with_number_again any_end Jump to rest (omega arith) fits
@@ -65,7 +61,7 @@ module _ (variables : List VarDef) (literals texts procedures : ℕ) (few : AreF
   instr_again (For n body) rest h counted_few fits =
       tagged_again 1 _ 18 (number n ++ (number body ++ rest)) refl
       ∙ followed_again (with_number (length variables) (λ n. n)) _ (number n ++ (number body ++ rest)) n (number body ++ rest)
-          (with_number_again (length variables) (λ n. n) n (number body ++ rest) few.few_variables h)
+      (with_number_again (length variables) (λ n. n) n (number body ++ rest) few.few_variables h)
       ∙ with_number_again any_end (For n) body rest (omega arith) fits
   instr_again (Next n) rest h counted_few fits = tagged_again 1 _ 19 (number n ++ rest) refl ∙ with_number_again (length variables) Next n rest few.few_variables h
   instr_again (PushRecord kind) rest h counted_few fits = tagged_again 1 _ 20 (kind_number kind ∷ rest) refl ∙ made_again PushRecord kind_at (kind_number kind ∷ rest) kind rest (kind_again kind rest)
@@ -80,9 +76,9 @@ module _ (variables : List VarDef) (literals texts procedures : ℕ) (few : AreF
   instr_again (Export key what) rest h counted_few fits =
       tagged_again 1 _ 26 (number key ++ (export_part what ++ rest)) refl
       ∙ followed_again (with_number texts (λ n. n)) _ (number key ++ (export_part what ++ rest)) key (export_part what ++ rest)
-          (with_number_again texts (λ n. n) key (export_part what ++ rest) few.few_texts h.0)
+      (with_number_again texts (λ n. n) key (export_part what ++ rest) few.few_texts h.0)
       ∙ made_again (Export key) (export_part_at (length variables) literals) (export_part what ++ rest) what rest
-          (export_again (length variables) literals what rest few.few_variables few.few_literals h.1)
+      (export_again (length variables) literals what rest few.few_variables few.few_literals h.1)
   instr_again Exit rest h counted_few fits = tagged_again 1 _ 27 rest refl
   instr_again (Scans s) rest h counted_few fits = tagged_again 1 _ 28 (scan s ++ rest) refl ∙ made_again Scans (scan_at (length variables) literals)
       (scan s ++ rest) s rest (scan_again (length variables) literals s rest few.few_variables few.few_literals h)
@@ -94,7 +90,7 @@ module _ (variables : List VarDef) (literals texts procedures : ℕ) (few : AreF
       tagged_again 1 _ 30 (padding which bits ++ rest) refl
       ∙ followed_again padding_at _ (padding which bits ++ rest) which (if_given 1 bits ∷ given source bits ++ rest) (padding_again which (if_given 1 bits ∷ given source bits ++ rest))
       ∙ made_again (Pad which) (given_at (source_at (length variables) literals)) (if_given 1 bits ∷ given source bits ++ rest) bits rest
-          (given_source_again (length variables) literals bits rest few.few_variables few.few_literals h)
+      (given_source_again (length variables) literals bits rest few.few_variables few.few_literals h)
   instr_again (GoThrough states) rest h counted_few fits =
       tagged_again 1 _ 31 (counted state states ++ rest) refl
       ∙ made_again GoThrough (listed_in (λ _. state_at) 1 any_end) (counted state states ++ rest) states rest
@@ -102,7 +98,7 @@ module _ (variables : List VarDef) (literals texts procedures : ℕ) (few : AreF
   instr_again (Wait at counts last) rest h counted_few fits =
       tagged_again 1 _ 32 (tap_number at ∷ wait_number counts ∷ tap_number last ∷ rest) refl
       ∙ followed_again state_at _ (tap_number at ∷ wait_number counts ∷ tap_number last ∷ rest) at (wait_number counts ∷ tap_number last ∷ rest)
-          (state_again at (wait_number counts ∷ tap_number last ∷ rest))
+      (state_again at (wait_number counts ∷ tap_number last ∷ rest))
       ∙ followed_again wait_at _ (wait_number counts ∷ tap_number last ∷ rest) counts (tap_number last ∷ rest) (wait_again counts (tap_number last ∷ rest))
       ∙ made_again (Wait at counts) state_at (tap_number last ∷ rest) last rest (state_again last rest)
   instr_again (Frequency stated) rest h counted_few fits = tagged_again 1 _ 33 (flag_number stated ∷ rest) refl ∙ made_again Frequency flag_at

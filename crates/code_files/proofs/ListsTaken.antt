@@ -200,7 +200,7 @@ none_below = All-nil (StartsBelow 0)
 item_takes : (procedures : ℕ) → Takes [] (item_at procedures) item (IsItem procedures)
 item_takes procedures =
     followed_takes [] (with_number procedures (λ p. p)) _ number (IsFrom 0 procedures) item (IsItem procedures)
-        (numbers_take [] 0 procedures (λ p. p) number (IsFrom 0 procedures) (λ n. refl) (λ n h. h))
+    (numbers_take [] 0 procedures (λ p. p) number (IsFrom 0 procedures) (λ n. refl) (λ n h. h))
     (λ p is. bytes_take _ 0 3 (λ flag. record { procedure = p; flag = flag }) item (IsItem procedures) (λ n. refl) (λ n h. record { there = is.1; flag = omega (arith, h.1) }))
 
 abbrev pub ActsBehind : ℕ → List ActionDef → ActionDef → Type 0

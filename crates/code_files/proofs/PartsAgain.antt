@@ -12,8 +12,7 @@ use Rattle.code_files.specs.declared.fault.Fault.{Fault}
 use Rattle.stapl_code.specs.Fields.{number, integer, counted}
 use Rattle.stapl_code.specs.Instrs.{source, dest, cell, part, export_part, register_number, padding_number, kind_number, wait_number, flag_number, if_given, given, compare, scan_flags, scan}
 use Rattle.code_files.specs.Reading.{◌>>=◌, listed_in, any_end}
-use Rattle.code_files.specs.ReadInstrs.{Reads, made_of, followed, register_at, padding_at, kind_at, wait_at, flag_at, state_at, integer_at, given_at, part_at, source_at,
-    dest_at, cell_at, export_part_at, compare_at, scan_parts_at, scan_at}
+use Rattle.code_files.specs.ReadInstrs.{Reads, made_of, followed, register_at, padding_at, kind_at, wait_at, flag_at, state_at, integer_at, given_at, part_at, source_at, dest_at, cell_at, export_part_at, compare_at, scan_parts_at, scan_at}
 use Rattle.code_files.proofs.FieldsAgain.{with_number_again, tagged_again, AllAfter, listed_again}
 use Rattle.tap_states.specs.declared.Tap.{Tap}
 use Rattle.tap_states.specs.declared.Tap.TheVariants as taps
@@ -137,7 +136,7 @@ compare_again v l c rest wv wl h =
     let regrouped : compare c ++ rest ≡ source c.expected ++ (source c.mask ++ (cell c.cell ++ rest)) = simp append_assoc in
     ap (compare_at v l) regrouped
     ∙ followed_again (source_at v l) _ (source c.expected ++ (source c.mask ++ (cell c.cell ++ rest))) c.expected _
-        (source_again v l c.expected (source c.mask ++ (cell c.cell ++ rest)) wv wl h.expected)
+    (source_again v l c.expected (source c.mask ++ (cell c.cell ++ rest)) wv wl h.expected)
     ∙ followed_again (source_at v l) _ (source c.mask ++ (cell c.cell ++ rest)) c.mask _ (source_again v l c.mask (cell c.cell ++ rest) wv wl h.mask)
     ∙ made_again (λ x. record { expected = c.expected; mask = c.mask; cell = x }) (cell_at v) (cell c.cell ++ rest) c.cell rest (cell_again v c.cell rest wv h.cell)
 

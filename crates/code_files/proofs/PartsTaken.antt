@@ -9,8 +9,7 @@ use Rattle.stapl_code.specs.Ranges.{IsPart, IsSource, IsExport, IsDest, IsGiven,
 use Rattle.stapl_code.specs.Fields.{number, integer}
 use Rattle.stapl_code.specs.Instrs.{source, dest, cell, part, export_part, register_number, padding_number, kind_number, wait_number, flag_number, if_given, given, compare, scan, state}
 use Rattle.code_files.specs.Reading.{number_in, any_end}
-use Rattle.code_files.specs.ReadInstrs.{register_at, padding_at, kind_at, wait_at, flag_at, state_at, integer_at, given_at, part_at, source_at, dest_at, cell_at,
-    export_part_at, compare_at, scan_parts_at, scan_at}
+use Rattle.code_files.specs.ReadInstrs.{register_at, padding_at, kind_at, wait_at, flag_at, state_at, integer_at, given_at, part_at, source_at, dest_at, cell_at, export_part_at, compare_at, scan_parts_at, scan_at}
 use Rattle.code_files.proofs.FieldsTaken.{Takes, IsFrom, number_takes, nothing_takes, made_takes_if, made_takes, followed_takes, numbers_take, tagged_takes}
 use Rattle.stapl_lexer.specs.declared.terminal.Register.{Register}
 use Rattle.stapl_lexer.specs.declared.terminal.Padding.{Padding}

@@ -1,6 +1,5 @@
 -- What an opcode selects on a device of a good description, and the lengths of what it captures and updates.
-use Rattle.std.proofs.Common.{◌≡◌, ◌≤◌, ◌<◌, ◌+◌, ◌-◌, ℕ, suc, zero, Bool, true, false, cond, eqb, All, List, [], ◌∷◌, length, drop, replicate, get_or, set, map, Option,
-    Some, None, refl, sym, ap, ◌∙◌, arith}
+use Rattle.std.proofs.Common.{◌≡◌, ◌≤◌, ◌<◌, ◌+◌, ◌-◌, ℕ, suc, zero, Bool, true, false, cond, eqb, All, List, [], ◌∷◌, length, drop, replicate, get_or, set, map, Option, Some, None, refl, sym, ap, ◌∙◌, arith}
 use Rattle.std.specs.Prelude.{IsSomeAnd}
 use Rattle.std.specs.Option.{ForSome}
 use Rattle.std.proofs.lemmas.List.{length-replicate, drop-map}
@@ -15,9 +14,7 @@ use Rattle.dev_card.specs.declared.desc.RegDesc.{RegDesc}
 use Rattle.dev_card.specs.declared.desc.FlashDesc.{FlashDesc}
 use Rattle.dev_card.specs.declared.desc.Desc.{Desc}
 use Rattle.dev_card.specs.Descriptions.{IsGood, IsGoodRegister, IsGoodFlash, HasPartsOf}
-use Rattle.dev_card.specs.Card.{Card, Selected, bypass, identity_code, held_register, flash_address, flash_erase, flash_program, flash_read, register_with,
-    flash_register_with, kind_selects, identity_or_kind, selected, selected_length, captured, constant_or, cell_of, words_of, address_of, address_bits, addressed_word,
-    and_bits, is_busy, erases, next_address, updated_cells, updated_busy}
+use Rattle.dev_card.specs.Card.{Card, Selected, bypass, identity_code, held_register, flash_address, flash_erase, flash_program, flash_read, register_with, flash_register_with, kind_selects, identity_or_kind, selected, selected_length, captured, constant_or, cell_of, words_of, address_of, address_bits, addressed_word, and_bits, is_busy, erases, next_address, updated_cells, updated_busy}
 use Rattle.dev_card.specs.Sound.{flash_cell_lengths, cell_lengths, flash_busy, most_busy}
 
 -- a register of a device whose cells have these lengths
@@ -193,15 +190,15 @@ module _ (c : Card) (lengths : List ℕ) (busy : ℕ) (cells : map length c.cell
   updated_lengths (flash_erase f) bits m e =
       same_either (erases c bits) (cell_of c 0 ∷ replicate f.words (replicate f.width true)) c.cells
       (with_address f m (cell_of c 0) (replicate f.words (replicate f.width true)) (first_length f m)
-          (map-replicate f.words (replicate f.width true) ∙ ap (replicate f.words) (length-replicate f.width true)))
+      (map-replicate f.words (replicate f.width true) ∙ ap (replicate f.words) (length-replicate f.width true)))
       cells
   updated_lengths (flash_program f) bits m e =
       let both : List Bool = and_bits (addressed_word f c) bits in
       let width : length both ≡ length (addressed_word f c) = length-and_bits (addressed_word f c) bits (word_length f m ∙ sym e) in
       let words : map length (set (words_of c) (address_of c) both) ≡ replicate f.words f.width =
-          map-set_same length (words_of c) (address_of c) both (replicate f.width true) width ∙ word_lengths f m in
+      map-set_same length (words_of c) (address_of c) both (replicate f.width true) width ∙ word_lengths f m in
       same_either (is_busy c) c.cells (next_address c ∷ set (words_of c) (address_of c) both) cells
-          (with_address f m (next_address c) (set (words_of c) (address_of c) both) (length-low_bits address_bits (address_of c + 1)) words)
+      (with_address f m (next_address c) (set (words_of c) (address_of c) both) (length-low_bits address_bits (address_of c + 1)) words)
   updated_lengths (flash_read f) bits m e = with_address f m (next_address c) (words_of c) (length-low_bits address_bits (address_of c + 1)) (word_lengths f m)
 
   below_either : (b : Bool) (x y : ℕ) → x ≤ busy → y ≤ busy → cond b x y ≤ busy

@@ -112,8 +112,8 @@ module _ (ir : Bool) where
       let k : length (drop n xs) ≡ length (line_of ir cs) = omega (arith, length-drop n xs, length-append (list_of ir c) (line_of ir cs)) in
       let m : length (list_of ir (with_list ir c (take n xs))) ≡ n = ap length (list_of-with_list ir c (take n xs)) ∙ omega (arith, length-take n xs, length-append (list_of ir c) (line_of ir cs)) in
       ap (λ j. with_list ir (with_list ir c (take n xs)) (take j ys) ∷ cut_back ir (cut_back ir cs (drop n xs)) (drop j ys)) m ∙ ap
-          (λ d. d ∷ cut_back ir (cut_back ir cs (drop n xs)) (drop n ys)) (with_list-with_list ir c (take n xs) (take n ys)) ∙ ap (λ ds. with_list ir c (take n ys) ∷ ds)
-              (cut_twice cs (drop n xs) (drop n ys) k)
+      (λ d. d ∷ cut_back ir (cut_back ir cs (drop n xs)) (drop n ys)) (with_list-with_list ir c (take n xs) (take n ys)) ∙ ap (λ ds. with_list ir c (take n ys) ∷ ds)
+      (cut_twice cs (drop n xs) (drop n ys) k)
 
   cut_own : (cs : List Card) (ys : List Bool) → cut_back ir cs (line_of ir cs ++ ys) ≡ cs
   cut_own [] ys = refl
@@ -121,17 +121,22 @@ module _ (ir : Bool) where
       let l : List Bool = list_of ir c in
       let e = append_assoc l (line_of ir cs) ys in
       ap (λ z. with_list ir c (take (length l) z) ∷ cut_back ir cs (drop (length l) z)) e ∙ ap
-          (λ z. with_list ir c z ∷ cut_back ir cs (drop (length l) (l ++ (line_of ir cs ++ ys)))) (take_own l _) ∙ ap
-              (λ d. d ∷ cut_back ir cs (drop (length l) (l ++ (line_of ir cs ++ ys)))) (with_own_list ir c) ∙ ap (λ z. c ∷ cut_back ir cs z) (drop_own l _) ∙ ap (λ ds. c ∷ ds) (cut_own cs ys)
+      (λ z. with_list ir c z ∷ cut_back ir cs (drop (length l) (l ++ (line_of ir cs ++ ys)))) (take_own l _) ∙ ap
+      (λ d. d ∷ cut_back ir cs (drop (length l) (l ++ (line_of ir cs ++ ys)))) (with_own_list ir c) ∙ ap (λ z. c ∷ cut_back ir cs z) (drop_own l _) ∙ ap (λ ds. c ∷ ds) (cut_own cs ys)
 
   pub cut_shifts : (cs : List Card) (xs : List Bool) → length xs ≡ length (line_of ir cs) → AllShift ir cs → AllShift ir (cut_back ir cs xs)
   cut_shifts [] xs h a = tt
   cut_shifts (c ∷ cs) xs h a =
       let n : ℕ = length (list_of ir c) in
       let k : length (drop n xs) ≡ length (line_of ir cs) = omega (arith, length-drop n xs, length-append (list_of ir c) (line_of ir cs)) in
-      let m : length (list_of ir (with_list ir c (take n xs))) ≡ n = ap length (list_of-with_list ir c (take n xs)) ∙ omega (arith, length-take n xs, length-append (list_of ir c) (line_of ir cs)) in
-      (record { state = tap_of_with_list ir c (take n xs) ∙ a.0.state; some =
-          some_kept (length (list_of ir c)) (length (list_of ir (with_list ir c (take n xs)))) m a.0.some }, cut_shifts cs (drop n xs) k a.1)
+      let m : length (list_of ir (with_list ir c (take n xs))) ≡ n = ap length (list_of-with_list ir c (take n xs)) ∙ omega (arith, length-take n xs, length-append (list_of ir c) (line_of ir cs)) in (
+        record {
+          state = tap_of_with_list ir c (take n xs) ∙ a.0.state;
+          some =
+              some_kept (length (list_of ir c)) (length (list_of ir (with_list ir c (take n xs)))) m a.0.some;
+        },
+        cut_shifts cs (drop n xs) k a.1,
+      )
 
   -- the line after one bit
   line_after : List Card → Bool → List Bool

@@ -101,8 +101,14 @@ entered_parts DrUpdate c h e =
       cell_count_and_lengths = updated_lengths c (cell_lengths c.desc.kind c.desc) (most_busy c.desc.kind c.desc) h.cell_count_and_lengths (selected c) c.dr_list found (e refl);
       busy_limit = updated_busy_limit c (cell_lengths c.desc.kind c.desc) (most_busy c.desc.kind c.desc) h.cell_count_and_lengths (selected c) c.dr_list found h.busy_limit;
     }
-entered_parts Reset c h e = record { good = h.good; instruction_width = reset_width c.desc h.good; ir_length = h.ir_length; cell_count_and_lengths =
-    h.cell_count_and_lengths; busy_limit = h.busy_limit }
+entered_parts Reset c h e = record {
+  good = h.good;
+  instruction_width = reset_width c.desc h.good;
+  ir_length = h.ir_length;
+  cell_count_and_lengths =
+      h.cell_count_and_lengths;
+  busy_limit = h.busy_limit;
+}
 entered_parts _ c h e = record { good = h.good; instruction_width = h.instruction_width; ir_length = h.ir_length; cell_count_and_lengths = h.cell_count_and_lengths; busy_limit = h.busy_limit }
 
 -- the states on coming to which the data list is that of the selected register
@@ -121,7 +127,7 @@ during_data DrCapture m b c e h x =
     captured_length c (cell_lengths c.desc.kind c.desc) (most_busy c.desc.kind c.desc) h.cell_count_and_lengths (selected c) (found_selected c h.good)
 during_data DrShift m b c e h x =
     length_shifted c.dr_list b (selected_length (selected c))
-        (selected_some (cell_lengths c.desc.kind c.desc) (most_busy c.desc.kind c.desc) (selected c) (found_selected c h.good)) (h.dr_length (ap is_data_state e))
+    (selected_some (cell_lengths c.desc.kind c.desc) (most_busy c.desc.kind c.desc) (selected c) (found_selected c h.good)) (h.dr_length (ap is_data_state e))
 during_data DrExit1 m b c e h x = h.dr_length (ap is_data_state e)
 during_data DrPause m b c e h x = h.dr_length (ap is_data_state e)
 during_data DrExit2 m b c e h x = h.dr_length (ap is_data_state e)

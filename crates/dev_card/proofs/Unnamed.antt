@@ -9,8 +9,7 @@ use Rattle.dev_card.specs.declared.desc.RegDesc.{RegDesc}
 use Rattle.dev_card.specs.declared.desc.FlashDesc.{FlashDesc}
 use Rattle.dev_card.specs.declared.desc.Desc.{Desc}
 use Rattle.dev_card.specs.Descriptions.{IsGood, identity_opcodes, flash_opcodes, opcodes_of}
-use Rattle.dev_card.specs.Card.{Selected, bypass, identity_code, held_register, flash_address, flash_erase, flash_program, flash_read, register_with, flash_register_with,
-    kind_selects, identity_or_kind, selected_by}
+use Rattle.dev_card.specs.Card.{Selected, bypass, identity_code, held_register, flash_address, flash_erase, flash_program, flash_read, register_with, flash_register_with, kind_selects, identity_or_kind, selected_by}
 
 module _ (P : ℕ → Type 0) where
   all_left : (xs ys : List ℕ) → All P (xs ++ ys) → All P xs

@@ -101,7 +101,7 @@ module _ (before run_devices after_run : List Desc) where
         let K : Chain = padded_chain before run_devices after_run at board in
         let L : Chain = chain_alone at alone in
         let d : AreSameDeeds before run_devices after_run loaded at board alone ds = deeds_are_same before run_devices after_run ds false loaded at board alone
-            (λ e. absurd (false≢true e)) w.0 q.0 h in
+        (λ e. absurd (false≢true e)) w.0 q.0 h in
         let m : Bool = loaded_by_deeds loaded L ds in
         let t1 : Tap = d.tap_then in
         let K1 : Chain = padded_chain before run_devices after_run t1 d.board_then in

@@ -1,6 +1,5 @@
 -- A play for one device of a chain has the answer of the play on that device alone, if this is quiet.
-use Rattle.std.proofs.Common.{◌≡◌, ◌≤◌, ◌-◌, ℕ, true, false, Bool, List, [], ◌∷◌, length, map, zero, suc, take, drop, ◌++◌, ◌&&◌, All, Option, None, Some, slice_get, nat_le,
-    refl, sym, ap, ◌∙◌, subst, arith}
+use Rattle.std.proofs.Common.{◌≡◌, ◌≤◌, ◌-◌, ℕ, true, false, Bool, List, [], ◌∷◌, length, map, zero, suc, take, drop, ◌++◌, ◌&&◌, All, Option, None, Some, slice_get, nat_le, refl, sym, ap, ◌∙◌, subst, arith}
 use Rattle.std.proofs.lemmas.Bool.{and_parts}
 use Rattle.std.proofs.lemmas.Bool.Decides.{nat_tests}
 use Rattle.std.proofs.lemmas.Option.{same_Some}
@@ -103,7 +102,7 @@ module _ (request : Request) (place : ℕ) (devices : List Desc) (device : Desc)
       IsSameText (place - 1) 1 (play_on program request devices chosen_now) (play_on program (alone_request request) (device ∷ []) chosen_now)
   same_run chosen_now e =
       subst (λ (p : Option ℕ). IsSameText (place - 1) 1 (play program chosen_now request.turns (base_at devices p) (Told (map fresh devices)))
-          (play_on program (alone_request request) (device ∷ []) chosen_now)) (sym for_one)
+      (play_on program (alone_request request) (device ∷ []) chosen_now)) (sym for_one)
       (text_of_place program chosen_now devices place device request.turns request.turns good (is_counted place (length devices) placed) at_place
       (subst (λ (ps : List ℕ). IsQuietPlay program ps request.turns (device ∷ [])) (sym e) quiet) (omega arith))
 

@@ -18,7 +18,7 @@ use Rattle.play_words.specs.Words.{reads_text}
 use Rattle.play_status.specs.declared.status.Status.{Status}
 use Rattle.play_status.specs.declared.status.Status.TheVariants.{Refused}
 use Rattle.tool_answers.proofs.AnswerLemmas.{IsWithin}
-use Rattle.play_tool.specs.Sources.{most_of_source, long_line, long_status}
+use Rattle.play_tool.specs.ProgramFiles.{most_of_source, long_line, long_status}
 use Rattle.play_tool.specs.Answers.{PlaysAction, PlaysAsked, Work, TextAnswer, refused, accepted, CodeAnswer, code_refused, SourceAnswer, FileAnswer}
 
 -- The play that a request asks for is that of the action that it names.

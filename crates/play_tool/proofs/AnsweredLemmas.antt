@@ -1,6 +1,5 @@
 -- Each request whose files are held has an answer, whatever they hold.
-use Rattle.std.proofs.Common.{◌≡◌, ◌⊎◌, ◌&&◌, ◌≤◌, ◌<◌, ◌+◌, ◌*◌, ◌++◌, ℕ, pos, Bool, true, false, List, [], length, codes, All, Option, None, Some, if◌then◌else◌, refl,
-    subst, ap, inl, inr, arith, map}
+use Rattle.std.proofs.Common.{◌≡◌, ◌⊎◌, ◌&&◌, ◌≤◌, ◌<◌, ◌+◌, ◌*◌, ◌++◌, ℕ, pos, Bool, true, false, List, [], length, codes, All, Option, None, Some, if◌then◌else◌, refl, subst, ap, inl, inr, arith, map}
 use Rattle.std.specs.Prelude.{IsSome, is_some}
 use Rattle.std.specs.List.{find}
 use Rattle.std.specs.Str.{bytes_eq}
@@ -50,8 +49,7 @@ use Rattle.code_plays.specs.CodePlays.{HasEnding}
 use Rattle.code_plays.proofs.CodeLemmas.{zeros_of_code_fit}
 use Rattle.code_plays.proofs.PlayLemmas.{has_ending}
 use Rattle.play_tool.specs.Texts.{code_refusal_line}
-use Rattle.play_tool.specs.Answers.{PlaysAsked, Compiles, Work, TextAnswer, refused, accepted, CodeAnswer, code_refused, code_accepted, SourceAnswer, Contents, RequestAnswer,
-    board_refused, board_read, soak_request, soak_contents, soak_head, ModeAnswer}
+use Rattle.play_tool.specs.Answers.{PlaysAsked, Compiles, Work, TextAnswer, refused, accepted, CodeAnswer, code_refused, code_accepted, SourceAnswer, Contents, RequestAnswer, board_refused, board_read, soak_request, soak_contents, soak_head, ModeAnswer}
 use Rattle.play_tool.specs.Held.{AreHeld}
 use Rattle.play_tool.proofs.ProgramLemmas.{code_to_program, compiled_file}
 use Rattle.play_tool.proofs.SoakLemmas.{soak_needed}

@@ -13,7 +13,7 @@ use Rattle.tool_answers.proofs.AnswerLemmas.{IsWithin}
 use Rattle.code_plays.specs.Plays.{PlaysCodeAction}
 use Rattle.code_plays.specs.Racks.{CodeHoldsFinal}
 use Rattle.play_tool.specs.Answers.{PlaysCodeAsked, CodeAnswer, code_refused, code_accepted}
-use Rattle.play_tool.specs.Finals.{FileOfCodeHoldsFinal}
+use Rattle.play_tool.specs.FinalRacks.{FileOfCodeHoldsFinal}
 
 -- The answer for the file of a code is its play.
 

@@ -18,9 +18,9 @@ use Rattle.play_status.specs.declared.status.Status.{Status}
 use Rattle.play_status.specs.Statuses.{IsPlayed}
 use Rattle.code_plays.specs.Racks.{KeepsRack}
 use Rattle.code_plays.proofs.PlayLemmas.{rack_as, rack_failed, rack_refused, rack_unread}
-use Rattle.play_tool.specs.Sources.{most_of_source, long_line, long_status}
+use Rattle.play_tool.specs.ProgramFiles.{most_of_source, long_line, long_status}
 use Rattle.play_tool.specs.Answers.{SourceAnswer, FileAnswer}
-use Rattle.play_tool.specs.Finals.{SourceHoldsFinal, HeldFinal}
+use Rattle.play_tool.specs.FinalRacks.{SourceHoldsFinal, HeldFinal}
 use Rattle.play_tool.specs.ReadContents.{Answers, IsUntouched}
 use Rattle.play_tool.proofs.AnswerLemmas.{long_file}
 

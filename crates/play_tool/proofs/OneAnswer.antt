@@ -24,8 +24,7 @@ use Rattle.code_files.specs.declared.fault.CodeReason.{CodeReason}
 use Rattle.code_files.proofs.FileFaults.{one_alone}
 use Rattle.code_files.proofs.FileFaults as code_faults
 use Rattle.play_words.specs.Words.{reads_text, soaks}
-use Rattle.play_tool.specs.Answers.{PlaysAction, PlaysAsked, IsDone, Compiles, Work, TextAnswer, refused, accepted, PlaysCodeAsked, CodeAnswer, code_refused, code_accepted,
-    SourceAnswer, FileAnswer, Contents, RequestAnswer, board_refused, board_read, soak_request, soak_contents, soak_head, SoakAnswer, ModeAnswer, WordsAnswer, Answer, usage, asked}
+use Rattle.play_tool.specs.Answers.{PlaysAction, PlaysAsked, IsDone, Compiles, Work, TextAnswer, refused, accepted, PlaysCodeAsked, CodeAnswer, code_refused, code_accepted, SourceAnswer, FileAnswer, Contents, RequestAnswer, board_refused, board_read, soak_request, soak_contents, soak_head, SoakAnswer, ModeAnswer, WordsAnswer, Answer, usage, asked}
 use Rattle.named_files.proofs.BoardLemmas.{one_held, one_fault, board_or_fault}
 use Rattle.play_tool.proofs.RequestLemmas.{words_request}
 use Rattle.program_reports.proofs.CheckLemmas.{one_check_text}

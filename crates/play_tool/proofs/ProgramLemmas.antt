@@ -34,7 +34,7 @@ use Rattle.play_status.specs.declared.status.Status.TheVariants.{Done}
 use Rattle.play_words.specs.declared.words.Request.{Request}
 use Rattle.play_tool.specs.Answers.{play_on, PlaysAction, Compiles}
 use Rattle.code_plays.specs.CodePlays.{IsPlayOf}
-use Rattle.play_tool.specs.Finals.{HoldsFinal}
+use Rattle.play_tool.specs.FinalRacks.{HoldsFinal}
 use Rattle.play_tool.proofs.ChoiceLemmas.{same_choice}
 use Rattle.tool_answers.proofs.AnswerLemmas.{IsWithin}
 use Rattle.code_plays.specs.Racks.{AreLeft, CodeHoldsFinal}

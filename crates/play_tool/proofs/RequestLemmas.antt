@@ -25,7 +25,7 @@ use Rattle.play_status.specs.declared.status.Status.{Status}
 use Rattle.play_status.specs.declared.status.Status.TheVariants.{BoardRefused}
 use Rattle.code_plays.proofs.PlayLemmas.{rack_as, rack_failed, rack_refused, rack_unread}
 use Rattle.play_tool.specs.Answers.{FileAnswer, Contents, contents_in, RequestAnswer, board_refused, board_read, SoakAnswer, ModeAnswer, WordsAnswer, usage, asked}
-use Rattle.play_tool.specs.Finals.{HeldFinal, RequestHoldsFinal, SoakHoldsFinal, ModeHoldsFinal, WordsHoldFinal}
+use Rattle.play_tool.specs.FinalRacks.{HeldFinal, RequestHoldsFinal, SoakHoldsFinal, ModeHoldsFinal, WordsHoldFinal}
 use Rattle.play_tool.specs.ReadContents.{OfContents, OfWords, HoldsBoard, IsReached, source_reached, IsReachedBy, IsPlaying, AskForPlay, IsUntouched, Answers}
 
 -- The board is right: the answer to the request is that for the program.
@@ -251,7 +251,7 @@ words_of_mode written kind_of fitted old new olds news told {words = words} requ
 -- A file of the request that was reached is one of the words.
 pub reached_by : {S : Type 0} {faults : S → List ℕ → ℕ} {is_last : S → List ℕ → Type 0} {before after : S}
     {told : Option (List (List ℕ × List ℕ))} {words : List (List ℕ)} {request : Request} → IsRequest words request →
-        HasReadCause faults is_last (IsReached told request) before after → HasReadCause faults is_last (IsReachedBy told words) before after
+    HasReadCause faults is_last (IsReached told request) before after → HasReadCause faults is_last (IsReachedBy told words) before after
 reached_by {request = request} asks c = record { path = c.path; is_reached = record { request = request; asked = asks; reached = c.is_reached }; rose = c.rose }
 
 -- The board is refused.

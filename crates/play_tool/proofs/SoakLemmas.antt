@@ -27,7 +27,7 @@ use Rattle.play_status.specs.declared.status.Status.{Status}
 use Rattle.play_status.specs.declared.status.Status.TheVariants.{BoardRefused}
 use Rattle.play_tool.specs.Texts.{soak_line}
 use Rattle.play_tool.specs.Answers.{TextAnswer, Contents, RequestAnswer, board_refused, board_read, request_at, soak_request, soak_contents, soak_head, SoakAnswer}
-use Rattle.play_tool.specs.Finals.{TextHoldsFinal, SourceHoldsFinal, RequestHoldsFinal}
+use Rattle.play_tool.specs.FinalRacks.{TextHoldsFinal, SourceHoldsFinal, RequestHoldsFinal}
 use Rattle.play_tool.proofs.AnswerLemmas.{text_to_source}
 
 -- A board that is named.

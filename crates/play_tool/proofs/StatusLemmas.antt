@@ -11,8 +11,7 @@ use Rattle.play_words.specs.declared.mode.Mode.TheVariants as modes
 use Rattle.play_words.specs.declared.words.Request.{Request}
 use Rattle.play_status.specs.declared.status.Status.{Status}
 use Rattle.play_words.specs.Words.{reads_text, soaks}
-use Rattle.play_tool.specs.Answers.{IsDone, Work, TextAnswer, refused, accepted, CodeAnswer, code_refused, code_accepted, SourceAnswer, Contents, RequestAnswer,
-    board_refused, board_read, ModeAnswer, WordsAnswer, usage, asked}
+use Rattle.play_tool.specs.Answers.{IsDone, Work, TextAnswer, refused, accepted, CodeAnswer, code_refused, code_accepted, SourceAnswer, Contents, RequestAnswer, board_refused, board_read, ModeAnswer, WordsAnswer, usage, asked}
 use Rattle.play_status.specs.Statuses.{IsFault}
 use Rattle.code_plays.specs.Plays.{done_with, Plays, no_action, bad_choice, bad_place, played}
 

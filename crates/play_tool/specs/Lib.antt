@@ -1,8 +1,8 @@
 pub mod Texts
-pub mod Summaries
-pub mod Sources
+pub mod SoakLines
+pub mod ProgramFiles
 pub mod Answers
-pub mod Finals
+pub mod FinalRacks
 pub mod Alone
 pub mod Compiled
 pub mod ReadContents

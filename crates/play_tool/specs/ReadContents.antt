@@ -16,7 +16,7 @@ use Rattle.play_status.specs.declared.status.Status.{Status}
 use Rattle.play_status.specs.Statuses.{IsPlayed}
 use Rattle.code_plays.specs.Racks.{KeepsRack}
 use Rattle.play_tool.specs.Answers.{Contents, contents_in, WordsAnswer}
-use Rattle.play_tool.specs.Finals.{WordsHoldFinal}
+use Rattle.play_tool.specs.FinalRacks.{WordsHoldFinal}
 use Rattle.play_tool.specs.Alone.{IsQuietAlone, PlaysAlone}
 use Rattle.play_tool.specs.Compiled.{RunsCompiled, PlaysProgram}
 

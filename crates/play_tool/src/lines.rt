@@ -3,7 +3,7 @@ ghost use Rattle.std.specs.Prelude.{◌≡◌, ◌≤◌, ◌+◌, ◌++◌, ◌
 ghost use Rattle.tool_io.specs.Lines.{IsWhole, HasPut, KeepsLines};
 ghost use Rattle.tool_io.specs.Texts.{labelled};
 ghost use Rattle.play_tool.specs.Texts.{code_refusal_line};
-ghost use Rattle.play_tool.specs.Summaries.{summary_line};
+ghost use Rattle.play_tool.specs.SoakLines.{summary_line};
 
 use code_files::CodeReason;
 use itoa::Buffer;

@@ -10,7 +10,7 @@ ghost use Rattle.program_reports.specs.Checks.{IsCheckText};
 ghost use Rattle.program_reports.specs.Listings.{list_text};
 ghost use Rattle.code_plays.specs.Racks.{KeepsRack};
 ghost use Rattle.play_tool.specs.Answers.{IsDone, Compiles, PlaysAction};
-ghost use Rattle.play_tool.specs.Finals.{HoldsFinal};
+ghost use Rattle.play_tool.specs.FinalRacks.{HoldsFinal};
 
 use code_files::encode_code;
 use code_plays::{Task, play_code};

@@ -7,7 +7,7 @@ ghost use Rattle.play_words.specs.declared.mode.Mode.TheVariants.{Play, Soak as 
 ghost use Rattle.play_words.specs.Words.{HasNeeded};
 ghost use Rattle.code_plays.specs.Racks.{KeepsRack};
 ghost use Rattle.play_tool.specs.Answers.{request_at, RequestAnswer, SoakAnswer};
-ghost use Rattle.play_tool.specs.Finals.{RequestHoldsFinal, SoakHoldsFinal};
+ghost use Rattle.play_tool.specs.FinalRacks.{RequestHoldsFinal, SoakHoldsFinal};
 
 use crate::lines::{SoakSummary, soak_line};
 use crate::top::answer_text;

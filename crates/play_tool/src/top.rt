@@ -13,9 +13,9 @@ ghost use Rattle.play_words.specs.declared.mode.Mode.TheVariants.{Run};
 ghost use Rattle.play_words.specs.Words.{reads_text, soaks, source_of, HasNeeded};
 ghost use Rattle.play_status.specs.Statuses.{IsFault, ComesBeforeFitting};
 ghost use Rattle.code_plays.specs.Racks.{KeepsRack};
-ghost use Rattle.play_tool.specs.Sources.{most_of_source, long_line, long_status};
+ghost use Rattle.play_tool.specs.ProgramFiles.{most_of_source, long_line, long_status};
 ghost use Rattle.play_tool.specs.Answers.{Work, TextAnswer, CodeAnswer, SourceAnswer, FileAnswer, RequestAnswer, ModeAnswer, WordsAnswer};
-ghost use Rattle.play_tool.specs.Finals.{HoldsFinal, TextHoldsFinal, FileOfCodeHoldsFinal, SourceHoldsFinal, HeldFinal, RequestHoldsFinal, ModeHoldsFinal, WordsHoldFinal};
+ghost use Rattle.play_tool.specs.FinalRacks.{HoldsFinal, TextHoldsFinal, FileOfCodeHoldsFinal, SourceHoldsFinal, HeldFinal, RequestHoldsFinal, ModeHoldsFinal, WordsHoldFinal};
 ghost use Rattle.play_tool.specs.ReadContents.{OfContents, OfWords, IsReached, IsReachedBy, IsPlaying, AskForPlay, Answers, Ran, Answered, IsUntouched};
 
 use crate::lines::put_code_refusal;

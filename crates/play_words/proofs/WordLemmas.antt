@@ -1,6 +1,5 @@
 -- On words that are read from the first one on.
-use Rattle.std.proofs.Common.{◌≡◌, ◌≢◌, ◌<◌, ◌≤◌, ◌+◌, ◌*◌, ℕ, List, [], ◌∷◌, length, sym, refl, ap, ◌∙◌, arith, subst, suc, zero, get_or, map, codes, Option, None, Some,
-    inl, inr, Bool, true, false, ◌&&◌, not}
+use Rattle.std.proofs.Common.{◌≡◌, ◌≢◌, ◌<◌, ◌≤◌, ◌+◌, ◌*◌, ℕ, List, [], ◌∷◌, length, sym, refl, ap, ◌∙◌, arith, subst, suc, zero, get_or, map, codes, Option, None, Some, inl, inr, Bool, true, false, ◌&&◌, not}
 use Rattle.std.proofs.lemmas.Bool.{and_parts}
 use Rattle.std.proofs.lemmas.List.{get_or-map}
 use Rattle.std.proofs.lemmas.Bool.{cases_lt}
@@ -13,12 +12,8 @@ use Rattle.play_words.specs.declared.mode.Mode.TheVariants as modes
 use Rattle.play_words.specs.declared.mode.WordKey.{WordKey}
 use Rattle.play_words.specs.declared.mode.WordKey.TheVariants.{Board, Program, Code, Action, Do, Skip, Place, Turns, Pins, Report, Seed}
 use Rattle.play_words.specs.declared.words.Request.{Request}
-use Rattle.play_words.specs.Words.{mode_word, takes, needs, Part, BoardIn, ProgramIn, CodeIn, ActionNamed, NamesAsked, NamesSkipped, PlaceAsked, TurnsAtMost, PinsWritten,
-    DevicesReported, SeedGiven, key_of, most_place, most_turns, most_seed, GivesPart, word_at, HasMode, IsGivenBefore, GivesNew, IsRead, AreReadBefore, IsKeyGiven, GiveOf,
-    AskNames, names_given, names_missing, AskTurns, turns_given, turns_usual, AskAnswer, answer_given, answer_missing, has_key, IsRequest, lack_mode, lack_key, IsFirstUnread,
-    IsUsage, is_unread, is_missing}
-use Rattle.play_words.specs.GivenParts.{Values, given_of, with_part, Adds, Refuses, not_taken, given_already, GivesNoPart, AddsWord, AddsNothing, one_if_some, count_of,
-    AreReadUpTo, lacks, is_complete, turns_or_usual, answer_or_no, HasValues}
+use Rattle.play_words.specs.Words.{mode_word, takes, needs, Part, BoardIn, ProgramIn, CodeIn, ActionNamed, NamesAsked, NamesSkipped, PlaceAsked, TurnsAtMost, PinsWritten, DevicesReported, SeedGiven, key_of, most_place, most_turns, most_seed, GivesPart, word_at, HasMode, IsGivenBefore, GivesNew, IsRead, AreReadBefore, IsKeyGiven, GiveOf, AskNames, names_given, names_missing, AskTurns, turns_given, turns_usual, AskAnswer, answer_given, answer_missing, has_key, IsRequest, lack_mode, lack_key, IsFirstUnread, IsUsage, is_unread, is_missing}
+use Rattle.play_words.specs.ReadParts.{Values, given_of, with_part, Adds, Refuses, not_taken, given_already, GivesNoPart, AddsWord, AddsNothing, one_if_some, count_of, AreReadUpTo, lacks, is_complete, turns_or_usual, answer_or_no, HasValues}
 
 -- A word gives at most one part.
 

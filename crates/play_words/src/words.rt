@@ -1,7 +1,7 @@
 //! The words of a command.
 ghost use Rattle.std.specs.Prelude.{◌≡◌, ◌≢◌, ◌≤◌, ◌<◌, ◌+◌, ℕ, Bool, List, length, map, codes, string_bytes, is_some, None, IfSome, IfNone, IfOk, IfErr, OnOk};
 ghost use Rattle.play_words.specs.Words.{mode_word, key_of, GivesPart, HasMode, IsRequest, IsFirstUnread, IsWordsRefused};
-ghost use Rattle.play_words.specs.GivenParts.{values_of, given_of, with_part, part_of, GivesNoPart, Adds, Refuses, AddsWord, AddsNothing, AreReadUpTo, lacks, is_complete, HasValues};
+ghost use Rattle.play_words.specs.ReadParts.{values_of, given_of, with_part, part_of, GivesNoPart, Adds, Refuses, AddsWord, AddsNothing, AreReadUpTo, lacks, is_complete, HasValues};
 ghost use Rattle.play_words.specs.declared.mode.Mode.{Mode};
 
 use crate::Mode;

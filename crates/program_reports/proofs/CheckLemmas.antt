@@ -21,8 +21,7 @@ use Rattle.stapl_syntax.specs.Programs.{AreReadAs, IsProgram}
 use Rattle.stapl_syntax.specs.declared.statement.Stmt.{Stmt}
 use Rattle.program_reports.specs.declared.checking.StatementKind.{StatementKind}
 use Rattle.program_reports.specs.declared.checking.CheckWords.{CheckWords}
-use Rattle.program_reports.specs.Checks.{word_of, stored_word, count_of, is_of_kind, has_kind, BeginsLastPiece, HasCheckWords, holds_none, holds_one, differing_line,
-    compared_line, check_text, IsCheckText, checked}
+use Rattle.program_reports.specs.Checks.{word_of, stored_word, count_of, is_of_kind, has_kind, BeginsLastPiece, HasCheckWords, holds_none, holds_one, differing_line, compared_line, check_text, IsCheckText, checked}
 
 -- The last piece of a text begins with at most one token.
 

@@ -8,8 +8,7 @@ use Rattle.std.proofs.lemmas.Bool.{lt-ltb, le-ltb}
 use Rattle.stapl_syntax.specs.declared.names.Declaration.{Declaration}
 use Rattle.stapl_syntax.specs.declared.names.Key.{Key}
 use Rattle.stapl_syntax.specs.Trees.{BodyTree, procedure, data_block, action, StmtTree}
-use Rattle.stapl_syntax.specs.Names.{Numbered, numbered_from, numbered, inside_behind, declaration, block_of, block_of_body, action_of, action_of_body, variable_of,
-    variable_in, label_of, label_in, declared_from, declared, firsts, key_eq, names_of}
+use Rattle.stapl_syntax.specs.Names.{Numbered, numbered_from, numbered, inside_behind, declaration, block_of, block_of_body, action_of, action_of_body, variable_of, variable_in, label_of, label_in, declared_from, declared, firsts, key_eq, names_of}
 use Rattle.stapl_syntax.specs.Rules.{declared_in}
 use Rattle.stapl_names.proofs.Keys.{name_same, key_same, found_behind}
 use Rattle.stapl_checker.specs.Earlier.{stands_below, piece_of_block, piece_of_variable, own_number, declared_below}

@@ -1,7 +1,6 @@
--- What is found on the way is the first fault.
+-- What the walk finds is the first fault.
 use borrow.Author.Count.{below_more}
-use Rattle.std.proofs.Common.{◌≡◌, ◌≤◌, ◌<◌, ◌+◌, ℕ, zero, suc, Bool, true, false, List, [], ◌∷◌, length, Option, None, Some, is_some, refl, sym, ap, ◌∙◌, subst, arith, take,
-    map, get_or, slice_get, cond, All, if◌then◌else◌, nat_le}
+use Rattle.std.proofs.Common.{◌≡◌, ◌≤◌, ◌<◌, ◌+◌, ℕ, zero, suc, Bool, true, false, List, [], ◌∷◌, length, Option, None, Some, is_some, refl, sym, ap, ◌∙◌, subst, arith, take, map, get_or, slice_get, cond, All, if◌then◌else◌, nat_le}
 use Rattle.std.specs.List.{cons_option}
 use Rattle.std.specs.Map.{lookup, keys_of}
 use Rattle.std.specs.Option.{option_map}
@@ -192,7 +191,7 @@ stops_is names whats reading i reason told all le stops =
     let front = in_front whats reading.statements.items reading.unread told.front le in
     stops_first whats (map stmt_tree (take (front_of reading) reading.statements.items)) front.below front.front names all i reason stops
 
--- the end of the way
+-- the end of the walk
 
 has_name : (names : Names) (inside : Option ℕ) → IsInside names inside → is_some (named names inside) ≡ is_some inside
 has_name names None within = refl

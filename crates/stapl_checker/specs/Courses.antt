@@ -1,4 +1,4 @@
--- What the checker keeps of the statements before a piece, and what it finds on its way through the statements.
+-- What the checker keeps of the statements before a piece, and what it finds on its walk through the statements.
 use Rattle.std.specs.Prelude.{◌≡◌, ◌≤◌, ◌<◌, ◌+◌, ◌*◌, ◌^◌, not, ◌&&◌, ◌||◌, ℕ, List, true, Option, None, Some, is_some, length, map, take, slice_get}
 use Rattle.stapl_lexer.specs.declared.reason.Reason.{Reason}
 use Rattle.stapl_syntax.specs.Trees.{BodyTree, procedure, data_block, StmtTree}
@@ -6,8 +6,8 @@ use Rattle.stapl_syntax.specs.Names.{Names, Numbered, numbered, inside_behind, i
 use Rattle.stapl_syntax.specs.Rules as rules
 use Rattle.stapl_syntax.specs.Rules.{is_action, is_block, is_crc, in_data_block, known_from, place_after, Facts}
 use Rattle.stapl_checker.specs.declared.course.Course.{Course}
-use Rattle.stapl_checker.specs.declared.way.Way.{Way}
-use Rattle.stapl_checker.specs.declared.way.Way.TheVariants.{Stops, Ends}
+use Rattle.stapl_checker.specs.declared.walk.Walk.{Walk}
+use Rattle.stapl_checker.specs.declared.walk.Walk.TheVariants.{Stops, Ends}
 use Rattle.stapl_checker.specs.Counts.{totals_of, totals_behind}
 use Rattle.stapl_checker.specs.Places.{place_of}
 use Rattle.stapl_checker.specs.Scopes.{named, IsInside}
@@ -84,17 +84,17 @@ broken_at names statements i = broken_by names statements i (slice_get statement
 abbrev pub NoneBroken : Names → List StmtTree → ℕ → Type 0
 NoneBroken names statements n = (k : ℕ) → k < n → broken_at names statements k ≡ None
 
--- the way stops at a statement
+-- the walk stops at a statement
 pub record StopsAt (names : Names) (statements : List StmtTree) (i : ℕ) (reason : Reason) : Type 0 where
   pub below : i < length statements
   pub here : broken_at names statements i ≡ Some reason
   pub before : NoneBroken names statements i
 
--- the way comes to the end
+-- the walk comes to the end
 pub record ComesToEnd (names : Names) (statements : List StmtTree) (c : Course) : Type 0 where
   pub none : NoneBroken names statements (length statements)
   pub course : IsCourse names (numbered_trees statements) (length statements) c
 
-abbrev pub IsWay : Names → List StmtTree → Way → Type 0
-IsWay names statements (Stops i reason) = StopsAt names statements i reason
-IsWay names statements (Ends c) = ComesToEnd names statements c
+abbrev pub IsWalk : Names → List StmtTree → Walk → Type 0
+IsWalk names statements (Stops i reason) = StopsAt names statements i reason
+IsWalk names statements (Ends c) = ComesToEnd names statements c

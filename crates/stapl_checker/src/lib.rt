@@ -14,6 +14,6 @@ mod repeats;
 mod scope;
 mod sizes;
 mod stops;
-mod way;
+mod walk;
 
 pub use checking::{CheckRefused, check};

@@ -3,7 +3,7 @@ ghost use Rattle.std.specs.Prelude.{◌≡◌, ◌≤◌, ◌<◌, ◌+◌, ◌-
 ghost use Rattle.stapl_lexer.specs.Pieces.{LiesIn, text_limit};
 ghost use Rattle.stapl_checker.specs.Readings.{IsRead, Adds, IsReading};
 
-use crate::way::PIECE_LIMIT;
+use crate::walk::PIECE_LIMIT;
 use stapl_grammar::{ParseRefused, parse};
 use stapl_lexer::{Piece, Reason};
 use stapl_syntax::Stmt;

@@ -12,8 +12,7 @@ use Rattle.stapl_meaning.specs.declared.values.Value.{Value}
 use Rattle.stapl_meaning.specs.declared.values.Value.TheVariants.{Int, Bit}
 use Rattle.stapl_meaning.specs.declared.values.ValueKind.{ValueKind}
 use Rattle.stapl_meaning.specs.declared.values.ValueKind.TheVariants as kinds
-use Rattle.stapl_meaning.specs.Values.{Got, Known, Faults, Stuck, then_get, is_index, passed, item_of, item_at, element_of, index_held, bits_held, Span, span_between,
-    span_of, range_held, bits_between, source_bits, padded, asked, integer_from, source_integer}
+use Rattle.stapl_meaning.specs.Values.{Got, Known, Faults, Stuck, then_get, is_index, passed, item_of, item_at, element_of, index_held, bits_held, Span, span_between, span_of, range_held, bits_between, source_bits, padded, asked, integer_from, source_integer}
 use Rattle.stapl_meaning.specs.Values as values
 use Rattle.stapl_meaning.specs.States.{State, Did}
 use Rattle.stapl_meaning.specs.States as did

@@ -35,9 +35,7 @@ use Rattle.stapl_meaning.specs.declared.records.Record.{Record}
 use Rattle.stapl_meaning.specs.declared.records.Record.TheVariants.{Pushed, Called, Looped}
 use Rattle.stapl_meaning.specs.States.{ScanSettings, State, Did, Turned, Leads, Over, Broken, Scanning, NoTurn, next_chosen, jumps_to}
 use Rattle.stapl_meaning.specs.States as did
-use Rattle.stapl_meaning.specs.Effects.{scalar_written, element_assigned, IntoWhole, copied, integers_set, written, way_of, with_variables, with_records, record_limit,
-    number_of, value_as, topmost, returned_from, with_loop, looped, nearest_loop, is_over, integer_held, went_round, after_value, printed, exported, bits_exported, cycles_of,
-    usec_of, hertz_of, most_cycles, waited_for, waited, tuned}
+use Rattle.stapl_meaning.specs.Effects.{scalar_written, element_assigned, IntoWhole, copied, integers_set, written, way_of, with_variables, with_records, record_limit, number_of, value_as, topmost, returned_from, with_loop, looped, nearest_loop, is_over, integer_held, went_round, after_value, printed, exported, bits_exported, cycles_of, usec_of, hertz_of, most_cycles, waited_for, waited, tuned}
 use Rattle.stapl_code.specs.declared.raw.VarDef.{VarDef}
 use Rattle.stapl_code.specs.declared.operators.Operator.{Operator}
 use Rattle.stapl_code.specs.declared.instr.PrintPart.{PrintPart}
@@ -45,22 +43,16 @@ use Rattle.stapl_code.specs.declared.instr.PrintPart.TheVariants as parts
 use Rattle.stapl_code.specs.declared.instr.ExportPart.TheVariants as exports
 use Rattle.stapl_code.specs.declared.instr.Source.{Source}
 use Rattle.stapl_code.specs.declared.instr.Instr.{Instr}
-use Rattle.stapl_code.specs.declared.instr.Instr.TheVariants.{Turn, Push, PushBit, Load, LoadAt, CheckIndex, CheckRange, Store, StoreAt, Unary, Binary, ToInt, CopyBits,
-    SetBits, SetInts, For, Next, PushRecord, PopRecord, Call, Jump, JumpIfZero, EndProc, Print, Export, CheckChar, Exit, Scan as Scans, Stop, Pad, State as GoThrough, Wait,
-    Frequency}
+use Rattle.stapl_code.specs.declared.instr.Instr.TheVariants.{Turn, Push, PushBit, Load, LoadAt, CheckIndex, CheckRange, Store, StoreAt, Unary, Binary, ToInt, CopyBits, SetBits, SetInts, For, Next, PushRecord, PopRecord, Call, Jump, JumpIfZero, EndProc, Print, Export, CheckChar, Exit, Scan as Scans, Stop, Pad, State as GoThrough, Wait, Frequency}
 use Rattle.stapl_code.specs.Operators.{operator_table, unary_kinds, unary_results}
-use Rattle.stapl_code.specs.Machine.{Constants, AnInteger, AnArray, OfBits, OfInts, source_slots, source_wants, dest_slots, dest_want, target_of, known_literal, known_source,
-    Made, Puts, PutsFrom, PutsTwo, unrecorded, Does, puts, does, one, two, bit_of, operated_by, signed_by, Slot, Of, OfScalar, OfElement, slot_of, sides_of, result_of,
-    part_slots, wait_slots, frequency_slots, given_slots, scan_slots, known_given, known_scan, takes, gives, wants, known_text, parts_text, made, lands, Step, Falls, Acts,
-    Scanned, Stops, Faulted, Wrong, taken_onto, taken, on_taken, acted, entry_of, on_made, step}
+use Rattle.stapl_code.specs.Machine.{Constants, AnInteger, AnArray, OfBits, OfInts, source_slots, source_wants, dest_slots, dest_want, target_of, known_literal, known_source, Made, Puts, PutsFrom, PutsTwo, unrecorded, Does, puts, does, one, two, bit_of, operated_by, signed_by, Slot, Of, OfScalar, OfElement, slot_of, sides_of, result_of, part_slots, wait_slots, frequency_slots, given_slots, scan_slots, known_given, known_scan, takes, gives, wants, known_text, parts_text, made, lands, Step, Falls, Acts, Scanned, Stops, Faulted, Wrong, taken_onto, taken, on_taken, acted, entry_of, on_made, step}
 use Rattle.stapl_code.specs.Ranges.{IsPart, IsSource, IsInstr}
 use Rattle.stapl_code.specs.Kinds.{then_kinds, scalar_kind, variable_kind, element_kind, is_of_kind, is_met, put_on, left_by, clears, slot_kind, all_off, all_on, kinds_behind}
 use Rattle.stapl_code.specs.Valid.{is_turn, departs, is_target, leads_well, is_stable_if, ends_stable, rests_well}
 use Rattle.stapl_code.specs.Safe.{Fits, AllFit, AllBelow}
 use Rattle.stapl_code.proofs.KindCounts.{then_some, met_and_behind}
 use Rattle.stapl_code.proofs.Fitting.{FitAt, fit_at, fit_set}
-use Rattle.stapl_code.proofs.ArraySteps.{IsGot, IsAnswer, element_good, index_good, range_good, Resolves, source_good, integer_good, Writes, element_stored, integers_good,
-    Copies, copy_good, bits_good}
+use Rattle.stapl_code.proofs.ArraySteps.{IsGot, IsAnswer, element_good, index_good, range_good, Resolves, source_good, integer_good, Writes, element_stored, integers_good, Copies, copy_good, bits_good}
 use Rattle.stapl_code.proofs.Operands.{kind_of, kinds_of, EachOf, each_of, each_more, Each, each_at, each_map, each_filled, taken_as}
 use Rattle.stapl_code.proofs.ScanSteps.{ScansWell, PadsWell, scan_good, padding_good}
 use Rattle.stapl_code.proofs.OperatorKinds.{GotOf, CombinesAt, combined_good, Signs, signed_good}
@@ -623,7 +615,7 @@ module _
         -- a line for each instruction
         row_good : (x : Instr) (mid : List ValueKind) → all_on variables (gives x) mid ≡ Some after → IsMet x →
             leads_well entry procedure x ≡ true → rests_well x ≡ true → Stands x → (is_turn (Some x) ≡ true → IsPlace here) → (departs x ≡ true → IsPlace (suc here)) →
-                Each variables (takes x) (Makes x)
+            Each variables (takes x) (Makes x)
         row_good (Turn piece) mid on met leads rests r at behind = (refl, at refl, good)
         row_good (Push z) mid on met leads rests r at behind = λ below. refl
         row_good (PushBit b) mid on met leads rests r at behind = puts_good false None (Of kinds.Bit) (bit_of b) (bit_good b r)

@@ -5,8 +5,7 @@ use Rattle.std.specs.Prelude.{if◌then◌else◌}
 use Rattle.tap_states.specs.Tap.{is_stable_state}
 use Rattle.dev_card.specs.Scans.{BoardScan}
 use Rattle.stapl_meaning.specs.Deeds.{Deed, Scans, Chain, deed_events, deed_chain, deeds_events, deeds_chain, captured_on}
-use Rattle.stapl_meaning.specs.States.{Turned, Leads, Over, Broken, Scanning, NoTurn, preceded, next_chosen, begun, turn_of_piece, Happened, Led, Finished, Broke, Lacks,
-    happens, with_events, scanned_on, happened_in_piece}
+use Rattle.stapl_meaning.specs.States.{Turned, Leads, Over, Broken, Scanning, NoTurn, preceded, next_chosen, begun, turn_of_piece, Happened, Led, Finished, Broke, Lacks, happens, with_events, scanned_on, happened_in_piece}
 use Rattle.stapl_code.specs.Machine.{begins_chosen}
 
 -- no event in front changes nothing

@@ -26,9 +26,7 @@ use Rattle.stapl_meaning.specs.Values.{Got, Known, Faults, Stuck, then_get, is_i
 use Rattle.stapl_meaning.specs.Values as values
 use Rattle.stapl_meaning.specs.States.{State, Did, Falls, Captures}
 use Rattle.stapl_meaning.specs.Effects.{Target, with_variables, scalar_written, element_written, written}
-use Rattle.stapl_meaning.specs.Scans.{settings_of, with_padding, scan_limit, padding_limit, length_between, scan_of, CompareParts, ScanParts, source_width, target_width,
-    Place, Cell, InScalar, InElement, Comparison, target_found, cell_found, comparison_found, compare_found, Found, scan_found, caught, agree, known_or, cell_written, judged,
-    landed, target_asked, compare_asked, scan_asked, scanned, padding_bits, surrounded}
+use Rattle.stapl_meaning.specs.Scans.{settings_of, with_padding, scan_limit, padding_limit, length_between, scan_of, CompareParts, ScanParts, source_width, target_width, Place, Cell, InScalar, InElement, Comparison, target_found, cell_found, comparison_found, compare_found, Found, scan_found, caught, agree, known_or, cell_written, judged, landed, target_asked, compare_asked, scan_asked, scanned, padding_bits, surrounded}
 use Rattle.stapl_code.specs.declared.raw.VarDef.{VarDef}
 use Rattle.stapl_code.specs.declared.instr.Source.{Source}
 use Rattle.stapl_code.specs.declared.instr.Source.TheVariants as sources
@@ -38,15 +36,13 @@ use Rattle.stapl_code.specs.declared.instr.Cell as code
 use Rattle.stapl_code.specs.declared.instr.Cell.TheVariants as cells
 use Rattle.stapl_code.specs.declared.instr.Compare.{Compare}
 use Rattle.stapl_code.specs.declared.instr.Scan.{Scan}
-use Rattle.stapl_code.specs.Machine.{Of, Want, source_slots, source_wants, target_of, known_literal, known_source, known_given, given_slots, given_wants, target_slots,
-    target_wants, cell_slots, cell_want, compare_slots, compare_wants, scan_slots, scan_wants, cell_part, known_compare, known_scan}
+use Rattle.stapl_code.specs.Machine.{Of, Want, source_slots, source_wants, target_of, known_literal, known_source, known_given, given_slots, given_wants, target_slots, target_wants, cell_slots, cell_want, compare_slots, compare_wants, scan_slots, scan_wants, cell_part, known_compare, known_scan}
 use Rattle.stapl_code.specs.Ranges.{IsSource, IsGiven, IsCompare, IsScan}
 use Rattle.stapl_code.specs.Kinds.{item_kind, element_kind, is_of_kind, is_met}
 use Rattle.stapl_code.specs.Safe.{AllFit}
 use Rattle.stapl_code.proofs.Fitting.{FitAt, fit_at, fit_set}
 use Rattle.stapl_code.proofs.Operands.{kind_of, Fill, each_at, filled_count, fill_parts}
-use Rattle.stapl_code.proofs.ArraySteps.{IsGot, IsAnswer, then_good, passed_good, EndsWithin, HasLength, asked_good, length-spliced, HoldsBits, holds_bits, span_between_good,
-    source_good, Writes, element_stored}
+use Rattle.stapl_code.proofs.ArraySteps.{IsGot, IsAnswer, then_good, passed_good, EndsWithin, HasLength, asked_good, length-spliced, HoldsBits, holds_bits, span_between_good, source_good, Writes, element_stored}
 use Rattle.stapl_code.proofs.ScanKinds.{all_both}
 
 -- ---- captured bits
@@ -215,7 +211,7 @@ module _ (variables : List VarDef) where
         let celled : List Bool → List Bool → List Value → Got Comparison = λ expected mask ws. then_get (cell_found contents (cell_part c.cell) ws) (λ cell. Known (made expected mask cell)) in
         let masked : List Bool → List Value → List Value → Got Comparison = λ expected us ws. then_get (source_bits contents m.from us) (λ mask. celled expected mask ws) in
         subst (λ us. IsGot CellOf (then_get (source_bits contents e.from us)
-            (λ expected. masked expected (take (source_width m.from) (drop (source_width e.from) vs)) (drop (source_width m.from) (drop (source_width e.from) vs))))) (sym front)
+        (λ expected. masked expected (take (source_width m.from) (drop (source_width e.from) vs)) (drop (source_width m.from) (drop (source_width e.from) vs))))) (sym front)
         (subst (λ us. IsGot CellOf (then_get (source_bits contents e.from f.front) (λ expected. masked expected us (drop (source_width m.from) (drop (source_width e.from) vs))))) (sym middle)
         (subst (λ ws. IsGot CellOf (then_get (source_bits contents e.from f.front) (λ expected. masked expected g.front ws))) (sym last)
         (then_good (λ _. Unit {0}) CellOf (source_bits contents e.from f.front) (λ expected. masked expected g.front g.back) (e.bits f.front f.fill_front) (λ expected _.
@@ -232,7 +228,7 @@ module _ (variables : List VarDef) where
     compares (Some c) r met =
         let both = and_parts (is_met variables (cell_want c.cell)) (list_all (is_met variables) (source_wants c.expected ++ source_wants c.mask)) met in
         let split = and_parts (list_all (is_met variables) (source_wants c.expected)) (list_all (is_met variables) (source_wants c.mask))
-            (sym (all_both variables (source_wants c.expected) (source_wants c.mask)) ∙ both.1) in
+        (sym (all_both variables (source_wants c.expected) (source_wants c.mask)) ∙ both.1) in
         let e = reads c.expected r.expected split.0 in
         let m = reads c.mask r.mask split.1 in
         let parts : CompareParts = record { expected = e.from; mask = m.from; cell = cell_part c.cell } in
@@ -267,7 +263,7 @@ module _ (variables : List VarDef) where
         let compared : List Bool → Option Place → List Value → Got Found = λ data_bits target ws. then_get (compare_found contents c.parts ws) (λ compare. Known (made data_bits target compare)) in
         let placed : List Bool → List Value → List Value → Got Found = λ data_bits us ws. then_get (target_found contents to us) (λ target. compared data_bits target ws) in
         subst (λ us. IsGot FoundFits (then_get (source_bits contents a.from us)
-            (λ data_bits. placed data_bits (take (target_width to) (drop (source_width a.from) vs)) (drop (target_width to) (drop (source_width a.from) vs))))) (sym front)
+        (λ data_bits. placed data_bits (take (target_width to) (drop (source_width a.from) vs)) (drop (target_width to) (drop (source_width a.from) vs))))) (sym front)
         (subst (λ us. IsGot FoundFits (then_get (source_bits contents a.from f.front) (λ data_bits. placed data_bits us (drop (target_width to) (drop (source_width a.from) vs))))) (sym middle)
         (subst (λ ws. IsGot FoundFits (then_get (source_bits contents a.from f.front) (λ data_bits. placed data_bits g.front ws))) (sym last)
         (then_good (λ _. Unit {0}) FoundFits (source_bits contents a.from f.front) (λ data_bits. placed data_bits g.front g.back) (a.bits f.front f.fill_front) (λ data_bits _.
@@ -398,13 +394,13 @@ module _ (variables : List VarDef) (literals : List (List Bool)) (s : State) (fi
       let wants : List Want = target_wants scan.target ++ compare_wants scan.compare in
       let both = and_parts (list_all (is_met variables) (source_wants scan.source)) (list_all (is_met variables) wants) (sym (all_both variables (source_wants scan.source) wants) ∙ met) in
       let more = and_parts (list_all (is_met variables) (target_wants scan.target)) (list_all (is_met variables) (compare_wants scan.compare))
-          (sym (all_both variables (target_wants scan.target) (compare_wants scan.compare)) ∙ both.1) in
+      (sym (all_both variables (target_wants scan.target) (compare_wants scan.compare)) ∙ both.1) in
       let a = reads variables literals s fit scan.source r.source both.0 in
       let c = compares variables literals s fit scan.compare r.compare more.1 in
       let z = one_integer variables v fill.0 in
       let parts : ScanParts = record { register = scan.register; source = a.from; target = option_map target_of scan.target; compare = c.parts } in
       let make : values.Source → Option CompareParts → ScanParts =
-          λ source compare. record { register = scan.register; source = source; target = option_map target_of scan.target; compare = compare } in
+      λ source compare. record { register = scan.register; source = source; target = option_map target_of scan.target; compare = compare } in
       let known : known_scan literals scan ≡ Known parts =
       ap (λ g. then_get g (λ source. then_get (known_compare literals scan.compare) (λ compare. Known (make source compare)))) a.known
       ∙ ap (λ g. then_get g (λ compare. Known (make a.from compare))) c.known

@@ -10,12 +10,9 @@ use Rattle.stapl_meaning.specs.States as did
 use Rattle.stapl_meaning.specs.Values.{Got, Known, Faults, Stuck, then_get}
 use Rattle.stapl_code.specs.declared.operators.Operator.{Operator}
 use Rattle.stapl_code.specs.declared.instr.Instr.{Instr}
-use Rattle.stapl_code.specs.declared.instr.Instr.TheVariants.{Turn, Push, PushBit, Load, LoadAt, CheckIndex, CheckRange, Store, StoreAt, Unary, Binary, ToInt, CopyBits,
-    SetBits, SetInts, For, Next, PushRecord, PopRecord, Call, Jump, JumpIfZero, EndProc, Print, Export, CheckChar, Exit, Scan as Scans, Stop, Pad, State as GoThrough, Wait,
-    Frequency}
+use Rattle.stapl_code.specs.declared.instr.Instr.TheVariants.{Turn, Push, PushBit, Load, LoadAt, CheckIndex, CheckRange, Store, StoreAt, Unary, Binary, ToInt, CopyBits, SetBits, SetInts, For, Next, PushRecord, PopRecord, Call, Jump, JumpIfZero, EndProc, Print, Export, CheckChar, Exit, Scan as Scans, Stop, Pad, State as GoThrough, Wait, Frequency}
 use Rattle.stapl_code.specs.Operators.{operator_table, unary_kinds}
-use Rattle.stapl_code.specs.Machine.{Constants, Made, Puts, PutsFrom, PutsTwo, Does, puts, does, one, two, unrecorded, kept, slot_of, sides_of, result_of, takes, gives, made,
-    taken_onto, taken, on_taken, acted, lands, on_made, step}
+use Rattle.stapl_code.specs.Machine.{Constants, Made, Puts, PutsFrom, PutsTwo, Does, puts, does, one, two, unrecorded, kept, slot_of, sides_of, result_of, takes, gives, made, taken_onto, taken, on_taken, acted, lands, on_made, step}
 use Rattle.stapl_code.specs.Rooms.{count_behind, LeavesAtMost}
 
 -- what is made puts at most n operands on

@@ -1,6 +1,5 @@
 -- Runs of a valid code.
-use Rattle.std.proofs.Common.{◌≡◌, ◌≢◌, ℕ, zero, suc, ◌+◌, ◌-◌, ◌<◌, ◌≤◌, Bool, true, false, List, [], ◌∷◌, ◌++◌, Option, Some, None, length, take, drop, arith, refl, sym,
-    ap, ◌∙◌, subst, length-drop, length-take, add-one}
+use Rattle.std.proofs.Common.{◌≡◌, ◌≢◌, ℕ, zero, suc, ◌+◌, ◌-◌, ◌<◌, ◌≤◌, Bool, true, false, List, [], ◌∷◌, ◌++◌, Option, Some, None, length, take, drop, arith, refl, sym, ap, ◌∙◌, subst, length-drop, length-take, add-one}
 use Rattle.std.specs.Prelude.{ℤ, slice_get, slice_range, ◌&&◌, ◌||◌, not, nat_lt, nat_le, All, AllPairs, if◌then◌else◌}
 use Rattle.std.specs.List.{list_all}
 use Rattle.std.proofs.lemmas.Bool.Decides.{nat_tests}
@@ -24,12 +23,10 @@ use Rattle.stapl_code.specs.declared.raw.ProcDef.{ProcDef}
 use Rattle.stapl_code.specs.declared.raw.CodeLists.{CodeLists}
 use Rattle.stapl_code.specs.declared.instr.Instr.{Instr}
 use Rattle.stapl_code.specs.declared.instr.Instr.TheVariants.{Turn, Push, PushBit, Store, SetBits, SetInts, EndProc}
-use Rattle.stapl_code.specs.Machine.{Does, does, puts, bit_of, known_literal, Step, Falls, Acts, Scanned, Stops, Faulted, Wrong, on_made, entry_of, step, at_end, continues,
-    begins_chosen, stretch, begins, code_turn, code_run, code_beginning, code_play}
+use Rattle.stapl_code.specs.Machine.{Does, does, puts, bit_of, known_literal, Step, Falls, Acts, Scanned, Stops, Faulted, Wrong, on_made, entry_of, step, at_end, continues, begins_chosen, stretch, begins, code_turn, code_run, code_beginning, code_play}
 use Rattle.stapl_code.specs.Ranges.{IsInstr, IsInRange}
 use Rattle.stapl_code.specs.Kinds.{kinds_behind}
-use Rattle.stapl_code.specs.Valid.{is_turn, is_end, sets_up, departs, is_last, agree, kinds_kept, judged, first_of, is_target, leads_well, rests_well, stands_well,
-    prologue_break, rest_break, procedure_break, next_entry, procedures_break, entry_break, IsValid}
+use Rattle.stapl_code.specs.Valid.{is_turn, is_end, sets_up, departs, is_last, agree, kinds_kept, judged, first_of, is_target, leads_well, rests_well, stands_well, prologue_break, rest_break, procedure_break, next_entry, procedures_break, entry_break, IsValid}
 use Rattle.stapl_code.specs.Safe.{AllFit, AllBelow, entries_of, constants_of}
 use Rattle.stapl_code.specs.Ticks.{counted_behind, counted_then}
 use Rattle.stapl_code.specs.Depth.{on_kinds, deepest, procedures_depth, depth_of, held, begin_held, turn_held, run_held, play_held}
@@ -179,7 +176,7 @@ module _ (code : CodeLists) where
       (length ks ≤ deepest code.variables ks (x ∷ rest)) × (deepest code.variables after rest ≤ deepest code.variables ks (x ∷ rest))
   deeper x ks after rest e =
       let behind : on_kinds (kinds_behind code.variables x ks) (λ after. deepest code.variables after rest) ≡ deepest code.variables after rest =
-          ap (λ o. on_kinds o (λ after. deepest code.variables after rest)) e in
+      ap (λ o. on_kinds o (λ after. deepest code.variables after rest)) e in
       (omega arith, omega (arith, behind))
 
   -- a turn begins at the place, in a procedure that breaks no rule
@@ -250,12 +247,12 @@ module _ (code : CodeLists) where
   -- each instruction of a procedure is reached by the search for a break
   reached : (entry : ℕ) (procedure : List Instr) (n i : ℕ) (must : Bool) (ks : List ValueKind) (l : List Instr) →
       rest_break code.variables entry procedure i must ks l ≡ None → (must' : Bool) × (ks' : List ValueKind) ×
-          (rest_break code.variables entry procedure (i + n) must' ks' (drop n l) ≡ None) × (deepest code.variables ks' (drop n l) ≤ deepest code.variables ks l)
+      (rest_break code.variables entry procedure (i + n) must' ks' (drop n l) ≡ None) × (deepest code.variables ks' (drop n l) ≤ deepest code.variables ks l)
   reached entry procedure zero i must ks l e = (must, ks, ap (λ j. rest_break code.variables entry procedure j must ks l) (omega arith) ∙ e, omega arith)
   reached entry procedure (suc n) i must ks [] e = (must, ks, refl, omega arith)
   reached entry procedure (suc n) i must ks (x ∷ rest) e =
       let j = judged_none (kinds_behind code.variables x ks) (stands_well entry procedure must x (is_last rest)) i
-          (λ after. rest_break code.variables entry procedure (i + 1) (departs x) after rest) e in
+      (λ after. rest_break code.variables entry procedure (i + 1) (departs x) after rest) e in
       let r = reached entry procedure n (i + 1) (departs x) j.0 rest j.3 in
       (r.0, r.1, ap (λ k. rest_break code.variables entry procedure k r.0 r.1 (drop n rest)) (omega arith) ∙ r.2, omega (arith, r.3, (deeper x ks j.0 rest j.1).1))
 
@@ -264,7 +261,7 @@ module _ (code : CodeLists) where
   begins_with_turn entry procedure [] e h = absurd (omega arith)
   begins_with_turn entry procedure (x ∷ rest) e h =
       let j = judged_none (kinds_behind code.variables x []) (stands_well entry procedure true x (is_last rest)) entry
-          (λ after. rest_break code.variables entry procedure (entry + 1) (departs x) after rest) e in
+      (λ after. rest_break code.variables entry procedure (entry + 1) (departs x) after rest) e in
       turn_stands entry procedure true x (is_last rest) j.2 refl
 
   -- a procedure by its number
@@ -304,7 +301,7 @@ module _ (code : CodeLists) where
       }
   procedure_at (x ∷ ps) (suc p) h order within e =
       let r = procedure_at ps p (omega arith) (λ i j d less inside. order (suc i) (suc j) d (omega arith) (omega arith)) (and_right (nat_lt x.entry total) _ within)
-          (first_none (procedure_break code.variables x.entry (slice_range code.instrs x.entry (next_entry total ps))) (procedures_break code.variables code.instrs ps) e).1 in
+      (first_none (procedure_break code.variables x.entry (slice_range code.instrs x.entry (next_entry total ps))) (procedures_break code.variables code.instrs ps) e).1 in
       record { entry = r.entry; end = r.end; entry_is = r.entry_is; some = r.some; most = r.most; whole = r.whole; deep = omega (arith, r.deep) }
 
   procedure_place : (entry end : ℕ) → entry < end → end ≤ total → procedure_break code.variables entry (slice_range code.instrs entry end) ≡ None →
@@ -336,7 +333,7 @@ module _ (code : CodeLists) where
     pub rest_ok : (procedures_break code.variables code.instrs code.procedures ≡ None) × (entry_break total code.procedures ≡ None)
     rest_ok = first_none (procedures_break code.variables code.instrs code.procedures) (entry_break total code.procedures)
         (first_none (prologue_break code.variables 0 [] (slice_range code.instrs 0 (next_entry total code.procedures)))
-            (first_of (procedures_break code.variables code.instrs code.procedures) (entry_break total code.procedures)) valid).1
+        (first_of (procedures_break code.variables code.instrs code.procedures) (entry_break total code.procedures)) valid).1
 
     pub within : list_all (λ (p : ProcDef). nat_lt p.entry total) code.procedures ≡ true
     within = all_within (list_all (λ (p : ProcDef). nat_lt p.entry total) code.procedures) rest_ok.1
@@ -411,7 +408,7 @@ module _ (code : CodeLists) where
       turn_behind j x (y ∷ rest) d must ks after leaves well e =
           let next : drop (j + 1) procedure ≡ y ∷ rest = rw add-one (drop_tail j procedure ∙ ap (drop 1) d) in
           let judged = judged_none (kinds_behind code.variables y after) (stands_well entry procedure (departs x) y (is_last rest)) (entry + j + 1)
-              (λ a. rest_break code.variables entry procedure (entry + j + 1 + 1) (departs y) a rest) e in
+          (λ a. rest_break code.variables entry procedure (entry + j + 1 + 1) (departs y) a rest) e in
           let turn = turn_stands entry procedure (departs x) y (is_last rest) judged.2 leaves in
           let one : entry + (j + 1) ≡ suc (entry + j) = omega arith in
           subst IsPlace one (turn_place (j + 1) y rest next turn)
@@ -419,12 +416,12 @@ module _ (code : CodeLists) where
       -- the rest of a turn
       rest_good : (rest : List Instr) (j : ℕ) (must : Bool) (ops : List Value) (s : State) (k : Chain) → Ready s → IsStable k → drop j procedure ≡ rest →
           drop (entry + j) code.instrs ≡ rest ++ behind → 0 < length rest → rest_break code.variables entry procedure (entry + j) must (kinds_of ops) rest ≡ None →
-              deepest code.variables (kinds_of ops) rest ≤ depth_of code →
-                  Safe (stretch (entries_of code.procedures) (constants_of code) total (rest ++ behind) ops s k) (held (entries_of code.procedures) (constants_of code) total (rest ++ behind) ops s k)
+          deepest code.variables (kinds_of ops) rest ≤ depth_of code →
+          Safe (stretch (entries_of code.procedures) (constants_of code) total (rest ++ behind) ops s k) (held (entries_of code.procedures) (constants_of code) total (rest ++ behind) ops s k)
       rest_good [] j must ops s k good stable d at some e below = absurd (omega arith)
       rest_good (x ∷ rest) j must ops s chain good stable d at some e below =
           let k = judged_none (kinds_behind code.variables x (kinds_of ops)) (stands_well entry procedure must x (is_last rest)) (entry + j)
-              (λ after. rest_break code.variables entry procedure (entry + j + 1) (departs x) after rest) e in
+          (λ after. rest_break code.variables entry procedure (entry + j + 1) (departs x) after rest) e in
           let here : total - suc (length (rest ++ behind)) ≡ entry + j = omega (arith, ap length at, length-drop (entry + j) code.instrs) in
           let more : drop (j + 1) procedure ≡ rest = rw add-one (drop_tail j procedure ∙ ap (drop 1) d) in
           let one : entry + (j + 1) ≡ suc (entry + j) = omega arith in
@@ -432,16 +429,16 @@ module _ (code : CodeLists) where
           let next : drop (entry + (j + 1)) code.instrs ≡ rest ++ behind = ap (λ (n : ℕ). drop n code.instrs) one ∙ drop_tail (entry + j) code.instrs ∙ ap (drop 1) at in
           let r = all_dropped (IsInstr code.variables (length code.literals) (length code.texts) (length code.procedures)) (entry + j) code.instrs x (rest ++ behind) range.instrs at in
           let sg = step_good code.variables (length code.procedures) (entries_of code.procedures) (constants_of code) IsPlace
-              (total - suc (length (rest ++ behind))) begin entry procedure (target_place entry procedure behind whole stands deep) s good k.0 x ops k.1
-                  (target_stands entry procedure must x (is_last rest) k.2) (rest_stands entry procedure must x (is_last rest) k.2) r
-                      (λ t. subst IsPlace (sym here) (turn_place j x rest d t)) (λ t. subst IsPlace (ap suc (sym here)) (turn_behind j x rest d must (kinds_of ops) k.0 t k.2 k.3)) in
+          (total - suc (length (rest ++ behind))) begin entry procedure (target_place entry procedure behind whole stands deep) s good k.0 x ops k.1
+          (target_stands entry procedure must x (is_last rest) k.2) (rest_stands entry procedure must x (is_last rest) k.2) r
+          (λ t. subst IsPlace (sym here) (turn_place j x rest d t)) (λ t. subst IsPlace (ap suc (sym here)) (turn_behind j x rest d must (kinds_of ops) k.0 t k.2 k.3)) in
           let under = deeper x (kinds_of ops) k.0 rest k.1 in
           let c = continue_good (is_end x) k.0 chain (step (entries_of code.procedures) (constants_of code) (total - suc (length (rest ++ behind))) x ops s)
-              (stretch (entries_of code.procedures) (constants_of code) total (rest ++ behind))
-                  (held (entries_of code.procedures) (constants_of code) total (rest ++ behind)) stable sg (falls_inside _ x ops s) (λ o t l end kinds g stays.
+          (stretch (entries_of code.procedures) (constants_of code) total (rest ++ behind))
+          (held (entries_of code.procedures) (constants_of code) total (rest ++ behind)) stable sg (falls_inside _ x ops s) (λ o t l end kinds g stays.
           rest_good rest (j + 1) (departs x) o t l g stays more next (more_follow rest (not_last (is_end x) (is_last rest) (end_stands entry procedure must x (is_last rest) k.2) end))
           (ap (λ n. rest_break code.variables entry procedure n (departs x) (kinds_of o) rest) again ∙ ap
-              (λ ks. rest_break code.variables entry procedure (entry + j + 1) (departs x) ks rest) kinds ∙ k.3)
+          (λ ks. rest_break code.variables entry procedure (entry + j + 1) (departs x) ks rest) kinds ∙ k.3)
           (subst (λ ks. deepest code.variables ks rest ≤ depth_of code) (sym kinds) (omega (arith, under.1, below)))) in
           let few : length ops ≤ depth_of code = omega (arith, under.0, below, kinds_count ops) in
           (c.0, omega (arith, c.1, few))
@@ -459,12 +456,12 @@ module _ (code : CodeLists) where
 
           by_turn : (piece : ℕ) (rest : List Instr) → drop j procedure ≡ Turn piece ∷ rest → drop (entry + j) code.instrs ≡ Turn piece ∷ rest ++ behind →
               SafePiece (begins (entries_of code.procedures) (constants_of code) total (Turn piece ∷ rest ++ behind) s k)
-                  (begin_held (entries_of code.procedures) (constants_of code) total (Turn piece ∷ rest ++ behind) s k)
+              (begin_held (entries_of code.procedures) (constants_of code) total (Turn piece ∷ rest ++ behind) s k)
           by_turn piece rest d at =
               let r = reached entry procedure j entry true [] procedure whole in
               let own = judged_none (kinds_behind code.variables (Turn piece) r.1) (stands_well entry procedure r.0 (Turn piece) (is_last rest)) (entry + j)
-                  (λ after. rest_break code.variables entry procedure (entry + j + 1) (departs (Turn piece)) after rest)
-                      (ap (rest_break code.variables entry procedure (entry + j) r.0 r.1) (sym d) ∙ r.2) in
+              (λ after. rest_break code.variables entry procedure (entry + j + 1) (departs (Turn piece)) after rest)
+              (ap (rest_break code.variables entry procedure (entry + j) r.0 r.1) (sym d) ∙ r.2) in
               let more : drop (j + 1) procedure ≡ rest = rw add-one (drop_tail j procedure ∙ ap (drop 1) d) in
               let one : entry + (j + 1) ≡ suc (entry + j) = omega arith in
               let again : entry + (j + 1) ≡ entry + j + 1 = omega arith in
@@ -473,7 +470,7 @@ module _ (code : CodeLists) where
               let there : deepest code.variables r.1 (Turn piece ∷ rest) ≤ depth_of code = subst (λ l. deepest code.variables r.1 l ≤ depth_of code) d (omega (arith, r.3, deep)) in
               let below : deepest code.variables own.0 rest ≤ depth_of code = omega (arith, (deeper (Turn piece) r.1 own.0 rest own.1).1, there) in
               let r = rest_good rest (j + 1) false [] s k good stable more next
-                  (more_follow rest (not_last false (is_last rest) (end_stands entry procedure r.0 (Turn piece) (is_last rest) own.2) refl))
+              (more_follow rest (not_last false (is_last rest) (end_stands entry procedure r.0 (Turn piece) (is_last rest) own.2) refl))
               (ap (λ n. rest_break code.variables entry procedure n false [] rest) again ∙ ap (λ ks. rest_break code.variables entry procedure (entry + j + 1) false ks rest) (sym none) ∙ own.3)
               (subst (λ ks. deepest code.variables ks rest ≤ depth_of code) none below) in
               (piece_good piece (stretch (entries_of code.procedures) (constants_of code) total (rest ++ behind) [] s k) r.0, r.1)
@@ -485,17 +482,17 @@ module _ (code : CodeLists) where
               let t = is_a_turn x (some (x ∷ rest) d) in
               let is : drop j procedure ≡ Turn t.0 ∷ rest = d ∙ ap (λ y. y ∷ rest) t.1 in
               let at : drop (entry + j) code.instrs ≡ Turn t.0 ∷ rest ++ behind =
-                  sym (drop-drop j entry code.instrs) ∙ ap (drop j) stands ∙ drop-append-le j procedure behind (at_most (x ∷ rest) d (omega arith)) ∙ ap (λ l. l ++ behind) is in
+              sym (drop-drop j entry code.instrs) ∙ ap (drop j) stands ∙ drop-append-le j procedure behind (at_most (x ∷ rest) d (omega arith)) ∙ ap (λ l. l ++ behind) is in
               subst (λ l. SafePiece (begins (entries_of code.procedures) (constants_of code) total l s k)
-                  (begin_held (entries_of code.procedures) (constants_of code) total l s k)) (sym at) (by_turn t.0 rest is at)
+              (begin_held (entries_of code.procedures) (constants_of code) total l s k)) (sym at) (by_turn t.0 rest is at)
 
     turn_good : (place : ℕ) (s : State) (k : Chain) → IsPlace place → Ready s → IsStable k →
         SafePiece (code_turn (entries_of code.procedures) (constants_of code) code.instrs place s k) (turn_held (entries_of code.procedures) (constants_of code) code.instrs place s k)
     turn_good place s k at good stable =
         let same : at.entry + (place - at.entry) ≡ place = omega (arith, at.from) in
         subst (λ n. SafePiece (code_turn (entries_of code.procedures) (constants_of code) code.instrs n s k)
-            (turn_held (entries_of code.procedures) (constants_of code) code.instrs n s k)) same
-                (turn_from at.entry at.procedure at.behind at.whole at.stands at.deep (place - at.entry) s k good stable at.turn)
+        (turn_held (entries_of code.procedures) (constants_of code) code.instrs n s k)) same
+        (turn_from at.entry at.procedure at.behind at.whole at.stands at.deep (place - at.entry) s k good stable at.turn)
 
     place_turn : (place : ℕ) → IsPlace place → is_turn (head_of (drop place code.instrs)) ≡ true
     place_turn place at = from (drop j at.procedure) refl
@@ -512,7 +509,7 @@ module _ (code : CodeLists) where
             let within : j ≤ length at.procedure = omega (arith, ap length d, length-drop j at.procedure) in
             let same : place ≡ at.entry + j = omega (arith, at.from) in
             let is : drop place code.instrs ≡ x ∷ rest ++ at.behind = ap (λ (n : ℕ). drop n code.instrs) same ∙ sym (drop-drop j at.entry code.instrs) ∙ ap
-                (drop j) at.stands ∙ drop-append-le j at.procedure at.behind within ∙ ap (λ l. l ++ at.behind) d in
+            (drop j) at.stands ∙ drop-append-le j at.procedure at.behind within ∙ ap (λ l. l ++ at.behind) d in
             ap (λ l. is_turn (head_of l)) is ∙ some (x ∷ rest) d
 
     -- the prologue falls into the first Turn
@@ -604,16 +601,16 @@ module _ (code : CodeLists) where
 
     prologue_good : (prologue behind : List Instr) (i : ℕ) (ops : List Value) (s : State) (k : Chain) → is_turn (head_of behind) ≡ true → Ready s → IsStable k →
         drop i code.instrs ≡ prologue ++ behind → (prologue ≡ [] → ops ≡ []) → prologue_break code.variables i (kinds_of ops) prologue ≡ None →
-            deepest code.variables (kinds_of ops) prologue ≤ depth_of code →
-                BeginsSafe (stretch (entries_of code.procedures) (constants_of code) total (prologue ++ behind) ops s k)
-                    (held (entries_of code.procedures) (constants_of code) total (prologue ++ behind) ops s k)
+        deepest code.variables (kinds_of ops) prologue ≤ depth_of code →
+        BeginsSafe (stretch (entries_of code.procedures) (constants_of code) total (prologue ++ behind) ops s k)
+        (held (entries_of code.procedures) (constants_of code) total (prologue ++ behind) ops s k)
     prologue_good [] [] i ops s k turn good stable at none e below = absurd cc
     prologue_good [] (y ∷ behind) i ops s k turn good stable at none e below =
         let t = is_a_turn y turn in
         subst (λ o. BeginsSafe (stretch (entries_of code.procedures) (constants_of code) total (y ∷ behind) o s k)
-            (held (entries_of code.procedures) (constants_of code) total (y ∷ behind) o s k)) (sym (none refl))
+        (held (entries_of code.procedures) (constants_of code) total (y ∷ behind) o s k)) (sym (none refl))
         (subst (λ z. BeginsSafe (stretch (entries_of code.procedures) (constants_of code) total (z ∷ behind) [] s k)
-            (held (entries_of code.procedures) (constants_of code) total (z ∷ behind) [] s k)) (sym t.1) ((good, stable), omega arith))
+        (held (entries_of code.procedures) (constants_of code) total (z ∷ behind) [] s k)) (sym t.1) ((good, stable), omega arith))
     prologue_good (x ∷ rest) behind i ops s chain turn good stable at none e below =
         let k = judged_none (kinds_kept (is_last rest) (kinds_behind code.variables x (kinds_of ops))) (sets_up x) i (λ after. prologue_break code.variables (i + 1) after rest) e in
         let kept = none_kept rest (kinds_behind code.variables x (kinds_of ops)) k.0 k.1 in
@@ -621,12 +618,12 @@ module _ (code : CodeLists) where
         let r = all_dropped (IsInstr code.variables (length code.literals) (length code.texts) (length code.procedures)) i code.instrs x (rest ++ behind) range.instrs at in
         let here = total - suc (length (rest ++ behind)) in
         let sg = step_good code.variables (length code.procedures) (entries_of code.procedures)
-            (constants_of code) IsPlace here begin 0 [] no_target s good k.0 x ops kept.0 (leads_nowhere x k.2) (rests_nowhere x k.2) r (λ t. absurd (no_turn x k.2 t))
-                (λ t. absurd (no_departure x k.2 t)) in
+        (constants_of code) IsPlace here begin 0 [] no_target s good k.0 x ops kept.0 (leads_nowhere x k.2) (rests_nowhere x k.2) r (λ t. absurd (no_turn x k.2 t))
+        (λ t. absurd (no_departure x k.2 t)) in
         let under = deeper x (kinds_of ops) k.0 rest kept.0 in
         let c = continue_begins k.0 chain (step (entries_of code.procedures) (constants_of code) here x ops s)
-            (stretch (entries_of code.procedures) (constants_of code) total (rest ++ behind))
-                (held (entries_of code.procedures) (constants_of code) total (rest ++ behind)) stable sg (never_stops x here ops s k.2) (λ o t l kinds g stays.
+        (stretch (entries_of code.procedures) (constants_of code) total (rest ++ behind))
+        (held (entries_of code.procedures) (constants_of code) total (rest ++ behind)) stable sg (never_stops x here ops s k.2) (λ o t l kinds g stays.
         prologue_good rest behind (i + 1) o t l turn g stays next (λ f. no_operands o (kinds ∙ kept.1 f)) (ap (λ ks. prologue_break code.variables (i + 1) ks rest) kinds ∙ k.3)
         (subst (λ ks. deepest code.variables ks rest ≤ depth_of code) (sym kinds) (omega (arith, under.1, below)))) in
         let few : length ops ≤ depth_of code = omega (arith, under.0, below, kinds_count ops) in

@@ -25,9 +25,7 @@ use Rattle.stapl_code.specs.declared.instr.Cell.TheVariants as cells
 use Rattle.stapl_code.specs.declared.instr.Compare.{Compare}
 use Rattle.stapl_code.specs.declared.instr.Scan.{Scan}
 use Rattle.stapl_code.specs.declared.instr.Instr.{Instr}
-use Rattle.stapl_code.specs.declared.instr.Instr.TheVariants.{Turn, Push, PushBit, Load, LoadAt, CheckIndex, CheckRange, Store, StoreAt, Unary, Binary, ToInt, CopyBits,
-    SetBits, SetInts, For, Next, PushRecord, PopRecord, Call, Jump, JumpIfZero, EndProc, Print, Export, CheckChar, Exit, Scan as Scans, Stop, Pad, State as GoThrough, Wait,
-    Frequency}
+use Rattle.stapl_code.specs.declared.instr.Instr.TheVariants.{Turn, Push, PushBit, Load, LoadAt, CheckIndex, CheckRange, Store, StoreAt, Unary, Binary, ToInt, CopyBits, SetBits, SetInts, For, Next, PushRecord, PopRecord, Call, Jump, JumpIfZero, EndProc, Print, Export, CheckChar, Exit, Scan as Scans, Stop, Pad, State as GoThrough, Wait, Frequency}
 use Rattle.stapl_code.specs.Fields.{number, integer, marked, counted}
 
 abbrev pub source : Source → List ℕ

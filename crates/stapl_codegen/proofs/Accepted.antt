@@ -6,9 +6,7 @@ use Rattle.std.proofs.lemmas.List.{append-nil}
 use Rattle.std.proofs.lemmas.List.Elements.{All-nil, All-cons, All-head, All-tail, All-append, All-weaker}
 use Rattle.std.proofs.lemmas.List.Sums.{sum_by-cons}
 use Rattle.stapl_lexer.specs.Pieces.{text_limit}
-use Rattle.stapl_syntax.specs.Trees.{ArrayTree, literal, PartTree, string, value, character, CompareTree, BodyTree, end_data, boolean, boolean_array, integer, integer_array,
-    assign, assign_element, assign_array, assign_range, if_then, for_loop, push, pop, print, exported_value, exported_array, export, exit, scan, pad, scalar, element,
-    wait_cycles, wait_usec, frequency, StmtTree}
+use Rattle.stapl_syntax.specs.Trees.{ArrayTree, literal, PartTree, string, value, character, CompareTree, BodyTree, end_data, boolean, boolean_array, integer, integer_array, assign, assign_element, assign_array, assign_range, if_then, for_loop, push, pop, print, exported_value, exported_array, export, exit, scan, pad, scalar, element, wait_cycles, wait_usec, frequency, StmtTree}
 use Rattle.stapl_shapes.specs.Shapes.{is_outer_shape, is_inner_shape, HasShape}
 use Rattle.stapl_syntax.specs.Programs.{IsProgram}
 use Rattle.stapl_shapes.specs.Sizes.{body_size, statements_size}
@@ -18,8 +16,7 @@ use Rattle.stapl_meaning.specs.Scopes.{data_behind, plays, idle, pieces_from, ha
 use Rattle.stapl_meaning.specs.Typed.{IsTypedPreset, IsTyped}
 use Rattle.stapl_meaning.proofs.Blocks.{preset_in}
 use Rattle.stapl_code.specs.Ranges.{IsLiteral}
-use Rattle.stapl_codegen.specs.Emit.{part_texts, array_literals, given_literals, compare_literals, row_texts, row_literals, rows_items, presets_items, statements_items,
-    program_items, texts_of, literals_of}
+use Rattle.stapl_codegen.specs.Emit.{part_texts, array_literals, given_literals, compare_literals, row_texts, row_literals, rows_items, presets_items, statements_items, program_items, texts_of, literals_of}
 use Rattle.stapl_codegen.specs.Accepted.{IsAccepted}
 use Rattle.stapl_codegen.proofs.Drafts.{one_row}
 

@@ -17,8 +17,7 @@ use Rattle.stapl_meaning.specs.Operands.{Operand, an_index, array_operands, give
 use Rattle.stapl_code.specs.declared.instr.Cell.TheVariants as cells
 use Rattle.stapl_code.specs.declared.instr.Source.TheVariants as sources
 use Rattle.stapl_code.specs.declared.raw.VarDef.{VarDef}
-use Rattle.stapl_code.specs.Machine.{Slot, Want, source_slots, source_wants, given_slots, given_wants, target_slots, target_wants, cell_slots, cell_want, compare_slots,
-    compare_wants, scan_slots, scan_wants}
+use Rattle.stapl_code.specs.Machine.{Slot, Want, source_slots, source_wants, given_slots, given_wants, target_slots, target_wants, cell_slots, cell_want, compare_slots, compare_wants, scan_slots, scan_wants}
 use Rattle.stapl_code.specs.Kinds.{then_kinds, is_met, all_off}
 use Rattle.stapl_code.proofs.ScanKinds.{off_both, all_both}
 use Rattle.stapl_codegen.specs.Emit.{past, array_literals, source_code, given_code, target_code, compare_code, scan_code}

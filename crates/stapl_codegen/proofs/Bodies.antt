@@ -2,9 +2,7 @@
 use Rattle.std.proofs.Common.{◌≡◌, ℕ, suc, ◌-◌, Bool, true, false, List, [], ◌∷◌, ◌++◌, length, Option, Some, None, refl, sym, ap, subst, ◌∙◌, arith, length-append}
 use Rattle.std.specs.Prelude.{ℤ, nat_abs, is_some, map, slice_get, slice_set}
 use Rattle.std.proofs.lemmas.Bool.{true≢false}
-use Rattle.stapl_syntax.specs.Trees.{ExprTree, BodyTree, scalar, element, end_procedure, boolean, boolean_array, integer, integer_array, assign, assign_element, assign_array,
-    assign_range, call, goto, if_then, for_loop, next, push, pop, print, exported_value, exported_array, export, exit, scan, stop, pad, state_list, wait_cycles, wait_usec,
-    frequency}
+use Rattle.stapl_syntax.specs.Trees.{ExprTree, BodyTree, scalar, element, end_procedure, boolean, boolean_array, integer, integer_array, assign, assign_element, assign_array, assign_range, call, goto, if_then, for_loop, next, push, pop, print, exported_value, exported_array, export, exit, scan, stop, pad, state_list, wait_cycles, wait_usec, frequency}
 use Rattle.stapl_syntax.specs.Kinds.{expr_kind}
 use Rattle.stapl_meaning.specs.Deeds.{Deed, Chain, deeds_events, deeds_chain}
 use Rattle.stapl_meaning.specs.declared.events.RunFault.{RunFault}
@@ -20,15 +18,13 @@ use Rattle.stapl_meaning.specs.declared.values.ValueKind.TheVariants as kinds
 use Rattle.stapl_meaning.specs.Values.{Got, Known, Faults, Stuck, then_get, is_index, passed, index_held, Lookup, value_of}
 use Rattle.stapl_meaning.specs.Operands.{an_index, values_of, given_kind, printed_kind}
 use Rattle.stapl_meaning.specs.States.{State, Did, Falls, Jumps, Resumes, Returns, Ends, Turned, Captures, Leads, with_got, preceded, next_chosen, led, Happened, Led, happens, with_events, scanned_on}
-use Rattle.stapl_meaning.specs.Effects.{with_scalar, replaced, scalar_written, written, assigned, with_element, element_written, element_assigned, IntoWhole, IntoRange,
-    copied, with_records, value_as, topmost, popped, called, returned_from, printed, exported, bits_exported}
+use Rattle.stapl_meaning.specs.Effects.{with_scalar, replaced, scalar_written, written, assigned, with_element, element_written, element_assigned, IntoWhole, IntoRange, copied, with_records, value_as, topmost, popped, called, returned_from, printed, exported, bits_exported}
 use Rattle.stapl_meaning.specs.Scans.{scanned, surrounded}
 use Rattle.stapl_meaning.specs.Scopes.{Scope}
 use Rattle.stapl_meaning.specs.Turns.{kind_of_wait, integer_given, operands, effect, target, rows, carried, rows_done, done}
 use Rattle.stapl_code.specs.declared.instr.Instr.{Instr}
 use Rattle.stapl_code.specs.declared.instr.Instr.TheVariants.{Store, StoreAt, PopRecord, EndProc}
-use Rattle.stapl_code.specs.Machine.{Constants, Step, Does, does, two, unrecorded, export_slots, known_literal, known_source, known_text, part_exported, wait_slots,
-    frequency_slots, takes, lands, made, on_taken, taken, on_made, continues, stretch, entry_of}
+use Rattle.stapl_code.specs.Machine.{Constants, Step, Does, does, two, unrecorded, export_slots, known_literal, known_source, known_text, part_exported, wait_slots, frequency_slots, takes, lands, made, on_taken, taken, on_made, continues, stretch, entry_of}
 use Rattle.stapl_code.proofs.Preceded.{with_nothing, happens_behind, scan_alike}
 use Rattle.stapl_codegen.specs.Emit.{Firsts, last, between, source_code, export_part, row_texts, row_literals, behind_row, rows_items, body_texts, body_literals, row_code, rows_code, body_code}
 use Rattle.stapl_codegen.specs.Correct.{falls, placed_record, placed_state}
@@ -281,7 +277,7 @@ module _ (place : ℕ → ℕ) (entries : List ℕ) (constants : Constants) (tot
 
       by : (records : List Record) →
           continues k (on_made entries None (onto vs []) (placed_state place s) (unrecorded (topmost kind (map (placed_record place) records)) (placed_state place s)))
-              (stretch entries constants total (i ∷ rest))
+          (stretch entries constants total (i ∷ rest))
           ≡ happens k (placed place (with_got (then_get (topmost kind records) (λ top. assigns (vs ++ top.0 ∷ []) (with_records s top.1))) s (λ did. led scope.entry None did go)))
       by [] = refl
       by (Called i ∷ records) = refl

@@ -1,6 +1,5 @@
 -- A piece more of a draft.
-use Rattle.std.proofs.Common.{◌≡◌, ℕ, zero, suc, ◌+◌, ◌-◌, ◌<◌, ◌≤◌, Bool, true, false, List, [], ◌∷◌, ◌++◌, Option, Some, None, map, length, get_or, drop, take, arith,
-    length-append, append_assoc, sym, ap, subst, ◌∙◌, refl, ⊎_elim}
+use Rattle.std.proofs.Common.{◌≡◌, ℕ, zero, suc, ◌+◌, ◌-◌, ◌<◌, ◌≤◌, Bool, true, false, List, [], ◌∷◌, ◌++◌, Option, Some, None, map, length, get_or, drop, take, arith, length-append, append_assoc, sym, ap, subst, ◌∙◌, refl, ⊎_elim}
 use Rattle.std.specs.Prelude.{if◌then◌else◌, slice_index, IfSome}
 use Rattle.std.proofs.lemmas.List.{get_or_append_left, append-nil, take-map, drop_all, take_all}
 use Rattle.std.specs.List.{cons_option}
@@ -16,11 +15,9 @@ use Rattle.stapl_meaning.proofs.Entries.{all_at}
 use Rattle.stapl_code.specs.declared.instr.Instr.{Instr}
 use Rattle.stapl_code.specs.declared.instr.Instr.TheVariants.{Turn}
 use Rattle.stapl_code.specs.Machine.{nowhere}
-use Rattle.stapl_codegen.specs.Emit.{Firsts, past, behind_row, row_code, body_code, row_texts, row_literals, rows_items, presets_items, statements_items, items_before,
-    body_texts, body_literals, at_first, firsts_at, presets_code, piece_code, pieces_code, code_to, start_in, start_of, total_of}
+use Rattle.stapl_codegen.specs.Emit.{Firsts, past, behind_row, row_code, body_code, row_texts, row_literals, rows_items, presets_items, statements_items, items_before, body_texts, body_literals, at_first, firsts_at, presets_code, piece_code, pieces_code, code_to, start_in, start_of, total_of}
 use Rattle.stapl_codegen.specs.Numbers.{numbers_from}
-use Rattle.stapl_codegen.specs.Drafts.{number_in, Site, Draft, site_at, site_behind, preset_site, scope_of_site, firsts_in, piece_code_in, preset_code_in, preset_items,
-    ArePresetsLeft, StartsTo, IsDraft}
+use Rattle.stapl_codegen.specs.Drafts.{number_in, Site, Draft, site_at, site_behind, preset_site, scope_of_site, firsts_in, piece_code_in, preset_code_in, preset_items, ArePresetsLeft, StartsTo, IsDraft}
 use Rattle.stapl_codegen.specs.Accepted.{IsAccepted}
 use Rattle.stapl_code.proofs.Heads.{head_of, get_head}
 use Rattle.stapl_codegen.proofs.Lists.{RowAlike, row_append, row_same, body_same, presets_before, piece_append}
@@ -130,7 +127,7 @@ each_more program i start starts s e k h =
     ⊎_elim
     (λ (lt : k < i). get_or_append_left starts (start ∷ []) 0 k (omega (arith, n, lt)) ∙ s.each k lt)
     (λ (le : i ≤ k). let at : k ≡ length starts = omega (arith, n, le, h) in let same : i ≡ k =
-        omega (arith, le, h) in ap (λ j. get_or (starts ++ start ∷ []) j 0) at ∙ get_or-append_seam starts start [] 0 ∙ e ∙ ap (start_of program) same)
+    omega (arith, le, h) in ap (λ j. get_or (starts ++ start ∷ []) j 0) at ∙ get_or-append_seam starts start [] 0 ∙ e ∙ ap (start_of program) same)
     (cases_lt k i)
 
 starts_more : (program : Played) (i start : ℕ) (starts : List ℕ) → StartsTo program i starts → start ≡ start_of program i → StartsTo program (i + 1) (starts ++ start ∷ [])
@@ -197,7 +194,7 @@ preset_same program d preset starts site =
   where
     none_called : (b : BodyTree) → has_initial_value b ≡ true →
         RowAlike program.names (λ p. 0) (entry_from program.pieces) (number_in program.names (numbers_from 0 program.names.blocks)) (procedure_number program.pieces)
-            (length program.pieces) (Some preset.block) 0 (λ j. j) b
+        (length program.pieces) (Some preset.block) 0 (λ j. j) b
     none_called (call name) e = absurd (true≢false (sym e))
     none_called _ e = tt
 

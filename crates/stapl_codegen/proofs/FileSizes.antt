@@ -7,8 +7,7 @@ use Rattle.std.proofs.lemmas.List.{length-map}
 use Rattle.std.proofs.lemmas.List.Elements.{All-head, All-tail, All-weaker}
 use Rattle.std.proofs.lemmas.List.Sums.{sum_by-cons, sum_by-append}
 use Rattle.tap_states.specs.declared.Tap.{Tap}
-use Rattle.stapl_syntax.specs.Trees.{ArrayTree, literal, PartTree, string, value, character, CompareTree, scalar, element, BodyTree, action, procedure, boolean,
-    boolean_array, integer, integer_array, assign_array, assign_range, if_then, print, exported_value, exported_array, export, scan, pad, StmtTree}
+use Rattle.stapl_syntax.specs.Trees.{ArrayTree, literal, PartTree, string, value, character, CompareTree, scalar, element, BodyTree, action, procedure, boolean, boolean_array, integer, integer_array, assign_array, assign_range, if_then, print, exported_value, exported_array, export, scan, pad, StmtTree}
 use Rattle.stapl_syntax.specs.Names.{numbered_from, numbered, inside_behind, key_eq, put_first, firsts_behind, declared_from, declared, variable_of}
 use Rattle.stapl_shapes.specs.Sizes.{statements_size}
 use Rattle.stapl_shapes.specs.Bytes.{literal_bytes, string_bytes, array_bytes, given_bytes, compare_bytes, part_bytes, body_bytes, statement_bytes, statements_bytes}
@@ -29,9 +28,7 @@ use Rattle.stapl_code.specs.declared.instr.Cell.TheVariants as cells
 use Rattle.stapl_code.specs.declared.instr.Compare.{Compare}
 use Rattle.stapl_code.specs.declared.instr.Scan.{Scan}
 use Rattle.stapl_code.specs.declared.instr.Instr.{Instr}
-use Rattle.stapl_code.specs.declared.instr.Instr.TheVariants.{Turn, Push, PushBit, Load, LoadAt, CheckIndex, CheckRange, Store, StoreAt, Unary, Binary, ToInt, CopyBits,
-    SetBits, SetInts, For, Next, PushRecord, PopRecord, Call, Jump, JumpIfZero, EndProc, Print, Export, CheckChar, Exit, Scan as Scans, Stop, Pad, State as GoThrough, Wait,
-    Frequency}
+use Rattle.stapl_code.specs.declared.instr.Instr.TheVariants.{Turn, Push, PushBit, Load, LoadAt, CheckIndex, CheckRange, Store, StoreAt, Unary, Binary, ToInt, CopyBits, SetBits, SetInts, For, Next, PushRecord, PopRecord, Call, Jump, JumpIfZero, EndProc, Print, Export, CheckChar, Exit, Scan as Scans, Stop, Pad, State as GoThrough, Wait, Frequency}
 use Rattle.stapl_code.specs.declared.raw.VarDef.{VarDef}
 use Rattle.stapl_code.specs.declared.raw.ProcDef.{ProcDef}
 use Rattle.stapl_code.specs.declared.raw.ItemDef.{ItemDef}
@@ -41,8 +38,7 @@ use Rattle.stapl_code.specs.Fields as fields
 use Rattle.stapl_code.specs.Instrs as instrs
 use Rattle.stapl_code.specs.Files as files
 use Rattle.stapl_code.specs.Files.{file}
-use Rattle.stapl_codegen.specs.Emit.{part_texts, array_literals, given_literals, compare_literals, row_texts, row_literals, rows_items, presets_items, statements_items,
-    program_items, texts_of, literals_of, start_of, program_code, procedure_def, procedures_from, item_def, action_def, actions_from}
+use Rattle.stapl_codegen.specs.Emit.{part_texts, array_literals, given_literals, compare_literals, row_texts, row_literals, rows_items, presets_items, statements_items, program_items, texts_of, literals_of, start_of, program_code, procedure_def, procedures_from, item_def, action_def, actions_from}
 use Rattle.stapl_codegen.specs.Generated.{variable_def, lists_of}
 use Rattle.stapl_codegen.specs.Accepted.{IsAccepted}
 use Rattle.stapl_codegen.proofs.Accepted.{pieces_size, preset_size}

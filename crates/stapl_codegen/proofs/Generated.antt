@@ -64,7 +64,7 @@ module _ (program : Played) (shaped : All HasShape program.pieces) (typed : IsTy
 
       by : (b : Bool) → is_outer st.body ≡ b → InRange defs (length (literals_of program)) (length (texts_of program)) (length (procedures_of program)) after →
           InRange defs (length (literals_of program)) (length (texts_of program)) (length (procedures_of program))
-              (cond b after (Turn (i + 1) ∷ body_code (scope_at program i) (start_of program) (firsts_at program i) st.body after))
+          (cond b after (Turn (i + 1) ∷ body_code (scope_at program i) (start_of program) (firsts_at program i) st.body after))
       by true outer more = more
       by false inner more =
           let at = get_head i program.pieces ∙ ap head_of e in
@@ -116,7 +116,7 @@ module _ (program : Played) (accepted : IsAccepted program) where
       let limit = accepted.typed.few in
       let few = presets_below program in
       presets_range program (start_of program) (length (literals_of program)) (length (texts_of program)) (length (procedures_of program)) at_first program.presets
-          (pieces_code program (start_of program) 0 program.pieces)
+      (pieces_code program (start_of program) 0 program.pieces)
       accepted.typed.presets accepted.presets_shaped (omega (arith, few.0)) (omega (arith, few.1))
       (pieces_range program accepted.shaped accepted.typed program.pieces 0 refl (omega (arith, limit)))
 

@@ -1,9 +1,7 @@
 -- The code of expressions, operands, rows and pieces: what stands behind it, and its targets.
 use Rattle.std.proofs.Common.{◌≡◌, ℕ, zero, suc, ◌+◌, Bool, true, false, cond, List, [], ◌∷◌, ◌++◌, length, map, drop, arith, append_assoc, refl, sym, ap, ◌∙◌}
 use Rattle.std.specs.Prelude.{ℤ, pos, negsuc, Option, Some}
-use Rattle.stapl_syntax.specs.Trees.{ExprTree, number, scalar, element, unary, binary, abs, int, ArrayTree, literal, whole, range, of_int, BodyTree, end_procedure, boolean,
-    boolean_array, integer, integer_array, assign, assign_element, assign_array, assign_range, call, goto, if_then, for_loop, next, push, pop, print, exported_value,
-    exported_array, export, exit, scan, stop, pad, state_list, wait_cycles, wait_usec, frequency, StmtTree}
+use Rattle.stapl_syntax.specs.Trees.{ExprTree, number, scalar, element, unary, binary, abs, int, ArrayTree, literal, whole, range, of_int, BodyTree, end_procedure, boolean, boolean_array, integer, integer_array, assign, assign_element, assign_array, assign_range, call, goto, if_then, for_loop, next, push, pop, print, exported_value, exported_array, export, exit, scan, stop, pad, state_list, wait_cycles, wait_usec, frequency, StmtTree}
 use Rattle.stapl_syntax.specs.Statements.{is_outer}
 use Rattle.stapl_syntax.specs.Names.{Names}
 use Rattle.stapl_meaning.specs.declared.values.ValueKind.{ValueKind}
@@ -15,8 +13,7 @@ use Rattle.stapl_meaning.specs.Turns.{operands, rows}
 use Rattle.stapl_code.specs.declared.instr.Instr.{Instr}
 use Rattle.stapl_code.specs.declared.instr.Instr.TheVariants.{Turn, LoadAt, Unary, Binary, ToInt, Call}
 use Rattle.stapl_code.specs.declared.instr.Source.TheVariants as sources
-use Rattle.stapl_codegen.specs.Emit.{operator_number, sign_number, absolute_number, literal_code, test_code, expr_code, int_code, operands_code, Firsts, last, between,
-    behind_row, row_code, rows_code, body_code, firsts_at, at_first, presets_code, piece_code, pieces_code, code_to, retarget}
+use Rattle.stapl_codegen.specs.Emit.{operator_number, sign_number, absolute_number, literal_code, test_code, expr_code, int_code, operands_code, Firsts, last, between, behind_row, row_code, rows_code, body_code, firsts_at, at_first, presets_code, piece_code, pieces_code, code_to, retarget}
 use Rattle.stapl_codegen.proofs.Rows.{IsRows, no_row, one_row, more_rows, rows_view}
 
 literal_retarget : (place : ℕ → ℕ) (kind : ValueKind) (z : ℤ) → retarget place (literal_code kind z) ≡ literal_code kind z
@@ -278,7 +275,7 @@ module _ (program : Played) (place : ℕ → ℕ) where
 
   piece_append_by : (t : Bool) (i : ℕ) (st : StmtTree) (c d : List Instr) →
       cond t (c ++ d) (Turn (i + 1) ∷ body_code (scope_at program i) place (firsts_at program i) st.body (c ++ d)) ≡ cond t c
-          (Turn (i + 1) ∷ body_code (scope_at program i) place (firsts_at program i) st.body c) ++ d
+      (Turn (i + 1) ∷ body_code (scope_at program i) place (firsts_at program i) st.body c) ++ d
   piece_append_by true i st c d = refl
   piece_append_by false i st c d = ap (λ l. Turn (i + 1) ∷ l) (body_append (scope_at program i) place (firsts_at program i) st.body c d)
 
@@ -287,7 +284,7 @@ module _ (program : Played) (place : ℕ → ℕ) where
 
   piece_retarget_by : (t : Bool) (i : ℕ) (st : StmtTree) (c : List Instr) →
       map (retarget place) (cond t c (Turn (i + 1) ∷ body_code (scope_at program i) (λ j. j) (firsts_at program i) st.body c)) ≡ cond t (map (retarget place) c)
-          (Turn (i + 1) ∷ body_code (scope_at program i) place (firsts_at program i) st.body (map (retarget place) c))
+      (Turn (i + 1) ∷ body_code (scope_at program i) place (firsts_at program i) st.body (map (retarget place) c))
   piece_retarget_by true i st c = refl
   piece_retarget_by false i st c = ap (λ l. Turn (i + 1) ∷ l) (body_retarget (scope_at program i) place (firsts_at program i) st.body c)
 

@@ -1,6 +1,5 @@
 -- The numbers of pieces and of procedures.
-use Rattle.std.proofs.Common.{◌≡◌, ◌≢◌, ℕ, suc, ◌+◌, ◌<◌, ◌≤◌, Bool, true, false, cond, not, List, [], ◌∷◌, ◌++◌, length, drop, map, position, slice_get, get_or, Option,
-    Some, unwrap_or, refl, sym, ap, subst, ◌∙◌, arith, append_assoc, if◌then◌else◌}
+use Rattle.std.proofs.Common.{◌≡◌, ◌≢◌, ℕ, suc, ◌+◌, ◌<◌, ◌≤◌, Bool, true, false, cond, not, List, [], ◌∷◌, ◌++◌, length, drop, map, position, slice_get, get_or, Option, Some, unwrap_or, refl, sym, ap, subst, ◌∙◌, arith, append_assoc, if◌then◌else◌}
 use Rattle.std.specs.List.{AllPairs, range_with_len, position_or_len}
 use Rattle.std.specs.Map.{keys_of}
 use Rattle.std.specs.Str.{bytes_eq}
@@ -88,7 +87,7 @@ number_at (e ∷ es) n d name apart below = by e.1.is_data (bytes_eq name e.0) r
     by : (data' b : Bool) → bytes_eq name e.0 ≡ b →
         position_or_len (bytes_eq name) (if data' then plain_blocks es else e.0 ∷ plain_blocks es) < length (if data' then plain_blocks es else e.0 ∷ plain_blocks es) →
         ((m : ℕ) → position_or_len (bytes_eq name) (plain_blocks es) < length (plain_blocks es) →
-            get_or (numbers_from m es) (position_or_len (bytes_eq name) (keys_of es)) d ≡ m + position_or_len (bytes_eq name) (plain_blocks es)) →
+        get_or (numbers_from m es) (position_or_len (bytes_eq name) (keys_of es)) d ≡ m + position_or_len (bytes_eq name) (plain_blocks es)) →
         get_or (n ∷ numbers_from (if data' then n else suc n) es) (position_or_len (bytes_eq name) (e.0 ∷ keys_of es)) d
         ≡ n + position_or_len (bytes_eq name) (if data' then plain_blocks es else e.0 ∷ plain_blocks es)
     by true true is below more =
@@ -146,7 +145,7 @@ number_known program typed name there =
 
 pub calls_known : (program : Played) → IsTyped program → (inside : Option (List ℕ)) (i : ℕ) (place : ℕ → ℕ) (b : BodyTree) → NamesProcedures program b →
     CallsAlike program.names (λ p. 0) (entry_from program.pieces) (number_in program.names (numbers_from 0 program.names.blocks)) (procedure_number program.pieces)
-        (length program.pieces) inside i place b
+    (length program.pieces) inside i place b
 calls_known program typed inside i place (call name) there = number_known program typed name there
 calls_known program typed inside i place (if_then e b) there = calls_known program typed inside i place b there
 calls_known program typed inside i place _ there = tt

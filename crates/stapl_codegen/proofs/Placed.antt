@@ -11,8 +11,7 @@ use Rattle.stapl_meaning.specs.Effects.{assigned, element_assigned}
 use Rattle.stapl_meaning.specs.Scans.{with_padding}
 use Rattle.stapl_meaning.specs.Scopes.{Scope}
 use Rattle.stapl_meaning.specs.Turns.{effect}
-use Rattle.stapl_meaning.proofs.Walks.{WalkRule, plain_rule, PaddingRule, changed_did, changed_got, assigned_same, element_same, beside, effect_same, changed_target,
-    changed_turned, changed_preceded, changed_piece, jumps_same}
+use Rattle.stapl_meaning.proofs.Walks.{WalkRule, plain_rule, PaddingRule, changed_did, changed_got, assigned_same, element_same, beside, effect_same, changed_target, changed_turned, changed_preceded, changed_piece, jumps_same}
 use Rattle.stapl_codegen.specs.Correct.{placed_record, placed_state}
 
 module _ (place : ℕ → ℕ) where

@@ -6,8 +6,7 @@ use Rattle.stapl_meaning.specs.declared.values.Value.{Value}
 use Rattle.stapl_meaning.specs.Values.{Got, Known, Faults, Stuck}
 use Rattle.stapl_meaning.specs.Operands.{values_of}
 use Rattle.stapl_meaning.specs.Deeds.{Deed, Chain}
-use Rattle.stapl_meaning.specs.States.{State, Did, Falls, Jumps, Resumes, Returns, Ends, Captures, Turned, Leads, Over, Broken, Scanning, NoTurn, with_got, preceded,
-    next_chosen, begun, led, Led, happens}
+use Rattle.stapl_meaning.specs.States.{State, Did, Falls, Jumps, Resumes, Returns, Ends, Captures, Turned, Leads, Over, Broken, Scanning, NoTurn, with_got, preceded, next_chosen, begun, led, Led, happens}
 use Rattle.stapl_meaning.specs.Scopes.{has_initial_value, Preset, Scope, Played, entry_from, preset_scope}
 use Rattle.stapl_meaning.specs.Turns.{operands, effect, target, carried}
 use Rattle.stapl_meaning.specs.Plays.{set_up, beginning}

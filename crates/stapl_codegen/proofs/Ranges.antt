@@ -21,9 +21,7 @@ use Rattle.stapl_syntax.specs.declared.names.VarKind.TheVariants as variables
 use Rattle.stapl_syntax.specs.Kinds.{expr_kind, element_kind, is_array, is_int, is_bit, is_bit_array, is_integer, wants_int, suits, if_given, compare_suits, operands_suit}
 use Rattle.stapl_syntax.specs.Names.{Names, declaration, found_from, kind_of_found}
 use Rattle.stapl_syntax.specs.Rules.{is_boolean, has_too_many_values}
-use Rattle.stapl_syntax.specs.Trees.{ExprTree, number, scalar, element, unary, binary, abs, int, ArrayTree, literal, whole, range, of_int, PartTree, string, value, character,
-    CompareTree, BodyTree, boolean, boolean_array, integer, integer_array, assign, assign_element, assign_array, assign_range, call, goto, if_then, for_loop, next, push, pop,
-    print, exported_value, exported_array, export, exit, scan, stop, pad, state_list, wait_cycles, wait_usec, frequency}
+use Rattle.stapl_syntax.specs.Trees.{ExprTree, number, scalar, element, unary, binary, abs, int, ArrayTree, literal, whole, range, of_int, PartTree, string, value, character, CompareTree, BodyTree, boolean, boolean_array, integer, integer_array, assign, assign_element, assign_array, assign_range, call, goto, if_then, for_loop, next, push, pop, print, exported_value, exported_array, export, exit, scan, stop, pad, state_list, wait_cycles, wait_usec, frequency}
 use Rattle.stapl_shapes.specs.Shapes.{is_simple_shape, is_inner_shape}
 use Rattle.stapl_meaning.specs.declared.values.ValueKind.{ValueKind}
 use Rattle.stapl_meaning.specs.declared.values.ValueKind.TheVariants as kinds
@@ -42,13 +40,10 @@ use Rattle.stapl_code.specs.Operators.{operator_table, unary_kinds}
 use Rattle.stapl_code.specs.Kinds.{variable_kind, element_kind as element_kind_of, is_of_kind}
 use Rattle.stapl_code.specs.Ranges.{IsVariable, elements_of, AreVariables, IsPart, IsSource, IsDest, IsGiven, IsCell, IsCompare, IsScan, IsExport, size_of, IsInstr}
 use Rattle.stapl_codegen.specs.Generated.{kind_number, variable_def}
-use Rattle.stapl_codegen.specs.Emit.{literal_code, expr_code, int_code, test_code, operands_code, past, given_literals, compare_literals, source_code, given_code,
-    target_code, compare_code, scan_code, shown_part, export_part, print_parts, part_texts, array_literals, Firsts, last, between, row_code, body_texts, body_literals,
-    operator_number, sign_number, absolute_number, body_code}
+use Rattle.stapl_codegen.specs.Emit.{literal_code, expr_code, int_code, test_code, operands_code, past, given_literals, compare_literals, source_code, given_code, target_code, compare_code, scan_code, shown_part, export_part, print_parts, part_texts, array_literals, Firsts, last, between, row_code, body_texts, body_literals, operator_number, sign_number, absolute_number, body_code}
 use Rattle.stapl_codegen.proofs.Views.{IsInner, an_end, a_bit, some_bits, an_integer, no_integers, some_integers, a_simple, inner_view}
 use Rattle.stapl_codegen.proofs.Sides.{fits, scalar_fits, element_fits, indexed_fits, unary_fits, integer_fits, operates}
-use Rattle.stapl_codegen.proofs.WellKinded.{Agrees, scalar_agrees, element_agrees, bits_agree, integer_agrees, boolean_agrees, printed_fits, TestFits, AllTyped, one_typed,
-    parts_typed, range_typed, array_typed, no_bit}
+use Rattle.stapl_codegen.proofs.WellKinded.{Agrees, scalar_agrees, element_agrees, bits_agree, integer_agrees, boolean_agrees, printed_fits, TestFits, AllTyped, one_typed, parts_typed, range_typed, array_typed, no_bit}
 use Rattle.stapl_codegen.proofs.Drafts.{past_length}
 use Rattle.stapl_codegen.proofs.ArrayKinds as arrays
 use Rattle.stapl_codegen.proofs.ArrayKinds.{bit_item, compared, IsScanned, scan_suits, scan_typed}

@@ -2,8 +2,7 @@
 use Rattle.std.proofs.Common.{◌≡◌, ◌≢◌, ℕ, zero, suc, ◌+◌, ◌-◌, ◌≤◌, Bool, true, false, cond, List, [], ◌∷◌, length, drop, Some, None, refl, sym, ap, subst, ◌∙◌, add-one, arith, length-append}
 use Rattle.std.specs.Prelude.{slice_get}
 use Rattle.std.proofs.lemmas.List.{drop_all}
-use Rattle.stapl_syntax.specs.Trees.{BodyTree, end_procedure, boolean, boolean_array, integer, integer_array, assign, assign_element, assign_array, assign_range, call, goto,
-    if_then, for_loop, next, push, pop, print, export, exit, scan, stop, pad, state_list, wait_cycles, wait_usec, frequency, StmtTree}
+use Rattle.stapl_syntax.specs.Trees.{BodyTree, end_procedure, boolean, boolean_array, integer, integer_array, assign, assign_element, assign_array, assign_range, call, goto, if_then, for_loop, next, push, pop, print, export, exit, scan, stop, pad, state_list, wait_cycles, wait_usec, frequency, StmtTree}
 use Rattle.stapl_syntax.specs.Statements.{is_outer}
 use Rattle.stapl_meaning.specs.declared.events.Event.{Event}
 use Rattle.stapl_meaning.specs.Deeds.{Chain, deeds_events, deeds_chain}
@@ -116,7 +115,7 @@ pieces_begin program i (st ∷ rest) e some =
       starts = start_is program i st (get_head i program.pieces ∙ ap head_of e) is
           ∙ ap (λ l. length (program_code program) - length (pieces_code program (start_of program) i l)) e
           ∙ ap (λ b. length (program_code program) - length (cond b (pieces_code program (start_of program) (i + 1) rest)
-              (piece_before program i st (pieces_code program (start_of program) (i + 1) rest)))) is;
+          (piece_before program i st (pieces_code program (start_of program) (i + 1) rest)))) is;
     }
 
 module _ (program : Played) where

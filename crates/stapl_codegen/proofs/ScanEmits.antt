@@ -12,8 +12,7 @@ use Rattle.stapl_code.specs.declared.instr.Dest.{Dest}
 use Rattle.stapl_code.specs.declared.instr.Source.{Source}
 use Rattle.stapl_code.specs.declared.instr.Compare.{Compare}
 use Rattle.stapl_codegen.specs.Emit.{past, array_literals, operands_code, source_code, target_code, compare_code}
-use Rattle.stapl_codegen.specs.Drafts.{Draft, Site, scope_of_site, expr_code_in, operands_code_in, array_operands_in, source_in, target_operands_in, target_in,
-    compare_operands_in, compare_in, body_code_in}
+use Rattle.stapl_codegen.specs.Drafts.{Draft, Site, scope_of_site, expr_code_in, operands_code_in, array_operands_in, source_in, target_operands_in, target_in, compare_operands_in, compare_in, body_code_in}
 use Rattle.stapl_codegen.proofs.Drafts.{behind_items}
 use Rattle.stapl_codegen.proofs.Lists.{operands_both, operands_before}
 

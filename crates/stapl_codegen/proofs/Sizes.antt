@@ -8,27 +8,22 @@ use Rattle.std.proofs.lemmas.List.Elements.{All-head, All-tail}
 use Rattle.std.proofs.lemmas.List.Sums.{sum_by-cons}
 use Rattle.stapl_syntax.specs.Kinds.{expr_kind}
 use Rattle.stapl_syntax.specs.Statements.{is_outer}
-use Rattle.stapl_syntax.specs.Trees.{ExprTree, number, scalar, element, unary, binary, abs, int, ArrayTree, literal, whole, range, of_int, PartTree, string, value, character,
-    CompareTree, BodyTree, boolean, boolean_array, integer, integer_array, assign, assign_element, assign_array, assign_range, call, goto, if_then, for_loop, next, push, pop,
-    print, exported_value, exported_array, export, exit, scan, stop, pad, state_list, wait_cycles, wait_usec, frequency, StmtTree}
+use Rattle.stapl_syntax.specs.Trees.{ExprTree, number, scalar, element, unary, binary, abs, int, ArrayTree, literal, whole, range, of_int, PartTree, string, value, character, CompareTree, BodyTree, boolean, boolean_array, integer, integer_array, assign, assign_element, assign_array, assign_range, call, goto, if_then, for_loop, next, push, pop, print, exported_value, exported_array, export, exit, scan, stop, pad, state_list, wait_cycles, wait_usec, frequency, StmtTree}
 use Rattle.stapl_shapes.specs.Shapes.{is_simple_shape, HasShape}
 use Rattle.stapl_shapes.specs.Sizes.{expr_size, array_size, part_size, given_size, capture_size, compare_size, padding_size, body_size, statements_size}
 use Rattle.stapl_meaning.specs.declared.values.ValueKind.{ValueKind}
 use Rattle.stapl_meaning.specs.declared.values.ValueKind.TheVariants as kinds
 use Rattle.stapl_meaning.specs.Values.{Lookup, unary_side, sides}
-use Rattle.stapl_meaning.specs.Operands.{Operand, an_index, a_range, array_operands, given_operands, target_operands, compare_operands, bit_number, given_kind, printed_kind,
-    step_or_one, part_operands}
+use Rattle.stapl_meaning.specs.Operands.{Operand, an_index, a_range, array_operands, given_operands, target_operands, compare_operands, bit_number, given_kind, printed_kind, step_or_one, part_operands}
 use Rattle.stapl_meaning.specs.Turns.{integer_given}
 use Rattle.stapl_meaning.specs.Scopes.{has_initial_value, Preset, Scope, Played, scope_at, preset_scope}
 use Rattle.stapl_meaning.specs.Typed.{IsTypedPreset}
 use Rattle.stapl_meaning.proofs.Resolved.{inner_has_shape}
 use Rattle.stapl_code.specs.declared.instr.Instr.{Instr}
-use Rattle.stapl_code.specs.declared.instr.Instr.TheVariants.{Turn, LoadAt, CheckIndex, CheckRange, Unary, Binary, ToInt, Store, StoreAt, For, PushRecord, PopRecord,
-    JumpIfZero, Print, Export, CheckChar, Exit}
+use Rattle.stapl_code.specs.declared.instr.Instr.TheVariants.{Turn, LoadAt, CheckIndex, CheckRange, Unary, Binary, ToInt, Store, StoreAt, For, PushRecord, PopRecord, JumpIfZero, Print, Export, CheckChar, Exit}
 use Rattle.stapl_code.specs.declared.instr.Source.TheVariants as sources
 use Rattle.stapl_codegen.proofs.Views.{IsInner, an_end, a_bit, some_bits, an_integer, no_integers, some_integers, a_simple, inner_view}
-use Rattle.stapl_codegen.specs.Emit.{operator_number, sign_number, absolute_number, expr_code, int_code, operands_code, print_parts, export_part, Firsts, last, behind_row,
-    row_code, body_code, at_first, firsts_at, presets_code, piece_code, pieces_code, code_to}
+use Rattle.stapl_codegen.specs.Emit.{operator_number, sign_number, absolute_number, expr_code, int_code, operands_code, print_parts, export_part, Firsts, last, behind_row, row_code, body_code, at_first, firsts_at, presets_code, piece_code, pieces_code, code_to}
 use Rattle.stapl_codegen.specs.Accepted.{IsAccepted}
 use Rattle.stapl_codegen.proofs.Lists.{operands_both}
 

@@ -5,8 +5,7 @@ use Rattle.std.proofs.lemmas.List.{drop_at}
 use Rattle.stapl_syntax.specs.Trees.{BodyTree, StmtTree}
 use Rattle.stapl_meaning.specs.Turns.{rows}
 use Rattle.stapl_meaning.specs.Scopes.{Played}
-use Rattle.stapl_codegen.specs.Emit.{rows_items, presets_items, statements_items, program_items, items_before, row_texts, row_literals, body_texts, body_literals, texts_of,
-    literals_of, constants_in, at_first, firsts_at}
+use Rattle.stapl_codegen.specs.Emit.{rows_items, presets_items, statements_items, program_items, items_before, row_texts, row_literals, body_texts, body_literals, texts_of, literals_of, constants_in, at_first, firsts_at}
 use Rattle.stapl_codegen.proofs.Constants.{HasItems, HasConstants}
 
 module _ {A : Type 0} (of : BodyTree → List A) where

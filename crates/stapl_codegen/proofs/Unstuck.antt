@@ -14,8 +14,7 @@ use Rattle.stapl_meaning.specs.Values.{Got, Known, Faults, Stuck}
 use Rattle.stapl_meaning.specs.Operands.{values_of}
 use Rattle.stapl_meaning.specs.Effects.{parted}
 use Rattle.stapl_meaning.specs.Deeds.{Deed, Chain}
-use Rattle.stapl_meaning.specs.States.{State, Did, Falls, Captures, Jumps, Resumes, Returns, Ends, Turned, Leads, Over, Broken, Scanning, NoTurn, with_got, preceded,
-    turn_of_piece, next_chosen, jumps_to, led, happens}
+use Rattle.stapl_meaning.specs.States.{State, Did, Falls, Captures, Jumps, Resumes, Returns, Ends, Turned, Leads, Over, Broken, Scanning, NoTurn, with_got, preceded, turn_of_piece, next_chosen, jumps_to, led, happens}
 use Rattle.stapl_meaning.specs.Scopes.{Played, Scope, scope_at, procedures_in, zero_by, zero_of, zeros_of}
 use Rattle.stapl_meaning.specs.Turns.{operands, effect, target, rows, rows_done, done, turn_of, turn, IsFound}
 use Rattle.stapl_meaning.specs.Plays.{Outcome, Going, Stopped, Run, after, goes_on, run, procedures_run, continued}
@@ -143,7 +142,7 @@ never_stops never program accepted chosen below k stable n =
     let lists : CodeLists = lists_of program in
     let many : length lists.procedures ≡ procedures_in program.pieces = count_same (start_of program) 0 program.pieces in
     let same : (code_play (entries_of lists.procedures) (constants_of lists) lists.instrs chosen (zeros_of program) n k).outcome ≡ placed_outcome (start_of program)
-        (procedures_run program chosen n k).outcome =
+    (procedures_run program chosen n k).outcome =
     ap (λ (r : Run). r.outcome) ((code program accepted).stands chosen n k) in
     λ stopped.
     never lists (in_range program accepted) (is_valid program accepted.shaped accepted.typed) chosen (subst (λ (count : ℕ). AllBelow count chosen) (sym many) below)

@@ -1,6 +1,5 @@
 -- The code of a procedure of an accepted program breaks no rule.
-use Rattle.std.proofs.Common.{◌≡◌, ℕ, zero, suc, ◌+◌, ◌-◌, ◌<◌, ◌≤◌, Bool, true, false, cond, ◌&&◌, List, [], ◌∷◌, ◌++◌, length, length-append, map, drop, Option, Some, None,
-    arith, refl, sym, ap, subst, ◌∙◌, add-one, nat_lt, true≢false}
+use Rattle.std.proofs.Common.{◌≡◌, ℕ, zero, suc, ◌+◌, ◌-◌, ◌<◌, ◌≤◌, Bool, true, false, cond, ◌&&◌, List, [], ◌∷◌, ◌++◌, length, length-append, map, drop, Option, Some, None, arith, refl, sym, ap, subst, ◌∙◌, add-one, nat_lt, true≢false}
 use Rattle.std.specs.Prelude.{slice_get, All, IfSome, nat_le}
 use Rattle.std.proofs.lemmas.List.{drop_at}
 use Rattle.std.proofs.lemmas.Bool.{le-leb, ltb-true, ltb-false}
@@ -260,7 +259,7 @@ module _ (program : Played) (shaped : All HasShape program.pieces) (typed : IsTy
             let last : s.rest ≡ [] = no_items s.rest (omega (arith, long, some)) in
             let ends : s.item.body ≡ end_procedure = own_ends own (length own - 1) s.item are (s.is ∙ ap (λ l. s.item ∷ l) last) in
             absurd (true≢false (sym (ap ends_procedure ends) ∙ none (h + 1 + (length own - 1)) s.item (omega arith) (omega (arith, past, some))
-                (got (length own - 1) (h + 1 + (length own - 1)) s.item s.rest refl s.is)))
+            (got (length own - 1) (h + 1 + (length own - 1)) s.item s.rest refl s.is)))
 
     own_place : (j : ℕ) → IsInBlock program name j → IsOwnPlace j
     own_place j in_block =

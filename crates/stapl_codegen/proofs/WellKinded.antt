@@ -26,8 +26,7 @@ use Rattle.stapl_code.specs.Machine.{AnInteger, ABoolean, AnArray, OfBits, OfInt
 use Rattle.stapl_code.specs.Kinds.{then_kinds, put_on, taken_off, variable_kind, is_met, all_off, kinds_behind}
 use Rattle.stapl_code.specs.Kinds as code
 use Rattle.stapl_code.specs.Valid.{is_last, stands_well, departs, judged, rest_break}
-use Rattle.stapl_codegen.specs.Emit.{literal_code, expr_code, int_code, test_code, operands_code, shown_part, print_parts, operator_number, sign_number, absolute_number,
-    Firsts, last, between, behind_row, row_code, rows_code}
+use Rattle.stapl_codegen.specs.Emit.{literal_code, expr_code, int_code, test_code, operands_code, shown_part, print_parts, operator_number, sign_number, absolute_number, Firsts, last, between, behind_row, row_code, rows_code}
 use Rattle.stapl_codegen.specs.Generated.{kind_number}
 use Rattle.stapl_codegen.proofs.Sides.{fits, held_kind, scalar_fits, item_kind, element_fits, indexed_fits, unary_fits, integer_fits, unary_behind, operates}
 

@@ -10,15 +10,12 @@ use Rattle.stapl_syntax.specs.declared.names.Kind.{Kind}
 use Rattle.stapl_syntax.specs.declared.names.Kind.TheVariants.{Int, Either}
 use Rattle.stapl_syntax.specs.declared.names.VarKind.{VarKind}
 use Rattle.stapl_syntax.specs.declared.names.VarKind.TheVariants as variables
-use Rattle.stapl_syntax.specs.Kinds.{expr_kind, is_array, is_int, is_bit, is_bit_array, is_integer, number_kind, scalar_kind, element_kind, indexed_kind, VarKinds, wants_int,
-    suits, if_given, operands_suit}
+use Rattle.stapl_syntax.specs.Kinds.{expr_kind, is_array, is_int, is_bit, is_bit_array, is_integer, number_kind, scalar_kind, element_kind, indexed_kind, VarKinds, wants_int, suits, if_given, operands_suit}
 use Rattle.stapl_syntax.specs.Mentions.{labels_named}
 use Rattle.stapl_syntax.specs.Rules.{stops_unstable}
 use Rattle.stapl_syntax.specs.Names.{declaration}
 use Rattle.stapl_syntax.specs.Statements.{ends_procedure}
-use Rattle.stapl_syntax.specs.Trees.{ExprTree, number, ArrayTree, CompareTree, BodyTree, boolean, boolean_array, integer, integer_array, assign, assign_element, assign_array,
-    assign_range, call, goto, if_then, for_loop, next, push, scalar, element, pop, print, exported_value, exported_array, export, exit, scan, stop, pad, state_list,
-    wait_cycles, wait_usec, frequency}
+use Rattle.stapl_syntax.specs.Trees.{ExprTree, number, ArrayTree, CompareTree, BodyTree, boolean, boolean_array, integer, integer_array, assign, assign_element, assign_array, assign_range, call, goto, if_then, for_loop, next, push, scalar, element, pop, print, exported_value, exported_array, export, exit, scan, stop, pad, state_list, wait_cycles, wait_usec, frequency}
 use Rattle.stapl_shapes.specs.Shapes.{is_simple_shape, is_inner_shape}
 use Rattle.stapl_meaning.specs.declared.values.ValueKind.{ValueKind}
 use Rattle.stapl_meaning.specs.declared.values.ValueKind.TheVariants as kinds
@@ -39,8 +36,7 @@ use Rattle.stapl_codegen.proofs.ArrayKinds as arrays
 use Rattle.stapl_codegen.proofs.ArrayKinds.{source_off, source_met, scan_suits, given_off, given_met, scan_off, scan_met, scan_typed}
 use Rattle.stapl_codegen.proofs.Stable.{one_stable, last_stable, both_stable}
 use Rattle.stapl_codegen.proofs.Sides.{fits, held_kind, item_kind}
-use Rattle.stapl_codegen.proofs.WellKinded.{kinds_onto, Agrees, scalar_agrees, element_agrees, bits_agree, integer_agrees, integers_agree, printed_fits, AllTyped, one_typed,
-    parts_typed, range_typed, array_typed, parts_off, Fine, Follows, IsGood, row_fine, pop_fine, rows_last}
+use Rattle.stapl_codegen.proofs.WellKinded.{kinds_onto, Agrees, scalar_agrees, element_agrees, bits_agree, integer_agrees, integers_agree, printed_fits, AllTyped, one_typed, parts_typed, range_typed, array_typed, parts_off, Fine, Follows, IsGood, row_fine, pop_fine, rows_last}
 
 -- what is given to a scalar fits the kind that the scalar holds
 pub given_fits : (v : Option VarKind) (k : Option Kind) → suits (scalar_kind v) k ≡ true → (fits (given_kind v) k ≡ true) × (held_kind v ≡ Some (given_kind v))
@@ -164,7 +160,7 @@ module _ (variables : List VarDef) (entry : ℕ) (code : List Instr) where
         let copy : Instr = last scope place first (assign_array name a) in
         let met : list_all (is_met variables) (wants copy) ≡ true =
         ap (λ b. b && list_all (is_met variables) (source_wants (source_code scope.look first.literal a)))
-            (bits_agree variables scope.look agrees name t.0) ∙ source_met variables scope.look agrees first.literal a t.1 in
+        (bits_agree variables scope.look agrees name t.0) ∙ source_met variables scope.look agrees first.literal a t.1 in
         record {
           typed = array_typed variables scope.look agrees [] a t.1;
           finds = wanted variables copy (kinds_onto (array_operands scope.look a) []) [] met (ap (λ o. then_kinds o Some) (source_off variables scope.look first.literal a []));
@@ -180,7 +176,7 @@ module _ (variables : List VarDef) (entry : ℕ) (code : List Instr) where
         let copy : Instr = last scope place first (assign_range name high low a) in
         let met : list_all (is_met variables) (wants copy) ≡ true =
         ap (λ b. b && list_all (is_met variables) (source_wants (source_code scope.look first.literal a)))
-            (bits_agree variables scope.look agrees name v.0) ∙ source_met variables scope.look agrees first.literal a t.1 in
+        (bits_agree variables scope.look agrees name v.0) ∙ source_met variables scope.look agrees first.literal a t.1 in
         let both : List ValueKind = kinds.Int ∷ kinds.Int ∷ [] in
         record {
           typed = range_typed variables scope.look agrees [] name high low (array_operands scope.look a) v.0 v.1 u.1 (array_typed variables scope.look agrees both a t.1);

@@ -1,6 +1,5 @@
 -- The code of an accepted program is valid: one procedure after the other breaks no rule, and their entries rise.
-use Rattle.std.proofs.Common.{◌≡◌, ℕ, suc, ◌+◌, ◌-◌, ◌<◌, ◌≤◌, true, false, cond, List, [], ◌∷◌, ◌++◌, length, length-append, drop, take, Option, Some, None, arith, refl,
-    sym, ap, subst, ◌∙◌, nat_lt, add-one}
+use Rattle.std.proofs.Common.{◌≡◌, ℕ, suc, ◌+◌, ◌-◌, ◌<◌, ◌≤◌, true, false, cond, List, [], ◌∷◌, ◌++◌, length, length-append, drop, take, Option, Some, None, arith, refl, sym, ap, subst, ◌∙◌, nat_lt, add-one}
 use Rattle.std.specs.Prelude.{All, slice_range, if◌then◌else◌}
 use Rattle.std.specs.List.{list_all}
 use Rattle.std.proofs.lemmas.List.{take_at, drop_all}

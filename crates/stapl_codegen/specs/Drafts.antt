@@ -16,8 +16,7 @@ use Rattle.stapl_code.specs.declared.instr.Compare.{Compare}
 use Rattle.stapl_code.specs.declared.instr.Instr.{Instr}
 use Rattle.stapl_code.specs.declared.instr.Instr.TheVariants.{Turn}
 use Rattle.stapl_codegen.specs.Numbers.{numbers_from}
-use Rattle.stapl_codegen.specs.Emit.{expr_code, int_code, operands_code, source_code, given_code, target_code, compare_code, print_parts, Firsts, row_texts, row_literals,
-    presets_items, at_first, row_code, body_code, presets_code, texts_of, literals_of, code_to, start_of}
+use Rattle.stapl_codegen.specs.Emit.{expr_code, int_code, operands_code, source_code, given_code, target_code, compare_code, print_parts, Firsts, row_texts, row_literals, presets_items, at_first, row_code, body_code, presets_code, texts_of, literals_of, code_to, start_of}
 
 -- Where a piece stands: the names of its program, at each of its blocks and behind them the number of the next
 -- procedure, how many pieces the program has, the block that is open before the piece, and the number of the piece,

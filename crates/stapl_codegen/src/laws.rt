@@ -13,9 +13,10 @@ ghost use Rattle.stapl_codegen.specs.Unstuck.{ProgramsAreNotStuck};
 
 use stapl_code::laws::never_stuck;
 use stapl_meaning::laws::programs_are_typed;
-use stapl_shapes::laws::{programs_are_shaped, statements_are_no_longer_than_their_text};
+use stapl_shapes::laws::{
+    programs_are_shaped, statements_are_no_longer_than_their_text, statements_fit_into_their_text,
+};
 use stapl_syntax::laws::{blocks_are_well_named, literals_have_bits, texts_of_prints_are_short};
-use stapl_shapes::laws::statements_fit_into_their_text;
 
 /// The code of a program does what the program does.
 pub fn code_stands()

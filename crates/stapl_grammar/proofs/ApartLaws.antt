@@ -8,11 +8,8 @@ use Rattle.stapl_syntax.specs.declared.statement.ItemChoice.{ItemChoice}
 use Rattle.stapl_syntax.specs.Symbols.{Symbol}
 use Rattle.stapl_syntax.specs.Trees.{ExprTree, PartTree}
 use Rattle.stapl_syntax.specs.Expressions.{right_square, dots}
-use Rattle.stapl_syntax.specs.Parts.{Part, IsPart, hz, a_name, a_signed, an_expr, a_print_part, some_states, after, maybe_hz, maybe, either, listed, IsChoice, optional_item,
-    recommended_item, IsSigned, unsigned, minus, IsPrintPart, of_string, of_value, of_character, comma, join, note_part, item_part, action_part, procedure_part, size_part,
-    for_part, print_part, export_part, capture_part, compare_part, scan_part, pad_part, last_part, usec_part, first_part, frequency_part}
-use Rattle.stapl_grammar.specs.Looks.{after_mark, after_join, after_comma_join, is_mark, mark_number, is_join, join_number, begins_symbol, begins_state, is_state,
-    begins_count, begins_text, begins_choice, choice_of, begins_anything}
+use Rattle.stapl_syntax.specs.Parts.{Part, IsPart, hz, a_name, a_signed, an_expr, a_print_part, some_states, after, maybe_hz, maybe, either, listed, IsChoice, optional_item, recommended_item, IsSigned, unsigned, minus, IsPrintPart, of_string, of_value, of_character, comma, join, note_part, item_part, action_part, procedure_part, size_part, for_part, print_part, export_part, capture_part, compare_part, scan_part, pad_part, last_part, usec_part, first_part, frequency_part}
+use Rattle.stapl_grammar.specs.Looks.{after_mark, after_join, after_comma_join, is_mark, mark_number, is_join, join_number, begins_symbol, begins_state, is_state, begins_count, begins_text, begins_choice, choice_of, begins_anything}
 use Rattle.stapl_grammar.specs.Reading.{next_operator, operator_of}
 use Rattle.stapl_grammar.specs.PartReading.{behind_hz, more_states_at}
 use Rattle.stapl_grammar.specs.BodyReading.{boolean_part, integer_part, range_or_element_part, indexed_part, assign_part, units_part, wait_part}
@@ -205,8 +202,21 @@ assign_apart = ((mark_sign marks.Equals, tt), (mark_sign marks.LeftSquare, index
 pub for_apart : IsApart for_part
 for_apart = (
   tt,
-  (mark_sign marks.Equals, (tt, (join_sign joins.To, (tt, ((join_sign joins.Step, tt), shows_symbol (join_sign joins.Step)),
-      before_maybe (before_sign (join_ends joins.Step)))), before_sign (join_ends joins.To))),
+  (
+    mark_sign marks.Equals,
+    (
+      tt,
+      (
+        join_sign joins.To,
+        (
+          tt,
+          ((join_sign joins.Step, tt), shows_symbol (join_sign joins.Step)),
+          before_maybe (before_sign (join_ends joins.Step)),
+        ),
+      ),
+      before_sign (join_ends joins.To),
+    ),
+  ),
   before_any (λ r. tt),
 )
 

@@ -8,26 +8,20 @@ use Rattle.stapl_lexer.specs.declared.terminal.JoinWord.TheVariants as joins
 use Rattle.stapl_syntax.specs.declared.signs.Sign.{Sign}
 use Rattle.stapl_syntax.specs.declared.signs.Sign.TheVariants as signs
 use Rattle.stapl_syntax.specs.Symbols.{Symbol, Plain, sign_of}
-use Rattle.stapl_syntax.specs.Trees.{ExprTree, ArrayTree, BodyTree, note, action, procedure, data_block, end_data, crc, end_procedure, boolean, boolean_array, integer,
-    integer_array, assign, assign_element, assign_array, assign_range, call, goto, if_then, for_loop, next, push, pop, print, export, exit, scan, stop, pad, state_list,
-    wait_cycles, wait_usec, frequency}
+use Rattle.stapl_syntax.specs.Trees.{ExprTree, ArrayTree, BodyTree, note, action, procedure, data_block, end_data, crc, end_procedure, boolean, boolean_array, integer, integer_array, assign, assign_element, assign_array, assign_range, call, goto, if_then, for_loop, next, push, pop, print, export, exit, scan, stop, pad, state_list, wait_cycles, wait_usec, frequency}
 use Rattle.stapl_syntax.specs.Expressions.{name, mark}
-use Rattle.stapl_syntax.specs.Parts.{IsPart, a_name, a_state, a_check_word, an_expr, a_cell, some_states, both, join, note_part, action_part, procedure_part, for_part,
-    print_part, export_part, scan_part, pad_part, frequency_part}
+use Rattle.stapl_syntax.specs.Parts.{IsPart, a_name, a_state, a_check_word, an_expr, a_cell, some_states, both, join, note_part, action_part, procedure_part, for_part, print_part, export_part, scan_part, pad_part, frequency_part}
 use Rattle.stapl_syntax.specs.Statements.{is_outer, is_unconditional, IsBody, IsLabelled}
 use Rattle.stapl_grammar.specs.Looks.{after_mark, after_join, is_mark, mark_number, begins_anything}
 use Rattle.stapl_grammar.specs.Reading.{Reader, next_sign, name_at, name_of, next_operator, operator_of, expr}
 use Rattle.stapl_grammar.specs.PartReading.{part_at}
-use Rattle.stapl_grammar.specs.BodyReading.{mapped, outer_from, boolean_part, integer_part, inner_from, assign_part, assign_of, if_from, simple_word_from, wait_part,
-    port_from, simple_from, simple_by, simple_in, simple_at, labelled_from, labelled_at, any_from, any_at, label_at, behind_label_at, statement_of}
+use Rattle.stapl_grammar.specs.BodyReading.{mapped, outer_from, boolean_part, integer_part, inner_from, assign_part, assign_of, if_from, simple_word_from, wait_part, port_from, simple_from, simple_by, simple_in, simple_at, labelled_from, labelled_at, any_from, any_at, label_at, behind_label_at, statement_of}
 use Rattle.stapl_grammar.proofs.Tools.{by_step, some_is, by_test, after_mark_some, after_join_some, after_join_here}
 use Rattle.stapl_grammar.proofs.Steps.{bind_same}
 use Rattle.stapl_grammar.proofs.Complete.{shorter, expr_read}
 use Rattle.stapl_grammar.proofs.LeafLaws.{name_some}
 use Rattle.stapl_grammar.proofs.PartLaws.{part_sound, part_whole}
-use Rattle.stapl_grammar.proofs.ApartLaws.{note_apart, action_apart, action_end, procedure_apart, procedure_end, boolean_apart, boolean_end, integer_apart, integer_end,
-    assign_apart, assign_end, for_apart, for_end, print_apart, print_end, export_apart, export_end, scan_apart, scan_end, pad_apart, pad_end, wait_apart, wait_end,
-    frequency_apart, frequency_end, states_end, nothing_ends, no_bracket}
+use Rattle.stapl_grammar.proofs.ApartLaws.{note_apart, action_apart, action_end, procedure_apart, procedure_end, boolean_apart, boolean_end, integer_apart, integer_end, assign_apart, assign_end, for_apart, for_end, print_apart, print_end, export_apart, export_end, scan_apart, scan_end, pad_apart, pad_end, wait_apart, wait_end, frequency_apart, frequency_end, states_end, nothing_ends, no_bracket}
 use Rattle.stapl_grammar.proofs.BodySound.{any_sound, labelled_sound}
 
 -- ---- one equation for the reader of what stands behind THEN

@@ -14,15 +14,12 @@ use Rattle.stapl_syntax.specs.declared.signs.Sign.TheVariants as signs
 use Rattle.stapl_syntax.specs.Symbols.{Symbol, Plain, sign_of}
 use Rattle.stapl_syntax.specs.Trees.{ExprTree, ArrayTree, BodyTree, data_block, end_data, crc, end_procedure, call, goto, if_then, next, push, pop, print, exit, stop, state_list, frequency}
 use Rattle.stapl_syntax.specs.Expressions.{name}
-use Rattle.stapl_syntax.specs.Parts.{Part, IsPart, a_name, a_state, a_check_word, an_expr, a_cell, some_states, after, join, note_part, action_part, procedure_part, for_part,
-    print_part, export_part, scan_part, pad_part, frequency_part}
+use Rattle.stapl_syntax.specs.Parts.{Part, IsPart, a_name, a_state, a_check_word, an_expr, a_cell, some_states, after, join, note_part, action_part, procedure_part, for_part, print_part, export_part, scan_part, pad_part, frequency_part}
 use Rattle.stapl_syntax.specs.Statements.{outer, inner, simple, if_word, port, is_outer, is_unconditional, IsBody}
 use Rattle.stapl_grammar.specs.Looks.{after_join}
 use Rattle.stapl_grammar.specs.Reading.{Reader, next_sign, expr}
 use Rattle.stapl_grammar.specs.PartReading.{part_at}
-use Rattle.stapl_grammar.specs.BodyReading.{mapped, note_of, action_of, procedure_of, outer_from, boolean_part, boolean_with, boolean_of, integer_part, integer_with,
-    integer_of, inner_from, assign_part, range_or_element_of, assign_of, for_of, export_of, if_from, simple_word_from, wait_part, scan_of, pad_of, wait_with, wait_of,
-    port_from, simple_from, simple_by, simple_in, simple_at, labelled_from, labelled_at, any_from, any_at}
+use Rattle.stapl_grammar.specs.BodyReading.{mapped, note_of, action_of, procedure_of, outer_from, boolean_part, boolean_with, boolean_of, integer_part, integer_with, integer_of, inner_from, assign_part, range_or_element_of, assign_of, for_of, export_of, if_from, simple_word_from, wait_part, scan_of, pad_of, wait_with, wait_of, port_from, simple_from, simple_by, simple_in, simple_at, labelled_from, labelled_at, any_from, any_at}
 use Rattle.stapl_grammar.proofs.Tools.{by_step, some_is, after_join_some}
 use Rattle.stapl_grammar.proofs.PartLaws.{part_sound}
 
@@ -50,7 +47,7 @@ form_sound K t p g meant kind s x e =
     by_step (part_at p s) _ x e λ y y-is d.
     let f = part_sound p s y y-is in
     subst (BodyFront K (t ∷ s)) (some_is (g y.0, y.1) x d) (record
-        { taken = t ∷ f.taken; parts = ap (λ (l : List Symbol). t ∷ l) f.parts; meant = meant y.0 (t ∷ f.taken) (f.taken, refl, f.meant); kind = kind y.0 })
+    { taken = t ∷ f.taken; parts = ap (λ (l : List Symbol). t ∷ l) f.parts; meant = meant y.0 (t ∷ f.taken) (f.taken, refl, f.meant); kind = kind y.0 })
 
 -- a symbol alone
 word_alone : (K : BodyTree → Type 0) (t : Symbol) (b : BodyTree) → IsBody (t ∷ []) b → K b → (s : List Symbol) (x : BodyTree × List Symbol) → Some (b, s) ≡ Some x → BodyFront K (t ∷ s) x
@@ -123,7 +120,7 @@ assign_sound v s x e =
     by_step (part_at assign_part s) _ x e λ y y-is d.
     let f = part_sound assign_part s y y-is in
     subst (BodyFront IsSimple (name v ∷ s)) (some_is (assign_of v y.0, y.1) x d)
-        (record { taken = name v ∷ f.taken; parts = ap (λ (l : List Symbol). name v ∷ l) f.parts; meant = assign_meant v y.0 f.taken f.meant; kind = assign_simple v y.0 })
+    (record { taken = name v ∷ f.taken; parts = ap (λ (l : List Symbol). name v ∷ l) f.parts; meant = assign_meant v y.0 f.taken f.meant; kind = assign_simple v y.0 })
 
 wait_meant : (y : Option ℕ × (ExprTree × ((Option ExprTree × Option ℕ) ⊎ Option ℕ))) (a : List Symbol) → IsPart (after (port port_words.Wait) wait_part) y a → IsBody a (wait_of y)
 wait_meant y a m = go y.0 y.1.0 y.1.1 m

@@ -38,7 +38,7 @@ gives_same {X} {Y} view result a b e g = subst (λ (o : Option Y). Gives view re
 
 pub indexed_gives : {X : Type 0} (view : X → BodyTree × List Symbol) (result : Result X Refused) (v : List ℕ) (s q : List Symbol) (first : ExprTree) (r : List Symbol) →
     after_mark marks.RightSquare s ≡ None → q ≡ s → expr 10 q ≡ Some (first, r) →
-        Gives view result (mapped (range_or_element_of v first) (part_at range_or_element_part r)) → Gives view result (mapped (indexed_of v) (part_at indexed_part s))
+    Gives view result (mapped (range_or_element_of v first) (part_at range_or_element_part r)) → Gives view result (mapped (indexed_of v) (part_at indexed_part s))
 indexed_gives view result v s q first r none same e g = gives_same view result _ _ (indexed_is v s first r none (ap (expr 10) (sym same) ∙ e)) g
 
 pub assign_gives : {X : Type 0} (view : X → BodyTree × List Symbol) (result : Result X Refused) (v : List ℕ) (s q r : List Symbol) → after_mark marks.Equals s ≡ None →

@@ -8,8 +8,7 @@ use Rattle.stapl_syntax.specs.Trees.{ExprTree, ExportTree}
 use Rattle.stapl_syntax.specs.Expressions.{right_square}
 use Rattle.stapl_syntax.specs.Parts.{IsExported, of_exported_value, of_exported_array}
 use Rattle.stapl_grammar.specs.Looks.{after_mark, is_mark, mark_number}
-use Rattle.stapl_grammar.specs.Reading.{next_sign, next_operator, literal_at, closed_by, named_by, target_by, target_from, range_by, array_by, array_from, bool_from,
-    brackets_from, function_from, primary_from, unary_of, unary_by, expr}
+use Rattle.stapl_grammar.specs.Reading.{next_sign, next_operator, literal_at, closed_by, named_by, target_by, target_from, range_by, array_by, array_from, bool_from, brackets_from, function_from, primary_from, unary_of, unary_by, expr}
 use Rattle.stapl_grammar.specs.PartReading.{array_at, export_at}
 use Rattle.stapl_grammar.proofs.Tools.{by_step, choice_some, after_mark_some}
 use Rattle.stapl_grammar.proofs.Steps.{expr-is}

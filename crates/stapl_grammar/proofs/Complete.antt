@@ -6,12 +6,9 @@ use Rattle.stapl_lexer.specs.declared.terminal.Mark.{Mark}
 use Rattle.stapl_lexer.specs.declared.terminal.Mark.TheVariants as marks
 use Rattle.stapl_syntax.specs.Symbols.{Symbol}
 use Rattle.stapl_syntax.specs.Trees.{ExprTree, ArrayTree, binary, range}
-use Rattle.stapl_syntax.specs.Expressions.{level_of, operator, mark, IsExpr, IsUnary, IsPrimary, IsCell, IsTarget, IsArray, of_unary, negation, complement, negated, tighter,
-    of_binary, of_primary, of_number, of_cell, of_scalar, of_element, of_brackets, of_abs, of_array, of_literal, of_target, of_whole, of_range, of_expr, right_square,
-    left_round, right_round, dots}
+use Rattle.stapl_syntax.specs.Expressions.{level_of, operator, mark, IsExpr, IsUnary, IsPrimary, IsCell, IsTarget, IsArray, of_unary, negation, complement, negated, tighter, of_binary, of_primary, of_number, of_cell, of_scalar, of_element, of_brackets, of_abs, of_array, of_literal, of_target, of_whole, of_range, of_expr, right_square, left_round, right_round, dots}
 use Rattle.stapl_grammar.specs.Looks.{after_mark, is_mark, mark_number}
-use Rattle.stapl_grammar.specs.Reading.{◌>>=◌, Reader, next_sign, name_at, name_of, literal_at, operator_of, next_operator, closed_by, bracketed_by, named_by, range_by,
-    target_from, target_by, bool_from, array_from, array_by, brackets_from, function_from, primary_from, unary_of, unary_by, expr, climb}
+use Rattle.stapl_grammar.specs.Reading.{◌>>=◌, Reader, next_sign, name_at, name_of, literal_at, operator_of, next_operator, closed_by, bracketed_by, named_by, range_by, target_from, target_by, bool_from, array_from, array_by, brackets_from, function_from, primary_from, unary_of, unary_by, expr, climb}
 use Rattle.stapl_grammar.proofs.Tools.{AtLeastLevel, some_is, after_mark_some, after_mark_here, next_operator_some, next_operator_here, next_operator_quiet, next_operator_none}
 use Rattle.stapl_grammar.proofs.Steps.{bind_same, expr-is, climb-is, expr_shorter}
 

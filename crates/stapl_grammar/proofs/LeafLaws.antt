@@ -11,12 +11,10 @@ use Rattle.stapl_syntax.specs.declared.statement.ItemChoice.TheVariants as choic
 use Rattle.stapl_syntax.specs.Symbols.{Symbol, Plain, Text, Literal, CheckWord}
 use Rattle.stapl_syntax.specs.Trees.{ExprTree, ArrayTree, PartTree, string, value, character, ExportTree, exported_value, exported_array}
 use Rattle.stapl_syntax.specs.Expressions.{IsExpr, IsArray, IsTarget, IsCell, operator, mark, function, name, right_round}
-use Rattle.stapl_syntax.specs.Parts.{IsSigned, unsigned, minus, IsBit, zero_bit, one_bit, IsChoice, optional_item, recommended_item, IsPrintPart, of_string, of_value,
-    of_character, IsExported, of_exported_value, of_exported_array, AreStates, one_state, more_states, more_behind_comma, comma}
+use Rattle.stapl_syntax.specs.Parts.{IsSigned, unsigned, minus, IsBit, zero_bit, one_bit, IsChoice, optional_item, recommended_item, IsPrintPart, of_string, of_value, of_character, IsExported, of_exported_value, of_exported_array, AreStates, one_state, more_states, more_behind_comma, comma}
 use Rattle.stapl_grammar.specs.Looks.{after_mark, is_mark, mark_number, begins_text, begins_state, is_state, choice_of}
 use Rattle.stapl_grammar.specs.Reading.{next_sign, name_at, name_of, literal_at, operator_of, next_operator, brackets_from, function_from, primary_from, unary_of, unary_by, expr}
-use Rattle.stapl_grammar.specs.PartReading.{state_at, state_of, number_at, number_of, is_minus, after_minus, signed_at, bit_of, bit_at, text_at, check_word_at, choice_at,
-    array_at, cell_at, target_at, is_character, after_character, print_part_at, export_at, more_states_at, states_at}
+use Rattle.stapl_grammar.specs.PartReading.{state_at, state_of, number_at, number_of, is_minus, after_minus, signed_at, bit_of, bit_at, text_at, check_word_at, choice_at, array_at, cell_at, target_at, is_character, after_character, print_part_at, export_at, more_states_at, states_at}
 use Rattle.stapl_grammar.proofs.Tools.{by_step, some_is, choice_some, by_test}
 use Rattle.stapl_grammar.proofs.Steps.{expr-is}
 use Rattle.stapl_grammar.proofs.Sound.{IsFront, expr_sound, named_sound, target_sound, array_sound, word_sound}
@@ -84,10 +82,10 @@ unfolding choice_at choice_of next_sign
 choice_sound [] x e = absurd cc
 choice_sound (Plain (signs.Join joins.Optional) ∷ s) x e =
     subst (Front (λ c l. IsChoice l c) (Plain (signs.Join joins.Optional) ∷ s)) (some_is (choices.Optional, s) x e)
-        (record { taken = Plain (signs.Join joins.Optional) ∷ []; parts = refl; meant = optional_item })
+    (record { taken = Plain (signs.Join joins.Optional) ∷ []; parts = refl; meant = optional_item })
 choice_sound (Plain (signs.Join joins.Recommended) ∷ s) x e =
     subst (Front (λ c l. IsChoice l c) (Plain (signs.Join joins.Recommended) ∷ s)) (some_is (choices.Recommended, s) x e)
-        (record { taken = Plain (signs.Join joins.Recommended) ∷ []; parts = refl; meant = recommended_item })
+    (record { taken = Plain (signs.Join joins.Recommended) ∷ []; parts = refl; meant = recommended_item })
 choice_sound _ x e = absurd cc
 
 pub signed_sound : (s : List Symbol) (x : ℤ × List Symbol) → signed_at s ≡ Some x → Front (λ z l. IsSigned l z) s x

@@ -77,7 +77,7 @@ list_is_done {A} read t short front s h = rw (more_is read t short s, h) (ap (λ
 -- one more item behind those that the loop has
 pub list_kept : {X A : Type 0} (read : Reader A) (t : Symbol) → Shortens read →
     (view : X → A) (old new : List X) (s r : List Symbol) (x : X) (u : List Symbol) (total : Option (List A × List Symbol)) → new ≡ old ++ (x ∷ []) →
-        after_symbol t s ≡ Some r → read r ≡ Some (view x, u) → with_front (map view old) (more_by read t s) ≡ total → with_front (map view new) (more_by read t u) ≡ total
+    after_symbol t s ≡ Some r → read r ≡ Some (view x, u) → with_front (map view old) (more_by read t s) ≡ total → with_front (map view new) (more_by read t u) ≡ total
 list_kept read t short view old new s r x u total n h g so_far =
     rw (n, map-append view old (x ∷ [])) (list_goes_on read t short (map view old) s r (view x) u h g ∙ so_far)
 
@@ -128,6 +128,6 @@ list_complete {A} P read t short sign Stops reads stops (x ∷ y ∷ ys) s r m h
     let b = m.1 in
     let rest = list_complete P read t short sign Stops reads stops (y ∷ ys) b r m.4 h none in
     let one : listed_by read t (a ++ (t ∷ (b ++ r))) ≡ with_front (x ∷ []) (more_by read t (t ∷ (b ++ r))) =
-        sym (list_starts read t (a ++ (t ∷ (b ++ r))) x (t ∷ (b ++ r)) (reads x a (t ∷ (b ++ r)) m.3 (stops (b ++ r)))) in
+    sym (list_starts read t (a ++ (t ∷ (b ++ r))) x (t ∷ (b ++ r)) (reads x a (t ∷ (b ++ r)) m.3 (stops (b ++ r)))) in
     let two : more_by read t (t ∷ (b ++ r)) ≡ Some (y ∷ ys, r) = rw (more_is read t short (t ∷ (b ++ r)), sign (b ++ r)) rest in
     rw (m.2, append_assoc a (t ∷ b) r, one, two) refl

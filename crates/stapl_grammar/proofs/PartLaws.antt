@@ -9,17 +9,14 @@ use Rattle.stapl_lexer.specs.declared.terminal.JoinWord.{JoinWord}
 use Rattle.stapl_syntax.specs.declared.signs.Sign.TheVariants as signs
 use Rattle.stapl_syntax.specs.Symbols.{Symbol, Plain, Text, Literal, CheckWord, sign_of}
 use Rattle.stapl_syntax.specs.Expressions.{mark, name}
-use Rattle.stapl_syntax.specs.Parts.{join, Part, IsPart, hz, a_name, a_state, a_number, a_signed, a_bit, a_text, a_literal, a_check_word, a_choice, an_expr, an_array, a_cell,
-    a_target, a_print_part, an_export, some_states, after, before, maybe_hz, both, maybe, either, listed}
+use Rattle.stapl_syntax.specs.Parts.{join, Part, IsPart, hz, a_name, a_state, a_number, a_signed, a_bit, a_text, a_literal, a_check_word, a_choice, an_expr, an_array, a_cell, a_target, a_print_part, an_export, some_states, after, before, maybe_hz, both, maybe, either, listed}
 use Rattle.stapl_grammar.specs.Looks.{after_mark, after_symbol, begins}
 use Rattle.stapl_grammar.specs.Reading.{next_sign, name_at, name_of, literal_at, next_operator}
 use Rattle.stapl_grammar.specs.PartReading.{state_at, state_of, number_at, number_of, text_at, check_word_at, more_states_at, is_hz, behind_hz, part_at}
 use Rattle.stapl_grammar.proofs.Tools.{by_step, some_is, by_test, after_mark_here, after_join_here}
 use Rattle.stapl_grammar.proofs.Steps.{Shortens}
 use Rattle.stapl_grammar.proofs.Complete.{expr_read}
-use Rattle.stapl_grammar.proofs.LeafLaws.{Front, name_some, state_some, number_some, text_some, literal_some, check_word_some, choice_sound, signed_sound, bit_sound,
-    expr_front, cell_sound, target_part_sound, array_part_sound, print_part_sound, export_sound, states_sound, choice_complete, signed_complete, bit_complete,
-    cell_part_complete, target_part_complete, array_part_complete, print_part_complete, states_complete}
+use Rattle.stapl_grammar.proofs.LeafLaws.{Front, name_some, state_some, number_some, text_some, literal_some, check_word_some, choice_sound, signed_sound, bit_sound, expr_front, cell_sound, target_part_sound, array_part_sound, print_part_sound, export_sound, states_sound, choice_complete, signed_complete, bit_complete, cell_part_complete, target_part_complete, array_part_complete, print_part_complete, states_complete}
 use Rattle.stapl_grammar.proofs.Choice.{export_complete}
 use Rattle.stapl_grammar.proofs.ListLaws.{after_symbol_some, IsSign, list_sound, list_complete}
 

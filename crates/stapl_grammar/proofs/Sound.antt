@@ -11,12 +11,9 @@ use Rattle.stapl_syntax.specs.declared.signs.Sign.{Sign}
 use Rattle.stapl_syntax.specs.declared.signs.Sign.TheVariants as signs
 use Rattle.stapl_syntax.specs.Symbols.{Symbol, Plain, Text, Literal, CheckWord, sign_of}
 use Rattle.stapl_syntax.specs.Trees.{ExprTree, ArrayTree, number, scalar, element, unary, binary, abs, int, literal, whole, range, of_int}
-use Rattle.stapl_syntax.specs.Expressions.{level_of, operator, mark, function, name, IsExpr, IsUnary, IsPrimary, IsCell, IsTarget, IsArray, of_unary, negation, complement,
-    negated, tighter, of_binary, of_primary, of_number, of_cell, of_scalar, of_element, of_brackets, of_abs, of_array, of_literal, of_target, of_whole, of_range, of_expr,
-    left_square, right_square, left_round, right_round, dots}
+use Rattle.stapl_syntax.specs.Expressions.{level_of, operator, mark, function, name, IsExpr, IsUnary, IsPrimary, IsCell, IsTarget, IsArray, of_unary, negation, complement, negated, tighter, of_binary, of_primary, of_number, of_cell, of_scalar, of_element, of_brackets, of_abs, of_array, of_literal, of_target, of_whole, of_range, of_expr, left_square, right_square, left_round, right_round, dots}
 use Rattle.stapl_grammar.specs.Looks.{after_mark}
-use Rattle.stapl_grammar.specs.Reading.{◌>>=◌, Reader, next_sign, literal_at, next_operator, closed_by, bracketed_by, named_by, range_by, target_from, target_by, bool_from,
-    array_from, array_by, brackets_from, function_from, primary_from, unary_of, unary_by, expr_in, climb_in}
+use Rattle.stapl_grammar.specs.Reading.{◌>>=◌, Reader, next_sign, literal_at, next_operator, closed_by, bracketed_by, named_by, range_by, target_from, target_by, bool_from, array_from, array_by, brackets_from, function_from, primary_from, unary_of, unary_by, expr_in, climb_in}
 use Rattle.stapl_grammar.proofs.Tools.{by_step, some_is, choice_some, after_mark_some, next_operator_some, next_operator_none, level_suc, AtLeastLevel}
 
 -- a front of the symbols is what P says, and the rest stands behind it
@@ -73,7 +70,7 @@ bracketed_sound P read sound s x e =
 -- a symbol and then round brackets
 pub word_sound : {A B : Type 0} (t : Symbol) (P : List Symbol → A → Type 0) (Q : List Symbol → B → Type 0) (g : A → B) →
     ((a : List Symbol) (y : A) → P a y → Q (t ∷ left_round ∷ (a ++ (right_round ∷ []))) (g y)) → (read : Reader A) → IsSound P read →
-        (s : List Symbol) (x : B × List Symbol) → (bracketed_by read s >>= λ y. Some (g y.0, y.1)) ≡ Some x → IsFront Q (t ∷ s) x
+    (s : List Symbol) (x : B × List Symbol) → (bracketed_by read s >>= λ y. Some (g y.0, y.1)) ≡ Some x → IsFront Q (t ∷ s) x
 unfolding Bracketed
 word_sound t P Q g step read sound s x e =
     by_step (bracketed_by read s) _ x e λ b b-is e1.

@@ -10,8 +10,7 @@ use Rattle.stapl_syntax.specs.Symbols.{Symbol, Plain, Text, Literal, CheckWord, 
 use Rattle.stapl_syntax.specs.Trees.{ExprTree, unary, binary}
 use Rattle.stapl_syntax.specs.Expressions.{level_of}
 use Rattle.stapl_grammar.specs.Looks.{after_mark}
-use Rattle.stapl_grammar.specs.Reading.{◌>>=◌, Reader, next_sign, literal_at, next_operator, closed_by, bracketed_by, named_by, range_by, target_from, target_by, bool_from,
-    array_from, array_by, brackets_from, function_from, primary_from, unary_of, unary_by, expr_in, climb_in, expr, climb}
+use Rattle.stapl_grammar.specs.Reading.{◌>>=◌, Reader, next_sign, literal_at, next_operator, closed_by, bracketed_by, named_by, range_by, target_from, target_by, bool_from, array_from, array_by, brackets_from, function_from, primary_from, unary_of, unary_by, expr_in, climb_in, expr, climb}
 use Rattle.stapl_grammar.proofs.Tools.{after_mark_some, next_operator_some}
 use Rattle.stapl_grammar.proofs.Sound.{expr_sound, unary_sound}
 

@@ -4,8 +4,7 @@ use Rattle.std.specs.Prelude.{nat_le}
 use Rattle.std.specs.Option.{option_map_or}
 use Rattle.std.proofs.lemmas.Bool.{eqb-true, eq-eqb, leb-true, le-leb, lt-leb, cases_lt}
 use Rattle.stapl_lexer.specs.declared.terminal.BinOp.{BinOp}
-use Rattle.stapl_lexer.specs.declared.terminal.BinOp.TheVariants.{Multiply, Divide, Remainder, Add, Subtract, ShiftLeft, ShiftRight, Less, AtMost, Greater, AtLeast, Equal,
-    NotEqual, BitAnd, BitXor, BitOr, And, Or}
+use Rattle.stapl_lexer.specs.declared.terminal.BinOp.TheVariants.{Multiply, Divide, Remainder, Add, Subtract, ShiftLeft, ShiftRight, Less, AtMost, Greater, AtLeast, Equal, NotEqual, BitAnd, BitXor, BitOr, And, Or}
 use Rattle.stapl_lexer.specs.declared.terminal.Mark.{Mark}
 use Rattle.stapl_lexer.specs.declared.terminal.Mark.TheVariants.{Tilde, Exclamation, LeftRound, RightRound, LeftSquare, RightSquare, Dots, Comma, Equals, Colon}
 use Rattle.stapl_lexer.specs.declared.terminal.JoinWord.{JoinWord}

@@ -17,13 +17,9 @@ use Rattle.stapl_lexer.specs.declared.terminal.PortWord.TheVariants as port_word
 use Rattle.stapl_syntax.specs.declared.signs.Sign.{Sign}
 use Rattle.stapl_syntax.specs.declared.signs.Sign.TheVariants as signs
 use Rattle.stapl_syntax.specs.Symbols.{Symbol}
-use Rattle.stapl_syntax.specs.Trees.{ExprTree, ArrayTree, ItemTree, ExportTree, CompareTree, BodyTree, note, action, procedure, data_block, end_data, crc, end_procedure,
-    boolean, boolean_array, integer, integer_array, assign, assign_element, assign_array, assign_range, call, goto, if_then, for_loop, next, push, pop, print, export, exit,
-    scan, stop, pad, state_list, wait_cycles, wait_usec, frequency}
+use Rattle.stapl_syntax.specs.Trees.{ExprTree, ArrayTree, ItemTree, ExportTree, CompareTree, BodyTree, note, action, procedure, data_block, end_data, crc, end_procedure, boolean, boolean_array, integer, integer_array, assign, assign_element, assign_array, assign_range, call, goto, if_then, for_loop, next, push, pop, print, export, exit, scan, stop, pad, state_list, wait_cycles, wait_usec, frequency}
 use Rattle.stapl_syntax.specs.Expressions.{left_square, right_square, dots}
-use Rattle.stapl_syntax.specs.Parts.{Part, a_name, a_state, a_check_word, an_expr, an_array, a_cell, some_states, after, both, either, equals, join, note_part, action_part,
-    procedure_part, size_part, bit_part, bits_part, signed_part, signed_list_part, for_part, print_part, export_part, scan_part, pad_part, last_part, usec_part, first_part,
-    frequency_part}
+use Rattle.stapl_syntax.specs.Parts.{Part, a_name, a_state, a_check_word, an_expr, an_array, a_cell, some_states, after, both, either, equals, join, note_part, action_part, procedure_part, size_part, bit_part, bits_part, signed_part, signed_list_part, for_part, print_part, export_part, scan_part, pad_part, last_part, usec_part, first_part, frequency_part}
 use Rattle.stapl_grammar.specs.Looks.{begins_anything, after_mark, after_join}
 use Rattle.stapl_grammar.specs.Reading.{◌>>=◌, Reader, next_sign, name_at, expr}
 use Rattle.stapl_grammar.specs.PartReading.{part_at}

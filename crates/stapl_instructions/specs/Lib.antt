@@ -6,7 +6,7 @@ pub mod PadSettings
 pub mod Arrays
 pub mod Jobs
 pub mod Acts
-pub mod Tries
+pub mod TriedInstrs
 pub mod Moves
 pub mod Zeros
 pub mod Rooms

@@ -12,7 +12,7 @@ ghost use Rattle.stapl_code.specs.declared.instr.Source.TheVariants.{Range};
 ghost use Rattle.stapl_code.specs.declared.raw.CodeLists.{CodeLists};
 ghost use Rattle.stapl_instructions.specs.Acts.{operands_of, state_in, state_of, step_of};
 ghost use Rattle.stapl_instructions.specs.RunRooms.{IsKeptBeside};
-ghost use Rattle.stapl_instructions.specs.Tries.{IsTried, IsRound, IsWritten, element_put};
+ghost use Rattle.stapl_instructions.specs.TriedInstrs.{IsTried, IsRound, IsWritten, element_put};
 
 use crate::act::Workspace;
 use crate::arrays::{element, index_of, store_at};

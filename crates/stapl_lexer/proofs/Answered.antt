@@ -14,8 +14,7 @@ use Rattle.stapl_lexer.proofs.DepthLemmas.{opens_many, brackets_found, no_bracke
 use Rattle.stapl_lexer.proofs.Dividing.{divided}
 use Rattle.stapl_lexer.proofs.Existence.{lexemes_exist}
 use Rattle.stapl_lexer.proofs.PieceTokenLemmas.{clash}
-use Rattle.stapl_lexer.proofs.ReasonLemmas.{unterminated_first, bad_byte_first, open_string_first, compressed_first, good_bytes, long_word_first, large_number_first,
-    deep_first, bad_token_first, good_tokens, are_tokens}
+use Rattle.stapl_lexer.proofs.ReasonLemmas.{unterminated_first, bad_byte_first, open_string_first, compressed_first, good_bytes, long_word_first, large_number_first, deep_first, bad_token_first, good_tokens, are_tokens}
 
 -- a test passes or fails
 decided : {A : Type 0} (test : Bool) → (test ≡ true → A) → (test ≡ false → A) → A

@@ -1,6 +1,5 @@
 -- On a text that is read segment by segment.
-use Rattle.std.proofs.Common.{◌≡◌, ◌≢◌, ◌≤◌, ◌<◌, ◌+◌, ℕ, List, [], ◌∷◌, ◌++◌, length, take, drop, get_or, refl, sym, ap, ◌∙◌, Bool, true, false, ◌&&◌, ◌||◌, ◌==◌, not, cond,
-    if◌then◌else◌, arith, add-one, append_assoc, suc, subst, count_by, Option, None, Some, unwrap_or, zero-add}
+use Rattle.std.proofs.Common.{◌≡◌, ◌≢◌, ◌≤◌, ◌<◌, ◌+◌, ℕ, List, [], ◌∷◌, ◌++◌, length, take, drop, get_or, refl, sym, ap, ◌∙◌, Bool, true, false, ◌&&◌, ◌||◌, ◌==◌, not, cond, if◌then◌else◌, arith, add-one, append_assoc, suc, subst, count_by, Option, None, Some, unwrap_or, zero-add}
 use Rattle.std.proofs.lemmas.Bool.{and_parts, ne_eqb}
 use Rattle.std.specs.List.{list_all, take_while, slice_split, onto_first}
 use Rattle.std.specs.Prelude.{is_some}

@@ -1,6 +1,5 @@
 -- Each text has pieces, and the bytes between two places have tokens, good and bad.
-use Rattle.std.proofs.Common.{◌≡◌, ◌≤◌, ◌<◌, ◌+◌, ℕ, List, [], ◌∷◌, ◌++◌, length, take, drop, get_or, refl, sym, ap, ◌∙◌, Bool, true, false, ◌&&◌, ◌||◌, ◌==◌, not, arith,
-    subst, zero, suc, append_assoc, append-nil, slice_index, slice_range, Option, None, Some, nat_le, codes, if◌then◌else◌, ◌⊎◌, inl, inr}
+use Rattle.std.proofs.Common.{◌≡◌, ◌≤◌, ◌<◌, ◌+◌, ℕ, List, [], ◌∷◌, ◌++◌, length, take, drop, get_or, refl, sym, ap, ◌∙◌, Bool, true, false, ◌&&◌, ◌||◌, ◌==◌, not, arith, subst, zero, suc, append_assoc, append-nil, slice_index, slice_range, Option, None, Some, nat_le, codes, if◌then◌else◌, ◌⊎◌, inl, inr}
 use Rattle.std.proofs.Math.Seq.{take-append_seam, drop-append_seam}
 use Rattle.std.proofs.lemmas.Bool.{and_parts, cases_eq, eqb-true}
 use Rattle.std.proofs.lemmas.Bool.Decides.{nat_tests}
@@ -17,8 +16,7 @@ use Rattle.stapl_lexer.specs.Runs.{StartsWithout, IsSolid, IsDigits}
 use Rattle.stapl_lexer.specs.Marks.{is_mark_spelling}
 use Rattle.stapl_lexer.specs.ReservedWords.{spells_word}
 use Rattle.stapl_lexer.specs.Segments.{Segment, Plain, Closed, Open, Comment, spelled, IsSegment, Divides}
-use Rattle.stapl_lexer.specs.PieceTokens.{AreBlanks, is_exponent_mark, begins_exponent, IsExponent, is_literal_digit, SpacedDigits, IsLiteral, is_closed, Spells, kind_at,
-    first_word, value_of, terminal_of, Lexeme, HasLexemes}
+use Rattle.stapl_lexer.specs.PieceTokens.{AreBlanks, is_exponent_mark, begins_exponent, IsExponent, is_literal_digit, SpacedDigits, IsLiteral, is_closed, Spells, kind_at, first_word, value_of, terminal_of, Lexeme, HasLexemes}
 use Rattle.stapl_lexer.proofs.Dividing.{divided}
 use Rattle.stapl_lexer.proofs.LexemeLemmas.{range_first}
 use Rattle.stapl_lexer.proofs.PieceTokenLemmas.{clash, same_blanks, same_spaced, range_behind, range_front, range_length}

@@ -1,6 +1,5 @@
 -- The pieces of a text lie in it, in order and apart.
-use Rattle.std.proofs.Common.{◌≡◌, ◌≤◌, ◌<◌, ◌+◌, ℕ, List, [], ◌∷◌, ◌++◌, length, take, drop, get_or, refl, sym, ap, ◌∙◌, Bool, true, false, ◌==◌, cond, if◌then◌else◌, arith,
-    add-one, append_assoc, zero, suc, subst, IfSome}
+use Rattle.std.proofs.Common.{◌≡◌, ◌≤◌, ◌<◌, ◌+◌, ℕ, List, [], ◌∷◌, ◌++◌, length, take, drop, get_or, refl, sym, ap, ◌∙◌, Bool, true, false, ◌==◌, cond, if◌then◌else◌, arith, add-one, append_assoc, zero, suc, subst, IfSome}
 use Rattle.std.proofs.lemmas.Bool.{eqb-true}
 use Rattle.std.specs.List.{list_all, slice_split, onto_first, All, slice_get}
 use Rattle.std.proofs.Math.Seq.{drop-append_seam, get_or-append_seam}

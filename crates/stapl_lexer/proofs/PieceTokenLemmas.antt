@@ -1,6 +1,5 @@
 -- The bytes between two places of a text have at most one list of tokens.
-use Rattle.std.proofs.Common.{◌≡◌, ℤ, ℕ, ◌≤◌, ◌<◌, ◌-◌, ◌+◌, List, [], ◌∷◌, ◌++◌, length, take, drop, refl, sym, ap, ◌∙◌, Bool, true, false, ◌&&◌, ◌||◌, ◌==◌, not, arith,
-    subst, append_assoc, append-nil, slice_index, slice_range, Option, nat_le, codes}
+use Rattle.std.proofs.Common.{◌≡◌, ℤ, ℕ, ◌≤◌, ◌<◌, ◌-◌, ◌+◌, List, [], ◌∷◌, ◌++◌, length, take, drop, refl, sym, ap, ◌∙◌, Bool, true, false, ◌&&◌, ◌||◌, ◌==◌, not, arith, subst, append_assoc, append-nil, slice_index, slice_range, Option, nat_le, codes}
 use Rattle.std.proofs.lemmas.Bool.{and_parts}
 use Rattle.std.proofs.lemmas.Bool.Decides.{nat_tests}
 use Rattle.std.proofs.lemmas.List.{length-drop, take-append-drop, drop-take, drop-drop, length-take-le, append_cancel_right, take-take}
@@ -15,8 +14,7 @@ use Rattle.stapl_lexer.specs.Marks.{is_mark_spelling}
 use Rattle.stapl_lexer.specs.ReservedWords.{spells_word}
 use Rattle.stapl_lexer.specs.Segments.{spelled}
 use Rattle.stapl_lexer.specs.Runs.{StartsWithout, IsSolid, IsDigits}
-use Rattle.stapl_lexer.specs.PieceTokens.{AreBlanks, IsWordTail, IsWord, is_exponent_mark, begins_exponent, IsExponent, IsNumber, is_literal_digit, HasNoDigit, SpacedDigits,
-    IsLiteral, IsCheckWord, IsMark, is_closed, Spells, kind_at, first_word, value_of, terminal_of, Lexeme, BeginsWith, HasLexemes}
+use Rattle.stapl_lexer.specs.PieceTokens.{AreBlanks, IsWordTail, IsWord, is_exponent_mark, begins_exponent, IsExponent, IsNumber, is_literal_digit, HasNoDigit, SpacedDigits, IsLiteral, IsCheckWord, IsMark, is_closed, Spells, kind_at, first_word, value_of, terminal_of, Lexeme, BeginsWith, HasLexemes}
 use Rattle.stapl_lexer.proofs.EndLemmas.{same_run, same_solid}
 use Rattle.stapl_lexer.proofs.Unique.{same_segment, tails}
 

@@ -8,8 +8,7 @@ use Rattle.stapl_lexer.specs.declared.reason.Reason.TheVariants as reasons
 use Rattle.stapl_lexer.specs.declared.token.Token.{Token}
 use Rattle.stapl_lexer.specs.Depth.{IsTooDeep}
 use Rattle.stapl_lexer.specs.PieceTokens.{Lexeme}
-use Rattle.stapl_lexer.specs.PieceFaults.{is_foreign, is_open_string, is_compressed, is_long_word, is_large_number, tokens_of, HasSegments, HasPieceLexemes, HasTokenReason,
-    NoSemicolon, ForeignByte, UnclosedString, AtSign, LongWord, LargeNumber, Deep, BadToken, IsSmallestTokenReason, AreGoodTokens, AreTokens}
+use Rattle.stapl_lexer.specs.PieceFaults.{is_foreign, is_open_string, is_compressed, is_long_word, is_large_number, tokens_of, HasSegments, HasPieceLexemes, HasTokenReason, NoSemicolon, ForeignByte, UnclosedString, AtSign, LongWord, LargeNumber, Deep, BadToken, IsSmallestTokenReason, AreGoodTokens, AreTokens}
 use Rattle.stapl_lexer.specs.Reasons.{reason_number}
 use Rattle.stapl_lexer.specs.Segments.{Segment}
 use Rattle.stapl_lexer.specs.TokenReading.{AreSearched, HasNoReasonBelow, IsReadPiece, IsTokenAnswer}

@@ -28,7 +28,7 @@ pub blank_more : (bytes : List ℕ) (at n : ℕ) → AreBlanks bytes (drop at by
 blank_more bytes at n before next blank =
     let s = next.segment in
     let first : get_or bytes at 0 ≡ head s = ap (λ (k : ℕ). get_or bytes k 0) (sym (add-zero at)) ∙ sym (get_or-drop at bytes 0 0) ∙ ap
-        (λ (v : List ℕ). get_or v 0 0) next.parts ∙ head_is s (drop n (drop at bytes)) in
+    (λ (v : List ℕ). get_or v 0 0) next.parts ∙ head_is s (drop n (drop at bytes)) in
     let s_blank : is_blank s ≡ true = blank_by_head s (drop n (drop at bytes)) next.valid ∙ ap (λ (b : ℕ). is_white b || b == 39) (sym first) ∙ blank in
     record {
       blanks = before.blanks ++ s ∷ [];

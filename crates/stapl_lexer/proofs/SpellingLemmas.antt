@@ -1,7 +1,6 @@
 -- On words and marks that are found by their spelling.
 use denote.Bor.{Bor}
-use Rattle.std.proofs.Common.{◌≡◌, ◌≢◌, ◌==◌, ◌+◌, ◌<◌, ◌≤◌, ℕ, List, [], ◌∷◌, length, drop, get_or, map, filter, refl, sym, ap, ◌∙◌, Bool, true, false, ◌||◌, cond, arith,
-    suc, add-one, eq-eqb, Option, Some, None}
+use Rattle.std.proofs.Common.{◌≡◌, ◌≢◌, ◌==◌, ◌+◌, ◌<◌, ◌≤◌, ℕ, List, [], ◌∷◌, length, drop, get_or, map, filter, refl, sym, ap, ◌∙◌, Bool, true, false, ◌||◌, cond, arith, suc, add-one, eq-eqb, Option, Some, None}
 use Rattle.std.proofs.Math.ListN.{drop_of_length-le}
 use Rattle.std.proofs.Math.Seq.{drop-cons}
 use Rattle.std.proofs.lemmas.Bool.{and_parts, eqb-true}

@@ -1,7 +1,6 @@
 -- The tokens of a piece, good and bad ones (JESD71, statements). That `E` and digits may follow the digits of a number,
 -- that white space may stand between the digits of a literal, and how bad tokens are read, are this profile's rules.
-use Rattle.std.specs.Prelude.{◌≡◌, ℕ, ℤ, pos, ◌<◌, ◌≤◌, ◌+◌, ◌-◌, ◌*◌, ◌^◌, List, [], ◌∷◌, ◌++◌, Bool, true, false, ◌&&◌, ◌||◌, ◌==◌, not, if◌then◌else◌, codes, take, drop,
-    length, slice_index, slice_range, Option, None, Some, nat_le, take_while}
+use Rattle.std.specs.Prelude.{◌≡◌, ℕ, ℤ, pos, ◌<◌, ◌≤◌, ◌+◌, ◌-◌, ◌*◌, ◌^◌, List, [], ◌∷◌, ◌++◌, Bool, true, false, ◌&&◌, ◌||◌, ◌==◌, not, if◌then◌else◌, codes, take, drop, length, slice_index, slice_range, Option, None, Some, nat_le, take_while}
 use Rattle.std.specs.Char.{is_ascii_alphabetic, is_ascii_digit, is_ascii_hexdigit}
 use Rattle.std.specs.Int.{cast_signed, w32}
 use Rattle.std.specs.List.{list_all}

@@ -1,6 +1,5 @@
 -- What the reader of tokens finds in front of some bytes.
-use Rattle.std.specs.Prelude.{◌≡◌, ℕ, ℤ, ◌-◌, ◌&&◌, ◌==◌, not, nat_le, Option, None, Some, pos, nat_lt, if◌then◌else◌, All, ◌<◌, ◌≤◌, List, [], ◌++◌, Bool, true, length,
-    take, drop, slice_index, min, map}
+use Rattle.std.specs.Prelude.{◌≡◌, ℕ, ℤ, ◌-◌, ◌&&◌, ◌==◌, not, nat_le, Option, None, Some, pos, nat_lt, if◌then◌else◌, All, ◌<◌, ◌≤◌, List, [], ◌++◌, Bool, true, length, take, drop, slice_index, min, map}
 use Rattle.std.specs.Int.{cast_signed, w32}
 use Rattle.std.specs.List.{list_all, list_any}
 use Rattle.stapl_lexer.specs.declared.front.Front.{Front}

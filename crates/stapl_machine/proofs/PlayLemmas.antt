@@ -76,7 +76,7 @@ module _ {C O : Type 0} (breakage : PinCable C O → Breakage) (board : C → Op
     front = λ more.
         subst (λ (es : List Event). PutsFront shown (lines_of a) (events_text (writes_pins a) (digits_of a) es) (lines_of c)) (sym (p.runs more))
         (subst (λ (ds : List ℕ). PutsFront shown (lines_of a) (bytes_of (writes_pins a) (digits_of a) p.events ++ pin_line ds) (lines_of c)) p.passed.put.digits
-            (put_then_front p.passed.put.put front));
+        (put_then_front p.passed.put.put front));
     most = λ more. (let exact = p.ticked more in omega arith);
   }
 

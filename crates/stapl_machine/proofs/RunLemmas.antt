@@ -250,7 +250,7 @@ module _ {C O : Type 0} (breakage : PinCable C O → Breakage) (board : C → Op
         let l = λ (more : List Bool). chain_before breakage board makes shown c r.clocks more in
         let whole_clocks : List Clock = (first.clocks ++ d.clocks) ++ r.clocks in
         let opened_whole = λ (more : List Bool). ap all (before_both breakage board makes shown both a (first.clocks ++ d.clocks) r.clocks more) ∙ all_is
-            (w (l more)) d.events d.clocks (mid more) (d.does (mid more)) in
+        (w (l more)) d.events d.clocks (mid more) (d.does (mid more)) in
         let same = λ (more : List Bool). is (l more) in
         record {
           events = (first.events ++ d.events) ++ r.events;
@@ -294,7 +294,7 @@ module _ {C O : Type 0} (breakage : PinCable C O → Breakage) (board : C → Op
         let k = λ (more : List Bool). chain_before breakage board makes shown b d.clocks (mid more) in
         let l = λ (more : List Bool). chain_before breakage board makes shown c r.clocks more in
         let opened_whole = λ (more : List Bool). ap all (before_both breakage board makes shown both a (first.clocks ++ d.clocks) r.clocks more) ∙ all_is
-            (w (l more)) d.events d.clocks (mid more) (d.does (mid more)) in
+        (w (l more)) d.events d.clocks (mid more) (d.does (mid more)) in
         record {
           events = (first.events ++ d.events) ++ r.events;
           clocks = (first.clocks ++ d.clocks) ++ r.clocks;

@@ -293,7 +293,7 @@ module _ (code : CodeLists) (place piece : ℕ) (chosen : List ℕ) (work : Work
       begins_at (entries_of code.procedures) (constants_of code) (length code.instrs) (state_of chosen work) k code.instrs place piece h
       ∙ ap (λ (n : ℕ). happened_in_piece piece (stretch (entries_of code.procedures) (constants_of code) (length code.instrs) (drop n code.instrs) [] (state_of chosen work) k)) (sym (add-one place))
       ∙ ap (λ (ops : List Value). happened_in_piece piece (stretch (entries_of code.procedures) (constants_of code) (length code.instrs) (drop (place + 1) code.instrs)
-          (reverse ops) (state_of chosen work) k)) (sym none)
+      (reverse ops) (state_of chosen work) k)) (sym none)
 
   pub turn_ticks_begin : ticks_at code place (state_of chosen work) k ≡ 1 + ticks_from code (place + 1) chosen (record work { piece = piece }) k
   turn_ticks_begin =

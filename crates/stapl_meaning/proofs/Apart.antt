@@ -1,6 +1,5 @@
 -- No two procedures of a program have one name, and no two actions. Those that play are among those of the program.
-use Rattle.std.proofs.Common.{◌≡◌, ◌≢◌, ℕ, zero, suc, ◌+◌, ◌<◌, ◌≤◌, Bool, true, false, ◌||◌, cond, if◌then◌else◌, List, [], ◌∷◌, ◌++◌, append_assoc, length, length-append,
-    take, map, get_or, is_some, slice_get, Option, Some, None, refl, sym, ap, subst, ◌∙◌, arith, All, AllPairs}
+use Rattle.std.proofs.Common.{◌≡◌, ◌≢◌, ℕ, zero, suc, ◌+◌, ◌<◌, ◌≤◌, Bool, true, false, ◌||◌, cond, if◌then◌else◌, List, [], ◌∷◌, ◌++◌, append_assoc, length, length-append, take, map, get_or, is_some, slice_get, Option, Some, None, refl, sym, ap, subst, ◌∙◌, arith, All, AllPairs}
 use Rattle.std.specs.List.{cons_option, list_any}
 use Rattle.std.specs.Map.{lookup, keys_of}
 use Rattle.std.specs.Str.{bytes_eq}
@@ -14,8 +13,7 @@ use Rattle.std.proofs.lemmas.Slice.Eq.{bytes_eq-Decides}
 use Rattle.stapl_lexer.specs.declared.reason.Reason.TheVariants as reasons
 use Rattle.stapl_syntax.specs.declared.names.Block.{Block}
 use Rattle.stapl_syntax.specs.Trees.{BodyTree, action, procedure, data_block, end_data, StmtTree}
-use Rattle.stapl_syntax.specs.Names.{numbered, numbered_from, inside_behind, inside_from, block_of_body, block_of, action_of_body, action_of, variable_of, label_of,
-    declared_from, declared, names_of, put_first, firsts_behind}
+use Rattle.stapl_syntax.specs.Names.{numbered, numbered_from, inside_behind, inside_from, block_of_body, block_of, action_of_body, action_of, variable_of, label_of, declared_from, declared, names_of, put_first, firsts_behind}
 use Rattle.stapl_syntax.specs.Rules.{is_action, any_body, is_again, Declared, declared_in, declares_again}
 use Rattle.stapl_meaning.specs.Scopes.{data_behind, plays, idle, pieces_from, program_names, block_at}
 use Rattle.stapl_meaning.specs.Typed.{procedure_name, procedure_names, plain_blocks, action_name, action_names}

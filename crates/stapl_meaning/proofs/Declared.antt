@@ -1,7 +1,6 @@
 -- The name that a statement declares stands for its own variable or its own block: the block's own variables are found
 -- first, and no earlier statement declares the same.
-use Rattle.std.proofs.Common.{◌≡◌, ℕ, zero, suc, ◌+◌, ◌<◌, Bool, true, false, not, ◌&&◌, ◌||◌, cond, if◌then◌else◌, List, [], ◌∷◌, ◌++◌, append_assoc, length, nat_lt, take,
-    map, position, slice_get, Option, Some, None, IfSome, is_some, refl, sym, ap, subst, ◌∙◌, arith}
+use Rattle.std.proofs.Common.{◌≡◌, ℕ, zero, suc, ◌+◌, ◌<◌, Bool, true, false, not, ◌&&◌, ◌||◌, cond, if◌then◌else◌, List, [], ◌∷◌, ◌++◌, append_assoc, length, nat_lt, take, map, position, slice_get, Option, Some, None, IfSome, is_some, refl, sym, ap, subst, ◌∙◌, arith}
 use Rattle.std.specs.List.{cons_option, position_or_len}
 use Rattle.std.specs.Map.{lookup, keys_of}
 use Rattle.std.specs.Option.{option_map, option_map_or}
@@ -17,8 +16,7 @@ use Rattle.stapl_syntax.specs.declared.names.Key.{Key}
 use Rattle.stapl_syntax.specs.declared.names.Variable.{Variable}
 use Rattle.stapl_syntax.specs.declared.names.Block.{Block}
 use Rattle.stapl_syntax.specs.Trees.{BodyTree, procedure, data_block, StmtTree}
-use Rattle.stapl_syntax.specs.Names.{numbered_from, numbered, inside_behind, inside_from, declaration, key_in, variable_entry, variable_in, variable_of, block_of_body,
-    block_of, action_of, label_of, declared_from, declared, put_first, firsts_behind, firsts, key_eq, Names, names_of, block_named, found_in, found_from, kind_of_found}
+use Rattle.stapl_syntax.specs.Names.{numbered_from, numbered, inside_behind, inside_from, declaration, key_in, variable_entry, variable_in, variable_of, block_of_body, block_of, action_of, label_of, declared_from, declared, put_first, firsts_behind, firsts, key_eq, Names, names_of, block_named, found_in, found_from, kind_of_found}
 use Rattle.stapl_syntax.specs.Rules.{is_again, Declared, declared_in, declares_again}
 use Rattle.stapl_meaning.specs.Scopes.{program_names, as_played, block_at, number_found, lookup_from}
 use Rattle.stapl_meaning.specs.Typed.{IsDeclared}

@@ -8,8 +8,7 @@ use Rattle.stapl_syntax.specs.Names.{numbered_from, inside_behind, inside_from, 
 use Rattle.stapl_syntax.specs.Rules.{Place, is_outside as stands_outside, may_stand_inside, may_stand, in_data_block}
 use Rattle.stapl_meaning.specs.Scopes.{plays, pieces_from, program_names, block_at}
 use Rattle.stapl_meaning.specs.Typed.{IsOrdered}
-use Rattle.stapl_meaning.proofs.Blocks.{same_count, all_pieces, unless, block_of_piece, IsAligned, outside_no_data, inside_no_data, data_at, place_at, stands_well,
-    aligned_at, none_at, IsPieceOf, plays_at, idles, piece_at}
+use Rattle.stapl_meaning.proofs.Blocks.{same_count, all_pieces, unless, block_of_piece, IsAligned, outside_no_data, inside_no_data, data_at, place_at, stands_well, aligned_at, none_at, IsPieceOf, plays_at, idles, piece_at}
 use Rattle.stapl_meaning.proofs.Sound.{IsSound}
 
 -- a statement that is no DATA

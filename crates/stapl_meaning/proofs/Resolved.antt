@@ -1,6 +1,5 @@
 -- What a statement of a program names is there: its variables, its labels, and the procedures of an ACTION.
-use Rattle.std.proofs.Common.{◌≡◌, ℕ, zero, suc, ◌+◌, ◌-◌, ◌<◌, Bool, true, false, not, ◌||◌, if◌then◌else◌, List, [], ◌∷◌, ◌++◌, length, map, slice_get, Option, Some, None,
-    is_some, is_none, refl, sym, ap, subst, ◌∙◌, arith, All, IfSome}
+use Rattle.std.proofs.Common.{◌≡◌, ℕ, zero, suc, ◌+◌, ◌-◌, ◌<◌, Bool, true, false, not, ◌||◌, if◌then◌else◌, List, [], ◌∷◌, ◌++◌, length, map, slice_get, Option, Some, None, is_some, is_none, refl, sym, ap, subst, ◌∙◌, arith, All, IfSome}
 use Rattle.std.specs.List.{list_any, list_all, AllByRecursion}
 use Rattle.std.specs.Option.{option_map_or}
 use Rattle.std.specs.Map.{lookup}
@@ -20,8 +19,7 @@ use Rattle.stapl_syntax.specs.Names.{numbered, block_of, block_of_body, label_of
 use Rattle.stapl_syntax.specs.Mentions.{variables_named, item_name, procedures_named, blocks_used, labels_named}
 use Rattle.stapl_syntax.specs.Rules.{is_absent, is_data_block, Known, known_from, names_undefined, is_well_kinded, has_too_many_values}
 use Rattle.stapl_syntax.specs.Kinds.{operands_suit}
-use Rattle.stapl_meaning.specs.Scopes.{plays, pieces_from, Preset, preset_of, presets_from, program_names, as_played, block_at, lookup_from, label_from, procedures_in,
-    procedure_before, procedure_number}
+use Rattle.stapl_meaning.specs.Scopes.{plays, pieces_from, Preset, preset_of, presets_from, program_names, as_played, block_at, lookup_from, label_from, procedures_in, procedure_before, procedure_number}
 use Rattle.stapl_meaning.specs.Typed.{IsInBlock, IsDeclared, IsTypedAt, IsTypedPreset, NamesProcedure, NamesProcedures}
 use Rattle.stapl_meaning.proofs.Entries.{name_same, key_same, all_from_each, all_declared, all_firsts, found_holds}
 use Rattle.stapl_meaning.proofs.Sound.{IsSound}
@@ -111,7 +109,7 @@ module _ (program : List StmtTree) (sound : IsSound program) where
           let count = length (pieces_from None program) in
           let known = known_parts (known_from names (block_at program i)) st.body (sound.keeps i st reasons.Undefined own.at) in
           let labels = labels_there program sound count block (labels_named st.body)
-              (subst (λ inside. list_any (λ name. not (has_label names inside name)) (labels_named st.body) ≡ false) e known.2) in
+          (subst (λ inside. list_any (λ name. not (has_label names inside name)) (labels_named st.body) ≡ false) e known.2) in
           let kinded = not-false (is_well_kinded (known_from names (block_at program i)) st.body) (sound.keeps i st reasons.TypeMismatch own.at) in
           let procedures = list_all (λ name. not (is_data_block (block_named names name))) (procedures_named st.body) in
           record {
@@ -145,7 +143,7 @@ module _ (program : List StmtTree) (sound : IsSound program) where
         starts = p.starts;
         declares = subst (λ b. IfSome (declaration b) (IsDeclared (as_played program) (lookup_from (program_names program) (Some preset.block)) (1 + i) preset.block)) (sym p.is)
             (subst (λ o. IfSome (declaration st.body) (IsDeclared (as_played program) (lookup_from (program_names program) o) (1 + i) preset.block)) inside
-                (declared_at program sound i st at preset.block inside));
+            (declared_at program sound i st at preset.block inside));
         few_values = ap has_too_many_values p.is ∙ few_values_at program sound i st at;
       }
 

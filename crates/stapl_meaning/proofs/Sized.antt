@@ -1,6 +1,5 @@
 -- The variables of a program keep the limits, since no declaration passes one.
-use Rattle.std.proofs.Common.{◌≡◌, ℕ, zero, suc, ◌+◌, ◌≤◌, Bool, true, false, ◌||◌, if◌then◌else◌, List, [], ◌∷◌, ◌++◌, take, map, slice_get, Option, Some, None, IfSome,
-    is_some, sum_by, nat_lt, nat_eq, nat_abs, refl, subst, arith}
+use Rattle.std.proofs.Common.{◌≡◌, ℕ, zero, suc, ◌+◌, ◌≤◌, Bool, true, false, ◌||◌, if◌then◌else◌, List, [], ◌∷◌, ◌++◌, take, map, slice_get, Option, Some, None, IfSome, is_some, sum_by, nat_lt, nat_eq, nat_abs, refl, subst, arith}
 use Rattle.std.specs.List.{cons_option}
 use Rattle.std.specs.Map.{lookup}
 use Rattle.std.specs.Option.{option_map_or}
@@ -12,8 +11,7 @@ use Rattle.stapl_syntax.specs.declared.names.Declaration.{Declaration}
 use Rattle.stapl_syntax.specs.declared.names.Key.{Key}
 use Rattle.stapl_syntax.specs.declared.names.Variable.{Variable}
 use Rattle.stapl_syntax.specs.Trees.{BodyTree, boolean, boolean_array, integer, integer_array, StmtTree}
-use Rattle.stapl_syntax.specs.Names.{Numbered, numbered_from, numbered, inside_behind, declaration, variable_entry, variable_in, variable_of, declared_from, declared,
-    put_first, firsts_behind, firsts, key_eq}
+use Rattle.stapl_syntax.specs.Names.{Numbered, numbered_from, numbered, inside_behind, declaration, variable_entry, variable_in, variable_of, declared_from, declared, put_first, firsts_behind, firsts, key_eq}
 use Rattle.stapl_syntax.specs.Rules.{is_boolean, Totals, totals_of, boolean_limit, booleans_limit, integers_limit, is_too_large, has_too_many_values}
 use Rattle.stapl_meaning.specs.Scopes.{program_names, block_at}
 use Rattle.stapl_meaning.specs.Typed.{HasSize, IsSized, integers_of, booleans_of, AreSized}

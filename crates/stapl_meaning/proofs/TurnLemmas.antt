@@ -5,11 +5,9 @@ use Rattle.stapl_meaning.specs.Deeds.{Deed}
 use Rattle.stapl_meaning.specs.declared.values.Value.{Value}
 use Rattle.stapl_meaning.specs.Values.{Got, Known, Faults, Stuck}
 use Rattle.stapl_meaning.specs.Operands.{values_of}
-use Rattle.stapl_meaning.specs.States.{State, Did, Falls, Jumps, Resumes, Returns, Ends, Captures, Turned, Leads, Over, Broken, Scanning, NoTurn, with_got, preceded,
-    turn_of_piece, next_chosen, jumps_to, led}
+use Rattle.stapl_meaning.specs.States.{State, Did, Falls, Jumps, Resumes, Returns, Ends, Captures, Turned, Leads, Over, Broken, Scanning, NoTurn, with_got, preceded, turn_of_piece, next_chosen, jumps_to, led}
 use Rattle.stapl_meaning.specs.Scopes.{Scope, Played, scope_at}
-use Rattle.stapl_meaning.specs.Turns.{operands, effect, target, rows, HasEffect, Does, follows, operand_faults, effect_faults, falls, scans, jumps, resumes, returns, ends,
-    IsTurn, carried, rows_done, done, turn_of, turn, IsFound}
+use Rattle.stapl_meaning.specs.Turns.{operands, effect, target, rows, HasEffect, Does, follows, operand_faults, effect_faults, falls, scans, jumps, resumes, returns, ends, IsTurn, carried, rows_done, done, turn_of, turn, IsFound}
 
 found_preceded : (deeds : List Deed) (t : Turned) → IsFound t → IsFound (preceded deeds t)
 found_preceded deeds (Leads es place s) h = tt

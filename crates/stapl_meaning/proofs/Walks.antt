@@ -10,9 +10,7 @@ use Rattle.bit_list.specs.Ranges.{spliced}
 use Rattle.stapl_lexer.specs.declared.terminal.Padding.{Padding}
 use Rattle.stapl_lexer.specs.declared.terminal.Register.{Register}
 use Rattle.stapl_lexer.specs.declared.terminal.Register.TheVariants as registers
-use Rattle.stapl_syntax.specs.Trees.{BodyTree, scalar, element, end_procedure, boolean, boolean_array, integer, integer_array, assign, assign_element, assign_array,
-    assign_range, call, goto, if_then, for_loop, next, push, pop, print, exported_value, exported_array, export, exit, scan, stop, pad, state_list, wait_cycles, wait_usec,
-    frequency}
+use Rattle.stapl_syntax.specs.Trees.{BodyTree, scalar, element, end_procedure, boolean, boolean_array, integer, integer_array, assign, assign_element, assign_array, assign_range, call, goto, if_then, for_loop, next, push, pop, print, exported_value, exported_array, export, exit, scan, stop, pad, state_list, wait_cycles, wait_usec, frequency}
 use Rattle.tap_states.specs.declared.Tap.{Tap}
 use Rattle.tap_states.specs.Tap.{is_stable_state}
 use Rattle.dev_card.specs.Scans.{BoardScan}
@@ -35,14 +33,9 @@ use Rattle.stapl_meaning.specs.declared.values.Held.{Held}
 use Rattle.stapl_meaning.specs.declared.values.Held.TheVariants as held
 use Rattle.stapl_meaning.specs.Values.{Got, Known, Faults, Stuck, then_get, passed, Span, Source, These, Whole, Range, OfInt, source_bits, asked, bits_held, span_of, source_of}
 use Rattle.stapl_meaning.specs.Operands.{given_kind, values_of}
-use Rattle.stapl_meaning.specs.States.{ScanSettings, State, Did, Falls, Captures, Jumps, Resumes, Returns, Ends, Turned, Leads, Over, Broken, Scanning, NoTurn, with_got,
-    preceded, turn_of_piece, next_chosen, jumps_to, led}
-use Rattle.stapl_meaning.specs.Effects.{export_of, value_as, replaced, scalar_written, element_written, with_variables, written, assigned, element_assigned, Target,
-    IntoWhole, IntoRange, span_written, copied, with_integers, integers_set, jumped, parted, record_limit, with_records, with_room, number_of, topmost, pushed, popped,
-    called, returned_from, returned, with_loop, looped, nearest_loop, is_over, integer_held, went_round, repeated, exited, joined, printed, exported, bits_exported,
-    moved_through, cycles_of, usec_of, hertz_of, waited_for, waited, tuned}
-use Rattle.stapl_meaning.specs.Scans.{settings_of, with_padding, with_stop, scan_limit, length_between, scan_of, ScanParts, Place, Comparison, Found, scan_found, landed,
-    target_asked, compare_asked, scan_asked, scanned, padding_bits, surrounded, stopped}
+use Rattle.stapl_meaning.specs.States.{ScanSettings, State, Did, Falls, Captures, Jumps, Resumes, Returns, Ends, Turned, Leads, Over, Broken, Scanning, NoTurn, with_got, preceded, turn_of_piece, next_chosen, jumps_to, led}
+use Rattle.stapl_meaning.specs.Effects.{export_of, value_as, replaced, scalar_written, element_written, with_variables, written, assigned, element_assigned, Target, IntoWhole, IntoRange, span_written, copied, with_integers, integers_set, jumped, parted, record_limit, with_records, with_room, number_of, topmost, pushed, popped, called, returned_from, returned, with_loop, looped, nearest_loop, is_over, integer_held, went_round, repeated, exited, joined, printed, exported, bits_exported, moved_through, cycles_of, usec_of, hertz_of, waited_for, waited, tuned}
+use Rattle.stapl_meaning.specs.Scans.{settings_of, with_padding, with_stop, scan_limit, length_between, scan_of, ScanParts, Place, Comparison, Found, scan_found, landed, target_asked, compare_asked, scan_asked, scanned, padding_bits, surrounded, stopped}
 use Rattle.stapl_meaning.specs.ScanTrees.{given_source, scan_parts}
 use Rattle.stapl_meaning.specs.Scopes.{Scope}
 use Rattle.stapl_meaning.specs.Turns.{tap_of, tap_or_idle, kind_of_wait, operands, effect, target, carried, rows_done}

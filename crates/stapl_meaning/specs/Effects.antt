@@ -1,6 +1,5 @@
 -- What values do to the state. Statements and instructions share these. Source: JESD71, statements.
-use Rattle.std.specs.Prelude.{ℕ, ℤ, pos, ◌+◌, map, ◌+ℤ◌, int_lt, int_le, nat_abs, nat_lt, ◌==◌, ◌&&◌, ◌||◌, not, if◌then◌else◌, Bool, true, false, List, [], ◌∷◌, ◌++◌,
-    length, Option, Some, None, slice_get, slice_set}
+use Rattle.std.specs.Prelude.{ℕ, ℤ, pos, ◌+◌, map, ◌+ℤ◌, int_lt, int_le, nat_abs, nat_lt, ◌==◌, ◌&&◌, ◌||◌, not, if◌then◌else◌, Bool, true, false, List, [], ◌∷◌, ◌++◌, length, Option, Some, None, slice_get, slice_set}
 use Rattle.std.specs.Int.{int_wrap, w32}
 use Rattle.std.specs.Ordering.{int_eq}
 use Rattle.std.specs.Fmt.{signed_decimal}

@@ -1,7 +1,6 @@
 -- What scans, paddings and stop states do. Source: JESD71, IRSCAN, DRSCAN, PREIR, POSTIR, PREDR, POSTDR, IRSTOP and
 -- DRSTOP. The limits of lengths, and the order of the tests, are this profile's.
-use Rattle.std.specs.Prelude.{ℕ, ℤ, pos, nat_le, nat_abs, int_le, if◌then◌else◌, Bool, true, false, not, ◌&&◌, ◌||◌, List, [], ◌∷◌, length, take, drop, replicate, Option,
-    Some, None, slice_get, slice_set}
+use Rattle.std.specs.Prelude.{ℕ, ℤ, pos, nat_le, nat_abs, int_le, if◌then◌else◌, Bool, true, false, not, ◌&&◌, ◌||◌, List, [], ◌∷◌, length, take, drop, replicate, Option, Some, None, slice_get, slice_set}
 use Rattle.std.specs.Bool.{beq}
 use Rattle.bit_list.specs.Ranges.{spliced}
 use Rattle.stapl_lexer.specs.declared.terminal.Padding.{Padding}

@@ -12,8 +12,7 @@ use Rattle.stapl_meaning.specs.declared.events.Event.TheVariants.{Print, Export,
 use Rattle.stapl_meaning.specs.declared.events.ExportValue.{ExportValue}
 use Rattle.stapl_meaning.specs.declared.events.ExportValue.TheVariants.{Int, Bit, Array}
 use Rattle.stapl_meaning.specs.declared.events.RunFault.{RunFault}
-use Rattle.stapl_meaning.specs.declared.events.RunFault.TheVariants.{DivideByZero, IndexOutOfRange, RangeReversed, LengthMismatch, BadLength, BadCount, ShiftCount, ZeroStep,
-    NoRecord, RecordsFull, BadChar}
+use Rattle.stapl_meaning.specs.declared.events.RunFault.TheVariants.{DivideByZero, IndexOutOfRange, RangeReversed, LengthMismatch, BadLength, BadCount, ShiftCount, ZeroStep, NoRecord, RecordsFull, BadChar}
 use Rattle.stapl_meaning.specs.declared.events.Ending.{Ending}
 use Rattle.stapl_meaning.specs.declared.events.Ending.TheVariants.{Exit, Fault, Spent}
 use Rattle.stapl_meaning.specs.Effects.{digit_of}

@@ -2,9 +2,7 @@
 -- operands, what their values do, and where the statement leads if it does not go on to what follows.
 use Rattle.std.specs.Prelude.{◌≡◌, ℕ, ◌+◌, map, Bool, List, [], ◌∷◌, ◌++◌, Option, Some, None, slice_get, slice_index_or}
 use Rattle.stapl_syntax.specs.Kinds.{expr_kind}
-use Rattle.stapl_syntax.specs.Trees.{ExprTree, number, BodyTree, end_procedure, boolean, boolean_array, integer, integer_array, assign, assign_element, assign_array,
-    assign_range, scalar, element, call, goto, if_then, for_loop, next, push, pop, print, exported_value, exported_array, export, exit, state_list, wait_cycles, wait_usec,
-    frequency, scan, stop, pad, StmtTree}
+use Rattle.stapl_syntax.specs.Trees.{ExprTree, number, BodyTree, end_procedure, boolean, boolean_array, integer, integer_array, assign, assign_element, assign_array, assign_range, scalar, element, call, goto, if_then, for_loop, next, push, pop, print, exported_value, exported_array, export, exit, state_list, wait_cycles, wait_usec, frequency, scan, stop, pad, StmtTree}
 use Rattle.tap_states.specs.declared.Tap.{Tap}
 use Rattle.tap_states.specs.declared.Tap.TheVariants as taps
 use Rattle.stapl_meaning.specs.declared.waits.WaitKind.{WaitKind}
@@ -15,13 +13,11 @@ use Rattle.stapl_meaning.specs.declared.events.Ending.{Ending}
 use Rattle.stapl_meaning.specs.declared.values.Value.{Value}
 use Rattle.stapl_meaning.specs.Values.{Got, Known, Faults, Stuck, These, source_of}
 use Rattle.stapl_meaning.specs.Scans.{scanned, surrounded, stopped}
-use Rattle.stapl_meaning.specs.Operands.{Operand, plain, an_integer, a_boolean, an_index, a_range, bit_number, given_kind, printed_kind, step_or_one, array_operands,
-    given_operands, target_operands, compare_operands, part_operands, values_of}
+use Rattle.stapl_meaning.specs.Operands.{Operand, plain, an_integer, a_boolean, an_index, a_range, bit_number, given_kind, printed_kind, step_or_one, array_operands, given_operands, target_operands, compare_operands, part_operands, values_of}
 use Rattle.stapl_meaning.specs.ScanTrees.{scan_parts, given_source}
 use Rattle.dev_card.specs.Scans.{BoardScan}
 use Rattle.stapl_meaning.specs.States.{State, Did, Falls, Captures, Jumps, Resumes, Returns, Ends, Turned, Leads, Over, Broken, Scanning, NoTurn, with_got, preceded, turn_of_piece, next_chosen, led}
-use Rattle.stapl_meaning.specs.Effects.{assigned, element_assigned, IntoWhole, IntoRange, copied, integers_set, jumped, parted, pushed, popped, called, looped, repeated,
-    returned, exited, joined, printed, exported, bits_exported, moved_through, waited, tuned}
+use Rattle.stapl_meaning.specs.Effects.{assigned, element_assigned, IntoWhole, IntoRange, copied, integers_set, jumped, parted, pushed, popped, called, looped, repeated, returned, exited, joined, printed, exported, bits_exported, moved_through, waited, tuned}
 use Rattle.stapl_meaning.specs.Scopes.{Scope, Played, scope_at}
 
 -- the states in the order in which the profile lists its reserved words of states

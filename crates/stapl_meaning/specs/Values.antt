@@ -1,7 +1,6 @@
 -- Values of expressions. Source: JESD71, expressions and Boolean arrays. That integers wrap modulo 2 to the power of
 -- 32, and what faults, are this profile's rules.
-use Rattle.std.specs.Prelude.{ℕ, zero, suc, ◌+◌, ◌-◌, ◌^◌, nat_lt, nat_le, nat_abs, if◌then◌else◌, Bool, true, false, not, ◌&&◌, ◌||◌, List, [], ◌∷◌, ◌++◌, length, take,
-    replicate, Option, None, Some, slice_get}
+use Rattle.std.specs.Prelude.{ℕ, zero, suc, ◌+◌, ◌-◌, ◌^◌, nat_lt, nat_le, nat_abs, if◌then◌else◌, Bool, true, false, not, ◌&&◌, ◌||◌, List, [], ◌∷◌, ◌++◌, length, take, replicate, Option, None, Some, slice_get}
 use Rattle.std.specs.Prelude.{ℤ, pos, negsuc, ◌+ℤ◌, ◌-ℤ◌, ◌*ℤ◌, neg_ℤ, int_lt, int_le, int_div, int_rem, unsigned_abs}
 use Rattle.std.specs.Int.{int_wrap, int_div_euclid, w32}
 use Rattle.std.specs.Bool.{beq}

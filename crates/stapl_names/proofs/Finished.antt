@@ -8,8 +8,7 @@ use Rattle.std.proofs.lemmas.List.Elements.{All-nil, All-cons, All-push, All-hea
 use Rattle.stapl_syntax.specs.declared.names.Declaration.{Declaration}
 use Rattle.stapl_syntax.specs.declared.statement.Stmt.{Stmt}
 use Rattle.stapl_syntax.specs.Trees.{BodyTree, procedure, data_block, StmtTree, stmt_tree}
-use Rattle.stapl_syntax.specs.Names.{Numbered, with_numbers, inside_behind, key_eq, put_first, firsts, firsts_behind, declared, declared_from, declaration, block_of,
-    block_of_body, variable_of, variable_in, names_of}
+use Rattle.stapl_syntax.specs.Names.{Numbered, with_numbers, inside_behind, key_eq, put_first, firsts, firsts_behind, declared, declared_from, declaration, block_of, block_of_body, variable_of, variable_in, names_of}
 use Rattle.stapl_names.specs.declared.tables.Tables.{Tables}
 use Rattle.stapl_names.specs.Tables.{AreUsed, AreSpelled, BearsName, BearsKey, AreFinished, names_in}
 

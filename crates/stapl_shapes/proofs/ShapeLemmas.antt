@@ -5,8 +5,7 @@ use Rattle.std.proofs.lemmas.Bool.{lt-ltb}
 use Rattle.std.proofs.lemmas.List.Elements.{All-nil, All-cons}
 use Rattle.stapl_lexer.specs.declared.piece.Piece.{Piece}
 use Rattle.stapl_syntax.specs.Symbols.{Symbol, symbols_of}
-use Rattle.stapl_syntax.specs.Trees.{ExprTree, CompareTree, BodyTree, note, action, procedure, data_block, end_data, crc, end_procedure, boolean, boolean_array, integer,
-    integer_array, if_then, pop, print, scan, state_list, StmtTree}
+use Rattle.stapl_syntax.specs.Trees.{ExprTree, CompareTree, BodyTree, note, action, procedure, data_block, end_data, crc, end_procedure, boolean, boolean_array, integer, integer_array, if_then, pop, print, scan, state_list, StmtTree}
 use Rattle.stapl_syntax.specs.Expressions.{IsCell, of_scalar, of_element}
 use Rattle.stapl_syntax.specs.Parts.{AreStates, one_state, more_states, more_behind_comma, IsPart, Separated, compare_part}
 use Rattle.stapl_syntax.specs.Statements.{is_outer, is_unconditional, IsBody, IsLabelled, IsPieceStatement}

@@ -15,12 +15,9 @@ use Rattle.stapl_lexer.specs.Pieces.{is_blank, is_semicolon, piece_of, pieces_fr
 use Rattle.stapl_lexer.specs.Segments.{Segment, spelling}
 use Rattle.stapl_lexer.proofs.PieceLemmas.{cut_lies}
 use Rattle.stapl_syntax.specs.Symbols.{Symbol, symbol_of, symbols_of}
-use Rattle.stapl_syntax.specs.Trees.{ExprTree, ArrayTree, PartTree, CompareTree, BodyTree, boolean, integer, assign, assign_element, assign_array, assign_range, if_then,
-    for_loop, push, pop, print, ExportTree, export, exit, scan, pad, wait_cycles, wait_usec, frequency, end_data, end_procedure, StmtTree}
-use Rattle.stapl_syntax.specs.Expressions.{operator, dots, right_round, right_square, IsExpr, of_unary, tighter, of_binary, IsUnary, negation, complement, negated,
-    of_primary, IsPrimary, of_number, of_cell, of_brackets, of_abs, of_array, IsCell, of_scalar, of_element, IsTarget, of_whole, of_range, IsArray, of_literal, of_target, of_expr}
-use Rattle.stapl_syntax.specs.Parts.{IsPrintPart, of_string, of_value, of_character, IsExported, of_exported_value, of_exported_array, hz, IsPart, an_expr, maybe_hz,
-    an_array, after, maybe, a_print_part, step_part, capture_part, compare_part, usec_part, frequency_part, Separated, comma, join}
+use Rattle.stapl_syntax.specs.Trees.{ExprTree, ArrayTree, PartTree, CompareTree, BodyTree, boolean, integer, assign, assign_element, assign_array, assign_range, if_then, for_loop, push, pop, print, ExportTree, export, exit, scan, pad, wait_cycles, wait_usec, frequency, end_data, end_procedure, StmtTree}
+use Rattle.stapl_syntax.specs.Expressions.{operator, dots, right_round, right_square, IsExpr, of_unary, tighter, of_binary, IsUnary, negation, complement, negated, of_primary, IsPrimary, of_number, of_cell, of_brackets, of_abs, of_array, IsCell, of_scalar, of_element, IsTarget, of_whole, of_range, IsArray, of_literal, of_target, of_expr}
+use Rattle.stapl_syntax.specs.Parts.{IsPrintPart, of_string, of_value, of_character, IsExported, of_exported_value, of_exported_array, hz, IsPart, an_expr, maybe_hz, an_array, after, maybe, a_print_part, step_part, capture_part, compare_part, usec_part, frequency_part, Separated, comma, join}
 use Rattle.stapl_syntax.specs.Statements.{IsBody, IsLabelled, IsPieceStatement}
 use Rattle.stapl_syntax.specs.Programs.{AreReadAs, IsProgram}
 use Rattle.stapl_shapes.specs.Sizes.{expr_size, array_size, part_size, export_size, given_size, capture_size, compare_size, padding_size, body_size, statements_size}

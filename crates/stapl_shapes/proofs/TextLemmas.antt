@@ -15,11 +15,9 @@ use Rattle.stapl_lexer.specs.Pieces.{is_blank, is_semicolon, piece_of, pieces_fr
 use Rattle.stapl_lexer.specs.Segments.{Segment, spelling}
 use Rattle.stapl_lexer.proofs.PieceLemmas.{cut_lies}
 use Rattle.stapl_syntax.specs.Symbols.{Symbol, symbols_of}
-use Rattle.stapl_syntax.specs.Trees.{ArrayTree, PartTree, CompareTree, ItemTree, BodyTree, action, procedure, end_data, end_procedure, boolean_array, integer_array, assign,
-    assign_element, assign_array, assign_range, if_then, print, ExportTree, export, scan, pad, state_list, StmtTree}
+use Rattle.stapl_syntax.specs.Trees.{ArrayTree, PartTree, CompareTree, ItemTree, BodyTree, action, procedure, end_data, end_procedure, boolean_array, integer_array, assign, assign_element, assign_array, assign_range, if_then, print, ExportTree, export, scan, pad, state_list, StmtTree}
 use Rattle.stapl_syntax.specs.Expressions.{of_whole, of_range, IsArray, of_literal, of_target, of_expr}
-use Rattle.stapl_syntax.specs.Parts.{IsSigned, unsigned, minus, AreStates, one_state, more_states, more_behind_comma, IsPrintPart, of_string, of_value, of_character,
-    IsExported, of_exported_value, of_exported_array, IsPart, an_array, after, maybe, item_part, compare_part, Separated, comma, join}
+use Rattle.stapl_syntax.specs.Parts.{IsSigned, unsigned, minus, AreStates, one_state, more_states, more_behind_comma, IsPrintPart, of_string, of_value, of_character, IsExported, of_exported_value, of_exported_array, IsPart, an_array, after, maybe, item_part, compare_part, Separated, comma, join}
 use Rattle.stapl_syntax.specs.Statements.{IsBody, IsLabelled, IsPieceStatement}
 use Rattle.stapl_syntax.specs.Programs.{AreReadAs, IsProgram}
 use Rattle.stapl_shapes.specs.Bytes.{literal_bytes, array_bytes, given_bytes, compare_bytes, part_bytes, export_bytes, body_bytes, statement_bytes, statements_bytes}

@@ -2,8 +2,7 @@
 -- and the name of its block or action take. Expressions are not counted. This measure is this profile's.
 use Rattle.std.specs.Prelude.{ℕ, ◌+◌, ◌/◌, Bool, List, Option, None, Some, length}
 use Rattle.std.specs.List.{sum_by}
-use Rattle.stapl_syntax.specs.Trees.{ArrayTree, literal, PartTree, string, CompareTree, ExportTree, exported_array, BodyTree, action, procedure, boolean_array, integer_array,
-    assign_array, assign_range, if_then, print, export, scan, pad, state_list, StmtTree}
+use Rattle.stapl_syntax.specs.Trees.{ArrayTree, literal, PartTree, string, CompareTree, ExportTree, exported_array, BodyTree, action, procedure, boolean_array, integer_array, assign_array, assign_range, if_then, print, export, scan, pad, state_list, StmtTree}
 
 -- a literal: its mark, and its digits, each of which has at most four bits
 abbrev pub literal_bytes : List Bool → ℕ

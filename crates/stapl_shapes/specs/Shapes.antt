@@ -3,9 +3,7 @@
 -- values has one of them, and what stands after THEN is neither ENDPROC, nor a declaration, nor a statement outside
 -- procedures (JESD71, statements).
 use Rattle.std.specs.Prelude.{◌≡◌, nat_lt, length, Bool, true, false, ◌||◌, Option, None, Some}
-use Rattle.stapl_syntax.specs.Trees.{ExprTree, CompareTree, BodyTree, note, action, procedure, data_block, end_data, crc, end_procedure, boolean, boolean_array, integer,
-    integer_array, assign, assign_element, assign_array, assign_range, call, goto, if_then, for_loop, next, push, scalar, element, pop, print, export, exit, scan, stop, pad,
-    state_list, wait_cycles, wait_usec, frequency, StmtTree}
+use Rattle.stapl_syntax.specs.Trees.{ExprTree, CompareTree, BodyTree, note, action, procedure, data_block, end_data, crc, end_procedure, boolean, boolean_array, integer, integer_array, assign, assign_element, assign_array, assign_range, call, goto, if_then, for_loop, next, push, scalar, element, pop, print, export, exit, scan, stop, pad, state_list, wait_cycles, wait_usec, frequency, StmtTree}
 
 -- a variable or an element of an array: what a POP or a COMPARE writes to
 abbrev pub is_cell : ExprTree → Bool

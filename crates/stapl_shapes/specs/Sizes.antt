@@ -2,9 +2,7 @@
 -- counted. This measure is this profile's.
 use Rattle.std.specs.Prelude.{ℕ, ◌+◌, List, Option, None, Some}
 use Rattle.std.specs.List.{sum_by}
-use Rattle.stapl_syntax.specs.Trees.{ExprTree, number, scalar, element, unary, binary, abs, int, ArrayTree, literal, whole, range, of_int, PartTree, string, value, character,
-    CompareTree, BodyTree, boolean, integer, assign, assign_element, assign_array, assign_range, if_then, for_loop, push, pop, print, ExportTree, exported_value,
-    exported_array, export, exit, scan, pad, wait_cycles, wait_usec, frequency, StmtTree}
+use Rattle.stapl_syntax.specs.Trees.{ExprTree, number, scalar, element, unary, binary, abs, int, ArrayTree, literal, whole, range, of_int, PartTree, string, value, character, CompareTree, BodyTree, boolean, integer, assign, assign_element, assign_array, assign_range, if_then, for_loop, push, pop, print, ExportTree, exported_value, exported_array, export, exit, scan, pad, wait_cycles, wait_usec, frequency, StmtTree}
 
 abbrev mutual
   -- an expression, without brackets around it

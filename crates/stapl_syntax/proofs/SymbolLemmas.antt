@@ -23,10 +23,8 @@ use Rattle.stapl_syntax.specs.declared.signs.Sign.{Sign}
 use Rattle.stapl_syntax.specs.declared.signs.Sign.TheVariants as signs
 use Rattle.stapl_syntax.specs.Symbols.{Symbol, Plain, Text, Literal, terminal_sign, word_sign, mark_sign, symbol_as, symbols_of}
 use Rattle.stapl_syntax.specs.Expressions.{IsArray, of_literal, of_target, of_whole, of_range, of_expr, name}
-use Rattle.stapl_syntax.specs.Trees.{ArrayTree, PartTree, exported_array, CompareTree, BodyTree, action, procedure, boolean_array, assign_array, assign_range, if_then, print,
-    export, scan, pad, StmtTree}
-use Rattle.stapl_syntax.specs.Parts.{IsPart, Separated, IsPrintPart, of_string, of_value, of_character, IsExported, of_exported_array, a_print_part, item_part, bits_part,
-    an_array, after, maybe, compare_part, comma, join}
+use Rattle.stapl_syntax.specs.Trees.{ArrayTree, PartTree, exported_array, CompareTree, BodyTree, action, procedure, boolean_array, assign_array, assign_range, if_then, print, export, scan, pad, StmtTree}
+use Rattle.stapl_syntax.specs.Parts.{IsPart, Separated, IsPrintPart, of_string, of_value, of_character, IsExported, of_exported_array, a_print_part, item_part, bits_part, an_array, after, maybe, compare_part, comma, join}
 use Rattle.stapl_syntax.specs.Statements.{IsBody, IsLabelled}
 use Rattle.stapl_syntax.specs.Programs.{AreReadAs, IsProgram}
 use Rattle.stapl_syntax.specs.Contents.{IsFreeName, IsWellNamed, IsShortPart, PrintsShortStrings, AreLiteralBits, HoldsLiteral, HoldsBoth, HoldsLiterals}

@@ -2,8 +2,7 @@
 use Rattle.std.specs.Prelude.{◌≡◌, ℕ, ◌*◌, ◌≤◌, List, Bool, false, IfSome, length, All}
 use Rattle.stapl_lexer.specs.Names.{IsUpperName}
 use Rattle.stapl_lexer.specs.ReservedWords.{is_reserved_word}
-use Rattle.stapl_syntax.specs.Trees.{ArrayTree, literal, PartTree, string, exported_array, CompareTree, BodyTree, action, procedure, boolean_array, assign_array,
-    assign_range, if_then, print, export, scan, pad}
+use Rattle.stapl_syntax.specs.Trees.{ArrayTree, literal, PartTree, string, exported_array, CompareTree, BodyTree, action, procedure, boolean_array, assign_array, assign_range, if_then, print, export, scan, pad}
 
 -- a name that a block or an action may bear
 pub record IsFreeName (name : List ℕ) : Type 0 where

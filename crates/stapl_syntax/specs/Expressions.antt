@@ -2,8 +2,7 @@
 -- for each level of operators. A list of symbols may be split anywhere.
 use Rattle.std.specs.Prelude.{◌≡◌, ℕ, suc, ℤ, Bool, List, [], ◌∷◌, ◌++◌}
 use Rattle.stapl_lexer.specs.declared.terminal.BinOp.{BinOp}
-use Rattle.stapl_lexer.specs.declared.terminal.BinOp.TheVariants.{Multiply, Divide, Remainder, Add, Subtract, ShiftLeft, ShiftRight, Less, AtMost, Greater, AtLeast, Equal,
-    NotEqual, BitAnd, BitXor, BitOr, And, Or}
+use Rattle.stapl_lexer.specs.declared.terminal.BinOp.TheVariants.{Multiply, Divide, Remainder, Add, Subtract, ShiftLeft, ShiftRight, Less, AtMost, Greater, AtLeast, Equal, NotEqual, BitAnd, BitXor, BitOr, And, Or}
 use Rattle.stapl_syntax.specs.declared.signs.UnOp.TheVariants.{Negate, Complement, Not}
 use Rattle.stapl_lexer.specs.declared.terminal.Mark.{Mark as MarkKind}
 use Rattle.stapl_lexer.specs.declared.terminal.Mark.TheVariants as marks

@@ -10,9 +10,7 @@ use Rattle.stapl_syntax.specs.declared.names.VarKind.{VarKind}
 use Rattle.stapl_syntax.specs.declared.names.VarKind.TheVariants as variables
 use Rattle.stapl_syntax.specs.declared.names.Kind.{Kind}
 use Rattle.stapl_syntax.specs.declared.names.Kind.TheVariants.{Int, Bool as Bit, Either}
-use Rattle.stapl_syntax.specs.Trees.{ExprTree, number, scalar, element, unary, binary, abs, int, ArrayTree, literal, whole, range, of_int, PartTree, string, value, character,
-    ExportTree, exported_value, exported_array, CompareTree, BodyTree, assign, assign_element, assign_array, assign_range, if_then, for_loop, next, push, pop, print, export,
-    exit, scan, pad, wait_cycles, wait_usec, frequency}
+use Rattle.stapl_syntax.specs.Trees.{ExprTree, number, scalar, element, unary, binary, abs, int, ArrayTree, literal, whole, range, of_int, PartTree, string, value, character, ExportTree, exported_value, exported_array, CompareTree, BodyTree, assign, assign_element, assign_array, assign_range, if_then, for_loop, next, push, pop, print, export, exit, scan, pad, wait_cycles, wait_usec, frequency}
 
 -- an expression of this kind, if it has one, may stand where an integer is wanted
 abbrev pub is_int : Option Kind → Bool

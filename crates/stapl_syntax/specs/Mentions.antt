@@ -1,8 +1,6 @@
 -- Which variables, blocks and labels statements name (JESD71, expressions, CALL, USES, ACTION, GOTO).
 use Rattle.std.specs.Prelude.{ℕ, List, [], ◌∷◌, ◌++◌, Option, None, Some, map, flat_map, unwrap_or}
-use Rattle.stapl_syntax.specs.Trees.{ExprTree, number, scalar, element, unary, binary, abs, int, ArrayTree, literal, whole, range, of_int, PartTree, string, value, character,
-    ExportTree, exported_value, exported_array, CompareTree, ItemTree, BodyTree, action, procedure, assign, assign_element, assign_array, assign_range, call, goto, if_then,
-    for_loop, next, push, pop, print, export, exit, scan, pad, wait_cycles, wait_usec, frequency}
+use Rattle.stapl_syntax.specs.Trees.{ExprTree, number, scalar, element, unary, binary, abs, int, ArrayTree, literal, whole, range, of_int, PartTree, string, value, character, ExportTree, exported_value, exported_array, CompareTree, ItemTree, BodyTree, action, procedure, assign, assign_element, assign_array, assign_range, call, goto, if_then, for_loop, next, push, pop, print, export, exit, scan, pad, wait_cycles, wait_usec, frequency}
 
 -- a list of names
 abbrev pub NameList : Type 0

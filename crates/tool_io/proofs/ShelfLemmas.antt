@@ -1,6 +1,5 @@
 -- On the store in memory.
-use Rattle.std.proofs.Common.{◌≡◌, ◌≤◌, ◌<◌, ◌+◌, ◌-◌, ◌^◌, ℕ, min, List, [], ◌∷◌, ◌++◌, length, take, drop, refl, sym, ap, ◌∙◌, Bool, true, false, Option, Some, arith,
-    String, Global, map, string_bytes, slice_index, slice_index_or, inl, inr, if◌then◌else◌, add-one}
+use Rattle.std.proofs.Common.{◌≡◌, ◌≤◌, ◌<◌, ◌+◌, ◌-◌, ◌^◌, ℕ, min, List, [], ◌∷◌, ◌++◌, length, take, drop, refl, sym, ap, ◌∙◌, Bool, true, false, Option, Some, arith, String, Global, map, string_bytes, slice_index, slice_index_or, inl, inr, if◌then◌else◌, add-one}
 use Rattle.std.proofs.Math.Seq.{take-append_seam}
 use Rattle.std.proofs.lemmas.Bool.{cases_eq}
 use Rattle.std.proofs.lemmas.List.{get_or-set_same, get_or-set_other, length-take-le, take-append-drop, drop-drop, length-map}

@@ -1,6 +1,5 @@
 -- A store of files in memory, whose calls with listed numbers fail. The rules are the tool's own.
-use Rattle.std.specs.Prelude.{◌≡◌, ℕ, ◌+◌, ◌-◌, ◌^◌, ◌<◌, ◌≤◌, ◌⊎◌, ◌↔◌, min, List, [], ◌∷◌, drop, length, Contains, Result, Option, None, Some, IsErr, IfOk, IfSome, OnOk,
-    OnErr, slice_index, slice_index_or, slice_set, if◌then◌else◌}
+use Rattle.std.specs.Prelude.{◌≡◌, ℕ, ◌+◌, ◌-◌, ◌^◌, ◌<◌, ◌≤◌, ◌⊎◌, ◌↔◌, min, List, [], ◌∷◌, drop, length, Contains, Result, Option, None, Some, IsErr, IfOk, IfSome, OnOk, OnErr, slice_index, slice_index_or, slice_set, if◌then◌else◌}
 use Rattle.std.specs.List.{zip}
 use Rattle.std.specs.Str.{bytes_eq}
 use Rattle.tool_io.specs.Causes.{IsSaturated, raised_count}

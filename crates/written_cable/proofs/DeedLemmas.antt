@@ -1,6 +1,5 @@
 -- Deeds over a cable whose clocks are written, one after another.
-use Rattle.std.proofs.Common.{◌≡◌, ◌≢◌, ◌⊎◌, inl, inr, ◌<◌, ◌≤◌, ◌+◌, length, drop, slice_index_or, ℕ, Bool, true, false, List, [], ◌∷◌, ◌++◌, map, Option, Some, refl, sym,
-    ap, subst, ◌∙◌, append_assoc}
+use Rattle.std.proofs.Common.{◌≡◌, ◌≢◌, ◌⊎◌, inl, inr, ◌<◌, ◌≤◌, ◌+◌, length, drop, slice_index_or, ℕ, Bool, true, false, List, [], ◌∷◌, ◌++◌, map, Option, Some, refl, sym, ap, subst, ◌∙◌, append_assoc}
 use Rattle.std.proofs.lemmas.List.{map-append, drop_more, drop_all, append-nil}
 use Rattle.tap_states.specs.declared.Tap.{Tap}
 use Rattle.dev_card.specs.Card.{Card}
@@ -312,7 +311,7 @@ module _ {C O : Type 0} (breakage : PinCable C O → Breakage) (board : C → Op
   module _ (old new : PinCable C O) (to : Tap) (d : Deed) (inputs : List Input)
       (events_are : (far : FarEnd) → deed_events (record { tap = tap_of old; base = base_of old; far = far }) d ≡ pulses (far_clocks far inputs))
       (chain_is : (far : FarEnd) → deed_chain (record { tap = tap_of old; base = base_of old; far = far }) d ≡
-          (let k : Chain = record { tap = to; base = base_of old; far = far_after far inputs } in k)) (rest : List Deed) where
+      (let k : Chain = record { tap = to; base = base_of old; far = far_after far inputs } in k)) (rest : List Deed) where
     abbrev far_before : List Clock → List Bool → FarEnd
     far_before clocks more = far_end (board (cable_of old)) (tdos clocks ++ more)
 
@@ -372,7 +371,7 @@ module _ {C O : Type 0} (breakage : PinCable C O → Breakage) (board : C → Op
         makes (cable_of old) (pulsed clocks) (cable_of new) → PutsEvents breakage shown old (pulses clocks) new →
         map input_of clocks ≡ inputs_of_scan (tap_of old) whole_scan → ((cs : List Card) → board (cable_of old) ≡ Some cs → clocks ≡ clocks_of cs (inputs_of_scan (tap_of old) whole_scan)) →
         board (cable_of new) ≡ option_map (λ cs. board_after cs (inputs_of_scan (tap_of old) whole_scan)) (board (cable_of old)) →
-            captured ≡ captured_from (tap_of old) whole_scan clocks → DidScan breakage board makes shown s captured old new
+        captured ≡ captured_from (tap_of old) whole_scan clocks → DidScan breakage board makes shown s captured old new
     unfolding one_did
     scan_did clocks captured tap same made put went_in seen cards is =
         let went = went_in ∙ same_inputs in

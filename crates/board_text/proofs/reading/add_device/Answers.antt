@@ -18,7 +18,7 @@ returns-then-not-are_opcodes-clause-fault c = λ r e.
     let same : reasons.Range ≡ r = cc in
     subst (λ (x : BoardReason). IsSmallest (ReasonAgainst earlier (Some (device l))) x) same (device_range earlier l
     (λ good. refuted c.are_opcodes.result c.are_opcodes.ensures.1 c.if-not-are_opcodes.true
-        (in_range_opcodes l c.in-Some.device c.deref.result.now c.in-Ok.opcodes.items c.in-Some.ensures.1 c.deref.ensures.value c.in-Ok.ensures good)))
+    (in_range_opcodes l c.in-Some.device c.deref.result.now c.in-Ok.opcodes.items c.in-Some.ensures.1 c.deref.ensures.value c.in-Ok.ensures good)))
 
 pub returns-then-repeats_in_board-clause-fault : goal.returns-then-repeats_in_board-clause-fault
 returns-then-repeats_in_board-clause-fault c = λ r e.
@@ -41,7 +41,7 @@ returns-then-awaits_register-clause-fault c = λ r e.
     (c.are_opcodes.ensures.0 c.if-not-are_opcodes.false) in
     let new : RepeatsInBoard earlier l.description → ⊥ =
     λ h. refuted c.repeats_in_board.result c.repeats_in_board.ensures.1 c.if-repeats_in_board.false
-        (repeats_there earlier c.deref-3.result.now l.description c.in-Some.device (sym c.deref-3.ensures.value) (sym c.in-Some.ensures.1) h) in
+    (repeats_there earlier c.deref-3.result.now l.description c.in-Some.device (sym c.deref-3.ensures.value) (sym c.in-Some.ensures.1) h) in
     let awaits : AwaitsRegister earlier = awaits_there c.deref-4.result.now earlier c.deref-4.ensures.value (c.awaits_register.ensures.0 c.if-awaits_register.true) in
     let same : reasons.Empty ≡ r = cc in
     subst (λ (x : BoardReason). IsSmallest (ReasonAgainst earlier (Some (device l))) x) same (device_empty earlier l good new awaits)
@@ -55,7 +55,7 @@ returns-then-len-ge-MOST_DEVICES-clause-fault c = λ r e.
     (c.are_opcodes.ensures.0 c.if-not-are_opcodes.false) in
     let new : RepeatsInBoard earlier l.description → ⊥ =
     λ h. refuted c.repeats_in_board.result c.repeats_in_board.ensures.1 c.if-repeats_in_board.false
-        (repeats_there earlier c.deref-3.result.now l.description c.in-Some.device (sym c.deref-3.ensures.value) (sym c.in-Some.ensures.1) h) in
+    (repeats_there earlier c.deref-3.result.now l.description c.in-Some.device (sym c.deref-3.ensures.value) (sym c.in-Some.ensures.1) h) in
     let whole : AwaitsRegister earlier → ⊥ =
     λ h. refuted c.awaits_register.result c.awaits_register.ensures.1 c.if-awaits_register.false (awaits_there earlier c.deref-4.result.now (sym c.deref-4.ensures.value) h) in
     let many : most_devices ≤ length earlier = grind (arith, common_steps) in
@@ -71,7 +71,7 @@ returns-clause-added c =
     (c.are_opcodes.ensures.0 c.if-not-are_opcodes.false) in
     let new : RepeatsInBoard earlier l.description → ⊥ =
     λ h. refuted c.repeats_in_board.result c.repeats_in_board.ensures.1 c.if-repeats_in_board.false
-        (repeats_there earlier c.deref-3.result.now l.description c.in-Some.device (sym c.deref-3.ensures.value) (sym c.in-Some.ensures.1) h) in
+    (repeats_there earlier c.deref-3.result.now l.description c.in-Some.device (sym c.deref-3.ensures.value) (sym c.in-Some.ensures.1) h) in
     let whole : AwaitsRegister earlier → ⊥ =
     λ h. refuted c.awaits_register.result c.awaits_register.ensures.1 c.if-awaits_register.false (awaits_there earlier c.deref-4.result.now (sym c.deref-4.ensures.value) h) in
     let few : length earlier < most_devices = grind (arith, common_steps) in

@@ -9,5 +9,5 @@ copy_range-requires-clause-source c = omega (arith, enough_bits c.args.digits.no
 pub returns : goal.returns
 returns c =
     copied_bits c.args.len c.in-Ok.whole _ c.copy_range.new.self c.copy_range.ensures.copied (ap length c.in_ok-bits.ensures ∙ length-replicate c.args.len false)
-        (omega (arith, enough_bits c.args.digits.now c.args.len c.requires.constant, ap length c.in-Ok.ensures.bits))
+    (omega (arith, enough_bits c.args.digits.now c.args.len c.requires.constant, ap length c.in-Ok.ensures.bits))
     ∙ ap (take c.args.len) c.in-Ok.ensures.bits

@@ -13,7 +13,7 @@ returns-in_err-push-clause-others g c =
 pub unreachable-requires : goal.unreachable-requires
 unreachable-requires g c =
     let kind = kind_at_place g.D.Device.kind_of c.args.rack.now.items c.loop-i.rack.items c.loop-i.i c.place_at-place.result c.index-descs-i.result c.requires.rack
-        c.loop-i.invariant.kinds (omega arith) c.place_at-place.ensures in
+    c.loop-i.invariant.kinds (omega arith) c.place_at-place.ensures in
     c.in-Err-WrongKind.ensures.wrong_kind (search rules) kind
 
 pub loop-i-preserved : goal.loop-i-preserved

@@ -9,7 +9,7 @@ returns-clause-kinds g c = kinds_same _ _ _ _ _ c.index_mut.ensures.value c.cloc
 pub returns-clause-card : goal.returns-clause-card
 returns-clause-card g c =
     card_changed g.D.Device.fitted c.args.rack.now.items c.args.place c.index_mut.result.now c.clock.new.self (λ k. step k c.args.tms c.args.tdi)
-        (omega arith) c.index_mut.ensures.value c.clock.ensures.card
+    (omega arith) c.index_mut.ensures.value c.clock.ensures.card
 
 pub returns-clause-others : goal.returns-clause-others
 returns-clause-others g c = λ k n. others_same _ _ _ k n

@@ -9,5 +9,5 @@ loop-instr-preserved c = record {
   put = grind (arith, common_steps);
   fits =
       All-more FitsInstr c.args.instrs.now c.loop-instr.instr-index c.instr-item.result c.loop-instr-test.true c.loop-instr.invariant.fits
-          (subst FitsInstr c.instr-item.is c.in_ok-put_instr.ensures.fits);
+      (subst FitsInstr c.instr-item.is c.in_ok-put_instr.ensures.fits);
 }

@@ -10,5 +10,5 @@ loop-procedure-preserved c = record {
   fits =
       let P : ProcDef → Type 0 = λ p. p.entry < 2 ^ 32 in
       All-more P c.args.procedures.now c.loop-procedure.procedure-index c.procedure-item.result c.loop-procedure-test.true c.loop-procedure.invariant.fits
-          (subst P c.procedure-item.is c.put_number.ensures.fits);
+      (subst P c.procedure-item.is c.put_number.ensures.fits);
 }

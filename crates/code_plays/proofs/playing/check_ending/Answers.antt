@@ -13,5 +13,5 @@ returns c =
     let task = c.args.task.now in
     has_ending (task_play c.args.code.now c.args.chosen.now task)
     (c.never_stuck.ensures c.args.code.now c.raw-raw.ensures.in_range c.raw-raw.ensures.valid c.args.chosen.now c.requires (zeros_of_code c.args.code.now)
-        (zeros_of_code_fit c.args.code.now c.raw-raw.ensures.in_range) task.request.now.turns
+    (zeros_of_code_fit c.args.code.now c.raw-raw.ensures.in_range) task.request.now.turns
     (chain_reset (task_base task) (Told (map fresh task.devices.now))) refl)

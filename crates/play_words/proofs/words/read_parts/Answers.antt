@@ -3,7 +3,7 @@ use Rattle.std.specs.Option.{option_map}
 use Rattle.std.proofs.lemmas.List.{length-map}
 use Rattle.command_words.specs.KeyedWords.{names_in}
 use Rattle.play_words.specs.Words.{HasMode}
-use Rattle.play_words.specs.GivenParts.{values_of}
+use Rattle.play_words.specs.ReadParts.{values_of}
 use Rattle.play_words.proofs.WordLemmas.{nothing_read, one_word_more, read_so_far, few_read, adds_nothing, word_is}
 use Rattle.play_words.proofs.words.read_parts.Goals as goal
 

@@ -1,7 +1,7 @@
 use Rattle.std.proofs.Common.{map, string_bytes}
 use Rattle.std.specs.Option.{option_map}
 use Rattle.command_words.specs.KeyedWords.{names_in}
-use Rattle.play_words.specs.GivenParts.{AreReadUpTo}
+use Rattle.play_words.specs.ReadParts.{AreReadUpTo}
 use Rattle.play_words.proofs.words.read_parts.Given as goal
 
 abbrev pub invariant-loop-place : goal.invariant-loop-place

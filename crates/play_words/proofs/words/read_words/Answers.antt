@@ -1,7 +1,7 @@
 use Rattle.std.proofs.Common.{◌∙◌, map, string_bytes, Global, List, ℕ, subst, ◌+◌, sym}
 use Rattle.std.proofs.lemmas.List.{length-map}
 use Rattle.play_words.specs.Words.{IsUsage, is_unread}
-use Rattle.play_words.specs.GivenParts.{values_of}
+use Rattle.play_words.specs.ReadParts.{values_of}
 use Rattle.play_words.proofs.WordLemmas.{read_so_far, no_mode, request_read, key_lacks}
 use Rattle.play_words.proofs.words.read_words.Goals as goal
 

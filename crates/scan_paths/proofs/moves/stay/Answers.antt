@@ -48,11 +48,11 @@ pub returns-clause-made : goal.returns-clause-made
 returns-clause-made g c =
     let m = g.C.Cable in
     rw (← c.tms_at_rest-tms.ensures) (way_end m.board m.made g.met.C.Cable.both_made c.args.cable.now c.loop-turn.cable _
-        (rw (none_same c.args.n c.loop-turn._turn c.tms_at_rest-tms.result (omega arith)) at c.loop-turn.invariant.way))
+    (rw (none_same c.args.n c.loop-turn._turn c.tms_at_rest-tms.result (omega arith)) at c.loop-turn.invariant.way))
 
 pub returns-clause-still : goal.returns-clause-still
 returns-clause-still g c =
     let m = g.C.Cable in
     let w = way_end m.board m.made g.met.C.Cable.both_made c.args.cable.now c.loop-turn.cable _
-        (rw (none_same c.args.n c.loop-turn._turn c.tms_at_rest-tms.result (omega arith)) at c.loop-turn.invariant.way) in
+    (rw (none_same c.args.n c.loop-turn._turn c.tms_at_rest-tms.result (omega arith)) at c.loop-turn.invariant.way) in
     told_stayed _ _ c.args.at c.args.n c.requires.stable (rw c.tms_at_rest-tms.ensures at w.made.cards) c.requires.at

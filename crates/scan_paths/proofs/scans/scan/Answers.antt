@@ -31,7 +31,7 @@ returns-in_err-send-2-clause-front g c =
     let m1 = rw c.entry-tms.ensures at c.in_ok-send.ensures.made in
     on_err _ (scanned_front m.board m.made c.args.cable.now c.args.at s c.requires.stable some c.requires.at (g.met.C.Cable.sound c.args.cable.now) c.send-2.new.cable
     (scan_failed_3 m.board m.made g.met.C.Cable.both_made c.args.at s c.args.cable.now c.send.new.cable c.shift_padded.new.cable c.send-2.new.cable _ _ m1
-        c.in_ok-shift_padded.ensures.made c.in_err-send-2.ensures.front))
+    c.in_ok-shift_padded.ensures.made c.in_err-send-2.ensures.front))
 
 pub returns-in_err-state-clause-front : goal.returns-in_err-state-clause-front
 returns-in_err-state-clause-front g c =
@@ -42,7 +42,7 @@ returns-in_err-state-clause-front g c =
     let f4 = rw c.pause.ensures at c.in_err-state.ensures.front in
     on_err _ (scanned_front m.board m.made c.args.cable.now c.args.at s c.requires.stable some c.requires.at (g.met.C.Cable.sound c.args.cable.now) c.move_to.new.cable
     (scan_failed_4 m.board m.made g.met.C.Cable.both_made c.args.at s c.args.cable.now c.send.new.cable c.shift_padded.new.cable c.send-2.new.cable c.move_to.new.cable _
-        _ m1 c.in_ok-shift_padded.ensures.made c.in_ok-send-2.ensures.made f4))
+    _ m1 c.in_ok-shift_padded.ensures.made c.in_ok-send-2.ensures.made f4))
 
 pub move_to-requires-clause-at : goal.move_to-requires-clause-at
 move_to-requires-clause-at g c =
@@ -62,13 +62,13 @@ returns-clause-scanned g c =
     let m1 = rw c.entry-tms.ensures at c.in_ok-send.ensures.made in
     let m4 = rw c.pause.ensures at c.in_ok-state.ensures.made in
     let e : planned_pre c.args.plan + pads.pre ≡ s.paddings.base_pre + length s.paddings.pre =
-        ap (λ k. planned_pre c.args.plan + k) (sym (length-take-le pads.pre pads.pre_bits c.requires.pads.pre)) in
+    ap (λ k. planned_pre c.args.plan + k) (sym (length-take-le pads.pre pads.pre_bits c.requires.pads.pre)) in
     let n1 : length s.bits ≡ n = length-take-le n c.args.bits.now c.requires.inside in
     let n2 : length (take n c.shift_padded.new.captured) ≡ n = length-take-le n c.shift_padded.new.captured (omega (arith, c.requires.room, c.shift_padded.ensures.length)) in
     scanned m.board m.made c.args.cable.now c.args.at s c.requires.stable (some_taken n c.args.bits.now c.requires.some c.requires.inside) c.requires.at
-        (g.met.C.Cable.sound c.args.cable.now) c.move_to.new.cable _ _ e (n2 ∙ sym n1)
+    (g.met.C.Cable.sound c.args.cable.now) c.move_to.new.cable _ _ e (n2 ∙ sym n1)
     (scan_made m.board m.made g.met.C.Cable.both_made c.args.at s c.args.cable.now c.send.new.cable c.shift_padded.new.cable c.send-2.new.cable c.move_to.new.cable _ _ m1
-        c.in_ok-shift_padded.ensures.made c.in_ok-send-2.ensures.made m4)
+    c.in_ok-shift_padded.ensures.made c.in_ok-send-2.ensures.made m4)
 
 pub returns-clause-captured : goal.returns-clause-captured
 returns-clause-captured g c =

@@ -9,9 +9,9 @@ returns-in_err-shift_ones-clause-front g c =
     let P = c.args.pads.now in
     let n = c.args.plan.len in
     on_err _ (failed_1 m.board m.made g.met.C.Cable.both_made _ (base_before c.pre-before.result) (program_before P) (data_part P c.post-after.result c.args.bits.now n)
-        (program_after P c.post-after.result) (base_after c.post-after.result)
+    (program_after P c.post-after.result) (base_after c.post-after.result)
     (parts_of_pads c.args.plan P c.args.bits.now c.pre-before.result c.post-after.result c.pre-before.ensures c.post-after.ensures c.requires.some c.requires.inside
-        c.requires.pads) c.args.cable.now c.shift_ones.new.cable c.in_err-shift_ones.ensures.front)
+    c.requires.pads) c.args.cable.now c.shift_ones.new.cable c.in_err-shift_ones.ensures.front)
 
 pub returns-in_err-shift_padding-clause-front : goal.returns-in_err-shift_padding-clause-front
 returns-in_err-shift_padding-clause-front g c =
@@ -19,9 +19,9 @@ returns-in_err-shift_padding-clause-front g c =
     let P = c.args.pads.now in
     let n = c.args.plan.len in
     on_err _ (failed_2 m.board m.made g.met.C.Cable.both_made _ (base_before c.pre-before.result) (program_before P) (data_part P c.post-after.result c.args.bits.now n)
-        (program_after P c.post-after.result) (base_after c.post-after.result)
+    (program_after P c.post-after.result) (base_after c.post-after.result)
     (parts_of_pads c.args.plan P c.args.bits.now c.pre-before.result c.post-after.result c.pre-before.ensures c.post-after.ensures c.requires.some c.requires.inside
-        c.requires.pads) c.args.cable.now c.shift_ones.new.cable c.shift_padding.new.cable
+    c.requires.pads) c.args.cable.now c.shift_ones.new.cable c.shift_padding.new.cable
     c.in_ok-shift_ones.ensures.made c.in_err-shift_padding.ensures.front)
 
 pub returns-in_err-shift_data-clause-front : goal.returns-in_err-shift_data-clause-front
@@ -30,9 +30,9 @@ returns-in_err-shift_data-clause-front g c =
     let P = c.args.pads.now in
     let n = c.args.plan.len in
     on_err _ (failed_3 m.board m.made g.met.C.Cable.both_made _ (base_before c.pre-before.result) (program_before P) (data_part P c.post-after.result c.args.bits.now n)
-        (program_after P c.post-after.result) (base_after c.post-after.result)
+    (program_after P c.post-after.result) (base_after c.post-after.result)
     (parts_of_pads c.args.plan P c.args.bits.now c.pre-before.result c.post-after.result c.pre-before.ensures c.post-after.ensures c.requires.some c.requires.inside
-        c.requires.pads) c.args.cable.now c.shift_ones.new.cable c.shift_padding.new.cable c.shift_data.new.cable
+    c.requires.pads) c.args.cable.now c.shift_ones.new.cable c.shift_padding.new.cable c.shift_data.new.cable
     c.in_ok-shift_ones.ensures.made c.in_ok-shift_padding.ensures.made (rw c.ends_with_data.ensures at c.in_err-shift_data.ensures.front))
 
 pub returns-in_err-shift_padding-2-clause-front : goal.returns-in_err-shift_padding-2-clause-front
@@ -41,9 +41,9 @@ returns-in_err-shift_padding-2-clause-front g c =
     let P = c.args.pads.now in
     let n = c.args.plan.len in
     on_err _ (failed_4 m.board m.made g.met.C.Cable.both_made _ (base_before c.pre-before.result) (program_before P) (data_part P c.post-after.result c.args.bits.now n)
-        (program_after P c.post-after.result) (base_after c.post-after.result)
+    (program_after P c.post-after.result) (base_after c.post-after.result)
     (parts_of_pads c.args.plan P c.args.bits.now c.pre-before.result c.post-after.result c.pre-before.ensures c.post-after.ensures c.requires.some c.requires.inside
-        c.requires.pads) c.args.cable.now c.shift_ones.new.cable c.shift_padding.new.cable c.shift_data.new.cable c.shift_padding-2.new.cable _
+    c.requires.pads) c.args.cable.now c.shift_ones.new.cable c.shift_padding.new.cable c.shift_data.new.cable c.shift_padding-2.new.cable _
     c.in_ok-shift_ones.ensures.made c.in_ok-shift_padding.ensures.made (rw c.ends_with_data.ensures at c.in_ok-shift_data.ensures.made) c.in_err-shift_padding-2.ensures.front)
 
 pub returns-in_err-shift_ones-2-clause-front : goal.returns-in_err-shift_ones-2-clause-front
@@ -52,11 +52,11 @@ returns-in_err-shift_ones-2-clause-front g c =
     let P = c.args.pads.now in
     let n = c.args.plan.len in
     on_err _ (failed_5 m.board m.made g.met.C.Cable.both_made _ (base_before c.pre-before.result) (program_before P) (data_part P c.post-after.result c.args.bits.now n)
-        (program_after P c.post-after.result) (base_after c.post-after.result)
+    (program_after P c.post-after.result) (base_after c.post-after.result)
     (parts_of_pads c.args.plan P c.args.bits.now c.pre-before.result c.post-after.result c.pre-before.ensures c.post-after.ensures c.requires.some c.requires.inside
-        c.requires.pads) c.args.cable.now c.shift_ones.new.cable c.shift_padding.new.cable c.shift_data.new.cable c.shift_padding-2.new.cable c.shift_ones-2.new.cable _
+    c.requires.pads) c.args.cable.now c.shift_ones.new.cable c.shift_padding.new.cable c.shift_data.new.cable c.shift_padding-2.new.cable c.shift_ones-2.new.cable _
     c.in_ok-shift_ones.ensures.made c.in_ok-shift_padding.ensures.made
-        (rw c.ends_with_data.ensures at c.in_ok-shift_data.ensures.made) c.in_ok-shift_padding-2.ensures.made c.in_err-shift_ones-2.ensures.front)
+    (rw c.ends_with_data.ensures at c.in_ok-shift_data.ensures.made) c.in_ok-shift_padding-2.ensures.made c.in_err-shift_ones-2.ensures.front)
 
 pub returns-clause-made : goal.returns-clause-made
 returns-clause-made g c =
@@ -64,9 +64,9 @@ returns-clause-made g c =
     let P = c.args.pads.now in
     let n = c.args.plan.len in
     let all = five_made m.board m.made g.met.C.Cable.both_made _ (base_before c.pre-before.result) (program_before P) (data_part P c.post-after.result c.args.bits.now n)
-        (program_after P c.post-after.result) (base_after c.post-after.result)
+    (program_after P c.post-after.result) (base_after c.post-after.result)
     (parts_of_pads c.args.plan P c.args.bits.now c.pre-before.result c.post-after.result c.pre-before.ensures c.post-after.ensures c.requires.some c.requires.inside
-        c.requires.pads) c.args.cable.now c.shift_ones.new.cable c.shift_padding.new.cable c.shift_data.new.cable c.shift_padding-2.new.cable c.shift_ones-2.new.cable _
+    c.requires.pads) c.args.cable.now c.shift_ones.new.cable c.shift_padding.new.cable c.shift_data.new.cable c.shift_padding-2.new.cable c.shift_ones-2.new.cable _
     c.in_ok-shift_ones.ensures.made c.in_ok-shift_padding.ensures.made
-        (rw c.ends_with_data.ensures at c.in_ok-shift_data.ensures.made) c.in_ok-shift_padding-2.ensures.made c.in_ok-shift_ones-2.ensures.made in
+    (rw c.ends_with_data.ensures at c.in_ok-shift_data.ensures.made) c.in_ok-shift_padding-2.ensures.made c.in_ok-shift_ones-2.ensures.made in
     rw (place_of_data c.pre-before.result P c.requires.pads, c.pre-before.ensures) at all

@@ -28,7 +28,7 @@ loop-st-preserved c =
     let ensures = c.in_ok-draft_preset.ensures in
     rw c.data_behind-block.ensures
     (preset_more program c.loop-st.emitter c.draft_preset.new.emitter _ (preset_of block (body_tree st.body))
-        (starts block (body_tree st.body)) left ensures.code ensures.texts ensures.literals ensures.site)
+    (starts block (body_tree st.body)) left ensures.code ensures.texts ensures.literals ensures.site)
 
 pub returns : goal.returns
 returns c =

@@ -13,4 +13,4 @@ returns-in-Ok-clause-because c =
 pub returns-in-Err-Because-clause-because : goal.returns-in-Err-Because-clause-because
 returns-in-Err-Because-clause-because c =
     λ reason e. refused_by_tokens c.args.text.now c.args.piece.now _ c.in-Err-Because.reason reason e c.in-Err-Because.reason-is
-        (c.in-Err-Because.ensures.because c.in-Err-Because.reason (ap Err c.in-Err-Because.field-0-is))
+    (c.in-Err-Because.ensures.because c.in-Err-Because.reason (ap Err c.in-Err-Because.field-0-is))

@@ -22,7 +22,7 @@ returns-in-Ok-clause-acts c = λ chosen.
     let is : c.behind-values.result.now ≡ drop at xs = c.behind-values.ensures ∙ ap (drop at) c.deref.ensures.value in
     let told = c.in-Ok.ensures.made entries (drop old.next chosen) in
     acts code i (lands entries here i) chosen s new (reverse (take at xs)) (step_of code here i chosen old)
-        (made entries (constants_of code) here i (drop at xs) s) c.in-Ok.made (ap reverse (sym c.truncate.ensures.items))
+    (made entries (constants_of code) here i (drop at xs) s) c.in-Ok.made (ap reverse (sym c.truncate.ensures.items))
     (all_there code i old chosen here c.operands_taken-count.result c.len-len.result c.operands_taken-count.ensures len c.if-len-count.false)
     (subst (λ vs. IsMade (Ok c.in-Ok.made) (told_by code i c.make.new.text.items c.make.new.memory) s (state_of chosen new) (made entries (constants_of code) here i vs s)) is told)
 

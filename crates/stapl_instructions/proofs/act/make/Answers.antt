@@ -17,7 +17,7 @@ returns-in-Print-clause-made c = λ entries chosen.
 pub returns-in-CopyBits-clause-made : goal.returns-in-CopyBits-clause-made
 returns-in-CopyBits-clause-made c = λ entries chosen.
     let old = c.args.memory.now in let told : Told = record { text = c.args.text.now.items; constants = constants_of c.args.code.now; states = []; shifted = old.shifted }
-        in let s = state_in chosen old in let records = reverse old.records.items in
+    in let s = state_in chosen old in let records = reverse old.records.items in
     rw c.in-CopyBits.is
     (subst (λ (l : List (List Bool)). IsMade c.copy.result told s (state_with chosen records old.ir old.dr c.copy.new.variables.items)
     (does (then_get (known_source l c.in-CopyBits.source) (λ from. copied (target_of c.in-CopyBits.dest) from c.args.values.now s))))
@@ -26,7 +26,7 @@ returns-in-CopyBits-clause-made c = λ entries chosen.
 pub returns-in-SetBits-clause-made : goal.returns-in-SetBits-clause-made
 returns-in-SetBits-clause-made c = λ entries chosen.
     let old = c.args.memory.now in let told : Told = record { text = c.args.text.now.items; constants = constants_of c.args.code.now; states = []; shifted = old.shifted }
-        in let s = state_in chosen old in let records = reverse old.records.items in
+    in let s = state_in chosen old in let records = reverse old.records.items in
     rw c.in-SetBits.is
     (subst (λ (l : List (List Bool)). IsMade c.copy-in-SetBits.result told s (state_with chosen records old.ir old.dr c.copy-in-SetBits.new.variables.items)
     (does (then_get (known_literal (slice_get l c.in-SetBits.literal)) (λ from. copied (IntoWhole c.in-SetBits.n) from c.args.values.now s))))
@@ -38,7 +38,7 @@ returns-in-Export-clause-made c = λ entries chosen.
     let key = c.in-Export.key in let part = c.in-Export.part in
     rw c.in-Export.is
     (subst (λ (v : List Held). IsMade c.export.result (record { text = c.args.text.now.items; constants = constants_of code; states = []; shifted = old.shifted })
-        (state_with chosen records old.ir old.dr v) (state_with chosen records old.ir old.dr v)
+    (state_with chosen records old.ir old.dr v) (state_with chosen records old.ir old.dr v)
     (does (then_get (known_text (slice_get code.texts key)) (λ bytes. part_exported code.literals part bytes c.args.values.now (state_with chosen records old.ir old.dr v)))))
     c.deref-in-Export.ensures.value (c.export.ensures c.args.text.now.items chosen old.shifted records old.ir old.dr))
 

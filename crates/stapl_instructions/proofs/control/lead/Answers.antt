@@ -14,7 +14,7 @@ returns-in-Returned-clause-leads c = λ k go.
     let u : State = state_in (drop c.begin_next-went.new.next chosen) work.memory in
     ap (λ m. happened_in_piece work.piece (continues k (stepped c.args.code.now i (lands (entries_of c.args.code.now.procedures) c.args.here i) chosen m work) go)) c.in-Returned.is
     ∙ ap (λ t. happened_in_piece work.piece (at_end (reverse ops) (happens k t)))
-        (c.begin_next-went.ensures (reverse work.memory.records.items) work.memory.ir work.memory.dr work.memory.variables.items)
+    (c.begin_next-went.ensures (reverse work.memory.records.items) work.memory.ir work.memory.dr work.memory.variables.items)
     ∙ ap (λ l. happened_in_piece work.piece (at_end (reverse l) (happens k (led_to c.begin_next-went.result u)))) (sym c.deref-in-Returned.ensures.value)
     ∙ c.end_turn-in-Returned.ensures.ends work.piece u k
 

@@ -14,9 +14,9 @@ lexemes-preserved c =
     subst (λ (ts : List Token). IsReadUpTo text c.args.start c.args.limit ts c.push.new.self.good c.push.new.self.large c.first_word-is_crc.result end) (sym c.in_ok-push.ensures.tokens)
     (subst (λ (g : Bool). IsReadUpTo text c.args.start c.args.limit (lexed.tokens.items ++ lexeme.token ∷ []) g c.push.new.self.large c.first_word-is_crc.result end) (sym c.in_ok-push.ensures.good)
     (subst (λ (g : Bool). IsReadUpTo text c.args.start c.args.limit (lexed.tokens.items ++ lexeme.token ∷ [])
-        (lexed.good && lexeme.good) g c.first_word-is_crc.result end) (sym c.in_ok-push.ensures.large)
+    (lexed.good && lexeme.good) g c.first_word-is_crc.result end) (sym c.in_ok-push.ensures.large)
     (subst (λ (w : Option Bool). IsReadUpTo text c.args.start c.args.limit (lexed.tokens.items ++ lexeme.token ∷ []) (lexed.good && lexeme.good)
-        (lexed.large || lexeme.large) w end) (sym (c.first_word-is_crc.ensures ∙ ap (first_word c.lexemes.is_crc lexeme.token.kind) c.bytes.ensures))
+    (lexed.large || lexeme.large) w end) (sym (c.first_word-is_crc.ensures ∙ ap (first_word c.lexemes.is_crc lexeme.token.kind) c.bytes.ensures))
     (read_one text c.args.start c.args.limit lexed.tokens.items lexed.good lexed.large c.lexemes.is_crc c.lexemes.at lexeme.token lexeme.good lexeme.large
     c.lexemes.invariant c.in-Some.ensures.some c.in-Some.ensures.large))))
 

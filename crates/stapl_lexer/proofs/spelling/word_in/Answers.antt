@@ -6,7 +6,7 @@ use Rattle.stapl_lexer.proofs.spelling.word_in.Goals as goal
 pub returns-then-spells_word : goal.returns-then-spells_word
 returns-then-spells_word c =
     sym (c.loop-word.invariant ∙ row_found (λ word. spells_word word c.args.own.now) c.args.words.now c.loop-word.word-index _ c.loop-word-test.true
-        (sym c.spells_word.ensures ∙ c.if-spells_word.true))
+    (sym c.spells_word.ensures ∙ c.if-spells_word.true))
 
 pub loop-word-preserved : goal.loop-word-preserved
 loop-word-preserved c =

@@ -22,14 +22,14 @@ returns-in-Ok-run_behind-clause-runs g c =
     let here = λ (k : Chain). goes_on (begun k) s k (run_of code n) in let here_count = λ (k : Chain). ticks_from code 0 chosen first k + counted_then (begun k) (run_ticks_of code n) in
     let u = state_of chosen c.rest_of_turn.new.work in let led = λ (k : Chain). begins_chosen entry (led_on c.in-Ok.went u k) in
     turn_then b m.board m.made w g.met.C.Cable.both_made c.args.port.now c.args.port.now c.rest_of_turn.new.port all count s (run_of code n) (run_ticks_of code n) begun
-        (ticks_from code 0 chosen first) here here_count
+    (ticks_from code 0 chosen first) here here_count
     c.args.steps.now c.args.steps.now c.rest_of_turn.new.steps (λ k. refl) (λ k. refl)
     (runs_none b m.board m.made w c.args.port.now all here count here_count c.args.steps.now (g.met.C.Cable.none_made c.args.port.now.cable.now) c.requires.whole
     (play_is code chosen work n none no) (λ k. ap (λ t. c.args.steps.now + t) (sym (play_ticks_is code chosen work n none no k))))
     led u (state_of chosen c.run_behind.new.work) c.run_behind.new.port c.run_behind.new.steps c.in-Ok-run_behind.ending (begun_run code n (led_on c.in-Ok.went u) u)
-        (begun_ticks code n (led_on c.in-Ok.went u))
+    (begun_ticks code n (led_on c.in-Ok.went u))
     (begun_does b m.board m.made w c.args.port.now c.rest_of_turn.new.port entry (rest_of code 0 chosen first) (led_on c.in-Ok.went u)
-        (ticks_from code 0 chosen first) no_ticks c.args.steps.now c.rest_of_turn.new.steps c.in-Ok.ensures.does)
+    (ticks_from code 0 chosen first) no_ticks c.args.steps.now c.rest_of_turn.new.steps c.in-Ok.ensures.does)
     (λ k. refl) (λ k. refl) c.in-Ok-run_behind.ensures.runs
 
 pub returns-in-Err-run_behind-clause-runs : goal.returns-in-Err-run_behind-clause-runs
@@ -41,13 +41,13 @@ returns-in-Err-run_behind-clause-runs g c =
     let here = λ (k : Chain). goes_on (begun k) s k (run_of code n) in let here_count = λ (k : Chain). ticks_from code 0 chosen first k + counted_then (begun k) (run_ticks_of code n) in
     let u = state_of chosen c.rest_of_turn.new.work in let led = λ (k : Chain). begins_chosen entry (led_on c.in-Ok.went u k) in
     turn_then_front b m.board m.made w g.met.C.Cable.both_made c.args.port.now c.args.port.now c.rest_of_turn.new.port all count s (run_of code n)
-        (run_ticks_of code n) begun (ticks_from code 0 chosen first) here here_count
+    (run_ticks_of code n) begun (ticks_from code 0 chosen first) here here_count
     c.args.steps.now c.args.steps.now c.rest_of_turn.new.steps (λ k. refl) (λ k. refl)
     (runs_none b m.board m.made w c.args.port.now all here count here_count c.args.steps.now (g.met.C.Cable.none_made c.args.port.now.cable.now) c.requires.whole
     (play_is code chosen work n none no) (λ k. ap (λ t. c.args.steps.now + t) (sym (play_ticks_is code chosen work n none no k))))
     led u c.run_behind.new.port c.run_behind.new.steps (begun_run code n (led_on c.in-Ok.went u) u) (begun_ticks code n (led_on c.in-Ok.went u))
     (begun_does b m.board m.made w c.args.port.now c.rest_of_turn.new.port entry (rest_of code 0 chosen first) (led_on c.in-Ok.went u)
-        (ticks_from code 0 chosen first) no_ticks c.args.steps.now c.rest_of_turn.new.steps c.in-Ok.ensures.does)
+    (ticks_from code 0 chosen first) no_ticks c.args.steps.now c.rest_of_turn.new.steps c.in-Ok.ensures.does)
     (λ k. refl) (λ k. refl) c.in-Err-run_behind.ensures.runs
 
 pub returns-in-Err-clause-runs : goal.returns-in-Err-clause-runs
@@ -58,12 +58,12 @@ returns-in-Err-clause-runs g c =
     let all = play_from code chosen work.memory.variables.items n in let count = play_ticks_from code chosen work.memory.variables.items n in
     let here = λ (k : Chain). goes_on (begun k) s k (run_of code n) in let here_count = λ (k : Chain). ticks_from code 0 chosen first k + counted_then (begun k) (run_ticks_of code n) in
     turn_front b m.board m.made w g.met.C.Cable.both_made c.args.port.now c.args.port.now c.rest_of_turn.new.port all count s (run_of code n) (run_ticks_of code n) begun
-        (ticks_from code 0 chosen first) here here_count
+    (ticks_from code 0 chosen first) here here_count
     c.args.steps.now c.args.steps.now c.rest_of_turn.new.steps (λ k. refl) (λ k. refl)
     (runs_none b m.board m.made w c.args.port.now all here count here_count c.args.steps.now (g.met.C.Cable.none_made c.args.port.now.cable.now) c.requires.whole
     (play_is code chosen work n none no) (λ k. ap (λ t. c.args.steps.now + t) (sym (play_ticks_is code chosen work n none no k))))
     (begun_front b m.board m.made w c.args.port.now c.rest_of_turn.new.port entry (rest_of code 0 chosen first)
-        (ticks_from code 0 chosen first) c.args.steps.now c.rest_of_turn.new.steps c.in-Err.ensures.does)
+    (ticks_from code 0 chosen first) c.args.steps.now c.rest_of_turn.new.steps c.in-Err.ensures.does)
 
 pub rest_of_turn-requires-clause-few : goal.rest_of_turn-requires-clause-few
 rest_of_turn-requires-clause-few g c =

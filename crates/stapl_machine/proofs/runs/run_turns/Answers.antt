@@ -24,19 +24,19 @@ loop-turn-init g c =
       runs = runs_none b m.board m.made g.O.Paper.shown c.args.port.now all (run_of c.args.code.now (c.args.turns - 0) c.args.start u) count
           (run_ticks_of c.args.code.now (c.args.turns - 0) c.args.start u) c.args.steps.now
           (g.met.C.Cable.none_made c.args.port.now.cable.now) c.requires.whole (λ k. ap (λ n. run_of c.args.code.now n c.args.start u k) (sym none))
-              (λ k. ap (λ n. c.args.steps.now + run_ticks_of c.args.code.now n c.args.start u k) none);
+          (λ k. ap (λ n. c.args.steps.now + run_ticks_of c.args.code.now n c.args.start u k) none);
       kept = kept_none c.args.port.now c.requires.whole;
     }
 
 pub loop-turn-preserved : goal.loop-turn-preserved
 loop-turn-preserved g c =
     let m = g.C.Cable in let b = port_breakage m.breakage g.O.Paper.failed in let w = g.O.Paper.shown in let code = c.args.code.now in let chosen =
-        c.args.chosen.now in let place = c.loop-turn.place in
+    c.args.chosen.now in let place = c.loop-turn.place in
     let first = state_of chosen c.args.work.now in let s = state_of chosen c.loop-turn.work in let u = state_of chosen c.turn.new.work in
     let left = c.args.turns - c.loop-turn._turn in let more = c.args.turns - (c.loop-turn._turn + 1) in
     let e : left ≡ suc more = one_left c.args.turns c.loop-turn._turn c.loop-turn-test.true in
     let d = does_same b m.board m.made w c.loop-turn.port c.turn.new.port (turn_at code place s) (ticks_at code place s) c.loop-turn.steps c.turn.new.steps
-        (λ v. led_on v u) (λ v. no_ticks) c.in-Ok-On.field-0-is c.in-Ok-On.ensures.does in
+    (λ v. led_on v u) (λ v. no_ticks) c.in-Ok-On.field-0-is c.in-Ok-On.ensures.does in
     record {
       whole = c.in-Ok-On.ensures.keeps.whole_now;
       in_step = c.in-Ok-On.ensures.keeps.in_step;
@@ -46,7 +46,7 @@ loop-turn-preserved g c =
       runs = turn_on b m.board m.made w g.met.C.Cable.both_made c.args.port.now c.loop-turn.port c.turn.new.port (run_of code c.args.turns c.args.start first)
           (run_ticks_of code c.args.turns c.args.start first) s
           (run_of code more) (run_ticks_of code more) (turn_at code place s) (ticks_at code place s) (run_of code left place s)
-              (run_ticks_of code left place s) c.args.steps.now c.loop-turn.steps c.turn.new.steps
+          (run_ticks_of code left place s) c.args.steps.now c.loop-turn.steps c.turn.new.steps
           (λ k. ap (λ n. run_of code n place s k) e) (λ k. ap (λ n. run_ticks_of code n place s k) e) c.loop-turn.invariant.runs c.in-Ok-On.to u d;
       kept = kept_both c.loop-turn.invariant.kept c.in-Ok-On.ensures.keeps.kept;
     }
@@ -54,29 +54,29 @@ loop-turn-preserved g c =
 pub returns-in-Ok-Over-clause-runs : goal.returns-in-Ok-Over-clause-runs
 returns-in-Ok-Over-clause-runs g c =
     let m = g.C.Cable in let b = port_breakage m.breakage g.O.Paper.failed in let w = g.O.Paper.shown in let code = c.args.code.now in let chosen =
-        c.args.chosen.now in let place = c.loop-turn.place in
+    c.args.chosen.now in let place = c.loop-turn.place in
     let first = state_of chosen c.args.work.now in let s = state_of chosen c.loop-turn.work in let u = state_of chosen c.turn.new.work in
     let left = c.args.turns - c.loop-turn._turn in let more = c.args.turns - (c.loop-turn._turn + 1) in
     let e : left ≡ suc more = one_left c.args.turns c.loop-turn._turn c.loop-turn-test.true in
     let d = does_same b m.board m.made w c.loop-turn.port c.turn.new.port (turn_at code place s) (ticks_at code place s) c.loop-turn.steps c.turn.new.steps
-        (λ v. led_on v u) (λ v. no_ticks) c.in-Ok-Over.field-0-is c.in-Ok-Over.ensures.does in
+    (λ v. led_on v u) (λ v. no_ticks) c.in-Ok-Over.field-0-is c.in-Ok-Over.ensures.does in
     turn_over b m.board m.made w g.met.C.Cable.both_made c.args.port.now c.loop-turn.port c.turn.new.port (run_of code c.args.turns c.args.start first)
-        (run_ticks_of code c.args.turns c.args.start first) s
+    (run_ticks_of code c.args.turns c.args.start first) s
     (run_of code more) (run_ticks_of code more) (turn_at code place s) (ticks_at code place s) (run_of code left place s)
-        (run_ticks_of code left place s) c.args.steps.now c.loop-turn.steps c.turn.new.steps
+    (run_ticks_of code left place s) c.args.steps.now c.loop-turn.steps c.turn.new.steps
     (λ k. ap (λ n. run_of code n place s k) e) (λ k. ap (λ n. run_ticks_of code n place s k) e) c.loop-turn.invariant.runs c.in-Ok-Over.ending u d
 
 pub returns-in-Err-clause-runs : goal.returns-in-Err-clause-runs
 returns-in-Err-clause-runs g c =
     let m = g.C.Cable in let b = port_breakage m.breakage g.O.Paper.failed in let w = g.O.Paper.shown in let code = c.args.code.now in let chosen =
-        c.args.chosen.now in let place = c.loop-turn.place in
+    c.args.chosen.now in let place = c.loop-turn.place in
     let first = state_of chosen c.args.work.now in let s = state_of chosen c.loop-turn.work in
     let left = c.args.turns - c.loop-turn._turn in let more = c.args.turns - (c.loop-turn._turn + 1) in
     let e : left ≡ suc more = one_left c.args.turns c.loop-turn._turn c.loop-turn-test.true in
     turn_front b m.board m.made w g.met.C.Cable.both_made c.args.port.now c.loop-turn.port c.turn.new.port (run_of code c.args.turns c.args.start first)
-        (run_ticks_of code c.args.turns c.args.start first) s
+    (run_ticks_of code c.args.turns c.args.start first) s
     (run_of code more) (run_ticks_of code more) (turn_at code place s) (ticks_at code place s) (run_of code left place s)
-        (run_ticks_of code left place s) c.args.steps.now c.loop-turn.steps c.turn.new.steps
+    (run_ticks_of code left place s) c.args.steps.now c.loop-turn.steps c.turn.new.steps
     (λ k. ap (λ n. run_of code n place s k) e) (λ k. ap (λ n. run_ticks_of code n place s k) e) c.loop-turn.invariant.runs c.in-Err.ensures.does
 
 pub returns-clause-runs : goal.returns-clause-runs
@@ -84,5 +84,5 @@ returns-clause-runs g c =
     let m = g.C.Cable in let b = port_breakage m.breakage g.O.Paper.failed in let code = c.args.code.now in let chosen = c.args.chosen.now in
     let first = state_of chosen c.args.work.now in let s = state_of chosen c.loop-turn.work in
     run_spent b m.board m.made g.O.Paper.shown c.args.port.now c.loop-turn.port code (run_of code c.args.turns c.args.start first)
-        (run_ticks_of code c.args.turns c.args.start first) (c.args.turns - c.loop-turn._turn) c.loop-turn.place s
+    (run_ticks_of code c.args.turns c.args.start first) (c.args.turns - c.loop-turn._turn) c.loop-turn.place s
     c.args.steps.now c.loop-turn.steps (none_left c.args.turns c.loop-turn._turn (omega arith)) c.loop-turn.invariant.runs

@@ -61,7 +61,7 @@ returns-then-not-is_stable-clause-does g c =
     let job = c.in-Scans.job in let s = state_of chosen new in
     does_lack b m.board m.made g.O.Paper.shown c.args.port.now c.args.port.now (job_scan new.memory.shifted job s) (job_lands new.memory.shifted job s)
     (rest_of code i chosen old) (ticks_from code i chosen old) (λ u k. happened_in_piece new.piece (behind code i (operands_of new) u k))
-        (λ u k. ticks_after code i (operands_of new) u k) c.args.steps.now c.count.new.steps
+    (λ u k. ticks_after code i (operands_of new) u k) c.args.steps.now c.count.new.steps
     (goes code i chosen old x c.requires.inside is new c.advance.result (Scans job) c.in-Scans.is c.advance.ensures.leads)
     (counts code i chosen old x c.requires.inside is new c.advance.result (Scans job) c.in-Scans.is c.advance.ensures.ticks c.args.steps.now c.count.new.steps c.count.ensures)
     (sym c.is_stable.ensures ∙ c.if-not-is_stable.true) (g.met.C.Cable.none_made c.args.port.now.cable.now) c.requires.whole
@@ -73,7 +73,7 @@ returns-in-Ok-capture-clause-does g c =
     let job = c.in-Scans.job in let s = state_of chosen new in
     does_scan b m.board m.made g.O.Paper.shown c.args.port.now c.capture.new.port (job_scan new.memory.shifted job s) (job_lands new.memory.shifted job s)
     (rest_of code i chosen old) (ticks_from code i chosen old) (λ u k. happened_in_piece new.piece (behind code i (operands_of new) u k))
-        (λ u k. ticks_after code i (operands_of new) u k) c.args.steps.now c.count.new.steps
+    (λ u k. ticks_after code i (operands_of new) u k) c.args.steps.now c.count.new.steps
     (goes code i chosen old x c.requires.inside is new c.advance.result (Scans job) c.in-Scans.is c.advance.ensures.leads)
     (counts code i chosen old x c.requires.inside is new c.advance.result (Scans job) c.in-Scans.is c.advance.ensures.ticks c.args.steps.now c.count.new.steps c.count.ensures)
     (sym c.is_stable.ensures ∙ c.if-not-is_stable.false) (state_in (drop new.next chosen) c.capture.new.memory) (c.in-Ok-capture.ensures.captured (drop new.next chosen))
@@ -85,7 +85,7 @@ returns-in-Err-capture-clause-does g c =
     let job = c.in-Scans.job in let s = state_of chosen new in
     does_scan_front b m.board m.made g.O.Paper.shown c.args.port.now c.capture.new.port (job_scan new.memory.shifted job s) (job_lands new.memory.shifted job s)
     (rest_of code i chosen old) (ticks_from code i chosen old) (λ u k. happened_in_piece new.piece (behind code i (operands_of new) u k))
-        (λ u k. ticks_after code i (operands_of new) u k) c.args.steps.now c.count.new.steps
+    (λ u k. ticks_after code i (operands_of new) u k) c.args.steps.now c.count.new.steps
     (goes code i chosen old x c.requires.inside is new c.advance.result (Scans job) c.in-Scans.is c.advance.ensures.leads)
     (counts code i chosen old x c.requires.inside is new c.advance.result (Scans job) c.in-Scans.is c.advance.ensures.ticks c.args.steps.now c.count.new.steps c.count.ensures)
     (sym c.is_stable.ensures ∙ c.if-not-is_stable.false) (c.in-Err-capture.ensures.front (drop new.next chosen))

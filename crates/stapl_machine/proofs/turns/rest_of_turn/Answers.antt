@@ -28,7 +28,7 @@ pub parts-preserved : goal.parts-preserved
 parts-preserved g c =
     let m = g.C.Cable in let b = port_breakage m.breakage g.O.Paper.failed in let s = g.O.Paper.shown in
     let code = c.args.code.now in let chosen = c.args.chosen.now in let i = c.in-Within.i in let first = c.args.work.now in let old = c.parts.work in let mid =
-        c.carry_out_common.new.work in let new = c.carry_out.new.work in
+    c.carry_out_common.new.work in let new = c.carry_out.new.work in
     record {
       whole = c.in-Ok-None.ensures.keeps.whole_now;
       in_step = c.in-Ok-None.ensures.keeps.in_step;
@@ -40,9 +40,9 @@ parts-preserved g c =
       few = subst (λ e. IsCleanBehind code i e new) c.in-Ok-None.field-0-is c.in-Ok-None.ensures.clean;
       does =
           does_both b m.board m.made s g.met.C.Cable.both_made c.args.port.now c.parts.port c.carry_out.new.port (rest_of code c.args.from chosen first)
-              (rest_of code c.parts.place chosen old) (rest_of code (i + 1) chosen new)
+          (rest_of code c.parts.place chosen old) (rest_of code (i + 1) chosen new)
           (ticks_from code c.args.from chosen first) (ticks_from code c.parts.place chosen old)
-              (ticks_from code (i + 1) chosen new) c.args.steps.now c.parts.steps c.carry_out.new.steps c.parts.invariant.does
+          (ticks_from code (i + 1) chosen new) c.args.steps.now c.parts.steps c.carry_out.new.steps c.parts.invariant.does
           (does_of b m.board m.made s c.parts.port c.carry_out.new.port (rest_of code i chosen mid) (rest_of code c.parts.place chosen old) (rest_of code (i + 1) chosen new)
           (ticks_from code i chosen mid) (ticks_from code c.parts.place chosen old) (ticks_from code (i + 1) chosen new) c.parts.steps c.carry_out_common.new.steps c.carry_out.new.steps
           (c.in-Within.ensures.does chosen) (c.in-Within.ensures.ticks chosen)
@@ -75,7 +75,7 @@ pub returns-in-Ok-Some-clause-does : goal.returns-in-Ok-Some-clause-does
 returns-in-Ok-Some-clause-does g c =
     let m = g.C.Cable in let b = port_breakage m.breakage g.O.Paper.failed in let s = g.O.Paper.shown in
     let code = c.args.code.now in let chosen = c.args.chosen.now in let i = c.in-Within.i in let first = c.args.work.now in let old = c.parts.work in let mid =
-        c.carry_out_common.new.work in let new = c.carry_out.new.work in
+    c.carry_out_common.new.work in let new = c.carry_out.new.work in
     let led = led_on c.in-Ok-Some.went (state_of chosen new) in
     does_both b m.board m.made s g.met.C.Cable.both_made c.args.port.now c.parts.port c.carry_out.new.port (rest_of code c.args.from chosen first) (rest_of code c.parts.place chosen old) led
     (ticks_from code c.args.from chosen first) (ticks_from code c.parts.place chosen old) no_ticks c.args.steps.now c.parts.steps c.carry_out.new.steps c.parts.invariant.does
@@ -92,7 +92,7 @@ returns-in-Err-clause-does g c =
     does_both_front b m.board m.made s g.met.C.Cable.both_made c.args.port.now c.parts.port c.carry_out.new.port (rest_of code c.args.from chosen first) (rest_of code c.parts.place chosen old)
     (ticks_from code c.args.from chosen first) (ticks_from code c.parts.place chosen old) c.args.steps.now c.parts.steps c.carry_out.new.steps c.parts.invariant.does
     (front_of b m.board m.made s c.parts.port c.carry_out.new.port (rest_of code i chosen mid) (rest_of code c.parts.place chosen old) (ticks_from code i chosen mid)
-        (ticks_from code c.parts.place chosen old)
+    (ticks_from code c.parts.place chosen old)
     c.parts.steps c.carry_out_common.new.steps c.carry_out.new.steps (c.in-Within.ensures.does chosen) (c.in-Within.ensures.ticks chosen) c.in-Err.ensures.does)
 
 pub carry_out-requires-clause-room : goal.carry_out-requires-clause-room

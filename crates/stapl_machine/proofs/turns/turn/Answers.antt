@@ -21,7 +21,7 @@ returns-in-Ok-clause-does g c =
     let piece = c.in-Some.piece in let u = state_of chosen work in
     let h : piece_of (slice_get code.instrs place) ≡ Some piece = search rules in
     does_of b m.board m.made g.O.Paper.shown c.args.port.now c.rest_of_turn.new.port (rest_of code (place + 1) chosen (record work { piece = piece }))
-        (turn_at code place u) (led_on c.in-Ok.went (state_of chosen c.rest_of_turn.new.work))
+    (turn_at code place u) (led_on c.in-Ok.went (state_of chosen c.rest_of_turn.new.work))
     (ticks_from code (place + 1) chosen (record work { piece = piece })) (ticks_at code place u) no_ticks c.args.steps.now c.tick.new.self c.rest_of_turn.new.steps
     (turn_begins code place piece chosen work c.requires.none h)
     (λ k. one_tick_more c.args.steps.now c.tick.new.self _ _ c.tick.ensures (turn_ticks_begin code place piece chosen work c.requires.none h k)) c.in-Ok.ensures.does

@@ -9,7 +9,7 @@ pub returns-in-Ok-run-clause-played : goal.returns-in-Ok-run-clause-played
 returns-in-Ok-run-clause-played g c =
     let m = g.C.Cable in
     played m.board m.made (shown_of g.K.Sink.written) c.args.pins c.args.code.now c.args.chosen.now c.args.turns
-        (lengths_of c.args.base.now) g.met.C.Cable.both_made c.args.cable.now c.reset_chain.new.cable c.run.new.cable c.args.out.now c.run.new.out
+    (lengths_of c.args.base.now) g.met.C.Cable.both_made c.args.cable.now c.reset_chain.new.cable c.run.new.cable c.args.out.now c.run.new.out
     (digits_in c.reset_chain.new.self) c.args.steps.now c.run.new.steps c.in-Ok.ensures.reset c.in-Ok-run.ending c.run.new.self c.in-Ok-run.ensures.played
 
 pub returns-in-Ok-run-clause-kept_cable : goal.returns-in-Ok-run-clause-kept_cable
@@ -19,7 +19,7 @@ pub returns-in-Err-run-clause-front : goal.returns-in-Err-run-clause-front
 returns-in-Err-run-clause-front g c =
     let m = g.C.Cable in
     played_front m.board m.made (shown_of g.K.Sink.written) c.args.pins c.args.code.now c.args.chosen.now c.args.turns
-        (lengths_of c.args.base.now) g.met.C.Cable.both_made c.args.cable.now c.reset_chain.new.cable c.run.new.cable c.args.out.now c.run.new.out
+    (lengths_of c.args.base.now) g.met.C.Cable.both_made c.args.cable.now c.reset_chain.new.cable c.run.new.cable c.args.out.now c.run.new.out
     (digits_in c.reset_chain.new.self) c.args.steps.now c.run.new.steps c.in-Ok.ensures.reset c.in-Err-run.ensures.front
 
 pub returns-in-Err-run-clause-kept_cable : goal.returns-in-Err-run-clause-kept_cable
@@ -32,4 +32,4 @@ pub returns-in-Err-clause-front : goal.returns-in-Err-clause-front
 returns-in-Err-clause-front g c =
     let m = g.C.Cable in
     broken_off m.board m.made (shown_of g.K.Sink.written) c.args.pins c.args.code.now c.args.chosen.now c.args.turns
-        (lengths_of c.args.base.now) g.met.C.Cable.both_made c.args.cable.now c.reset_chain.new.cable c.args.out.now c.args.steps.now c.in-Err.ensures.front
+    (lengths_of c.args.base.now) g.met.C.Cable.both_made c.args.cable.now c.reset_chain.new.cable c.args.out.now c.args.steps.now c.in-Err.ensures.front

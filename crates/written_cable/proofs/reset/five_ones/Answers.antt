@@ -23,7 +23,7 @@ returns-in_err-tdo-clause-front g c =
     let m = g.C.Cable in
     let n = rw (next_same 5 c.loop-turn._turn true (omega arith)) at c.loop-turn.invariant.noted in
     on_err _ (way_failed m.board m.made g.met.C.Cable.both_made c.args.cable.now c.loop-turn.cable c.clock.new.self _ _ _ c.in_err-tdo.ensures.failed
-        (noted_way m.board m.made c.args.cable.now c.loop-turn.cable _ _ n))
+    (noted_way m.board m.made c.args.cable.now c.loop-turn.cable _ _ n))
 
 pub returns-in_err-tdo-clause-line : goal.returns-in_err-tdo-clause-line
 returns-in_err-tdo-clause-line g c = part_then c.loop-turn.invariant.line c.in_err-tdo.ensures.line

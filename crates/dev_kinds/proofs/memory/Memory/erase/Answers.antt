@@ -13,6 +13,6 @@ pub returns-then-not-is_busy : goal.returns-then-not-is_busy
 returns-then-not-is_busy c =
     let m = c.self.inside in
     let words = filled_items m.words m.shape m.address m.buffer c.deref_mut.result.now c.fill_words.new.words true c.self.invariant c.deref_mut.ensures.value
-        c.deref_mut.ensures.len c.fill_words.ensures in
+    c.deref_mut.ensures.len c.fill_words.ensures in
     erased c.args.logic.now (record { shape = m.shape; address = m.address; words = m.words.items; busy = m.busy }) c.args.self.now _ c.lowest.result c.is_busy.result
-        c.self.view_is c.lowest.ensures c.if-lowest.true c.is_busy.ensures c.if-not-is_busy.true words
+    c.self.view_is c.lowest.ensures c.if-lowest.true c.is_busy.ensures c.if-not-is_busy.true words

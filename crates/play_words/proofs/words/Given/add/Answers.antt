@@ -1,7 +1,7 @@
 use Rattle.std.proofs.Common.{rules, ◌≡◌, true, false}
 use Rattle.std.specs.Prelude.{is_some}
 use Rattle.play_words.specs.Words.{takes}
-use Rattle.play_words.specs.GivenParts.{values_of, given_of, part_of}
+use Rattle.play_words.specs.ReadParts.{values_of, given_of, part_of}
 use Rattle.play_words.proofs.WordLemmas.{adds_where_free, refuses_given}
 use Rattle.play_words.proofs.words.Given.add.Goals as goal
 

@@ -1,5 +1,5 @@
 use Rattle.std.proofs.Common.{Option, None, Some, IfNone}
-use Rattle.play_words.specs.GivenParts.{part_of}
+use Rattle.play_words.specs.ReadParts.{part_of}
 use Rattle.play_words.proofs.WordLemmas.{adds_refused}
 use Rattle.play_words.proofs.words.Given.with_word.Goals as goal
 

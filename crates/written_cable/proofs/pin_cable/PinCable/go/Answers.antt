@@ -21,4 +21,4 @@ returns-clause-did g c =
     let new : PinCable g.row.C.Denot g.row.O.Denot = record c.move_to.new.cable { tap = c.args.to } in
     λ rest. one_did (port_breakage m.breakage g.O.Paper.failed) m.board m.made g.O.Paper.shown old new c.args.to (Goes c.args.to) (move_inputs old.tap c.args.to) (λ far. refl) (λ far. refl) rest
     h.clocks refl (record { cable = k.made.same.cable; out = k.made.same.out; pins = k.made.same.pins; base = k.made.same.base }) k.made.made
-        (record { was_whole = p.was_whole; put = p.put; digits = p.digits }) k.went_in k.seen k.cards
+    (record { was_whole = p.was_whole; put = p.put; digits = p.digits }) k.went_in k.seen k.cards

@@ -17,6 +17,6 @@ pub returns-clause-did : goal.returns-clause-did
 returns-clause-did g c =
     let m = g.C.Cable in let old = c.args.self.now in let h = c.in_ok-stay.ensures.made in let k = h.made in
     λ rest. one_did (port_breakage m.breakage g.O.Paper.failed) m.board m.made g.O.Paper.shown old c.stay.new.cable old.tap (Stays c.args.n)
-        (stay_inputs old.tap c.args.n) (λ far. refl) (λ far. refl) rest
+    (stay_inputs old.tap c.args.n) (λ far. refl) (λ far. refl) rest
     h.clocks k.made.tap k.made.same k.made.made
     (pins_put h.clocks k.made c.in_ok-stay.ensures.unbroken) k.went_in k.seen k.cards

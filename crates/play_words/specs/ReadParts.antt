@@ -9,8 +9,7 @@ use Rattle.play_words.specs.declared.words.Given.{Given}
 use Rattle.play_words.specs.declared.words.GivenPart.{GivenPart}
 use Rattle.play_words.specs.declared.words.GivenPart.TheVariants as given
 use Rattle.play_words.specs.declared.words.Request.{Request}
-use Rattle.play_words.specs.Words.{Part, BoardIn, ProgramIn, CodeIn, ActionNamed, NamesAsked, NamesSkipped, PlaceAsked, TurnsAtMost, PinsWritten, DevicesReported, SeedGiven,
-    key_of, usual_turns, takes, needs, GivesPart, HasMode, GiveOf, AreReadBefore}
+use Rattle.play_words.specs.Words.{Part, BoardIn, ProgramIn, CodeIn, ActionNamed, NamesAsked, NamesSkipped, PlaceAsked, TurnsAtMost, PinsWritten, DevicesReported, SeedGiven, key_of, usual_turns, takes, needs, GivesPart, HasMode, GiveOf, AreReadBefore}
 
 -- the mode, and the values that are given, by key
 pub record Values : Type 0 where

@@ -1,7 +1,7 @@
 use Rattle.std.proofs.Common.{take, map}
 use Rattle.stapl_syntax.specs.Trees.{stmt_tree}
 use Rattle.stapl_checker.specs.Courses.{NoneBroken, IsCourse, numbered_trees}
-use Rattle.stapl_checker.proofs.way.walk.Given as goal
+use Rattle.stapl_checker.proofs.walk.walk.Given as goal
 
 abbrev pub invariant-loop-i : goal.invariant-loop-i
 invariant-loop-i l = record {

@@ -1,9 +1,9 @@
-//! The way through the statements of a text, up to the first that breaks a rule.
+//! The walk through the statements of a text, up to the first that breaks a rule.
 ghost use Rattle.std.specs.Prelude.{◌≡◌, ◌≤◌, ◌<◌, ◌+◌, ◌-◌, ◌^◌, length, map, All};
 ghost use Rattle.stapl_lexer.specs.Pieces.{text_limit};
 ghost use Rattle.stapl_syntax.specs.Trees.{stmt_tree};
 ghost use Rattle.stapl_checker.specs.Scopes.{IsInside};
-ghost use Rattle.stapl_checker.specs.Courses.{BeginsListed, facts_in, IsWay};
+ghost use Rattle.stapl_checker.specs.Courses.{BeginsListed, facts_in, IsWalk};
 ghost use Rattle.stapl_checker.specs.Judgements.{rule_broken, unless_late};
 
 use crate::course::Course;
@@ -15,9 +15,9 @@ use stapl_syntax::Stmt;
 /// The most pieces of a text.
 pub(crate) const PIECE_LIMIT: usize = 100_000;
 
-/// What is found on the way.
+/// What the walk finds.
 #[derive(Clone, Copy)]
-pub(crate) enum Way {
+pub(crate) enum Walk {
     /// The statement with this index breaks a rule: its smallest reason.
     Stops(u32, Reason),
     /// No statement does: what is kept at the end.
@@ -48,18 +48,18 @@ fn reason_here(names: &Names, course: Course, index: u32, statement: &Stmt) -> O
 }
 
 /// Goes through the first statements of a program.
-pub(crate) fn walk(names: &Names, statements: &[Stmt]) -> Way
+pub(crate) fn walk(names: &Names, statements: &[Stmt]) -> Walk
     requires few { length statements.now ≤ text_limit + 1 }
     requires listed { All (λ st. BeginsListed names.now st.body) (map stmt_tree statements.now) }
-    ensures { IsWay names.now (map stmt_tree statements.now) result }
+    ensures { IsWalk names.now (map stmt_tree statements.now) result }
 {
     let mut course = Course::first();
     for (i, statement) in statements.iter().enumerate() {
         match reason_here(names, course, i as u32, statement) {
-            Some(reason) => return Way::Stops(i as u32, reason),
+            Some(reason) => return Walk::Stops(i as u32, reason),
             None => {}
         }
         course = course.after(names, &statement.body);
     }
-    Way::Ends(course)
+    Walk::Ends(course)
 }
