@@ -14,7 +14,7 @@ SIZE = 4 << 20
 
 
 def filled(text):
-    """The text with spaces behind it up to 4 MiB."""
+    """The text with spaces after it up to 4 MiB."""
     assert len(text) <= SIZE
     return text.ljust(SIZE)
 

@@ -14,7 +14,7 @@ TAIL = b"ENDPROC;"
 
 
 def repeated(unit, size):
-    """As many whole units as fit into this many bytes, and spaces behind them."""
+    """As many whole units as fit into this many bytes, and spaces after them."""
     return (unit * (size // len(unit))).ljust(size)
 
 

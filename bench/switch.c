@@ -124,7 +124,7 @@ static enum ending copy_bits(struct variable *variables, const struct instr *ins
     return SPENT;
 }
 
-/* Plays at most so many turns. The top is the place behind the last operand. */
+/* Plays at most so many turns. The top is the place after the last operand. */
 static enum ending play(const struct instr *code, struct variable *variables, uint32_t turns) {
     static struct value operands[64];
     struct value *top = operands;

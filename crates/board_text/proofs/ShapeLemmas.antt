@@ -42,7 +42,7 @@ place_failed ps words i p w lt same e = next_place ps words i p w false lt same 
 pub more_or_fewer : (ps : List Place) (words : List (Bor (List ℕ))) → (length ps ≡ length words → ⊥) → false ≡ fits ps (texts words)
 more_or_fewer ps words n = sym (other_length ps (texts words) (λ e. n (e ∙ length-map words (λ (x : Bor (List ℕ)). x.now))))
 
--- the words behind some places fit the places behind
+-- the words after some places fit the places after
 pub fits-drop : (k : ℕ) (ps : List Place) (ws : List (List ℕ)) → fits ps ws ≡ true → fits (drop k ps) (drop k ws) ≡ true
 fits-drop zero ps ws e = e
 fits-drop (suc k) [] [] e = refl

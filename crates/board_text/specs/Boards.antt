@@ -43,7 +43,7 @@ with_register r d = record d { registers = d.registers ++ r ∷ [] }
 abbrev pub with_last_register : List Desc → RegDesc → Desc → List Desc
 with_last_register earlier r d = take (length earlier - 1) earlier ++ with_register r d ∷ []
 
--- The devices after what a line says: a device stands behind those of earlier lines, and a register goes into the open
+-- The devices after what a line says: a device stands after those of earlier lines, and a register goes into the open
 -- one.
 abbrev pub devices_with : List Desc → Option Content → List Desc
 devices_with earlier None = earlier
@@ -141,7 +141,7 @@ pub record IsFaultyLine (text : List ℕ) (line : ℕ) (reason : BoardReason) : 
   pub faultless : AreFaultless (lines text) before
   pub reason_is : IsSmallest (HasReasonAt (lines text) before) reason
 
--- the end comes too early; its line is the one behind the last
+-- the end comes too early; its line is the one after the last
 pub record IsEmptyBoard (text : List ℕ) (line : ℕ) (reason : BoardReason) : Type 0 where
   pub short : length text ≤ most_bytes
   pub faultless : AreFaultless (lines text) (length (lines text))

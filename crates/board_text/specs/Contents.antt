@@ -52,12 +52,12 @@ abbrev pub identity_of : Bool → List (List ℕ) → Option IdCode
 identity_of true words = Some (record { value = code_at words 4; op = code_at words 5 })
 identity_of false words = None
 
--- the words behind its identity, or behind its first three words where it has none
+-- the words after its identity, or after its first three words where it has none
 abbrev pub last_words : Bool → List (List ℕ) → List (List ℕ)
 last_words true words = drop 6 words
 last_words false words = drop 3 words
 
--- the memory that the words behind the identity describe
+-- the memory that the words after the identity describe
 abbrev pub memory_of : List (List ℕ) → FlashDesc
 memory_of words = record {
   erase = code_at words 1;

@@ -31,7 +31,7 @@ fn identity(words: &[&[u8]], identified: bool) -> Option<Option<IdCode>>
     }
 }
 
-// The words behind the identity, or behind the first three words where there is none.
+// The words after the identity, or after the first three words where there is none.
 fn last_words<'a, 'b>(words: &'b [&'a [u8]], identified: bool) -> &'b [&'a [u8]]
     requires { (if identified then 6 else 3) ≤ length words.now }
     ensures { texts result.now ≡ last_words identified (texts words.now) }

@@ -51,7 +51,7 @@ fn blanks_len(bytes: &[u8]) -> usize
     word_byte_at(bytes).unwrap_or(bytes.len())
 }
 
-// The first word of a line, and what stands behind it. Where there is no word it is empty.
+// The first word of a line, and what stands after it. Where there is no word it is empty.
 fn first_word(line: &[u8]) -> (&[u8], &[u8])
     ensures some { 0 < length result.0.now → words_of line.now ≡ result.0.now ∷ words_of result.1.now }
     ensures none { length result.0.now ≡ 0 → words_of line.now ≡ [] }

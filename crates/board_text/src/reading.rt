@@ -48,7 +48,7 @@ enum LineRefused {
     Memory,
 }
 
-// Puts the device of a line behind the others.
+// Puts the device of a line after the others.
 fn add_device(
     alloc: Global,
     kind: Kind,
@@ -178,7 +178,7 @@ fn add_register(
     Ok(())
 }
 
-// Reads a line behind those that gave these devices.
+// Reads a line after those that gave these devices.
 fn read_line(alloc: Global, line: &[u8], devices: &mut Vec<Desc>) -> Result<(), LineRefused>
     requires { All IsNarrow devices.old.items }
     ensures read { OnOk result (LeadsTo (is_skipped line.now) devices.old.items line.now devices.new.items) }
@@ -200,7 +200,7 @@ fn read_line(alloc: Global, line: &[u8], devices: &mut Vec<Desc>) -> Result<(), 
     }
 }
 
-// Whether the end may not come behind these devices.
+// Whether the end may not come after these devices.
 fn is_unfinished(devices: &[Desc]) -> bool
     ensures { IsTrue result ↔ IsUnfinished devices.now }
 {
@@ -211,7 +211,7 @@ fn is_unfinished(devices: &[Desc]) -> bool
 /// to 16 of them, with different names. The notation is this profile's.
 ///
 /// `At` has the first faulty line, counted from 1, and the smallest of its reasons. It is line 0 if the text has more
-/// than 1,048,576 bytes, and the line behind the last if the end comes too early. `Memory` is want of memory. The time
+/// than 1,048,576 bytes, and the line after the last if the end comes too early. `Memory` is want of memory. The time
 /// is linear in the length of the text.
 pub fn read_board(alloc: Global, text: &[u8]) -> Result<Vec<Desc>, BoardTextRefused>
     ensures board { IfOk result (λ devices. IsBoard text.now devices.items) }

@@ -54,7 +54,7 @@ joined_seen (Some c) (Some cs) tdi n behind r last h e s =
     ap Some ((shifts_card_by_card c cs tdi n last).tdo) ∙ ap (λ x. Some (card_block c x n last)) (same_Some _ _ e) ∙ s
 
 module _ {A : Type 0} (f : A → Option SoundCard) (rack next : List A) (places : List ℕ) (p : ℕ) (ps : List ℕ) where
-  -- what the devices behind the first are to be
+  -- what the devices after the first are to be
   pub behind_fitted : places ≡ p ∷ ps → AreApart places → IsSome (cards_at (map f rack) places) → IsSome (cards_at (map f rack) ps) × AreApart ps
   behind_fitted e a s =
       let g : IsSome (cards_at (map f rack) (p ∷ ps)) = subst (λ z. IsSome (cards_at (map f rack) z)) e s in

@@ -30,10 +30,3 @@ module _ {K : Type 0} {written : K → Option (List ℕ)} (whole : List ℕ) whe
   -- nothing is left
   pub all_put : {a b : Lines K} (rest : List ℕ) → rest ≡ [] → PutsBut written whole a rest b → Puts written a whole b
   all_put rest e done = rw (← done.all, e, append-nil done.front) done.put
-
--- the same text
-pub puts_same : {K : Type 0} {written : K → Option (List ℕ)} {a b : Lines K} {xs ys : List ℕ} → xs ≡ ys → Puts written a xs b → Puts written a ys b
-puts_same {written = written} {a = a} {b = b} e m = subst (λ (zs : List ℕ). Puts written a zs b) e m
-
-pub front_same : {K : Type 0} {written : K → Option (List ℕ)} {a b : Lines K} {xs ys : List ℕ} → xs ≡ ys → PutsFront written a xs b → PutsFront written a ys b
-front_same {written = written} {a = a} {b = b} e m = subst (λ (zs : List ℕ). PutsFront written a zs b) e m

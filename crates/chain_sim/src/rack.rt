@@ -44,7 +44,7 @@ pub fn first_tdo<D: Device>(rack: &Vec<D>, places: &[u32], tdi: bool) -> bool
 }
 
 /// One clock of the devices at some places of a rack, which differ and have fitted devices (IEEE 1149.1, serial
-/// connection). Each gets the TDO that the one behind it has before the clock, and the last one what comes in. No other
+/// connection). Each gets the TDO that the one after it has before the clock, and the last one what comes in. No other
 /// device changes.
 pub fn clock_all<D: Device>(rack: &mut Vec<D>, places: &[u32], tms: bool, tdi: bool)
     requires fitted { IsSome (cards_at (map D.fitted rack.old.items) places.now) }
@@ -78,7 +78,7 @@ fn shift_at<D: Device>(rack: &mut Vec<D>, place: usize, tdi: u64, n: u32, last: 
 }
 
 // A block of the devices at all places, one call of each, from the last place to the first: each gets what the one
-// behind it answers, and the last one what comes in.
+// after it answers, and the last one what comes in.
 pub fn shift_all<D: Device>(rack: &mut Vec<D>, places: &[u32], tdi: u64, n: u32, last: bool) -> u64
     requires fitted { IsSome (cards_at (map D.fitted rack.old.items) places.now) }
     requires apart { AreApart places.now }

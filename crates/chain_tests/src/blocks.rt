@@ -4,9 +4,10 @@ ghost use Rattle.dev_card.specs.Descriptions.{IsGood};
 ghost use Rattle.scan_paths.specs.Cables.{whole};
 ghost use Rattle.chain_sim.specs.Rack.{IsRack};
 
-use crate::chain::{board, devices};
-use chain_sim::{Chain, fit_board, is_rack};
+use crate::chain::board;
+use chain_sim::{Chain, fit_board};
 use dev_card::{Desc, Device};
+use device_rack::fill_rack;
 use scan_paths::{Cable, reset_chain};
 use stapl_lexer::Name;
 use std::alloc::Global;
@@ -141,11 +142,12 @@ fn fits_and_shifts(
 fn shifts_blocks_as_single_clocks(rt: HostRuntime) -> Result<(), Fail> {
     let alloc = rt.alloc();
     let name = Name::read(b"U1").ok_or("no name")?;
-    let mut rack = devices(alloc)?;
-    let mut twin = devices(alloc)?;
+    let mut rack: Vec<Box<dyn Device>> = Vec::new(alloc);
+    fill_rack(alloc, &mut rack)?;
+    let mut twin: Vec<Box<dyn Device>> = Vec::new(alloc);
+    fill_rack(alloc, &mut twin)?;
     let descs = board(alloc, name, &[0x8000_0003, 0, 0])?;
     assert!(rt; !descs.is_empty() && descs.len() <= 16);
-    assert!(rt; is_rack(&rack) && is_rack(&twin));
     assert_eq!(rt; fits_and_shifts(alloc, &mut rack, &mut twin, &descs)?, None);
     Ok(())
 }

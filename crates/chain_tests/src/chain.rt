@@ -12,9 +12,9 @@ ghost use Rattle.chain_sim.specs.Places.{cards_at, IsAbsent, is_chain};
 ghost use Rattle.chain_sim.specs.Rack.{IsRack};
 
 use base::ItemList;
-use chain_sim::{Chain, fit_board, is_rack};
-use dev_card::{Desc, Device, FlashDesc, IdCode, Kind, MOST_DEVICES, RegDesc};
-use dev_kinds::{Flash, Plain, Regs};
+use chain_sim::{Chain, fit_board};
+use dev_card::{Desc, Device, FlashDesc, IdCode, Kind, RegDesc};
+use device_rack::fill_rack;
 use scan_paths::{Cable, move_to, reset_chain};
 use stapl_lexer::Name;
 use std::alloc::{AllocError, Global};
@@ -23,20 +23,20 @@ use tap_states::Tap;
 use tool_io::Failed;
 
 /// Chains by the identities of their devices, where 0 stands for none, and clocks on them as IEEE 1149.1 gives them,
-/// from idle on behind reset. A clock is a digit: TMS counts 4, TDI counts 2 and TDO counts 1. TDO is 1 outside the
+/// from idle on after reset. A clock is a digit: TMS counts 4, TDI counts 2 and TDO counts 1. TDO is 1 outside the
 /// shift states. Instruction registers have 4 bits, and the opcode of the identification register is 0010.
 const CASES: [(&[u32], &[u8]); 8] = [
     // Without identities all have BYPASS selected in reset, which captures 0 and delays by one clock: 101100 through
     // one device and through two.
     (&[0], b"511212310"),
     (&[0, 0], b"511203211"),
-    // The same through sixteen devices: 1011 comes out behind sixteen zeros.
+    // The same through sixteen devices: 1011 comes out after sixteen zeros.
     (
         &[0, 0, 0, 0, 0, 0, 0, 0, 0, 0, 0, 0, 0, 0, 0, 0],
         b"51120220000000000001011",
     ),
     // In reset the identification register is selected where there is one: 0x80000003 of the first device, its lowest
-    // bit first, and behind it the 0 of the second one's BYPASS, and 1 that came in first.
+    // bit first, and after it the 0 of the second one's BYPASS, and 1 that came in first.
     (&[0x8000_0003, 0], b"5113300000000000000000000000000000101"),
     // Two identities, 0x80000003 and 0x40000005.
     (
@@ -44,7 +44,7 @@ const CASES: [(&[u32], &[u8]); 8] = [
         b"5111100000000000000000000000000000110100000000000000000000000000010",
     ),
     // The instruction registers capture 01 in their two lowest bits, here with zeros above, and ones come through
-    // behind them.
+    // after them.
     (&[0], b"551132223"),
     (&[0x8000_0003, 0], b"5511322232223"),
     // BYPASS to the first device, and the opcode of its identification register to the second: their instructions are
@@ -149,17 +149,6 @@ pub fn board(alloc: Global, name: Name, identities: &[u32]) -> Result<Vec<Desc>,
     Ok(descs)
 }
 
-/// The devices of a rack.
-pub fn devices(alloc: Global) -> Result<Vec<Box<dyn Device>>, AllocError> {
-    let mut rack: Vec<Box<dyn Device>> = Vec::new(alloc);
-    for _place in 0..MOST_DEVICES {
-        rack.push(Box::new(alloc, Plain::unfitted())?)?;
-        rack.push(Box::new(alloc, Regs::unfitted())?)?;
-        rack.push(Box::new(alloc, Flash::unfitted())?)?;
-    }
-    Ok(rack)
-}
-
 // Whether these clocks have the TDO that their digits say.
 fn gives<C: Cable>(cable: &mut C, clocks: &[u8]) -> Result<bool, Failed>
     requires { C.breakage cable.old ≡ whole }
@@ -239,11 +228,11 @@ fn fits_and_gives(
 fn clocks_chains_as_the_standard_says(rt: HostRuntime) -> Result<(), Fail> {
     let alloc = rt.alloc();
     let name = Name::read(b"U1").ok_or("no name")?;
-    let mut rack = devices(alloc)?;
     for (identities, clocks) in CASES {
         let descs = board(alloc, name, identities)?;
         assert!(rt; !descs.is_empty() && descs.len() <= 16);
-        assert!(rt; is_rack(&rack));
+        let mut rack: Vec<Box<dyn Device>> = Vec::new(alloc);
+        fill_rack(alloc, &mut rack)?;
         let same = fits_and_gives(alloc, &mut rack, &descs, clocks)?;
         assert!(rt; same, "{identities:?}");
     }

@@ -3,10 +3,11 @@ ghost use Rattle.std.specs.Prelude.{◌≤◌, map, length, All};
 ghost use Rattle.dev_card.specs.Descriptions.{IsGood};
 ghost use Rattle.chain_sim.specs.Rack.{IsRack};
 
-use crate::chain::{board, devices};
+use crate::chain::board;
 use bit_list::{Bits, BitsRefused, MOST_DIGITS};
-use chain_sim::{Chain, fit_board, is_rack};
+use chain_sim::{Chain, fit_board};
 use dev_card::{Desc, Device};
+use device_rack::fill_rack;
 use scan_paths::{BasePads, Pads, ScanPlan, scan};
 use stapl_lexer::Name;
 use std::alloc::Global;
@@ -138,11 +139,11 @@ fn fits_and_scans(
 fn captures_at_the_places_of_the_data(rt: HostRuntime) -> Result<(), Fail> {
     let alloc = rt.alloc();
     let name = Name::read(b"U1").ok_or("no name")?;
-    let mut rack = devices(alloc)?;
     for case in CASES {
         let descs = board(alloc, name, case.identities)?;
         assert!(rt; !descs.is_empty() && descs.len() <= 16);
-        assert!(rt; is_rack(&rack));
+        let mut rack: Vec<Box<dyn Device>> = Vec::new(alloc);
+        fill_rack(alloc, &mut rack)?;
         assert!(rt;
             fits_and_scans(alloc, &mut rack, &descs, &case)?,
             "{}",

@@ -82,7 +82,7 @@ word_bytes m n word bits few size is =
 
 -- ---- the bytes of a literal
 
--- at most so many bytes, and those behind them
+-- at most so many bytes, and those after them
 bytes_cut : (a c : ℕ) (bits : List Bool) → bytes_of_bits c bits ≡ bytes_of_bits (min a c) bits ++ bytes_of_bits (c - a) (drop (8 * a) bits)
 bytes_cut zero c bits =
     let none : 0 ≡ min 0 c = omega arith in

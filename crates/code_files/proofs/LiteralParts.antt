@@ -28,7 +28,7 @@ drop_bytes (suc q) (b ∷ packed) inside =
     drop_front (8 * suc q) (low_bits 8 b) (flat_map (low_bits 8) packed) (omega (arith, length-low_bits 8 b))
     ∙ ap (λ k. drop k (flat_map (low_bits 8) packed)) left ∙ drop_bytes q packed (omega arith)
 
--- the first bits do not see what stands behind their bytes
+-- the first bits do not see what stands after their bytes
 front_bits : (n : ℕ) (bytes rest : List ℕ) → n ≤ 8 * length bytes → take n (flat_map (low_bits 8) (bytes ++ rest)) ≡ take n (flat_map (low_bits 8) bytes)
 front_bits n bytes rest few =
     ap (take n) (flat_map-append (low_bits 8) bytes rest)

@@ -343,7 +343,7 @@ fn names_the_first_break_of_order(rt: HostRuntime) -> Result<(), Fail> {
             2,
         ),
         (&[0, 1], &[EndProc, Turn(3), EndProc], 0),
-        // behind a jump, a loop, a call and an exit
+        // after a jump, a loop, a call and an exit
         (&[0], &[Turn(3), Jump(0), EndProc], 2),
         (
             &[0],

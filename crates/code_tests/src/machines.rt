@@ -191,7 +191,7 @@ fn clocks_the_chain(rt: HostRuntime) -> Result<(), Fail> {
             Ok(Ending::Exit(0)),
             b"W 5\nF 1000000\nX A = $7\n".as_slice(),
         ),
-        // Behind the five first clocks and fourteen others stands the wait of 5 microseconds, and then the frequency.
+        // After the five first clocks and fourteen others stands the wait of 5 microseconds, and then the frequency.
         // After these stands the scan, which shifts its bits by its fourth call.
         (19, true, Err(Trouble::CableFault), b"".as_slice()),
         (20, true, Err(Trouble::CableFault), b"".as_slice()),

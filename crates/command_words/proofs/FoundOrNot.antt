@@ -14,7 +14,7 @@ use Rattle.command_words.proofs.ValueLemmas.{same_rest}
 abbrev pub IsFoundOrNot : {A : Type 0} → (A → Type 0) → Type 0
 IsFoundOrNot {A = A} P = ((x : A) × P x) ⊎ ((x : A) → P x → ⊥)
 
--- What stands behind a key.
+-- What stands after a key.
 
 one_more : (k w : ℕ) (key word : List ℕ) → (w ≡ k) ⊎ (w ≡ k → ⊥) → IsFoundOrNot (λ (rest : List ℕ). word ≡ key ++ rest) →
     IsFoundOrNot (λ (rest : List ℕ). (w ∷ word) ≡ (k ∷ key) ++ rest)
@@ -27,7 +27,7 @@ behind_key [] word = inl (word, refl)
 behind_key (k ∷ key) [] = inr (λ rest e. cc)
 behind_key (k ∷ key) (w ∷ word) = one_more k w key word (cases_eq w k) (behind_key key word)
 
--- Whether a word gives a value, by whether what stands behind the key spells one.
+-- Whether a word gives a value, by whether what stands after the key spells one.
 
 in_word : {A : Type 0} (key word : List ℕ) (Spells : List ℕ → A → Type 0) (P : A → Type 0) →
     ((rest : List ℕ) (x : A) → word ≡ key ++ rest → Spells rest x → P x) →

@@ -7,7 +7,7 @@ use Rattle.std.specs.Str.Parse.{digits_value}
 use Rattle.stapl_lexer.specs.ReservedWords.{is_free_name}
 use Rattle.command_words.specs.KeyedWords.{NamesPath, NamesFreeName, parts_between_commas, SpellsNames, NamesList, SpellsNumber, NamesNumber, answer_word, SaysAnswer, name_spelled, names_in}
 
--- the rest of a word behind its key
+-- the rest of a word after its key
 pub same_rest : (key a b : List ℕ) → key ++ a ≡ key ++ b → a ≡ b
 same_rest [] a b e = e
 same_rest (k ∷ ks) a b e = same_rest ks a b cc
@@ -42,7 +42,7 @@ same_answer false true e = let f : ◌≡◌ {A = ℕ} 2 3 = ap (λ (w : List �
 pub one_answer : (key word : List ℕ) (a b : Bool) → SaysAnswer key word a → SaysAnswer key word b → a ≡ b
 one_answer key word a b x y = same_answer a b (same_rest key (answer_word a) (answer_word b) (sym x ∙ y))
 
--- Where what stands behind the key spells nothing, the word gives nothing under it.
+-- Where what stands after the key spells nothing, the word gives nothing under it.
 
 pub no_number : (word key rest : List ℕ) (least most : ℕ) (found : Option ℕ) → word ≡ key ++ rest →
     IfNone found ((n : ℕ) → SpellsNumber least most rest n → ⊥) → IfNone found ((n : ℕ) → NamesNumber key least most word n → ⊥)

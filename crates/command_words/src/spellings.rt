@@ -1,4 +1,4 @@
-//! Values as they are spelled behind a key.
+//! Values as they are spelled after a key.
 ghost use Rattle.std.specs.Prelude.{◌≡◌, ℕ, Bool, IfSome, IfNone};
 ghost use Rattle.std.specs.List.{list_all};
 ghost use Rattle.stapl_lexer.specs.ReservedWords.{is_free_name};

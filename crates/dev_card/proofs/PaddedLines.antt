@@ -99,7 +99,7 @@ module _ (ir : Bool) where
       ap (λ t. with_list ir x (take n line) ∷ t) (cut_both xs ys (drop n line)
       ∙ ap (λ t. cut_back ir xs (drop n line) ++ cut_back ir ys t) (drop_drop (length (line_of ir xs)) n line ∙ ap (λ k. drop k line) (sym (length-append (list_of ir x) (line_of ir xs)))))
 
-  -- what lies behind a line is not read
+  -- what lies after a line is not read
   cut_front : (cs : List Card) (xs ys : List Bool) → length (line_of ir cs) ≤ length xs → cut_back ir cs (xs ++ ys) ≡ cut_back ir cs xs
   cut_front [] xs ys h = refl
   cut_front (c ∷ cs) xs ys h =

@@ -43,21 +43,21 @@ with_tdis [] bits = []
 with_tdis (i ∷ is) [] = []
 with_tdis (i ∷ is) (b ∷ bits) = record { tms = i.tms; tdi = b } ∷ with_tdis is bits
 
--- Clocks of a board, taken card by card: the first card gets at TDI what the board behind it has at TDO before each
+-- Clocks of a board, taken card by card: the first card gets at TDI what the board after it has at TDO before each
 -- clock, whatever goes on at the same time.
 pub record RunsCardByCard (c : Card) (cs : List Card) (inputs : List Input) : Type 0 where
   pub tdo : tdos (clocks_of (c ∷ cs) inputs) ≡ card_tdos c (with_tdis inputs (tdos (clocks_of cs inputs)))
   pub board : board_after (c ∷ cs) inputs
       ≡ card_after c (with_tdis inputs (tdos (clocks_of cs inputs))) ∷ board_after cs inputs
 
--- So a block of a board is that of its first card, which gets the block of the board behind it.
+-- So a block of a board is that of its first card, which gets the block of the board after it.
 pub record ShiftsCardByCard (c : Card) (cs : List Card) (tdi n : ℕ) (last : Bool) : Type 0 where
   pub tdo : board_block (c ∷ cs) tdi n last ≡ card_block c (board_block cs tdi n last) n last
   pub board : board_after_block (c ∷ cs) tdi n last
       ≡ card_after_block c (board_block cs tdi n last) n last ∷ board_after_block cs tdi n last
 
 -- A block of a card that shifts is one equation of lists: what comes out are the first bits of its list with the new
--- ones behind it, and the rest of these stays in. Its controller leaves the shift if the last TMS is 1.
+-- ones after it, and the rest of these stays in. Its controller leaves the shift if the last TMS is 1.
 abbrev pub state_after_block : Bool → Bool → Tap
 state_after_block ir true = exit_state ir
 state_after_block ir false = shift_state ir

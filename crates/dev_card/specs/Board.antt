@@ -14,7 +14,7 @@ board_tdo [] tdi = tdi
 board_tdo (c ∷ cs) tdi = tdo_of c
 
 -- One clock of a board: all cards get the same TMS; the last one gets the TDI, and each other one the TDO that the card
--- behind it has before the clock.
+-- after it has before the clock.
 abbrev pub board_step : List Card → Bool → Bool → List Card
 board_step [] tms tdi = []
 board_step (c ∷ cs) tms tdi = step c tms (board_tdo cs tdi) ∷ board_step cs tms tdi

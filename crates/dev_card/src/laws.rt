@@ -108,7 +108,7 @@ pub fn a_board_runs_card_by_card()
     ensures { (c : Card) (cs : List Card) (inputs : List Input) → RunsCardByCard c cs inputs }
 {}
 
-/// A block of a board is a block of each card, from the last to the first, and each gets what the one behind it
+/// A block of a board is a block of each card, from the last to the first, and each gets what the one after it
 /// answers.
 pub fn a_board_shifts_card_by_card()
     ensures { (c : Card) (cs : List Card) (tdi n : ℕ) (last : Bool) → ShiftsCardByCard c cs tdi n last }

@@ -14,7 +14,7 @@ rotated-set head ring b h =
     let old : drop head ring ≡ _ = drop-cons ring head false h in
     rw (t, d, old, add-one) (sym (append_assoc (drop (suc head) ring) (take head ring) (b ∷ [])))
 
--- a ring that begins behind its end begins at its front
+-- a ring that begins after its end begins at its front
 pub rotated-length : (ring : List Bool) → rotated (length ring) ring ≡ rotated 0 ring
 rotated-length ring = rw (drop-length ring, take-length ring) (sym (append-nil ring))
 

@@ -4,7 +4,7 @@ ghost use Rattle.base.specs.Bits.{low_bits};
 
 use base::lowest;
 
-// n bits come into a list of so many, behind its own, and the first n go out: what goes out, and the list.
+// n bits come into a list of so many, after its own, and the first n go out: what goes out, and the list.
 pub fn through(list: u64, len: u32, number: u64, n: u32) -> (u64, u64)
     requires short { len ≤ 64 }
     requires list { list < 2 ^ len }

@@ -245,7 +245,7 @@ fn number_at(address: &Bits) -> u32
     address.to_int(0, ADDRESS_BITS).cast_unsigned()
 }
 
-// The address rises by 1; behind the last one comes 0.
+// The address rises by 1; after the last one comes 0.
 fn raise(address: &mut Bits)
     requires { length address.old ≡ 16 }
     ensures { address.new ≡ low_bits 16 (number_of address.old + 1) }

@@ -42,7 +42,7 @@ fn exchange(ring: &mut Bits, len: u32, head: u32, number: u64, n: u32) -> u64
     out
 }
 
-// The first n bits of a ring go out, and those of a number come in behind the others: what goes out, and where the ring
+// The first n bits of a ring go out, and those of a number come in after the others: what goes out, and where the ring
 // begins.
 pub fn turn(ring: &mut Bits, len: u32, head: u32, number: u64, n: u32) -> (u64, u32)
     requires most { n ≤ 64 }

@@ -61,21 +61,21 @@ pub fn registers(name: Name, alloc: Global) -> Result<Desc, Fail>
 #[test]
 fn answers_as_the_standard_says(rt: HostRuntime) -> Result<(), Fail> {
     let table: [(bool, &str, &str, &str); 6] = [
-        // the identity behind reset, its lowest bit first
+        // the identity after reset, its lowest bit first
         (
             true,
             "010000000000000000000000000000000001",
             "000000000000000000000000000000000000",
             "111110011110011010100010110001001000",
         ),
-        // behind the identity come the bits that were shifted in
+        // after the identity come the bits that were shifted in
         (
             true,
             "010000000000000000000000000000000000001",
             "000011000000000000000000000000000000000",
             "111110011110011010100010110001001000110",
         ),
-        // BYPASS behind reset, where there is no identity: a 0, and then what was shifted in, one clock later
+        // BYPASS after reset, where there is no identity: a 0, and then what was shifted in, one clock later
         (false, "010000001", "000010110", "111101011"),
         // the instruction register captures binary 01; all ones select BYPASS
         (

@@ -136,7 +136,7 @@ fn erases_programs_and_reads(rt: HostRuntime) -> Result<(), Fail> {
         (false, "0000", "0000"),
         (true, "1010", "1000"),
         (false, "1111111111111111", "1100000000000000"),
-        // ones are read there, and behind the last address comes 0
+        // ones are read there, and after the last address comes 0
         (true, "1110", "1000"),
         (false, "0000", "1111"),
         // a bit that is 0 stays 0

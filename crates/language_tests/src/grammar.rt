@@ -13,7 +13,7 @@ fn number_of(expr: &Expr) -> Option<i32> {
     }
 }
 
-// The number behind EXIT, if a statement is one of that form.
+// The number after EXIT, if a statement is one of that form.
 fn exit_number(body: &Body) -> Option<i32> {
     match body {
         Body::Exit(code) => number_of(code),

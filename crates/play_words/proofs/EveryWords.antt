@@ -1,5 +1,5 @@
 -- Each list of words is a request or has a usage number: the first word is that of a mode or of none, and each word
--- behind it gives a part or gives none, whose key the mode takes or not, and which is given already or not.
+-- after it gives a part or gives none, whose key the mode takes or not, and which is given already or not.
 use Rattle.std.proofs.Common.{◌≡◌, ◌<◌, ◌+◌, ℕ, zero, suc, List, [], ◌∷◌, length, refl, sym, subst, arith, codes, Option, None, Some, Bool, true, false, ◌⊎◌, inl, inr}
 use Rattle.command_words.proofs.FoundOrNot.{IsFoundOrNot, path_or_not, free_name_or_not, list_or_not, number_or_not, answer_or_not, same_or_not}
 use Rattle.command_words.specs.KeyedWords.{NamesPath, NamesFreeName, NamesList, NamesNumber, SaysAnswer, names_or_none}

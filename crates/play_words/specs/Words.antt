@@ -20,7 +20,7 @@ mode_word modes.Compile = codes "compile"
 mode_word modes.Run = codes "run"
 mode_word modes.Soak = codes "soak"
 
--- the file behind the board is the text of a program
+-- the file after the board is the text of a program
 abbrev pub reads_text : Mode → Bool
 reads_text modes.Play = true
 reads_text modes.Check = true
@@ -81,7 +81,7 @@ takes mode key = list_any (is_same_key key) (keys_taken mode)
 abbrev pub needs : Mode → WordKey → Bool
 needs mode key = list_any (is_same_key key) (keys_needed mode)
 
--- What a word behind the mode gives: a part of the request.
+-- What a word after the mode gives: a part of the request.
 pub data Part : Type 0 where
   BoardIn : (path : List ℕ) → Part
   ProgramIn : (path : List ℕ) → Part
@@ -153,7 +153,7 @@ word_at words place = slice_index_or words place []
 abbrev pub HasMode : List (List ℕ) → Mode → Type 0
 HasMode words mode = word_at words 0 ≡ mode_word mode
 
--- One of the first n words, behind the mode, gives this part.
+-- One of the first n words, after the mode, gives this part.
 pub record IsGivenBefore (words : List (List ℕ)) (n : ℕ) (part : Part) : Type 0 where
   pub place : ℕ
   pub behind : 0 < place

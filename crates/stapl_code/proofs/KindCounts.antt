@@ -59,7 +59,7 @@ met_and_moved true moved after e = (refl, e)
 met_and_moved false moved after e = absurd cc
 
 module _ (variables : List VarDef) where
-  -- the kinds behind an instruction say that its variables are what they have to be, and that it moves the kinds
+  -- the kinds after an instruction say that its variables are what they have to be, and that it moves the kinds
   pub met_and_behind : (x : Instr) (ks after : List ValueKind) → kinds_behind variables x ks ≡ Some after →
       (list_all (is_met variables) (wants x) ≡ true) × (kinds_moved variables x ks ≡ Some after)
   met_and_behind x ks after e =
@@ -79,7 +79,7 @@ module _ (variables : List VarDef) where
       let t = then_some (put_on (slot_kind variables slot) ks) (all_on variables given) after e in
       omega (arith, put_count (slot_kind variables slot) ks t.0 t.1, on_all_count given t.0 after t.2)
 
-  -- behind an instruction there are as many operands as the table says
+  -- after an instruction there are as many operands as the table says
   pub count_is : (x : Instr) (ks after : List ValueKind) → kinds_behind variables x ks ≡ Some after →
       length after ≡ count_behind x (length ks)
   count_is x ks after e =
@@ -91,7 +91,7 @@ module _ (variables : List VarDef) where
       let on = on_all_count (gives x) u.0 after u.2 in
       omega (arith, off, left_count (clears x) t.0 u.0 u.1, on)
 
-  -- behind an instruction there is at most one operand more
+  -- after an instruction there is at most one operand more
   pub one_more : (x : Instr) (ks after : List ValueKind) → kinds_behind variables x ks ≡ Some after →
       length after ≤ suc (length ks)
   one_more x ks after e =

@@ -572,7 +572,7 @@ module _
         none_below : clear ≡ true → ops ≡ []
         none_below e = none_are_left ops mid (ap (λ c. left_by c (kinds_of ops)) (sym e) ∙ left)
 
-        -- the operands behind what was made
+        -- the operands after what was made
         kinds_above : (new : List ValueKind) → Adds gs new → new ++ kinds_of ops ≡ after
         kinds_above new adds =
             let all : Some (new ++ mid) ≡ Some after = sym (adds mid) ∙ on in

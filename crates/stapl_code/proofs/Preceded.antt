@@ -22,7 +22,7 @@ with_both first second (Finished events ending s k) = ap (λ l. let h : Happened
 with_both first second (Broke events f s k) = ap (λ l. let h : Happened = Broke l f s k in h) (sym (append_assoc first second events))
 with_both first second (Lacks events) = ap (λ l. let h : Happened = Lacks l in h) (sym (append_assoc first second events))
 
--- deeds one after another, and others behind them
+-- deeds one after another, and others after them
 pub events_behind : (k : Chain) (first second : List Deed) → deeds_events k (first ++ second) ≡ deeds_events k first ++ deeds_events (deeds_chain k first) second
 events_behind k [] second = refl
 events_behind k (d ∷ first) second =
@@ -68,7 +68,7 @@ scan_through f keeps none k scan go = by (is_stable_state k.tap)
     by true = keeps seen (go (captured_on k scan) later)
     by false = none
 
--- the same behind a scan of what follows it
+-- the same after a scan of what follows it
 pub scan_alike : (k : Chain) (scan : BoardScan) (go other : List Bool → Chain → Happened) →
     ((bits : List Bool) (l : Chain) → go bits l ≡ other bits l) → scanned_on k scan go ≡ scanned_on k scan other
 scan_alike k scan go other same = λ j. scanned_on k scan (λ bits l. same bits l j)

@@ -12,7 +12,7 @@ then_twice : (o : Option (List ValueKind)) (f g : List ValueKind → Option (Lis
 then_twice None f g = refl
 then_twice (Some ks) f g = refl
 
--- the slots behind others are taken off first
+-- the slots after others are taken off first
 pub off_both : (variables : List VarDef) (first second : List Slot) (ks : List ValueKind) →
     all_off variables (first ++ second) ks ≡ then_kinds (all_off variables second ks) (all_off variables first)
 off_both variables [] second ks = by (all_off variables second ks)

@@ -22,7 +22,7 @@ is_the_end : (end : Bool) → agree end true ≡ true → end ≡ true
 is_the_end true e = refl
 is_the_end false e = absurd cc
 
--- no operand is left behind an EndProc
+-- no operand is left after an EndProc
 end_clears : (variables : List VarDef) (x : Instr) (ks after : List ValueKind) → is_end x ≡ true →
     kinds_behind variables x ks ≡ Some after → ◌≡◌ {A = List ValueKind} after []
 end_clears variables EndProc [] after end e = cc
@@ -38,12 +38,12 @@ module _ (code : CodeLists) where
   abbrev total : ℕ
   total = length code.instrs
 
-  -- the kinds behind these instructions
+  -- the kinds after these instructions
   abbrev kinds_through : List ValueKind → List Instr → Option (List ValueKind)
   kinds_through ks [] = Some ks
   kinds_through ks (x ∷ rest) = then_kinds (kinds_behind code.variables x ks) (λ after. kinds_through after rest)
 
-  -- instructions that leave no operand have the room that they need, if those behind them have it
+  -- instructions that leave no operand have the room that they need, if those after them have it
   through_hold : (room : ℕ) (l behind : List Instr) (ks : List ValueKind) → kinds_through ks l ≡ Some [] →
       deepest code.variables ks l ≤ room → HoldWithin room 0 behind → HoldWithin room (length ks) (l ++ behind)
   through_hold room [] behind ks e deep hold =
@@ -75,7 +75,7 @@ module _ (code : CodeLists) where
         let kept = none_kept code range valid rest (kinds_behind code.variables x ks) k.0 k.1 in
         ap (λ o. then_kinds o (λ after. kinds_through after rest)) kept.0 ∙ prologue_through (i + 1) k.0 rest kept.1 k.3
 
-    -- a part of the code that leaves no operand has its room, if what stands behind it has it
+    -- a part of the code that leaves no operand has its room, if what stands after it has it
     part_holds : (room first end : ℕ) → first ≤ end → kinds_through [] (slice_range code.instrs first end) ≡ Some [] →
         deepest code.variables [] (slice_range code.instrs first end) ≤ room → HoldWithin room 0 (drop end code.instrs) →
         HoldWithin room 0 (drop first code.instrs)

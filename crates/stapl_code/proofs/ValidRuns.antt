@@ -87,7 +87,7 @@ is_a_turn : (x : Instr) → is_turn (Some x) ≡ true → (piece : ℕ) × (x �
 is_a_turn (Turn piece) e = (piece, refl)
 is_a_turn _ e = absurd cc
 
--- no operand is left before a Turn, and none behind it
+-- no operand is left before a Turn, and none after it
 no_kinds : (variables : List VarDef) (piece : ℕ) (ks after : List ValueKind) → kinds_behind variables (Turn piece) ks ≡ Some after →
     ◌≡◌ {A = List ValueKind} after []
 no_kinds variables piece [] after e = cc
@@ -113,7 +113,7 @@ module _ (entry : ℕ) (procedure : List Instr) (must : Bool) (x : Instr) (last 
   rest_stands : rests_well x ≡ true
   rest_stands = and_right ((not must || is_turn (Some x)) && agree (is_end x) last && leads_well entry procedure x) (rests_well x) well
 
--- an EndProc never falls to the instruction behind it
+-- an EndProc never falls to the instruction after it
 abbrev FallsOnly : Bool → Step → Type 0
 FallsOnly end (Falls ops s) = end ≡ false
 FallsOnly end (Acts deeds ops s) = end ≡ false
@@ -171,7 +171,7 @@ module _ (code : CodeLists) where
   abbrev total : ℕ
   total = length code.instrs
 
-  -- what is held from an instruction on is at least what is there, and what is held behind it
+  -- what is held from an instruction on is at least what is there, and what is held after it
   pub deeper : (x : Instr) (ks after : List ValueKind) (rest : List Instr) → kinds_behind code.variables x ks ≡ Some after →
       (length ks ≤ deepest code.variables ks (x ∷ rest)) × (deepest code.variables after rest ≤ deepest code.variables ks (x ∷ rest))
   deeper x ks after rest e =
@@ -400,7 +400,7 @@ module _ (code : CodeLists) where
         deep = deep;
       }
 
-      -- behind an instruction that departs a turn begins
+      -- after an instruction that departs a turn begins
       turn_behind : (j : ℕ) (x : Instr) (rest : List Instr) → drop j procedure ≡ x ∷ rest → (must : Bool) (ks after : List ValueKind) →
           departs x ≡ true → stands_well entry procedure must x (is_last rest) ≡ true →
           rest_break code.variables entry procedure (entry + j + 1) (departs x) after rest ≡ None → IsPlace (suc (entry + j))
@@ -588,7 +588,7 @@ module _ (code : CodeLists) where
     no_target : (to : ℕ) → is_target 0 [] to ≡ true → IsPlace to
     no_target to e = absurd (let a = and_right (nat_le 0 to) (is_turn (slice_get [] (to - 0))) e in cc)
 
-    -- behind the last instruction of the prologue no operand is left
+    -- after the last instruction of the prologue no operand is left
     pub none_kept : (rest : List Instr) (o : Option (List ValueKind)) (after : List ValueKind) → kinds_kept (is_last rest) o ≡ Some after → (o ≡ Some after) × (rest ≡ [] → after ≡ [])
     none_kept [] (Some []) after e = (cc, λ _. cc)
     none_kept [] (Some (k ∷ ks)) after e = absurd cc

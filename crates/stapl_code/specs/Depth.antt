@@ -21,7 +21,7 @@ abbrev pub on_kinds : Option (List ValueKind) → (List ValueKind → ℕ) → �
 on_kinds None go = 0
 on_kinds (Some ks) go = go ks
 
--- the most operands before and behind these instructions, where the first one finds operands of these kinds
+-- the most operands before and after these instructions, where the first one finds operands of these kinds
 abbrev pub deepest : List VarDef → List ValueKind → List Instr → ℕ
 deepest variables ks [] = length ks
 deepest variables ks (x ∷ rest) = max (length ks) (on_kinds (kinds_behind variables x ks) (λ after. deepest variables after rest))

@@ -58,7 +58,7 @@ left_by true [] = Some []
 left_by true (k ∷ ks) = None
 left_by false ks = Some ks
 
--- no operand may be left behind what the instruction takes
+-- no operand may be left after what the instruction takes
 abbrev pub clears : Instr → Bool
 clears (Turn piece) = true
 clears (For n body) = true
@@ -95,7 +95,7 @@ module _ (variables : List VarDef) where
   all_on [] ks = Some ks
   all_on (slot ∷ given) ks = then_kinds (put_on (slot_kind slot) ks) (all_on given)
 
-  -- the kinds behind an instruction, or none where it does not find its operands or a variable is not what it has to be
+  -- the kinds after an instruction, or none where it does not find its operands or a variable is not what it has to be
   abbrev pub kinds_moved : Instr → List ValueKind → Option (List ValueKind)
   kinds_moved x ks = then_kinds (all_off (takes x) ks) (λ below. then_kinds (left_by (clears x) below) (all_on (gives x)))
 

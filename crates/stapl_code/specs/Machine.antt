@@ -182,7 +182,7 @@ abbrev pub compare_wants : Option Compare → List Want
 compare_wants None = []
 compare_wants (Some c) = cell_want c.cell ∷ (source_wants c.expected ++ source_wants c.mask)
 
--- what a Scan takes behind its length, and what it wants
+-- what a Scan takes after its length, and what it wants
 abbrev pub scan_slots : Scan → List Slot
 scan_slots scan = source_slots scan.source ++ (target_slots scan.target ++ compare_slots scan.compare)
 
@@ -379,7 +379,7 @@ module _ (entries : List ℕ) (constants : Constants) where
 
 -- The rule.
 
--- What one instruction does: on to the one behind it, perhaps with deeds, or with a scan whose captured bits decide the
+-- What one instruction does: on to the one after it, perhaps with deeds, or with a scan whose captured bits decide the
 -- state; the end of the turn, which must find no operand left; a fault; or what no valid code meets.
 pub data Step : Type 0 where
   Falls : (operands : List Value) (state : State) → Step

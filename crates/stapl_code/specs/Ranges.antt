@@ -40,7 +40,7 @@ pub record AreVariables (variables : List VarDef) : Type 0 where
   pub integers : sum_by (elements_of 0 2) variables ≤ 1048576
   pub booleans : sum_by (elements_of 1 3) variables ≤ 16777216
 
--- there is a procedure, their names differ, and they begin one behind the other
+-- there is a procedure, their names differ, and they begin one after the other
 pub record AreProcedures (procedures : List ProcDef) : Type 0 where
   pub some : 1 ≤ length procedures
   pub named : All (λ p. IsFreeName p.name) procedures

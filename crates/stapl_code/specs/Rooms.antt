@@ -9,7 +9,7 @@ use Rattle.stapl_code.specs.Ranges.{IsInRange}
 use Rattle.stapl_code.specs.Valid.{IsValid}
 use Rattle.stapl_code.specs.Depth.{depth_of}
 
--- how many operands are left behind an instruction that found n of them
+-- how many operands are left after an instruction that found n of them
 abbrev pub count_behind : Instr → ℕ → ℕ
 count_behind x n = (n - length (takes x)) + length (gives x)
 
@@ -22,7 +22,7 @@ HoldWithin room n (x ∷ rest) = (n ≤ room) × HoldWithin room (count_behind x
 abbrev pub AllHoldWithin : ℕ → List Instr → Type 0
 AllHoldWithin room instrs = (place : ℕ) → HoldWithin room 0 (drop place instrs)
 
--- where a step goes on to the instruction behind it, at most n operands are left
+-- where a step goes on to the instruction after it, at most n operands are left
 abbrev pub LeavesAtMost : Step → ℕ → Type 0
 LeavesAtMost (Falls ops s) n = length ops ≤ n
 LeavesAtMost (Acts deeds ops s) n = length ops ≤ n
@@ -33,7 +33,7 @@ LeavesAtMost _ n = Unit {0}
 abbrev pub CodesHoldTheirDepth : Type 0
 CodesHoldTheirDepth = (code : CodeLists) → IsInRange code → IsValid code → AllHoldWithin (depth_of code) code.instrs
 
--- A step that goes on to the instruction behind it leaves no more operands than the table says.
+-- A step that goes on to the instruction after it leaves no more operands than the table says.
 abbrev pub StepsLeaveTheirCount : Type 0
 StepsLeaveTheirCount =
     (entries : List ℕ) (constants : Constants) (here : ℕ) (i : Instr) (ops : List Value) (s : State) →

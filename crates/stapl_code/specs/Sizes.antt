@@ -1,4 +1,4 @@
--- How many bytes of a file are left behind its parts. The rules are this profile's.
+-- How many bytes of a file are left after its parts. The rules are this profile's.
 use Rattle.std.specs.Prelude.{◌≡◌, ℕ, ◌+◌, ◌<◌, Bool, true, false, List, length, sum_by}
 
 -- so many bytes are taken off those that are left, or there are too few

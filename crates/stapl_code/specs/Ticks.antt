@@ -11,11 +11,11 @@ use Rattle.stapl_code.specs.declared.instr.Instr.{Instr}
 use Rattle.stapl_code.specs.declared.instr.Instr.TheVariants.{Turn}
 use Rattle.stapl_code.specs.Machine.{Constants, Step, Falls, Acts, Scanned, Stops, Faulted, Wrong, step, code_turn, code_beginning}
 
--- a count behind a scan on a chain
+-- a count after a scan on a chain
 abbrev pub counted_scan : Chain → BoardScan → (List Bool → Chain → ℕ) → ℕ
 counted_scan k scan go = if is_stable_state k.tap then go (captured_on k scan) (deed_chain k (Scans scan)) else 0
 
--- a count behind a step on a chain; the end of a turn has none
+-- a count after a step on a chain; the end of a turn has none
 abbrev pub counted_behind : Chain → Step → (List Value → State → Chain → ℕ) → ℕ
 counted_behind k (Falls ops s) go = go ops s k
 counted_behind k (Acts deeds ops s) go = go ops s (deeds_chain k deeds)
@@ -28,7 +28,7 @@ abbrev pub tick_of : Instr → ℕ
 tick_of (Turn piece) = 0
 tick_of _ = 1
 
--- a count behind a turn, where it leads on
+-- a count after a turn, where it leads on
 abbrev pub counted_then : Happened → (ℕ → State → Chain → ℕ) → ℕ
 counted_then (Led events place s k) go = go place s k
 counted_then (Finished events ending s k) go = 0

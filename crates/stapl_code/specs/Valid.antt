@@ -7,10 +7,10 @@
 --   A procedure begins with a Turn (procedure_break), and ends with an EndProc, which stands nowhere else
 --   (stands_well).
 --   An instruction finds operands of its kinds, and variables of the kind that it wants (kinds_behind).
---   No operand is left before a Turn, and behind a For, a Next, a Call, a Jump, a JumpIfZero, an Exit and an EndProc
+--   No operand is left before a Turn, and after a For, a Next, a Call, a Jump, a JumpIfZero, an Exit and an EndProc
 --   (kinds_behind).
 --   A target, that of a For too, is a Turn of the same procedure (is_target).
---   Behind a For, a Next, a Call, a Jump and an Exit stands a Turn (departs).
+--   After a For, a Next, a Call, a Jump and an Exit stands a Turn (departs).
 --   The last state of a State, both of a Wait, and that of a Stop are stable (rests_well).
 --   A procedure begins at an instruction (entry_break).
 use Rattle.std.specs.Prelude.{◌≡◌, ℕ, ◌+◌, ◌-◌, ◌&&◌, ◌||◌, not, Bool, true, false, List, [], ◌∷◌, length, Option, Some, None, slice_get, slice_range, nat_lt, nat_le, if◌then◌else◌}
@@ -45,7 +45,7 @@ sets_up (SetBits n literal) = true
 sets_up (SetInts n values) = true
 sets_up _ = false
 
--- an instruction behind which a Turn has to stand
+-- an instruction after which a Turn has to stand
 abbrev pub departs : Instr → Bool
 departs (For n body) = true
 departs (Next n) = true
@@ -79,7 +79,7 @@ abbrev pub agree : Bool → Bool → Bool
 agree true b = b
 agree false b = not b
 
--- the kinds behind an instruction, of which the last one of the prologue must leave none
+-- the kinds after an instruction, of which the last one of the prologue must leave none
 abbrev pub kinds_kept : Bool → Option (List ValueKind) → Option (List ValueKind)
 kinds_kept true ks = then_kinds ks (left_by true)
 kinds_kept false ks = ks
@@ -90,7 +90,7 @@ judged None well i go = Some i
 judged (Some ks) true i go = go ks
 judged (Some ks) false i go = Some i
 
--- the first of two breaks, where the second is behind the first
+-- the first of two breaks, where the second is after the first
 abbrev pub first_of : Option ℕ → Option ℕ → Option ℕ
 first_of (Some i) other = Some i
 first_of None other = other

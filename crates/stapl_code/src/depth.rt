@@ -10,7 +10,7 @@ use crate::raw::{CodeLists, ProcDef, VarDef};
 use base::Stack;
 use std::alloc::{AllocError, Global};
 
-/// The most operands before and behind these instructions, where none are there at first.
+/// The most operands before and after these instructions, where none are there at first.
 fn deepest(alloc: Global, variables: &[VarDef], instrs: &[Instr]) -> Result<u32, AllocError>
     requires { length instrs.now < 2 ^ 32 }
     ensures { IfOk result (λ most. most ≡ deepest variables.now [] instrs.now) }

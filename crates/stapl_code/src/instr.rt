@@ -111,7 +111,7 @@ pub enum Instr {
     CopyBits(Dest, Source),
     /// Sets the BOOLEAN array of the first number to the literal of the second.
     SetBits(u32, u32),
-    /// Sets the elements of an INTEGER array from index 0 on, and those behind them to 0.
+    /// Sets the elements of an INTEGER array from index 0 on, and those after them to 0.
     SetInts(u32, ItemList<i32>),
     /// Takes the first value, the limit and the step of a loop off the operands, the step topmost, puts the loop on the
     /// record stack, and sets its variable, an INTEGER scalar. The body begins at a turn of the same procedure.
@@ -122,7 +122,7 @@ pub enum Instr {
     PushRecord(ValueKind),
     /// Takes a value off the record stack, and puts it on the operands as one of a kind.
     PopRecord(ValueKind),
-    /// Goes to the procedure of a number. A record keeps the place behind it.
+    /// Goes to the procedure of a number. A record keeps the place after it.
     Call(u32),
     /// Goes to a turn of the same procedure.
     Jump(u32),

@@ -221,7 +221,7 @@ fn take_operands(variables: &[VarDef], instr: &Instr, kinds: &mut Stack<ValueKin
     }
 }
 
-// Whether no operand may be left behind what an instruction takes.
+// Whether no operand may be left after what an instruction takes.
 fn clears(instr: &Instr) -> bool
     ensures { result ≡ clears instr.now }
 {

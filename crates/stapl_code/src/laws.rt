@@ -22,7 +22,7 @@ pub fn codes_hold_their_depth()
     ensures { CodesHoldTheirDepth }
 {}
 
-/// An instruction that goes on to the one behind it leaves no more operands than the table says.
+/// An instruction that goes on to the one after it leaves no more operands than the table says.
 pub fn steps_leave_their_count()
     ensures { StepsLeaveTheirCount }
 {}

@@ -251,7 +251,7 @@ fn is_instr(
     }
 }
 
-/// Whether a procedure has another name than each of these, and begins behind each of them.
+/// Whether a procedure has another name than each of these, and begins after each of them.
 fn is_behind(procedures: &[ProcDef], procedure: &ProcDef) -> bool
     ensures { IsTrue result ↔ All (λ p. (p.name ≢ procedure.now.name) × (p.entry < procedure.now.entry)) procedures.now }
 {

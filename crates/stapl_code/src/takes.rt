@@ -74,7 +74,7 @@ fn compare_takes(compare: Option<Compare>) -> usize
     }
 }
 
-// How many operands a Scan takes behind its length.
+// How many operands a Scan takes after its length.
 fn scan_takes(scan: &Scan) -> usize
     ensures count { result ≡ length (scan_slots scan.now) }
     ensures small { result ≤ 9 }

@@ -72,7 +72,7 @@ module _ (kind : VarKinds) where
       let v = and_parts counted (is_array kind source) u.0 in
       record { count_is = v.0; source_is = v.1; target_is = u.1; compare_is = t.1 }
 
--- operands, and others behind them
+-- operands, and others after them
 onto_both : (os more : List Operand) (ks : List ValueKind) → kinds_onto (os ++ more) ks ≡ kinds_onto more (kinds_onto os ks)
 onto_both [] more ks = refl
 onto_both (o ∷ os) more ks = onto_both os more (o.kind ∷ ks)

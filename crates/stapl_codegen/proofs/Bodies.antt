@@ -59,7 +59,7 @@ onto_one : (vs ops : List Value) (v : Value) → onto (vs ++ v ∷ []) ops ≡ v
 onto_one [] ops v = refl
 onto_one (w ∷ vs) ops v = onto_one vs (w ∷ ops) v
 
--- ---- what a POP assigns never faults, behind the test of its index
+-- ---- what a POP assigns never faults, after the test of its index
 
 -- no fault
 abbrev IsNoFault : {A : Type 0} → Got A → Type 0
@@ -159,11 +159,11 @@ element_never look n index vs s e v records = by (value_of look s.store.variable
     by Stuck e = absurd cc
 
 module _ (place : ℕ → ℕ) (entries : List ℕ) (constants : Constants) (total : ℕ) (scope : Scope) where
-  -- the place of the code that stands before this is that of the piece behind the statement
+  -- the place of the code that stands before this is that of the piece after the statement
   abbrev IsBehind : List Instr → Type 0
   IsBehind rest = suc (total - suc (length rest)) ≡ place scope.follow
 
-  -- the next turn follows behind a statement
+  -- the next turn follows after a statement
   pub record Behind (rest : List Instr) : Type 0 where
     pub falls_on : (t : State) (k : Chain) → stretch entries constants total rest [] t k ≡ Led [] (place scope.follow) t k
     pub is_behind : IsBehind rest
@@ -216,7 +216,7 @@ module _ (place : ℕ → ℕ) (entries : List ℕ) (constants : Constants) (tot
       ∙ ap (λ to. continues k (on_made entries to [] (placed_state place s) (does (placed_got place g))) (stretch entries constants total rest)) so.leads
       ∙ did_follows to g s k rest go entry_is more
 
-  -- What stands behind the operands of a row does with their values what the row does.
+  -- What stands after the operands of a row does with their values what the row does.
   pub record Tied (first : Firsts) (b : BodyTree) : Type 0 where
     pub follows : (rest : List Instr) (vs : List Value) (s : State) (k : Chain) (go : State → Turned) → values_of scope.look s.store.variables (operands scope b) ≡ Known vs →
         (is_call b ≡ true → IsBehind rest) → GoesAlike rest go →
@@ -224,7 +224,7 @@ module _ (place : ℕ → ℕ) (entries : List ℕ) (constants : Constants) (tot
         ≡ happens k (placed place (with_got (effect scope b vs s) s (λ did. led scope.entry (target scope b) did go)))
 
   module _ (first : Firsts) (b : BodyTree) (entry_is : EntriesAre) where
-    -- what is so of the last instruction of a row, which stands right behind the operands
+    -- what is so of the last instruction of a row, which stands right after the operands
     abbrev IsAlone : Type 0
     IsAlone = (l : List Instr) → between scope b l ≡ l
 
@@ -245,7 +245,7 @@ module _ (place : ℕ → ℕ) (entries : List ℕ) (constants : Constants) (tot
           (record { count = count ∙ one_each scope.look s (operands scope b) vs e; same = same here vs s behind; leads = leads here }) entry_is more;
     }
 
-    -- the same of a statement whose instruction does what it does, with the place of the code behind it
+    -- the same of a statement whose instruction does what it does, with the place of the code after it
     plainly : IsAlone → TakesAll → LeadsThere →
         ((here : ℕ) (vs : List Value) (s : State) → made entries constants here (last scope place first b) vs s ≡ does (effect (placed_scope place scope) b vs s)) → Tied first b
     plainly alone count leads same =
@@ -403,7 +403,7 @@ module _ (place : ℕ → ℕ) (entries : List ℕ) (constants : Constants) (tot
       ∙ with_known values (placed_state place s) k _ (λ vs. happens k (placed place (did vs))) (λ vs e. tied.follows rest vs s k go e behind more)
       ∙ with_placed place values s k did
 
-  -- the place behind a CALL is that behind its statement
+  -- the place after a CALL is that after its statement
   call_behind : (first : Firsts) (b : BodyTree) (bs : List BodyTree) (rest : List Instr) → CallsLast (b ∷ bs) → IsBehind rest → is_call b ≡ true →
       IsBehind (rows_code scope place first bs rest)
   call_behind first b [] rest last behind is = behind
@@ -423,7 +423,7 @@ module _ (place : ℕ → ℕ) (entries : List ℕ) (constants : Constants) (tot
       (call_behind (behind_row first b) b bs rest last behind.is_behind)
       (λ t l. rows_follow t l (behind_row first b) bs rest entry_is others (rows_behind b bs last) behind)
 
-  -- ENDPROC alone may be the last statement of the code: it never goes on to what stands behind it
+  -- ENDPROC alone may be the last statement of the code: it never goes on to what stands after it
   ends : (b : BodyTree) → falls b ≡ false → b ≡ end_procedure
   ends end_procedure e = refl
   ends _ e = absurd cc

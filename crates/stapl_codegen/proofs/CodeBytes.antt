@@ -209,7 +209,7 @@ module _ (look : Lookup) where
   padding_fits first None rest = omega arith
   padding_fits first (Some a) rest = let one = array_fits a rest in omega (arith, one)
 
-  -- the operands of a scan behind its length
+  -- the operands of a scan after its length
   scan_fits : (first : ℕ) (source : ArrayTree) (target : Option ArrayTree) (compare : Option CompareTree)
       (rest : List Instr) →
       code_bytes (operands_code look

@@ -176,7 +176,7 @@ one_row (integer name None) e = absurd (true≢false (sym e))
 one_row (integer_array name size None) e = absurd (true≢false (sym e))
 one_row _ e = absurd (true≢false (sym e))
 
--- the number behind some items
+-- the number after some items
 pub past_length : {A : Type 0} (n : ℕ) (xs : List A) → past n xs ≡ n + length xs
 past_length n [] = omega arith
 past_length n (x ∷ xs) = let more = past_length (suc n) xs in omega (arith, more)

@@ -102,7 +102,7 @@ module _ (program : Played) (accepted : IsAccepted program) where
   procedures : AreProcedures (procedures_of program)
   procedures = procedures_are program accepted.typed accepted.named fine.rise
 
-  -- the first procedure begins behind the prologue, so the pieces have code
+  -- the first procedure begins after the prologue, so the pieces have code
   code_some : pieces_code program (start_of program) 0 program.pieces ≢ []
   code_some =
       let prologue : List Instr = presets_code program (start_of program) at_first program.presets [] in

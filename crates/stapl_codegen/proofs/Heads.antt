@@ -1,9 +1,9 @@
--- The first element behind a front.
+-- The first element after a front.
 use Rattle.std.proofs.Common.{◌≡◌, ℕ, zero, suc, ◌+◌, ◌<◌, ◌≤◌, List, [], ◌∷◌, ◌++◌, map, drop, length, get_or, Option, Some, None, arith, refl, sym, ap, ◌∙◌}
 use Rattle.std.specs.Prelude.{slice_get}
 use Rattle.stapl_code.proofs.Heads.{drop_tail}
 
--- what stands behind so many of the first elements
+-- what stands after so many of the first elements
 pub drop_front : {A : Type 0} (k i : ℕ) (xs a b : List A) → drop i xs ≡ a ++ b → k ≤ length a → drop (i + k) xs ≡ drop k a ++ b
 drop_front zero i xs a b e few = ap (λ n. drop n xs) (omega arith) ∙ e
 drop_front (suc k) i xs [] b e few = absurd (omega (arith, few))

@@ -1,4 +1,4 @@
--- The code of expressions, operands, rows and pieces: what stands behind it, and its targets.
+-- The code of expressions, operands, rows and pieces: what stands after it, and its targets.
 use Rattle.std.proofs.Common.{◌≡◌, ℕ, zero, suc, ◌+◌, Bool, true, false, cond, List, [], ◌∷◌, ◌++◌, length, map, drop, arith, append_assoc, refl, sym, ap, ◌∙◌}
 use Rattle.std.specs.Prelude.{ℤ, pos, negsuc, Option, Some}
 use Rattle.stapl_syntax.specs.Trees.{ExprTree, number, scalar, element, unary, binary, abs, int, ArrayTree, literal, whole, range, of_int, BodyTree, end_procedure, boolean, boolean_array, integer, integer_array, assign, assign_element, assign_array, assign_range, call, goto, if_then, for_loop, next, push, pop, print, exported_value, exported_array, export, exit, scan, stop, pad, state_list, wait_cycles, wait_usec, frequency, StmtTree}
@@ -58,7 +58,7 @@ module _ (look : Lookup) where
       ∙ ap (expr_code look o.kind o.expr) (test_append o.test (operands_code look os c) d)
       ∙ expr_append o.kind o.expr (test_code o.test (operands_code look os c)) d
 
-  -- operands, and others behind them
+  -- operands, and others after them
   pub operands_both : (os more : List Operand) (c : List Instr) → operands_code look (os ++ more) c ≡ operands_code look os (operands_code look more c)
   operands_both [] more c = refl
   operands_both (o ∷ os) more c = ap (λ l. expr_code look o.kind o.expr (test_code o.test l)) (operands_both os more c)

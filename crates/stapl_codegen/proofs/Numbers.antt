@@ -150,7 +150,7 @@ calls_known program typed inside i place (call name) there = number_known progra
 calls_known program typed inside i place (if_then e b) there = calls_known program typed inside i place b there
 calls_known program typed inside i place _ there = tt
 
--- there is a number at each block and behind them
+-- there is a number at each block and after them
 pub numbers_count : (n : ℕ) (es : List (List ℕ × Block)) → length (numbers_from n es) ≡ length es + 1
 numbers_count n [] = omega arith
 numbers_count n (e ∷ es) = let more = numbers_count (if e.1.is_data then n else suc n) es in omega (arith, more)

@@ -49,7 +49,7 @@ module _ (program : Played) where
       ap (λ n. drop n (program_code program)) (start_is i st at inner)
       ∙ drop_by (program_code program) r.0 (pieces_code program (start_of program) i (drop i program.pieces)) r.1
 
--- the procedures begin behind their heads
+-- the procedures begin after their heads
 entries_at : (place : ℕ → ℕ) (i : ℕ) (sts : List StmtTree) (p : ℕ) → place (i + length sts) ≡ nowhere →
     entry_of (entries_of (procedures_from place i sts)) p ≡ place (i + entry_from sts p)
 entries_at place i [] p e = sym e

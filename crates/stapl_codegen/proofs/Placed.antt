@@ -43,7 +43,7 @@ module _ (place : ℕ → ℕ) where
   abbrev pub placed_got : Got Did → Got Did
   placed_got g = changed_got placing g
 
-  -- what a statement finds, with the place of the code behind it
+  -- what a statement finds, with the place of the code after it
   abbrev pub placed_scope : Scope → Scope
   placed_scope scope = beside placing scope scope
 

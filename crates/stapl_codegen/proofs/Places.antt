@@ -12,7 +12,7 @@ pub at_start : (sts : List StmtTree) → IsOpenAt sts 0 None
 at_start sts = record { same = refl }
 
 module _ (sts : List StmtTree) (i : ℕ) (block : Option (List ℕ)) (st : StmtTree) (rest : List StmtTree) (is : drop i sts ≡ st ∷ rest) (at : IsOpenAt sts i block) where
-  -- the piece at the place, and those behind it
+  -- the piece at the place, and those after it
   abbrev pub piece : StmtTree
   piece = if plays block st.body then st else idle
 

@@ -44,7 +44,7 @@ set_up_to program place [] s = Leads [] place s
 set_up_to program place (preset ∷ presets) s = carried (preset_scope program preset) preset.body s (set_up_to program place presets)
 
 module _ (entry : ℕ → ℕ) (scope : Scope) where
-  -- two ways to go on, behind which the same begins
+  -- two ways to go on, after which the same begins
   abbrev BeginAlike : (State → Turned) → (State → Turned) → Type 0
   BeginAlike go go' = (s : State) → begun entry (go s) ≡ begun entry (go' s)
 
@@ -80,7 +80,7 @@ set_up_alike program place (preset ∷ presets) s =
 -- ---- the prologue
 
 module _ (program : Played) (place : ℕ → ℕ) (entries : List ℕ) (constants : Constants) (total : ℕ) (entry_is : (p : ℕ) → entry_of entries p ≡ place (entry_from program.pieces p)) where
-  -- what stands behind the prologue leads to a place
+  -- what stands after the prologue leads to a place
   abbrev LeadsTo : ℕ → List Instr → Type 0
   LeadsTo first_place rest = (t : State) (k : Chain) → stretch entries constants total rest [] t k ≡ Led [] (place first_place) t k
 

@@ -158,7 +158,7 @@ module _ (program : Played) where
     none_there : (s : State) (k : Chain) → code_turn Entries These Code nowhere s k ≡ Lacks []
     none_there s k = ap (λ c. begins Entries These All c s k) (drop_all nowhere Code short)
 
-    -- the code behind a piece of a procedure is not all
+    -- the code after a piece of a procedure is not all
     not_all : (i : ℕ) (st : StmtTree) (rest : List StmtTree) → drop i program.pieces ≡ st ∷ rest → is_outer st.body ≡ false → suc (length (From (i + 1) rest)) ≤ All
     not_all i st rest e inner =
         let scope = scope_at program i in
@@ -239,7 +239,7 @@ module _ (program : Played) where
       first_turn : BeginsWithTurn program (From 0 program.pieces)
       first_turn = pieces_begin program 0 program.pieces refl some
 
-      -- behind the prologue stands the turn of a piece
+      -- after the prologue stands the turn of a piece
       turn_behind : (t : State) (k : Chain) → stretch Entries These All (From 0 program.pieces) [] t k ≡ Led [] (place first_turn.first) t k
       turn_behind t k =
           ap (λ c. stretch Entries These All c [] t k) first_turn.is

@@ -16,7 +16,7 @@ use Rattle.stapl_codegen.specs.Drafts.{Draft, Site, scope_of_site, expr_code_in,
 use Rattle.stapl_codegen.proofs.Drafts.{behind_items}
 use Rattle.stapl_codegen.proofs.Lists.{operands_both, operands_before}
 
--- operands, and others behind them that depend on what names stand for
+-- operands, and others after them that depend on what names stand for
 pub both_written : (os : List Operand) (more : Lookup → List Operand) (start first second : Draft) →
     first.code ≡ start.code ++ operands_code_in start os → first.site ≡ start.site → second.code ≡ first.code ++ operands_code_in first (more (scope_of_site first.site).look) →
     second.code ≡ start.code ++ operands_code_in start (os ++ more (scope_of_site start.site).look)
@@ -41,7 +41,7 @@ element_written expected mask name index n start both d own site number more =
     ∙ ap (λ os. start.code ++ operands_code_in start os) (append_assoc e m (an_index n index ∷ []))
     ∙ ap (λ k. start.code ++ operands_code_in start (e ++ (m ++ an_index k index ∷ []))) number
 
--- the instruction behind operands
+-- the instruction after operands
 pub last_written : (os : List Operand) (x : Instr) (start d : Draft) (code : List Instr) → d.code ≡ start.code ++ operands_code_in start os → code ≡ d.code ++ x ∷ [] →
     code ≡ start.code ++ operands_code (scope_of_site start.site).look os (x ∷ [])
 last_written os x start d code own more =
@@ -55,7 +55,7 @@ last_written os x start d code own more =
 pub both_items : {A : Type 0} (start xs ys first second : List A) → first ≡ start ++ xs → second ≡ first ++ ys → second ≡ start ++ (xs ++ ys)
 both_items start xs ys first second own others = others ∙ ap (λ l. l ++ ys) own ∙ append_assoc start xs ys
 
--- behind literals, the numbers of the next ones are higher
+-- after literals, the numbers of the next ones are higher
 module _ (start d : Draft) (literals : List (List Bool)) (own : d.literals ≡ start.literals ++ literals) (site : d.site ≡ start.site) where
   abbrev look : Lookup
   look = (scope_of_site start.site).look
@@ -69,7 +69,7 @@ module _ (start d : Draft) (literals : List (List Bool)) (own : d.literals ≡ s
   pub compare_behind : (compare : Option CompareTree) → compare_in d compare ≡ compare_code look (past (length start.literals) literals) compare
   compare_behind compare = ap (λ (s : Site). compare_code (scope_of_site s).look (length d.literals) compare) site ∙ ap (λ n. compare_code look n compare) next_is
 
--- what a draft was before a scan, and what it is behind each part of it
+-- what a draft was before a scan, and what it is after each part of it
 pub record AreDrafts (start counted shifted caught : Draft) (count : ExprTree) (source : ArrayTree) (target : Option ArrayTree) : Type 0 where
   pub count_written : counted.code ≡ start.code ++ expr_code_in start kinds.Int count
   pub count_literals : counted.literals ≡ start.literals

@@ -105,7 +105,7 @@ module _ (look : Lookup) where
   padding_length None rest = omega arith
   padding_length (Some a) rest = let one = array_length a rest in omega (arith, one)
 
-  -- the operands of a scan behind its length
+  -- the operands of a scan after its length
   scan_length : (source : ArrayTree) (target : Option ArrayTree) (compare : Option CompareTree) (rest : List Instr) →
       length (operands_code look (array_operands look source ++ (target_operands look target ++ compare_operands look compare)) rest)
       ≤ array_size source + capture_size target + compare_size compare + length rest

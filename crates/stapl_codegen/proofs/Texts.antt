@@ -1,4 +1,4 @@
--- Where the texts and the literals of a piece stand among those of the program: behind those of DATA blocks and of the
+-- Where the texts and the literals of a piece stand among those of the program: after those of DATA blocks and of the
 -- pieces in front of it.
 use Rattle.std.proofs.Common.{◌≡◌, ℕ, zero, suc, ◌+◌, ◌≤◌, List, [], ◌∷◌, ◌++◌, length, take, drop, refl, sym, ap, ◌∙◌, append_assoc, length-append, arith}
 use Rattle.std.proofs.lemmas.List.{drop_at}

@@ -33,9 +33,9 @@ use Rattle.stapl_codegen.proofs.Whole.{is_valid}
 use Rattle.stapl_codegen.proofs.Defined.{count_same}
 use Rattle.stapl_codegen.proofs.Generated.{in_range, code}
 
--- ---- behind a scan nothing is left of a turn, whatever bits the scan captures
+-- ---- after a scan nothing is left of a turn, whatever bits the scan captures
 
--- the turn finds something to do behind its scan, if it has one
+-- the turn finds something to do after its scan, if it has one
 abbrev ScansLast : Turned → Type 0
 ScansLast (Scanning deeds scan rest) = (bits : List Bool) → IsFound (rest bits)
 ScansLast _ = Unit {0}

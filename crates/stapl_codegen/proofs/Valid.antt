@@ -127,7 +127,7 @@ module _ (program : Played) (shaped : All HasShape program.pieces) (typed : IsTy
       let from : length (From i (drop i program.pieces)) ≡ length (From i sts) = ap (λ l. length (From i l)) e in
       omega (arith, whole, from, length-append split.0 (From i (drop i program.pieces)))
 
-  -- a procedure: its head, its own statements, and what stands behind it
+  -- a procedure: its head, its own statements, and what stands after it
   module _ (head : StmtTree) (name : List ℕ) (is_head : IsProcedure name head.body) (h : ℕ) (own back : List StmtTree)
       (at : drop h program.pieces ≡ head ∷ own ++ back) (are : AreOwn own) where
     pub own_at : drop (h + 1) program.pieces ≡ own ++ back
@@ -179,7 +179,7 @@ module _ (program : Played) (shaped : All HasShape program.pieces) (typed : IsTy
     open_in : (k j : ℕ) (st : StmtTree) (rest : List StmtTree) → j ≡ h + 1 + k → drop k own ≡ st ∷ rest → block_at program.pieces j ≡ Some name
     open_in k j st rest is e = ap (block_at program.pieces) is ∙ open_along k 0 (h + 1) own st rest (omega arith) refl open_first e
 
-    -- the code of a statement of the procedure, behind so many instructions of it
+    -- the code of a statement of the procedure, after so many instructions of it
     pub record IsBehind (k j : ℕ) (sts : List StmtTree) : Type 0 where
       pub before : List Instr
       pub split : procedure_code ≡ before ++ From j sts

@@ -366,7 +366,7 @@ module _ (variables : List VarDef) (entry : ℕ) (code : List Instr) where
         expr_fine o.kind o.expr ks (test_code o.test behind) typed.0.fits (test_last look o.test behind (operands_last look os rest some))
         (test_fine o.kind o.test ks behind typed.0.test (operands_last look os rest some) (operands_fine os (o.kind ∷ ks) rest typed.1 some more))
 
-  -- what stands behind a statement that is not the last: more instructions, which a statement may also jump over
+  -- what stands after a statement that is not the last: more instructions, which a statement may also jump over
   pub record Follows (rest : List Instr) : Type 0 where
     pub some : is_last rest ≡ false
     pub fine : (must : Bool) → Fine must [] rest

@@ -161,7 +161,7 @@ module _ (program : Played) (shaped : All HasShape program.pieces) (typed : IsTy
   prologue_first : code ≡ prologue ++ From 0 program.pieces
   prologue_first = presets_before program (start_of program) at_first program.presets (From 0 program.pieces)
 
-  -- all procedures, behind the prologue
+  -- all procedures, after the prologue
   pub procedures_fine : AreFine (length prologue) (procedures_of program)
   procedures_fine =
       let c = cut false program.pieces typed.ordered in

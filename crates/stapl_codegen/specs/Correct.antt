@@ -13,7 +13,7 @@ use Rattle.stapl_code.specs.Machine.{Constants, code_play, nowhere}
 use Rattle.stapl_meaning.specs.Scopes.{has_initial_value, Preset, Played, zeros_of}
 use Rattle.stapl_codegen.specs.Emit.{constants_in, pieces_code, start_of, program_code, program_entries}
 
--- the statement may lead to the piece behind it
+-- the statement may lead to the piece after it
 abbrev pub falls : BodyTree → Bool
 falls end_procedure = false
 falls _ = true

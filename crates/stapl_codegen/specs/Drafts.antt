@@ -18,9 +18,9 @@ use Rattle.stapl_code.specs.declared.instr.Instr.TheVariants.{Turn}
 use Rattle.stapl_codegen.specs.Numbers.{numbers_from}
 use Rattle.stapl_codegen.specs.Emit.{expr_code, int_code, operands_code, source_code, given_code, target_code, compare_code, print_parts, Firsts, row_texts, row_literals, presets_items, at_first, row_code, body_code, presets_code, texts_of, literals_of, code_to, start_of}
 
--- Where a piece stands: the names of its program, at each of its blocks and behind them the number of the next
+-- Where a piece stands: the names of its program, at each of its blocks and after them the number of the next
 -- procedure, how many pieces the program has, the block that is open before the piece, and the number of the piece,
--- which is also the place behind it.
+-- which is also the place after it.
 pub record Site : Type 0 where
   pub names : Names
   pub next : List ℕ
@@ -60,7 +60,7 @@ site_at program i =
       piece = i + 1;
     }
 
--- where the piece behind this statement stands
+-- where the piece after this statement stands
 abbrev pub site_behind : Site → BodyTree → Site
 site_behind site b = record site { inside = inside_behind site.inside b; piece = site.piece + 1 }
 

@@ -99,7 +99,7 @@ abbrev pub export_part : ValueKind → ExportPart
 export_part kinds.Int = exports.Int
 export_part kinds.Bit = exports.Bit
 
--- the number behind these items
+-- the number after these items
 abbrev pub past : {A : Type 0} → ℕ → List A → ℕ
 past n [] = n
 past n (x ∷ xs) = past (suc n) xs
@@ -199,7 +199,7 @@ part_texts (string bytes ∷ list) = bytes ∷ part_texts list
 part_texts (value e ∷ list) = part_texts list
 part_texts (character e ∷ list) = part_texts list
 
--- The table of statements, for the compiler: the last instruction of a row, behind its operands, what stands between
+-- The table of statements, for the compiler: the last instruction of a row, after its operands, what stands between
 -- both, its texts, and its literals. Its first text and its first literal have numbers; place says where the code of a
 -- piece begins. A tree that has no row here is never carried out.
 
@@ -242,7 +242,7 @@ last scope place first (wait_usec state usec end) = Wait (tap_or_idle state) wai
 last scope place first (frequency hertz) = Frequency (is_some hertz)
 last scope place first _ = Binary no_operator
 
--- what stands between the operands of a row and its last instruction: a POP takes its record off behind its index
+-- what stands between the operands of a row and its last instruction: a POP takes its record off after its index
 abbrev pub between : Scope → BodyTree → List Instr → List Instr
 between scope (pop (scalar name)) rest = PopRecord (given_kind (scope.look.kind name)) ∷ rest
 between scope (pop (element name index)) rest = PopRecord (given_kind (scope.look.kind name)) ∷ rest
@@ -262,7 +262,7 @@ row_literals (scan register count source target compare) = array_literals source
 row_literals (pad which count a) = given_literals a
 row_literals _ = []
 
--- the numbers behind the texts and the literals of a row
+-- the numbers after the texts and the literals of a row
 abbrev pub behind_row : Firsts → BodyTree → Firsts
 behind_row first b = record { text = past first.text (row_texts b); literal = past first.literal (row_literals b) }
 
@@ -316,7 +316,7 @@ literals_of program = program_items row_literals program
 abbrev pub constants_in : Played → Constants
 constants_in program = record { texts = texts_of program; literals = literals_of program }
 
--- the numbers of the first text and the first literal of a program, and of those behind the place of a piece
+-- the numbers of the first text and the first literal of a program, and of those after the place of a piece
 abbrev pub at_first : Firsts
 at_first = record { text = 0; literal = 0 }
 

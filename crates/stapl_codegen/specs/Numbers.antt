@@ -6,7 +6,7 @@ use Rattle.stapl_meaning.specs.Scopes.{Played}
 use Rattle.stapl_meaning.specs.Typed.{procedure_names, plain_blocks}
 use Rattle.stapl_codegen.specs.declared.definitions.Numbers.{Numbers}
 
--- the number of the next procedure at each block, and behind them, if it is this one at the first
+-- the number of the next procedure at each block, and after them, if it is this one at the first
 abbrev pub numbers_from : ℕ → List (List ℕ × Block) → List ℕ
 numbers_from n [] = n ∷ []
 numbers_from n (e ∷ es) = n ∷ numbers_from (if e.1.is_data then n else suc n) es

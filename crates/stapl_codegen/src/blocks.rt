@@ -6,7 +6,7 @@ ghost use Rattle.stapl_meaning.specs.Scopes.{data_behind, plays, has_initial_val
 use stapl_lexer::Name;
 use stapl_syntax::Body;
 
-/// The DATA block that is open behind a statement, if this one was open before it.
+/// The DATA block that is open after a statement, if this one was open before it.
 pub(crate) fn data_behind(block: Option<Name>, body: &Body) -> Option<Name>
     ensures { result ≡ data_behind block (body_tree body.now) }
 {

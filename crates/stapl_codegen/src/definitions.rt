@@ -89,14 +89,14 @@ pub(crate) fn procedures(
     Ok(procedures)
 }
 
-/// The names of a program, and at each of its blocks and behind them the number of the next procedure.
+/// The names of a program, and at each of its blocks and after them the number of the next procedure.
 #[derive(Drop)]
 pub(crate) struct Numbers<'a> {
     pub(crate) names: &'a Names,
     pub(crate) next: Vec<u32>,
 }
 
-// The number of the next procedure behind a block, if it is this one before it.
+// The number of the next procedure after a block, if it is this one before it.
 fn number_behind(block: &Block, next: u32) -> u32
     requires { next < 2 ^ 32 - 1 }
     ensures { result ≡ (if block.now.is_data then next else suc next) }
@@ -104,7 +104,7 @@ fn number_behind(block: &Block, next: u32) -> u32
     if block.is_data { next } else { next + 1 }
 }
 
-/// The number of the next procedure at each block, and behind them: a DATA block is no procedure.
+/// The number of the next procedure at each block, and after them: a DATA block is no procedure.
 pub(crate) fn procedure_numbers(alloc: Global, names: &Names) -> Result<Vec<u32>, AllocError>
     ensures { IfOk result (λ numbers. numbers.items ≡ numbers_from 0 names.now.blocks) }
 {

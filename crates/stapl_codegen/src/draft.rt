@@ -28,7 +28,7 @@ pub(crate) struct Written {
     pub(crate) starts: Vec<u32>,
 }
 
-// Where the code of a piece begins, behind so many instructions. A piece that does not play has no code.
+// Where the code of a piece begins, after so many instructions. A piece that does not play has no code.
 fn start_at(before: usize, playing: bool, st: &Stmt) -> u32
     requires { before < 2 ^ 32 - 1 }
     ensures { result ≡ (if is_outer (if playing then body_tree st.now.body else end_data) then nowhere else before) }

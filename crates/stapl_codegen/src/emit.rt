@@ -32,13 +32,13 @@ pub(crate) struct Emitter<'a> {
     texts: Vec<Text>,
     literals: Vec<Bits>,
     names: &'a Names,
-    /// At each block and behind them, the number of the next procedure.
+    /// At each block and after them, the number of the next procedure.
     next: &'a [u32],
     /// How many pieces the program has: the place of a label that there is not.
     count: u32,
     /// The block that is open before the piece.
     inside: Option<Name>,
-    /// The number of the piece, counted from 1: the place behind it.
+    /// The number of the piece, counted from 1: the place after it.
     pub(crate) piece: u32,
 }
 
@@ -307,7 +307,7 @@ impl<'a> Emitter<'a> {
         Ok(())
     }
 
-    // The condition of an IF more, and the jump behind the piece.
+    // The condition of an IF more, and the jump after the piece.
     #[tactic(auto, using(crate::proofs::Lists::expr_before, std::proofs::Common::append_assoc))]
     fn condition(&mut self, e: &Expr) -> Result<(), AllocError>
         ensures code { OnOk result (self.new.code ≡ self.old.code
@@ -595,7 +595,7 @@ impl<'a> Emitter<'a> {
         Ok(())
     }
 
-    /// A statement of the program more, behind which the next piece follows.
+    /// A statement of the program more, after which the next piece follows.
     pub(crate) fn statement(&mut self, st: &Stmt) -> Result<(), AllocError>
         requires { self.old.site.piece < 2 ^ 32 - 1 }
         ensures code { OnOk result (self.new.code ≡ self.old.code ++ piece_code_in self.old (stmt_tree st.now)) }
@@ -609,7 +609,7 @@ impl<'a> Emitter<'a> {
         Ok(())
     }
 
-    /// A piece that does nothing, behind which the next piece follows.
+    /// A piece that does nothing, after which the next piece follows.
     pub(crate) fn skip(&mut self)
         requires { self.old.site.piece < 2 ^ 32 - 1 }
         ensures code { self.new.code ≡ self.old.code }

@@ -19,7 +19,7 @@ use Rattle.stapl_grammar.proofs.PartLaws.{Follows, CanFollow, Shows, HasSymbols,
 
 -- ---- which parts may follow one another
 
--- behind a part that begins with a sign which the part before can't go on with
+-- after a part that begins with a sign which the part before can't go on with
 before_sign : {A B : Type 0} {p : Part A} {t : Symbol} {q : Part B} → ((r : List Symbol) → Follows p (t ∷ r)) → CanFollow p (after t q)
 before_sign h = record { by = λ y b r m f g. rw m.1 (h (m.0 ++ r)) }
 
@@ -197,7 +197,7 @@ pub assign_apart : IsApart assign_part
 unfolding after_mark is_mark mark_number
 assign_apart = ((mark_sign marks.Equals, tt), (mark_sign marks.LeftSquare, indexed_apart), shows_symbol (mark_sign marks.Equals), shows_sign (λ r. refl))
 
--- ---- other statements that may stand behind THEN
+-- ---- other statements that may stand after THEN
 
 pub for_apart : IsApart for_part
 for_apart = (
@@ -291,7 +291,7 @@ frequency_some e s (inr m) = omega (arith, ap length m.1, length-append m.0 (hz 
 pub frequency_apart : IsApart frequency_part
 frequency_apart = (tt, record { by = λ x s r m h. anything_shows s r (frequency_some x s m) })
 
--- ---- nothing stands behind them
+-- ---- nothing stands after them
 
 pub action_end : Follows action_part []
 unfolding begins_text begins_choice after_mark

@@ -143,7 +143,7 @@ pub record HasNoReason (s : List Symbol) : Type 0 where
   pub clean : IsClean s
   pub known : is_unknown s ≡ false
 
--- behind a first word
+-- after a first word
 headed : {A : Type 0} (t : Symbol) → ((r : List Symbol) → is_unknown (t ∷ r) ≡ false) → is_left_out (sign_of t) ≡ false → (p : Part A) → IsApart p →
     (x : A) (s : List Symbol) → IsPart (after t p) x s → HasNoReason s
 headed t begins clean p apart x s m = rw m.1 (record { clean = clean_cons t m.0 clean (part_clean p apart x m.0 m.2); known = begins m.0 })
@@ -189,7 +189,7 @@ body_clean (wait_cycles k e u l) s m = headed _ (λ r. refl) refl wait_part wait
 body_clean (wait_usec k e l) s m = headed _ (λ r. refl) refl wait_part wait_apart (k, (e, inr l)) s m
 body_clean (frequency e) s m = headed _ (λ r. refl) refl frequency_part frequency_apart e s m
 
--- where no label stands, nothing is behind it
+-- where no label stands, nothing is after it
 unlabelled : (b : BodyTree) (s : List Symbol) → IsBody s b → behind_label s ≡ s
 unlabelled b s m = behind_is s ∙ ap (λ (x : Option (List ℕ) × List Symbol). x.1) (body_label b s m)
 

@@ -24,7 +24,7 @@ use Rattle.stapl_grammar.proofs.PartLaws.{part_sound, part_whole}
 use Rattle.stapl_grammar.proofs.ApartLaws.{note_apart, action_apart, action_end, procedure_apart, procedure_end, boolean_apart, boolean_end, integer_apart, integer_end, assign_apart, assign_end, for_apart, for_end, print_apart, print_end, export_apart, export_end, scan_apart, scan_end, pad_apart, pad_end, wait_apart, wait_end, frequency_apart, frequency_end, states_end, nothing_ends, no_bracket}
 use Rattle.stapl_grammar.proofs.BodySound.{any_sound, labelled_sound}
 
--- ---- one equation for the reader of what stands behind THEN
+-- ---- one equation for the reader of what stands after THEN
 
 if_same : (i j : Reader BodyTree) (s : List Symbol) → ((t : List Symbol) → length t < length s → i t ≡ j t) → if_from i s ≡ if_from j s
 unfolding if_from
@@ -133,7 +133,7 @@ read_any : (outer declaration : Bool) (b : BodyTree) (s : List Symbol) → IsRea
 read_any true declaration b s e = e
 read_any false declaration b s e = labelled_any s (b, []) (read_inside declaration b s e)
 
--- behind the name of an assignment no colon stands
+-- after the name of an assignment no colon stands
 no_colon : (y : ExprTree ⊎ (ArrayTree ⊎ (ExprTree × ((ExprTree × ArrayTree) ⊎ ExprTree)))) (a r : List Symbol) → IsPart assign_part y a → after_mark marks.Colon (a ++ r) ≡ None
 unfolding after_mark is_mark mark_number
 no_colon (inl e) a r m = rw m.1 refl

@@ -23,14 +23,14 @@ use Rattle.stapl_grammar.specs.BodyReading.{mapped, note_of, action_of, procedur
 use Rattle.stapl_grammar.proofs.Tools.{by_step, some_is, after_join_some}
 use Rattle.stapl_grammar.proofs.PartLaws.{part_sound}
 
--- a front of the symbols is the statement, of a kind, and the rest stands behind it
+-- a front of the symbols is the statement, of a kind, and the rest stands after it
 pub record BodyFront (K : BodyTree → Type 0) (s : List Symbol) (x : BodyTree × List Symbol) : Type 0 where
   pub taken : List Symbol
   pub parts : s ≡ taken ++ x.1
   pub meant : IsBody taken x.0
   pub kind : K x.0
 
--- any statement, one that may bear a label, and one that may stand behind THEN
+-- any statement, one that may bear a label, and one that may stand after THEN
 abbrev pub IsAny : BodyTree → Type 0
 IsAny b = Unit {0}
 
@@ -96,7 +96,7 @@ inner_sound inner_words.EndProcedure s x e = word_alone IsInside (inner inner_wo
 inner_sound inner_words.Boolean s x e = form_sound IsInside (inner inner_words.Boolean) boolean_part boolean_of boolean_meant boolean_inside s x e
 inner_sound inner_words.Integer s x e = form_sound IsInside (inner inner_words.Integer) integer_part integer_of integer_meant integer_inside s x e
 
--- the part behind the name of an assignment
+-- the part after the name of an assignment
 assign_meant : (v : List ℕ) (y : ExprTree ⊎ (ArrayTree ⊎ (ExprTree × ((ExprTree × ArrayTree) ⊎ ExprTree)))) (a : List Symbol) → IsPart assign_part y a → IsBody (name v ∷ a) (assign_of v y)
 assign_meant v (inl e) a m = (name v ∷ [], a, refl, refl, m)
 assign_meant v (inr (inl b)) a m = (name v ∷ [], a, refl, refl, m)

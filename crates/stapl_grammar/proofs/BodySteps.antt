@@ -16,7 +16,7 @@ behind_first : (v : List ℕ) (first : ExprTree) (o : Option (((ExprTree × Arra
 behind_first v first None = refl
 behind_first v first (Some x) = refl
 
--- behind a name, its bracket and an expression
+-- after a name, its bracket and an expression
 indexed_is : (v : List ℕ) (s : List Symbol) (first : ExprTree) (r : List Symbol) → after_mark marks.RightSquare s ≡ None → expr 10 s ≡ Some (first, r) →
     mapped (indexed_of v) (part_at indexed_part s) ≡ mapped (range_or_element_of v first) (part_at range_or_element_part r)
 unfolding part_at
@@ -26,7 +26,7 @@ behind_bracket : (v : List ℕ) (o : Option ((ArrayTree ⊎ (ExprTree × ((ExprT
 behind_bracket v None = refl
 behind_bracket v (Some x) = refl
 
--- behind a name and its bracket
+-- after a name and its bracket
 assign_is : (v : List ℕ) (s r : List Symbol) → after_mark marks.Equals s ≡ None → after_mark marks.LeftSquare s ≡ Some r →
     mapped (assign_of v) (part_at assign_part s) ≡ mapped (indexed_of v) (part_at indexed_part r)
 unfolding part_at

@@ -56,12 +56,12 @@ expr_layered n s =
     ∙ sym (bind_assoc (unary_by (expr 10) s) _ _)
     ∙ ap (λ (q : Option (ExprTree × List Symbol)). q >>= λ x. climb (suc n) x.0 x.1) (sym (expr-is n s))
 
--- nothing here reads on: no operator of these levels, and no bracket behind a name
+-- nothing here reads on: no operator of these levels, and no bracket after a name
 pub record Ends (n : ℕ) (r : List Symbol) : Type 0 where
   pub operator : AtLeastLevel n r
   pub bracket : after_mark marks.LeftSquare r ≡ None
 
--- behind a mark other than an opening bracket nothing reads on
+-- after a mark other than an opening bracket nothing reads on
 whole_from : (s : List Symbol) (e : ExprTree) (m : Mark) (r : List Symbol) → expr 10 (s ++ (mark m ∷ r)) ≡ climb 10 e (mark m ∷ r) → expr 10 (s ++ (mark m ∷ r)) ≡ Some (e, mark m ∷ r)
 unfolding next_operator operator_of
 whole_from s e m r h = h ∙ climb_stops 10 e (mark m ∷ r) refl
@@ -89,7 +89,7 @@ bracketed_complete read s r x h = rw (after_mark_here marks.LeftRound ((s ++ (ri
 pub primary_by : Reader ExprTree
 primary_by s = next_sign s >>= λ g. primary_from (expr 10) g.0 g.1
 
--- what a reader reads behind a name
+-- what a reader reads after a name
 unfoldable pub behind_name : {A : Type 0} → (List ℕ → Reader A) → Reader A
 behind_name read s = name_at s >>= λ v. read v.0 v.1
 

@@ -70,7 +70,7 @@ after_character_some [] r e = absurd cc
 after_character_some (Plain (signs.Function functions.Character) ∷ s) r e = ap (λ (l : List Symbol). function functions.Character ∷ l) (some_is s r e)
 after_character_some _ r e = absurd cc
 
--- ---- what is read is the part: a front of the symbols, and the rest behind it
+-- ---- what is read is the part: a front of the symbols, and the rest after it
 
 pub record Front {A : Type 0} (P : A → List Symbol → Type 0) (s : List Symbol) (x : A × List Symbol) : Type 0 where
   pub taken : List Symbol
@@ -169,7 +169,7 @@ export_sound s x e =
 
 -- ---- states
 
--- states behind a first one
+-- states after a first one
 record MoreStates (s : List Symbol) (y : List ℕ × List Symbol) : Type 0 where
   taken : List Symbol
   parts : s ≡ taken ++ y.1

@@ -74,7 +74,7 @@ list_goes_on_not read t short front s r Syntax h g = rw (more_is read t short s,
 pub list_is_done : {A : Type 0} (read : Reader A) (t : Symbol) → Shortens read → (front : List A) (s : List Symbol) → after_symbol t s ≡ None → with_front front (more_by read t s) ≡ Some (front, s)
 list_is_done {A} read t short front s h = rw (more_is read t short s, h) (ap (λ (l : List A). Some (l, s)) (append-nil front))
 
--- one more item behind those that the loop has
+-- one more item after those that the loop has
 pub list_kept : {X A : Type 0} (read : Reader A) (t : Symbol) → Shortens read →
     (view : X → A) (old new : List X) (s r : List Symbol) (x : X) (u : List Symbol) (total : Option (List A × List Symbol)) → new ≡ old ++ (x ∷ []) →
     after_symbol t s ≡ Some r → read r ≡ Some (view x, u) → with_front (map view old) (more_by read t s) ≡ total → with_front (map view new) (more_by read t u) ≡ total

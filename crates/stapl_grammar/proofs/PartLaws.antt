@@ -22,7 +22,7 @@ use Rattle.stapl_grammar.proofs.ListLaws.{after_symbol_some, IsSign, list_sound,
 
 -- ---- what is read is the part
 
--- behind HZ
+-- after HZ
 record BehindHz (s : List Symbol) : Type 0 where
   taken : List Symbol
   parts : s ≡ taken ++ behind_hz s
@@ -43,7 +43,7 @@ unfolding behind_hz
 hz_sound [] = ([], refl, inl refl)
 hz_sound (t ∷ s) = hz_taken t s (is_hz (sign_of t)) refl
 
--- a front of the symbols is the part with this value, and the rest stands behind it
+-- a front of the symbols is the part with this value, and the rest stands after it
 abbrev pub Begins : {A : Type 0} → Part A → List Symbol → A × List Symbol → Type 0
 Begins p s x = Front (IsPart p) s x
 
@@ -123,7 +123,7 @@ part_sound (listed t p) s x e =
 
 -- ---- what is the part is read
 
--- what may stand behind a part, so that its reading stops there
+-- what may stand after a part, so that its reading stops there
 abbrev pub Follows : {A : Type 0} → Part A → List Symbol → Type 0
 Follows an_expr r = (next_operator 10 r ≡ None) × (after_mark marks.LeftSquare r ≡ None)
 Follows a_cell r = after_mark marks.LeftSquare r ≡ None
@@ -139,7 +139,7 @@ Follows (either p q) r = Follows p r × Follows q r × (begins p r ≡ false)
 Follows (listed t p) r = Follows p r × (after_symbol t r ≡ None)
 Follows _ r = Unit {0}
 
--- the second part may stand behind the first
+-- the second part may stand after the first
 pub record CanFollow {A B : Type 0} (p : Part A) (q : Part B) : Type 0 where
   pub by : (y : B) (b r : List Symbol) → IsPart q y b → Follows p r → Follows q r → Follows p (b ++ r)
 

@@ -9,7 +9,7 @@ use Rattle.stapl_grammar.specs.Looks.{after_mark, is_mark, mark_number}
 use Rattle.stapl_grammar.specs.Reading.{next_sign, name_at, name_of}
 use Rattle.stapl_grammar.specs.BodyReading.{label_at}
 
--- what stands behind the label
+-- what stands after the label
 pub behind_is : (s : List Symbol) → behind_label s ≡ (label_at s).1
 unfolding behind_label label_at name_at name_of next_sign after_mark is_mark mark_number
 behind_is [] = refl

@@ -16,7 +16,7 @@ use Rattle.stapl_grammar.specs.Looks.{after_mark}
 use Rattle.stapl_grammar.specs.Reading.{◌>>=◌, Reader, next_sign, literal_at, next_operator, closed_by, bracketed_by, named_by, range_by, target_from, target_by, bool_from, array_from, array_by, brackets_from, function_from, primary_from, unary_of, unary_by, expr_in, climb_in}
 use Rattle.stapl_grammar.proofs.Tools.{by_step, some_is, choice_some, after_mark_some, next_operator_some, next_operator_none, level_suc, AtLeastLevel}
 
--- a front of the symbols is what P says, and the rest stands behind it
+-- a front of the symbols is what P says, and the rest stands after it
 pub record IsFront {A : Type 0} (P : List Symbol → A → Type 0) (s : List Symbol) (x : A × List Symbol) : Type 0 where
   pub taken : List Symbol
   pub parts : s ≡ taken ++ x.1
@@ -113,7 +113,7 @@ range_sound v read sound s x e =
       shorter = omega (arith, f.shorter, g.shorter, ap length h-rest);
     })
 
--- behind a name and its bracket
+-- after a name and its bracket
 target_from_sound : (v : List ℕ) (read : Reader ExprTree) → IsSound (IsExpr 10) read → (s : List Symbol) (x : ArrayTree × List Symbol) → target_from read v s ≡ Some x →
     IsFront IsTarget (name v ∷ left_square ∷ s) x
 unfolding target_from
@@ -198,7 +198,7 @@ raised n (suc k) s e m = rw add-suc (tighter (raised n k s e m))
 raised_to : (n k : ℕ) (s : List Symbol) (e : ExprTree) → n ≤ k → IsExpr n s e → IsExpr k s e
 raised_to n k s e le m = let k-is : n + (k - n) ≡ k = omega arith in subst (λ (i : ℕ). IsExpr i s e) k-is (raised n (k - n) s e m)
 
--- what stands behind an operand of level m is read on
+-- what stands after an operand of level m is read on
 pub record Climbs (n : ℕ) (a : List Symbol) (s : List Symbol) (x : ExprTree × List Symbol) : Type 0 where
   pub taken : List Symbol
   pub parts : s ≡ taken ++ x.1

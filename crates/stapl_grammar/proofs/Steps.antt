@@ -119,7 +119,7 @@ mutual
       climb_same f g n (binary o.0 e y.0) y.1 (omega (arith, first, less)) (omega (arith, first, less))))
       refl
 
--- an expression is an operand and what stands behind it
+-- an expression is an operand and what stands after it
 pub expr-is : (n : ℕ) (s : List Symbol) → expr n s ≡ (unary_by (expr 10) s >>= λ x. climb n x.0 x.1)
 unfolding expr expr_in climb
 expr-is n s =

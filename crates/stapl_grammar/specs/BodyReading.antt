@@ -78,18 +78,18 @@ inner_from inner_words.Integer s = mapped integer_of (part_at integer_part s)
 
 -- ---- assignments
 
--- Behind a name, its bracket and an expression: ".." expr "]" "=" array | "]" "=" expr
+-- After a name, its bracket and an expression: ".." expr "]" "=" array | "]" "=" expr
 abbrev pub range_or_element_part : Part ((ExprTree × ArrayTree) ⊎ ExprTree)
 range_or_element_part =
     either (after dots (both an_expr (after right_square (after equals an_array))))
     (after right_square (after equals an_expr))
 
--- Behind a name and its bracket: "]" "=" array | expr ".." expr "]" "=" array | expr "]" "=" expr
+-- After a name and its bracket: "]" "=" array | expr ".." expr "]" "=" array | expr "]" "=" expr
 abbrev pub indexed_part : Part (ArrayTree ⊎ (ExprTree × ((ExprTree × ArrayTree) ⊎ ExprTree)))
 indexed_part =
     either (after right_square (after equals an_array)) (both an_expr range_or_element_part)
 
--- Behind a name: "=" expr, or one of those behind "["
+-- After a name: "=" expr, or one of those after "["
 abbrev pub assign_part : Part (ExprTree ⊎ (ArrayTree ⊎ (ExprTree × ((ExprTree × ArrayTree) ⊎ ExprTree))))
 assign_part = either (after equals an_expr) (after left_square indexed_part)
 
@@ -105,7 +105,7 @@ abbrev pub assign_of : List ℕ → (ExprTree ⊎ (ArrayTree ⊎ (ExprTree × ((
 assign_of v (inl e) = assign v e
 assign_of v (inr x) = indexed_of v x
 
--- ---- other statements that may stand behind THEN
+-- ---- other statements that may stand after THEN
 
 abbrev pub for_of : List ℕ × (ExprTree × (ExprTree × Option ExprTree)) → BodyTree
 for_of x = for_loop x.0 x.1.0 x.1.1.0 x.1.1.1
@@ -113,7 +113,7 @@ for_of x = for_loop x.0 x.1.0 x.1.1.0 x.1.1.1
 abbrev pub export_of : List ℕ × ExportTree → BodyTree
 export_of x = export x.0 x.1
 
--- behind IF, given a reader for the statement behind THEN
+-- after IF, given a reader for the statement after THEN
 unfoldable pub if_from : Reader BodyTree → Reader BodyTree
 if_from inner s = do
   c ← expr 10 s
@@ -121,7 +121,7 @@ if_from inner s = do
   b ← inner rest
   Some (if_then c.0 b.0, b.1)
 
--- a statement behind its first word
+-- a statement after its first word
 unfoldable pub simple_word_from : SimpleWord → Reader BodyTree
 simple_word_from simple_words.Call s = mapped call (part_at a_name s)
 simple_word_from simple_words.Goto s = mapped goto (part_at a_name s)
@@ -167,7 +167,7 @@ port_from port_words.Frequency s = mapped frequency (part_at frequency_part s)
 
 -- ---- all statements
 
--- behind the first sign: a statement that may stand behind THEN
+-- after the first sign: a statement that may stand after THEN
 unfoldable pub simple_from : Reader BodyTree → Sign → Reader BodyTree
 simple_from inner (signs.Name v) s = mapped (assign_of v) (part_at assign_part s)
 simple_from inner (signs.Simple w) s = simple_word_from w s
@@ -186,7 +186,7 @@ simple_in (suc f) s = simple_by (simple_in f) s
 unfoldable pub simple_at : Reader BodyTree
 simple_at s = simple_in (suc (length s)) s
 
--- behind the first sign: a statement that may bear a label
+-- after the first sign: a statement that may bear a label
 unfoldable pub labelled_from : Sign → Reader BodyTree
 labelled_from (signs.Inner w) s = inner_from w s
 labelled_from sign s = simple_from simple_at sign s
@@ -194,7 +194,7 @@ labelled_from sign s = simple_from simple_at sign s
 abbrev pub labelled_at : Reader BodyTree
 labelled_at s = next_sign s >>= λ g. labelled_from g.0 g.1
 
--- behind the first sign: a statement
+-- after the first sign: a statement
 unfoldable pub any_from : Sign → Reader BodyTree
 any_from (signs.Outer w) s = outer_from w s
 any_from sign s = labelled_from sign s
@@ -202,7 +202,7 @@ any_from sign s = labelled_from sign s
 abbrev pub any_at : Reader BodyTree
 any_at s = next_sign s >>= λ g. any_from g.0 g.1
 
--- the label before a statement, if there is one, and what stands behind it
+-- the label before a statement, if there is one, and what stands after it
 unfoldable pub label_at : List Symbol → Option (List ℕ) × List Symbol
 label_at s =
     option_map_or (λ v. option_map_or (λ r. (Some v.0, r)) (after_mark marks.Colon v.1) (None, s)) (name_at s) (None, s)

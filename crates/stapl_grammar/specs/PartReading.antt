@@ -38,7 +38,7 @@ number_at s = do
   z ← number_of g.0
   Some (z, g.1)
 
--- the symbols behind a minus that they begin with
+-- the symbols after a minus that they begin with
 unfoldable pub is_minus : Sign → Bool
 is_minus (signs.Operator Subtract) = true
 is_minus _ = false
@@ -47,7 +47,7 @@ unfoldable pub after_minus : List Symbol → Option (List Symbol)
 after_minus [] = None
 after_minus (t ∷ s) = if is_minus (sign_of t) then Some s else None
 
--- a number, or its wrapped negation behind a minus
+-- a number, or its wrapped negation after a minus
 unfoldable pub signed_at : Reader ℤ
 signed_at s =
     option_map_or (λ r. number_at r >>= λ x. Some (int_wrapping_neg w32 x.0, x.1)) (after_minus s) (number_at s)
@@ -86,7 +86,7 @@ cell_at s = name_at s >>= λ v. named_by (expr 10) v.0 v.1
 unfoldable pub target_at : Reader ArrayTree
 target_at s = name_at s >>= λ v. target_by (expr 10) v.0 v.1
 
--- the symbols behind CHR$, where they begin with it
+-- the symbols after CHR$, where they begin with it
 unfoldable pub is_character : Sign → Bool
 is_character (signs.Function functions.Character) = true
 is_character _ = false
@@ -111,7 +111,7 @@ export_at s =
 abbrev pub with_front : {A : Type 0} → List A → Option (List A × List Symbol) → Option (List A × List Symbol)
 with_front front read = read >>= λ x. Some (front ++ x.0, x.1)
 
--- the values that stand behind a separator, with at most so many of them
+-- the values that stand after a separator, with at most so many of them
 unfoldable pub more_in : {A : Type 0} → ℕ → Reader A → Symbol → Reader (List A)
 more_in zero read t s = None
 more_in (suc f) read t s =
@@ -125,7 +125,7 @@ listed_by read t s = do
   x ← read s
   with_front (x.0 ∷ []) (more_by read t x.1)
 
--- states, each but the first behind a comma or not
+-- states, each but the first after a comma or not
 unfoldable pub more_states_at : Reader (List ℕ)
 more_states_at [] = Some ([], [])
 more_states_at (Plain (signs.State k) ∷ s) = with_front (k ∷ []) (more_states_at s)
@@ -143,7 +143,7 @@ unfoldable pub is_hz : Sign → Bool
 is_hz (signs.Name v) = bytes_eq v (codes "HZ")
 is_hz _ = false
 
--- the symbols behind the word HZ, where they begin with it, or all of them
+-- the symbols after the word HZ, where they begin with it, or all of them
 unfoldable pub behind_hz : List Symbol → List Symbol
 behind_hz [] = []
 behind_hz (t ∷ s) = if is_hz (sign_of t) then s else (t ∷ s)
@@ -181,7 +181,7 @@ part_at (either p q) s =
 part_at (listed t p) s = listed_by (part_at p) t s
 
 -- What a step through states gave: the next state, nothing where the states end, or an error where a comma stands and
--- no state behind it.
+-- no state after it.
 abbrev pub StepsOn : Result (Option ℕ) Refused → List Symbol → List Symbol → Type 0
 StepsOn (Ok (Some k)) old new = (more_states_at old ≡ with_front (k ∷ []) (more_states_at new)) × (length new < length old)
 StepsOn (Ok None) old new = (more_states_at old ≡ Some ([], old)) × (new ≡ old)

@@ -1,4 +1,4 @@
--- Reading expressions and arrays from left to right: what was read and the symbols behind it, or nothing.
+-- Reading expressions and arrays from left to right: what was read and the symbols after it, or nothing.
 use Rattle.std.specs.Prelude.{ℕ, zero, suc, ◌-◌, List, [], ◌∷◌, length, Bool, Option, Some, None, option_and_then, is_some, nat_le, if◌then◌else◌}
 use Rattle.std.specs.Option.{option_map_or}
 use Rattle.stapl_lexer.specs.declared.terminal.BinOp.{BinOp}
@@ -69,7 +69,7 @@ bracketed_by read s = do
   inner ← after_mark marks.LeftRound s
   closed_by marks.RightRound read inner
 
--- behind a name: the scalar of this name, or an element
+-- after a name: the scalar of this name, or an element
 unfoldable pub named_by : Reader ExprTree → List ℕ → Reader ExprTree
 named_by read v s =
     option_map_or
@@ -77,7 +77,7 @@ named_by read v s =
     (after_mark marks.LeftSquare s)
     (Some (scalar v, s))
 
--- behind a name and its bracket: a range
+-- after a name and its bracket: a range
 unfoldable pub range_by : Reader ExprTree → List ℕ → Reader ArrayTree
 range_by read v s = do
   high ← read s
@@ -85,20 +85,20 @@ range_by read v s = do
   low ← closed_by marks.RightSquare read rest
   Some (range v high.0 low.0, low.1)
 
--- behind a name and its bracket: the whole array, or a range
+-- after a name and its bracket: the whole array, or a range
 unfoldable pub target_from : Reader ExprTree → List ℕ → Reader ArrayTree
 target_from read v s = option_map_or (λ rest. Some (whole v, rest)) (after_mark marks.RightSquare s) (range_by read v s)
 
--- behind a name: a target
+-- after a name: a target
 unfoldable pub target_by : Reader ExprTree → List ℕ → Reader ArrayTree
 target_by read v s = after_mark marks.LeftSquare s >>= target_from read v
 
--- behind a function that gives an array
+-- after a function that gives an array
 unfoldable pub bool_from : Reader ExprTree → Function → Reader ArrayTree
 bool_from read functions.Bool s = bracketed_by read s >>= λ x. Some (of_int x.0, x.1)
 bool_from read _ s = None
 
--- behind the first sign: an array that is no literal
+-- after the first sign: an array that is no literal
 unfoldable pub array_from : Reader ExprTree → Sign → Reader ArrayTree
 array_from read (signs.Name v) s = target_by read v s
 array_from read (signs.Function f) s = bool_from read f s
@@ -109,18 +109,18 @@ array_by read s =
     if is_some (literal_at s) then (literal_at s >>= λ x. Some (literal x.0, x.1))
     else (next_sign s >>= λ g. array_from read g.0 g.1)
 
--- behind an opening bracket
+-- after an opening bracket
 unfoldable pub brackets_from : Reader ExprTree → Mark → Reader ExprTree
 brackets_from read marks.LeftRound s = closed_by marks.RightRound read s
 brackets_from read _ s = None
 
--- behind a function that gives an integer
+-- after a function that gives an integer
 unfoldable pub function_from : Reader ExprTree → Function → Reader ExprTree
 function_from read functions.Abs s = bracketed_by read s >>= λ x. Some (abs x.0, x.1)
 function_from read functions.Int s = bracketed_by (array_by read) s >>= λ x. Some (int x.0, x.1)
 function_from read _ s = None
 
--- behind the first sign: an operand without an operator before it
+-- after the first sign: an operand without an operator before it
 unfoldable pub primary_from : Reader ExprTree → Sign → Reader ExprTree
 primary_from read (signs.Number z) s = Some (number z, s)
 primary_from read (signs.Name v) s = named_by read v s
@@ -158,6 +158,6 @@ unfoldable mutual
 unfoldable pub expr : ℕ → Reader ExprTree
 expr n s = expr_in (suc (length s)) n s
 
--- the operators of levels up to n behind an operand, and their other operands
+-- the operators of levels up to n after an operand, and their other operands
 unfoldable pub climb : ℕ → ExprTree → Reader ExprTree
 climb n e s = climb_in (suc (length s)) n e s

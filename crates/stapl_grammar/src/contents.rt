@@ -25,7 +25,7 @@ fn number_of(digits: &[u8]) -> u16
     number as u16
 }
 
-// The bits of a literal of binary digits, which has these bytes behind its mark.
+// The bits of a literal of binary digits, which has these bytes after its mark.
 pub(crate) fn binary_bits(alloc: Global, own: &[u8]) -> Result<Bits, Refused>
     requires { length own.now ≤ text_limit }
     ensures bits { IfOk result (λ bits. bits ≡ bits_of_binary (digits_in kinds.Binary false own.now)) }
@@ -39,7 +39,7 @@ pub(crate) fn binary_bits(alloc: Global, own: &[u8]) -> Result<Bits, Refused>
     }
 }
 
-// The bits of a literal of hexadecimal digits, which has these bytes behind its mark.
+// The bits of a literal of hexadecimal digits, which has these bytes after its mark.
 pub(crate) fn hexadecimal_bits(alloc: Global, own: &[u8]) -> Result<Bits, Refused>
     requires { length own.now ≤ text_limit }
     ensures bits { IfOk result (λ bits. bits ≡ bits_of_hex (digits_in kinds.Hexadecimal false own.now)) }
@@ -53,7 +53,7 @@ pub(crate) fn hexadecimal_bits(alloc: Global, own: &[u8]) -> Result<Bits, Refuse
     }
 }
 
-// The number of the digits behind CRC.
+// The number of the digits after CRC.
 pub(crate) fn check_number(alloc: Global, own: &[u8]) -> Result<u16, AllocError>
     ensures { IfOk result (λ number. number ≡ check_number own.now) }
 {

@@ -196,7 +196,7 @@ impl<'a> Cursor<'a> {
         }
     }
 
-    // Whether a comma stands first, and no state behind it.
+    // Whether a comma stands first, and no state after it.
     #[tactic(auto, unfolding(crate::specs::Looks::after_mark, crate::specs::Looks::begins_count))]
     pub(crate) fn begins_count(&self) -> bool
         ensures { result ≡ begins_count self.now }
@@ -216,7 +216,7 @@ impl<'a> Cursor<'a> {
         }
     }
 
-    // Whether a mark stands first that may stand behind the first name of an assignment.
+    // Whether a mark stands first that may stand after the first name of an assignment.
     #[tactic(auto, unfolding(crate::specs::Seen::seen, stapl_syntax::specs::Reasons::is_assign_sign))]
     pub(crate) fn begins_assignment(&self) -> bool
         ensures { result ≡ is_assign_sign (first_sign self.now) }
@@ -337,7 +337,7 @@ impl<'a> Cursor<'a> {
         Ok(bits)
     }
 
-    // The number of the digits behind CRC, where they stand first.
+    // The number of the digits after CRC, where they stand first.
     #[tactic(auto, unfolding(crate::specs::Seen::seen, crate::specs::Seen::seen_as, crate::specs::PartReading::check_word_at))]
     pub(crate) fn check_word(&mut self, alloc: Global) -> Result<u16, Refused>
         ensures read { Gives (λ number. (number, self.new)) result (check_word_at self.old) }

@@ -97,7 +97,7 @@ impl<'a> Cursor<'a> {
         Ok(Body::Integer(name, start))
     }
 
-    // ENDPROC or a declaration, behind its first word.
+    // ENDPROC or a declaration, after its first word.
     #[tactic(auto, unfolding(crate::specs::BodyReading::inner_from))]
     pub(crate) fn inner_statement(
         &mut self,

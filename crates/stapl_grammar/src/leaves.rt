@@ -42,7 +42,7 @@ impl<'a> Cursor<'a> {
         }
     }
 
-    // A number, or its wrapped negation behind a minus.
+    // A number, or its wrapped negation after a minus.
     #[tactic(auto, unfolding(crate::specs::PartReading::signed_at))]
     pub(crate) fn signed(&mut self) -> Result<i32, Refused>
         ensures read { Gives (λ z. (z, self.new)) result (signed_at self.old) }

@@ -64,7 +64,7 @@ impl<'a> Cursor<'a> {
         Ok(ItemList::of(items))
     }
 
-    // Numbers, each behind a minus or not, with commas between them.
+    // Numbers, each after a minus or not, with commas between them.
     #[tactic(auto, using(crate::proofs::ListSteps::signed_starts, crate::proofs::ListSteps::signed_starts_not, crate::proofs::ListSteps::signed_goes_on, crate::proofs::ListSteps::signed_goes_on_not, crate::proofs::ListSteps::signed_is_done))]
     pub(crate) fn signed_list(&mut self, alloc: Global) -> Result<ItemList<i32>, Refused>
         ensures { Gives (λ values. (values, self.new)) result (listed_by signed_at comma self.old) }
@@ -95,7 +95,7 @@ impl<'a> Cursor<'a> {
         Ok(ItemList::of(parts))
     }
 
-    // The next state, behind a comma or not; none where neither a comma nor a state stands first.
+    // The next state, after a comma or not; none where neither a comma nor a state stands first.
     #[tactic(auto, using(crate::proofs::ListSteps::state_next, crate::proofs::ListSteps::state_next_not, crate::proofs::ListSteps::state_behind_comma, crate::proofs::ListSteps::state_behind_comma_not, crate::proofs::ListSteps::state_is_done))]
     fn next_state(&mut self) -> Result<Option<u8>, Refused>
         ensures { StepsOn result self.old self.new }

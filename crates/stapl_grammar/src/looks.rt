@@ -172,7 +172,7 @@ pub(crate) fn is_left_out(sign: Sign) -> bool
     }
 }
 
-// Whether a sign may stand behind the first name of an assignment.
+// Whether a sign may stand after the first name of an assignment.
 #[tactic(auto, unfolding(stapl_syntax::specs::Reasons::is_assign_sign))]
 pub(crate) fn is_assign_sign(sign: Sign) -> bool
     ensures { result ≡ is_assign_sign sign }

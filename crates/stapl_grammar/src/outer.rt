@@ -72,7 +72,7 @@ impl<'a> Cursor<'a> {
         Ok(Body::Procedure(name, uses))
     }
 
-    // A statement outside procedures, behind its first word.
+    // A statement outside procedures, after its first word.
     #[tactic(auto, unfolding(crate::specs::BodyReading::outer_from, crate::specs::PartReading::part_at))]
     pub(crate) fn outer_statement(
         &mut self,

@@ -198,7 +198,7 @@ impl<'a> Cursor<'a> {
         Ok(Body::Frequency(Some(count)))
     }
 
-    // A statement that drives the test access port, behind its first word.
+    // A statement that drives the test access port, after its first word.
     #[tactic(auto, unfolding(crate::specs::BodyReading::port_from, crate::specs::PartReading::part_at))]
     pub(crate) fn port_statement(&mut self, alloc: Global, word: PortWord) -> Result<Body, Refused>
         ensures { Gives (λ b. (body_tree b, self.new)) result (port_from word self.old) }

@@ -9,7 +9,7 @@ impl<'a> Cursor<'a> {
     ghost use Rattle.stapl_syntax.specs.Reasons.{begins_statement, behind_label, is_unknown, holds_left_out};
     ghost use Rattle.stapl_grammar.specs.Answers.{reason_of};
 
-    // Whether a statement begins with this sign, with the rest behind it.
+    // Whether a statement begins with this sign, with the rest after it.
     #[tactic(auto, unfolding(stapl_syntax::specs::Reasons::begins_statement))]
     fn begins_statement(&self, first: Sign) -> bool
         ensures { result ≡ begins_statement first self.now }
@@ -26,7 +26,7 @@ impl<'a> Cursor<'a> {
         }
     }
 
-    // Whether something stands behind the label, and it begins no statement.
+    // Whether something stands after the label, and it begins no statement.
     #[tactic(auto, using(crate::proofs::ReasonSteps::behind_is, crate::proofs::ReasonSteps::unknown_is, crate::proofs::ReasonSteps::unknown_nothing))]
     fn is_unknown(&self) -> bool
         ensures { result ≡ is_unknown (behind_label self.now) }

@@ -1,4 +1,4 @@
-//! Statements that may stand behind THEN.
+//! Statements that may stand after THEN.
 use crate::cursor::Cursor;
 use crate::refused::Refused;
 use stapl_lexer::{JoinWord, Mark, Name, SimpleWord};
@@ -15,7 +15,7 @@ impl<'a> Cursor<'a> {
     ghost use Rattle.stapl_grammar.specs.PartReading.{part_at};
     ghost use Rattle.stapl_grammar.specs.BodyReading.{mapped, range_or_element_of, range_or_element_part, indexed_of, indexed_part, assign_of, assign_part, for_of, export_of, simple_word_from, if_from, simple_from, simple_at};
 
-    // Behind a name, its bracket and an expression: ".." expr "]" "=" array | "]" "=" expr
+    // After a name, its bracket and an expression: ".." expr "]" "=" array | "]" "=" expr
     #[tactic(auto, unfolding(crate::specs::PartReading::part_at))]
     fn range_or_element(
         &mut self,
@@ -39,7 +39,7 @@ impl<'a> Cursor<'a> {
         Ok(Body::AssignElement(v, first, value))
     }
 
-    // Behind a name and its bracket: "]" "=" array | expr ".." expr "]" "=" array | expr "]" "=" expr
+    // After a name and its bracket: "]" "=" array | expr ".." expr "]" "=" array | expr "]" "=" expr
     #[tactic(auto, unfolding(crate::specs::PartReading::part_at))]
     fn indexed(&mut self, alloc: Global, v: Name) -> Result<Body, Refused>
         ensures { Gives (λ b. (body_tree b, self.new)) result (mapped (indexed_of v) (part_at indexed_part self.old)) }
@@ -53,7 +53,7 @@ impl<'a> Cursor<'a> {
         self.range_or_element(alloc, v, first)
     }
 
-    // Behind a name: "=" expr, or what stands behind "[".
+    // After a name: "=" expr, or what stands after "[".
     #[tactic(auto, unfolding(crate::specs::PartReading::part_at))]
     fn assignment(&mut self, alloc: Global, v: Name) -> Result<Body, Refused>
         ensures { Gives (λ b. (body_tree b, self.new)) result (mapped (assign_of v) (part_at assign_part self.old)) }
@@ -112,7 +112,7 @@ impl<'a> Cursor<'a> {
         Ok(Body::Print(parts))
     }
 
-    // A statement behind its first word.
+    // A statement after its first word.
     #[tactic(auto, unfolding(crate::specs::BodyReading::simple_word_from, crate::specs::PartReading::part_at))]
     fn simple_statement(&mut self, alloc: Global, word: SimpleWord) -> Result<Body, Refused>
         ensures { Gives (λ b. (body_tree b, self.new)) result (simple_word_from word self.old) }
@@ -148,7 +148,7 @@ impl<'a> Cursor<'a> {
         }
     }
 
-    // Behind IF: an expression, THEN and a statement.
+    // After IF: an expression, THEN and a statement.
     #[cycle(statements)]
     #[tactic(auto, unfolding(crate::specs::BodyReading::if_from))]
     fn if_then(&mut self, alloc: Global) -> Result<Body, Refused>
@@ -160,7 +160,7 @@ impl<'a> Cursor<'a> {
         Ok(Body::If(test, then))
     }
 
-    // A statement behind its first sign.
+    // A statement after its first sign.
     #[cycle(statements)]
     #[tactic(auto, unfolding(crate::specs::BodyReading::simple_from))]
     pub(crate) fn simple_behind(&mut self, alloc: Global, first: Sign) -> Result<Body, Refused>
@@ -175,7 +175,7 @@ impl<'a> Cursor<'a> {
         }
     }
 
-    // A statement that may stand behind THEN.
+    // A statement that may stand after THEN.
     #[cycle(statements)]
     #[tactic(auto, using(crate::proofs::BodyComplete::simple_at_is))]
     fn simple(&mut self, alloc: Global) -> Result<Body, Refused>
@@ -187,7 +187,7 @@ impl<'a> Cursor<'a> {
         self.simple_behind(alloc, first)
     }
 
-    // The same, behind a pointer.
+    // The same, after a pointer.
     #[cycle(statements)]
     fn boxed_simple(&mut self, alloc: Global) -> Result<Box<Body>, Refused>
         ensures { Gives (λ b. (body_tree (box_value b), self.new)) result (simple_at self.old) }

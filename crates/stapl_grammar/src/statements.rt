@@ -13,7 +13,7 @@ impl<'a> Cursor<'a> {
     ghost use Rattle.stapl_grammar.specs.Given.{Gives};
     ghost use Rattle.stapl_grammar.specs.BodyReading.{labelled_from, labelled_at, any_from, any_at, label_at, with_label_at, statement_of};
 
-    // A statement that may bear a label, behind its first sign.
+    // A statement that may bear a label, after its first sign.
     #[tactic(auto, unfolding(crate::specs::BodyReading::labelled_from))]
     fn labelled_behind(&mut self, alloc: Global, first: Sign) -> Result<Body, Refused>
         ensures { Gives (λ b. (body_tree b, self.new)) result (labelled_from first self.old) }
@@ -34,7 +34,7 @@ impl<'a> Cursor<'a> {
         self.labelled_behind(alloc, first)
     }
 
-    // A statement without a label, behind its first sign.
+    // A statement without a label, after its first sign.
     #[tactic(auto, unfolding(crate::specs::BodyReading::any_from))]
     fn any_behind(&mut self, alloc: Global, first: Sign) -> Result<Body, Refused>
         ensures { Gives (λ b. (body_tree b, self.new)) result (any_from first self.old) }
@@ -75,7 +75,7 @@ impl<'a> Cursor<'a> {
         }
     }
 
-    // The statement with this label, behind it, or with none.
+    // The statement with this label, after it, or with none.
     #[tactic(auto, unfolding(crate::specs::BodyReading::behind_label_at))]
     fn with_label(&mut self, alloc: Global, label: Option<Name>) -> Result<Stmt, Refused>
         ensures { Gives (λ st. ((option_map box_value st.label, body_tree st.body), self.new)) result (with_label_at label self.old) }
@@ -96,7 +96,7 @@ impl<'a> Cursor<'a> {
         }
     }
 
-    // A statement with its label, and nothing behind it.
+    // A statement with its label, and nothing after it.
     #[tactic(auto, unfolding(crate::specs::BodyReading::statement_of))]
     pub(crate) fn statement(&mut self, alloc: Global) -> Result<Stmt, Refused>
         ensures { Gives (λ st. (option_map box_value st.label, body_tree st.body)) result (statement_of self.old) }

@@ -25,7 +25,7 @@ impl<'a> Cursor<'a> {
         self.level_expr(alloc, LOOSEST)
     }
 
-    // An expression, behind a pointer. What is dropped on the way out of a function is dear to prove for an enum, and
+    // An expression, after a pointer. What is dropped on the way out of a function is dear to prove for an enum, and
     // cheap for a pointer.
     pub(crate) fn boxed_expr(&mut self, alloc: Global) -> Result<Box<Expr>, Refused>
         ensures read { Gives (λ e. (expr_tree (box_value e), self.new)) result (expr 10 self.old) }
@@ -60,7 +60,7 @@ impl<'a> Cursor<'a> {
         self.array_term(alloc)
     }
 
-    // The same, behind a pointer.
+    // The same, after a pointer.
     #[tactic(auto, unfolding(crate::specs::PartReading::array_at))]
     pub(crate) fn boxed_array(&mut self, alloc: Global) -> Result<Box<ArrayExpr>, Refused>
         ensures read { Gives (λ a. (array_tree (box_value a), self.new)) result (array_at self.old) }
@@ -84,7 +84,7 @@ impl<'a> Cursor<'a> {
         Ok(left)
     }
 
-    // The same, behind a pointer.
+    // The same, after a pointer.
     #[cycle(terms)]
     fn boxed_level(&mut self, alloc: Global, most: u32) -> Result<Box<Expr>, Refused>
         ensures read { Gives (λ e. (expr_tree (box_value e), self.new)) result (expr most self.old) }
@@ -94,7 +94,7 @@ impl<'a> Cursor<'a> {
         Ok(Box::new(alloc, inner)?)
     }
 
-    // An expression in brackets, behind a pointer.
+    // An expression in brackets, after a pointer.
     #[cycle(terms)]
     #[tactic(auto, unfolding(crate::specs::Reading::closed_by, crate::specs::Reading::bracketed_by))]
     fn bracketed(&mut self, alloc: Global) -> Result<Box<Expr>, Refused>
@@ -107,7 +107,7 @@ impl<'a> Cursor<'a> {
         Ok(inner)
     }
 
-    // An array in brackets, behind a pointer.
+    // An array in brackets, after a pointer.
     #[cycle(terms)]
     #[tactic(auto, unfolding(crate::specs::Reading::closed_by, crate::specs::Reading::bracketed_by))]
     fn bracketed_array(&mut self, alloc: Global) -> Result<Box<ArrayExpr>, Refused>
@@ -156,7 +156,7 @@ impl<'a> Cursor<'a> {
         }
     }
 
-    // Behind an opening bracket: an expression, and the closing one.
+    // After an opening bracket: an expression, and the closing one.
     #[cycle(terms)]
     #[tactic(auto, unfolding(crate::specs::Reading::brackets_from, crate::specs::Reading::closed_by))]
     fn in_brackets(&mut self, alloc: Global, mark: Mark) -> Result<Expr, Refused>
@@ -173,7 +173,7 @@ impl<'a> Cursor<'a> {
         }
     }
 
-    // Behind a function that gives an integer: its argument in brackets.
+    // After a function that gives an integer: its argument in brackets.
     #[cycle(terms)]
     #[tactic(auto, unfolding(crate::specs::Reading::function_from))]
     fn of_function(&mut self, alloc: Global, function: Function) -> Result<Expr, Refused>
@@ -193,7 +193,7 @@ impl<'a> Cursor<'a> {
         }
     }
 
-    // Behind a name: an element, or the name alone.
+    // After a name: an element, or the name alone.
     #[cycle(terms)]
     #[tactic(auto, unfolding(crate::specs::Reading::named_by, crate::specs::Reading::closed_by))]
     fn named(&mut self, alloc: Global, v: Name) -> Result<Expr, Refused>
@@ -225,7 +225,7 @@ impl<'a> Cursor<'a> {
         self.array_behind(alloc, first)
     }
 
-    // An array, behind a pointer.
+    // An array, after a pointer.
     #[cycle(terms)]
     fn boxed_array_term(&mut self, alloc: Global) -> Result<Box<ArrayExpr>, Refused>
         ensures read { Gives (λ a. (array_tree (box_value a), self.new)) result (array_by (expr 10) self.old) }
@@ -249,7 +249,7 @@ impl<'a> Cursor<'a> {
         }
     }
 
-    // Behind a function that gives an array: its argument in brackets.
+    // After a function that gives an array: its argument in brackets.
     #[cycle(terms)]
     #[tactic(auto, unfolding(crate::specs::Reading::bool_from))]
     fn of_bool(&mut self, alloc: Global, function: Function) -> Result<ArrayExpr, Refused>
@@ -265,7 +265,7 @@ impl<'a> Cursor<'a> {
         }
     }
 
-    // Behind a name: the whole array of this name, or a range of it.
+    // After a name: the whole array of this name, or a range of it.
     #[cycle(terms)]
     #[tactic(auto, unfolding(crate::specs::Reading::target_by, crate::specs::Reading::target_from, crate::specs::Reading::range_by, crate::specs::Reading::closed_by))]
     fn target_of(&mut self, alloc: Global, v: Name) -> Result<ArrayExpr, Refused>

@@ -1,4 +1,4 @@
--- On where the machine goes behind an instruction.
+-- On where the machine goes after an instruction.
 use Rattle.std.proofs.Common.{◌≡◌, ℕ, List, [], ◌∷◌, length, reverse, refl, arith, Some, None}
 use Rattle.stapl_meaning.specs.declared.values.Value.{Value}
 use Rattle.stapl_meaning.specs.Deeds.{Chain}

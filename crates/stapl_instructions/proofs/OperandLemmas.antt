@@ -68,7 +68,7 @@ more_within a b (made.Resume place) work le h = tt
 more_within a b made.Returned work le h = tt
 more_within a b (made.Over ending) work le h = tt
 
--- an instruction that was tried went on to the one behind it
+-- an instruction that was tried went on to the one after it
 pub tried_leaves : (code : CodeLists) (here : ℕ) (i : Instr) (chosen : List ℕ) (old new : Workspace) →
     step_of code here i chosen old ≡ Falls (operands_of new) (state_of chosen new) → length new.operands.items ≤ count_behind i (length old.operands.items)
 tried_leaves code here i chosen old new e =

@@ -15,7 +15,7 @@ use Rattle.stapl_instructions.specs.declared.operate.Stop.TheVariants.{Fault, Wr
 use Rattle.stapl_instructions.specs.Found.{IsStopped}
 use Rattle.stapl_instructions.specs.Prints.{with_front, instr_room, print_room}
 
--- a text behind the front
+-- a text after the front
 pub front_text : (front bytes : List ℕ) (rest : Got (List ℕ)) →
     with_front front (then_get rest (λ more. Known (bytes ++ more))) ≡ with_front (front ++ bytes) rest
 front_text front bytes (Known more) = ap (λ (v : List ℕ). let g : Got (List ℕ) = Known v in g) (sym (append_assoc front bytes more))
@@ -37,7 +37,7 @@ pub print_stops : (stop : Stop) (told : Told) (s : State) (g : Got (List ℕ)) �
 print_stops (Fault k) told s g h = (ap (λ g. does (printed g s)) h, refl)
 print_stops Wrong told s g h = ap (λ g. does (printed g s)) h
 
--- values behind the last part
+-- values after the last part
 pub left_over : (entries : List ℕ) (constants : Constants) (front : List ℕ) (vs : List Value) → 0 < length vs →
     with_front front (parts_text entries constants [] vs) ≡ Stuck
 left_over entries constants front [] some = absurd (omega (arith, some))

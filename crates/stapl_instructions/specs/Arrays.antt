@@ -62,7 +62,7 @@ abbrev pub IsPartOf : Result Part Stop → List Held → ℕ → (ℕ → Got va
 IsPartOf (Ok part) variables n spans = IsFound variables n spans part
 IsPartOf (Err stop) variables n spans = IsStopped stop (part_held (slice_get variables n) spans)
 
--- the array of a destination, its part that these values tell, and the values behind those
+-- the array of a destination, its part that these values tell, and the values after those
 abbrev pub array_of : Dest → ℕ
 array_of (dests.Whole n) = n
 array_of (dests.Range n) = n

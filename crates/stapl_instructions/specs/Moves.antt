@@ -1,4 +1,4 @@
--- Where the machine goes behind an instruction.
+-- Where the machine goes after an instruction.
 use Rattle.std.specs.Prelude.{◌≡◌, ◌≤◌, ℕ, List, [], length, Some, None}
 use Rattle.stapl_meaning.specs.Deeds.{Chain, deeds_events, deeds_chain}
 use Rattle.stapl_meaning.specs.declared.values.Value.{Value}

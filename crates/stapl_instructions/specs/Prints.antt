@@ -14,7 +14,7 @@ use Rattle.stapl_instructions.specs.Found.{IsStopped}
 abbrev pub with_front : List ℕ → Got (List ℕ) → Got (List ℕ)
 with_front front text = then_get text (λ more. Known (front ++ more))
 
--- The text of the first parts was put, so that what is left stands behind it.
+-- The text of the first parts was put, so that what is left stands after it.
 abbrev pub IsPut : {A : Type 0} → Result A Stop → List ℕ → Got (List ℕ) → List ℕ → Got (List ℕ) → Type 0
 IsPut (Ok done) old whole new rest = with_front old whole ≡ with_front new rest
 IsPut (Err e) old whole new rest = IsStopped e whole

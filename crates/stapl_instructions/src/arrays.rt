@@ -243,7 +243,7 @@ fn store_all(variables: &mut Vec<Held>, n: u32, list: &[i32]) -> bool
     set_elements(&mut variables[n as usize], list)
 }
 
-/// Sets the elements of an INTEGER array from index 0 on, and those behind them to 0.
+/// Sets the elements of an INTEGER array from index 0 on, and those after them to 0.
 pub fn set_integers(
     variables: &mut Vec<Held>,
     n: u32,

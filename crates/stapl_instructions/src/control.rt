@@ -1,4 +1,4 @@
-//! Where the machine goes behind an instruction.
+//! Where the machine goes after an instruction.
 ghost use Rattle.std.specs.Prelude.{◌≡◌, ◌<◌, ◌≤◌, ◌+◌, ◌^◌, List, ℕ, drop, length, reverse, vec_capacity};
 ghost use Rattle.stapl_meaning.specs.declared.records.Record.{Record};
 ghost use Rattle.stapl_meaning.specs.declared.values.Held.{Held};

@@ -142,7 +142,7 @@ pub fn place(variables: &[Held], dest: Dest, values: &[Value]) -> Result<Part, S
     }
 }
 
-/// The values behind those of a destination.
+/// The values after those of a destination.
 pub fn behind(dest: Dest, values: &[Value]) -> &[Value]
     ensures { result.now ≡ behind_dest dest values.now }
 {

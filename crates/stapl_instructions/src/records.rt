@@ -77,7 +77,7 @@ pub fn pop_value(records: &mut RecordStack, kind: ValueKind) -> Result<Made, Sto
     }
 }
 
-/// A procedure is called. A record keeps the place behind.
+/// A procedure is called. A record keeps the place after.
 pub fn call(records: &mut RecordStack, behind: u32, values: &[Value]) -> Result<Made, Stop>
     ensures { (told : Told) (chosen : List ℕ) (ir dr : ScanSettings) (variables : List Held) →
         IsMade result told (state_with chosen (reverse records.old.items) ir dr variables)
@@ -109,7 +109,7 @@ fn drop_to_call(records: &mut RecordStack) -> Option<u32>
     None
 }
 
-/// The procedure is over: the play goes on behind the nearest call, if there is one.
+/// The procedure is over: the play goes on after the nearest call, if there is one.
 pub fn end_procedure(records: &mut RecordStack, values: &[Value]) -> Result<Made, Stop>
     ensures { (told : Told) (chosen : List ℕ) (ir dr : ScanSettings) (variables : List Held) →
         IsMade result told (state_with chosen (reverse records.old.items) ir dr variables)

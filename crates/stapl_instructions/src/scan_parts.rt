@@ -109,7 +109,7 @@ fn target_takes(target: Option<Dest>) -> usize
     }
 }
 
-// The first values, and those behind them.
+// The first values, and those after them.
 fn front(values: &[Value], count: usize) -> &[Value]
     ensures { result.now ≡ take count values.now }
 {

@@ -16,7 +16,7 @@ blank_not_solid (Open bytes) r x blank e solid = absurd cc
 blank_not_solid (Comment bytes) r x blank e solid =
     let at_39 : IsSolid (39 ∷ bytes ++ r) = subst IsSolid e solid in absurd cc
 
--- what stands behind the blanks is one thing
+-- what stands after the blanks is one thing
 pub same_solid : (a b : List Segment) (text x y : List ℕ) → Divides a text x → Divides b text y → list_all is_blank a ≡ true →
     list_all is_blank b ≡ true → IsSolid x → IsSolid y → x ≡ y
 same_solid [] [] text x y d e p q u v = sym d ∙ e

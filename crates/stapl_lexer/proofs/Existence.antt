@@ -58,7 +58,7 @@ run_some : (test : ℕ → Bool) (b : ℕ) (bs front rest : List ℕ) → test b
 run_some test b bs [] rest e parts stops = absurd (clash (test b) e (subst (StartsWithout test) (sym parts) stops))
 run_some test b bs (x ∷ xs) rest e parts stops = omega arith
 
--- white space and comments in front of bytes, and none behind them
+-- white space and comments in front of bytes, and none after them
 pub record BlanksInFront (bytes : List ℕ) : Type 0 where
   pub front : List ℕ
   pub rest : List ℕ
@@ -276,7 +276,7 @@ binary_exists b bs = literal_exists kinds.Binary b bs (λ good own behind h. h)
 pub hexadecimal_exists : (b : ℕ) (bs : List ℕ) → TokenInFront kinds.Hexadecimal (b ∷ bs)
 hexadecimal_exists b bs = literal_exists kinds.Hexadecimal b bs (λ good own behind h. h)
 
--- behind the word CRC
+-- after the word CRC
 bad_check : (b : ℕ) (bs : List ℕ) (found : DigitsInFront kinds.Hex4 (b ∷ bs)) → (length found.digits ≡ 4 → AreBlanks found.behind [] → ⊥) →
     TokenInFront kinds.Hex4 (b ∷ bs)
 bad_check b bs found bad = record {

@@ -204,7 +204,7 @@ double_mark [] some e = absurd (omega arith)
 double_mark (a ∷ []) some e = absurd (clash (is_mark_spelling (a ∷ 0 ∷ [])) e (no_zero_mark a))
 double_mark (a ∷ b ∷ bytes) some e = record { within = omega arith; some = omega arith; spelled = (e, sym e); value_is = refl }
 
--- behind the word CRC
+-- after the word CRC
 -- blanks that reach the end leave nothing
 pub blank_reaches : (bytes : List ℕ) (n : ℕ) → n ≤ length bytes → IsBlankFront bytes n → AreBlanks bytes [] → n ≡ length bytes
 blank_reaches bytes n within b blank =

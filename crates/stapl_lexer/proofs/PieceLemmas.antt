@@ -59,7 +59,7 @@ joined_split (s ∷ ss) = elim (split_has ss) [
       ∙ sym (flat_map-cons spelled s ss)
 ]
 
--- the first piece starts there, and each other one behind the one before
+-- the first piece starts there, and each other one after the one before
 abbrev Chained : ℕ → List Piece → Type 0
 Chained start [] = Unit {0}
 Chained start (piece ∷ []) = piece.start ≡ start

@@ -187,7 +187,7 @@ same_spelled kinds.Mark g h own other r q some more a b e =
     record { good = a.1 ∙ ap is_mark_spelling bytes ∙ sym b.1; bytes = bytes; behind = m.1 }
 same_spelled kinds.Hex4 g h own other r q some more a b e = same_check g h own other r q a b e
 
--- what stands behind so many bytes of a range
+-- what stands after so many bytes of a range
 pub range_behind : (text : List ℕ) (at end k : ℕ) → at + k ≤ end → drop k (slice_range text at end) ≡ slice_range text (at + k) end
 range_behind text at end k le =
     ap (λ (m : ℕ). drop k (take m (drop at text))) (omega arith) ∙ drop-take k (end - (at + k)) (drop at text)

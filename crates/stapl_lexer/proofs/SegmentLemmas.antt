@@ -95,7 +95,7 @@ open_begins bs n e no_quote =
 pub comment_begins : (bs : List ℕ) (n : ℕ) → n ≡ position_or_len ends_comment bs → BeginsWithSegment (39 ∷ bs) (n + 1)
 comment_begins bs n e = subst (λ k. BeginsWithSegment (39 ∷ bs) (k + 1)) (sym e) (comment_at bs)
 
--- the first byte and what stands behind it are the text
+-- the first byte and what stands after it are the text
 pub begins_at_front : (first : ℕ) (text : List ℕ) (n : ℕ) → 0 < length text → get_or text 0 0 ≡ first → BeginsWithSegment (first ∷ drop 1 text) n →
     BeginsWithSegment text n
 begins_at_front first [] n some head h = absurd (omega arith)

@@ -10,11 +10,11 @@ abbrev pub low_bits : ℕ → ℕ → List Bool
 low_bits zero b = []
 low_bits (suc n) b = (b % 2 == 1) ∷ low_bits n (b / 2)
 
--- the remainder behind one more bit; 33800 is the CCITT polynomial with its bits reversed, 8408 in hexadecimal digits
+-- the remainder after one more bit; 33800 is the CCITT polynomial with its bits reversed, 8408 in hexadecimal digits
 abbrev pub remainder_behind : ℕ → Bool → ℕ
 remainder_behind crc bit = if beq (crc % 2 == 1) bit then crc / 2 else bit_xor (crc / 2) 33800
 
--- the remainder behind a list of bits
+-- the remainder after a list of bits
 abbrev pub remainder : ℕ → List Bool → ℕ
 remainder crc [] = crc
 remainder crc (bit ∷ bits) = remainder (remainder_behind crc bit) bits

@@ -19,7 +19,7 @@ pub record IsUpperName (name : List ℕ) : Type 0 where
   pub short : length name ≤ 32
   pub upper : str_to_ascii_uppercase name ≡ name
 
--- how a name is stored: its bytes in front, and zeros behind them
+-- how a name is stored: its bytes in front, and zeros after them
 pub record IsStored (bytes : List ℕ) (len : ℕ) : Type 0 where
   pub within : len ≡ length (take len bytes)
   pub padded : bytes ≡ take len bytes ++ replicate (32 - length (take len bytes)) 0

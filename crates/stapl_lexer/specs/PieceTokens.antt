@@ -23,7 +23,7 @@ pub record AreBlanks (bytes rest : List ℕ) : Type 0 where
   pub blank : list_all is_blank blanks ≡ true
 
 -- What stands between the letters of a word and those bytes: nothing, or the `$` (36) of the word CHR$. That `$`
--- belongs to the word where it stands directly behind CHR.
+-- belongs to the word where it stands directly after CHR.
 abbrev pub IsWordTail : List ℕ → List ℕ → List ℕ → Type 0
 IsWordTail name [] behind =
     StartsWithout is_name_byte behind × ((spells_word (codes "CHR") name && slice_index behind 0 == 36) ≡ false)
@@ -62,7 +62,7 @@ pub record IsNumber (own behind : List ℕ) : Type 0 where
 abbrev pub front_digits : List ℕ → List ℕ
 front_digits own = take_while is_ascii_digit own
 
--- the value of a number: its first digits, times 10 to the power of the digits behind `E`
+-- the value of a number: its first digits, times 10 to the power of the digits after `E`
 abbrev pub number_value : List ℕ → ℕ
 number_value own = digits_value 10 (front_digits own) * 10 ^ digits_value 10 (drop (length (front_digits own) + 1) own)
 
@@ -71,7 +71,7 @@ abbrev pub is_literal_digit : TokenKind → ℕ → Bool
 is_literal_digit kinds.Binary b = (b == 48) || (b == 49)
 is_literal_digit _ b = is_ascii_hexdigit b
 
--- no digit stands in front of the bytes, nor behind white space and comments in front of them
+-- no digit stands in front of the bytes, nor after white space and comments in front of them
 pub record HasNoDigit (kind : TokenKind) (bytes : List ℕ) : Type 0 where
   pub rest : List ℕ
   pub blank : AreBlanks bytes rest
@@ -85,7 +85,7 @@ SpacedDigits kind bytes (d ∷ digits) behind =
     (rest : List ℕ) × AreBlanks bytes (d ∷ rest) × (is_literal_digit kind d ≡ true)
     × SpacedDigits kind rest digits behind
 
--- A literal: its mark, and the digits behind that. It is good where it has a digit.
+-- A literal: its mark, and the digits after that. It is good where it has a digit.
 abbrev pub IsLiteral : TokenKind → Bool → List ℕ → List ℕ → Type 0
 IsLiteral kind good own behind =
     (digits : List ℕ) × SpacedDigits kind (drop 1 own ++ behind) digits behind × (good ≡ nat_le 1 (length digits))
@@ -100,14 +100,14 @@ digits_in kind false (b ∷ bs) =
     else if is_literal_digit kind b then b ∷ digits_in kind false bs
     else digits_in kind false bs
 
--- four hexadecimal digits, and nothing but white space and comments behind them
+-- four hexadecimal digits, and nothing but white space and comments after them
 pub record AreFourDigits (own behind : List ℕ) : Type 0 where
   pub digits : List ℕ
   pub spaced : SpacedDigits kinds.Hex4 (own ++ behind) digits behind
   pub four : length digits ≡ 4
   pub ends : AreBlanks behind []
 
--- What stands behind the word CRC: four hexadecimal digits, or else it is all bytes there, and bad.
+-- What stands after the word CRC: four hexadecimal digits, or else it is all bytes there, and bad.
 abbrev pub IsCheckWord : Bool → List ℕ → List ℕ → Type 0
 IsCheckWord true own behind = AreFourDigits own behind
 IsCheckWord false own behind =
@@ -125,7 +125,7 @@ abbrev pub is_closed : Segment → Bool
 is_closed (Closed bytes) = true
 is_closed _ = false
 
--- These bytes are a token of this kind where those stand behind. It is good or bad: a number that a letter or an
+-- These bytes are a token of this kind where those stand after. It is good or bad: a number that a letter or an
 -- underscore follows is bad, and so is a string that is open, a literal without a digit, and a single byte that is no
 -- mark, as a single `.`, an underscore that stands in no word, or a byte that is none of the language.
 abbrev pub Spells : TokenKind → Bool → List ℕ → List ℕ → Type 0
@@ -154,7 +154,7 @@ kind_at (Some true) b = kinds.Hex4
 kind_at (Some false) b = kind_of b
 kind_at None b = kind_of b
 
--- whether the first word is CRC, behind one more token
+-- whether the first word is CRC, after one more token
 abbrev pub first_word : Option Bool → TokenKind → List ℕ → Option Bool
 first_word None kinds.Word own = Some (spells_word (codes "CRC") own)
 first_word first _ own = first
@@ -198,7 +198,7 @@ pub record BeginsWith (text : List ℕ) (first : Option Bool) (at limit : ℕ) (
   pub terminal : lexeme.token.terminal ≡ terminal_of lexeme.token.kind (token_bytes text lexeme.token)
 
 -- The bytes of the text from one place up to another have these tokens. White space and comments separate tokens and
--- mean nothing else. Reading goes on behind a bad token.
+-- mean nothing else. Reading goes on after a bad token.
 abbrev pub HasLexemes : List ℕ → Option Bool → ℕ → ℕ → List Lexeme → Type 0
 HasLexemes text first at limit [] = AreBlanks (slice_range text at limit) []
 HasLexemes text first at limit (lexeme ∷ lexemes) =

@@ -66,12 +66,12 @@ pub record LiesIn (text : List ℕ) (piece : Piece) : Type 0 where
   pub line_above : 1 ≤ piece.line
   pub line_below : piece.line ≤ length text + 1
 
--- The second piece begins right behind the semicolon of the first.
+-- The second piece begins right after the semicolon of the first.
 pub record Follows (piece next : Piece) : Type 0 where
   pub closed : piece.closed ≡ true
   pub start : next.start ≡ piece.end + 1
 
--- The pieces stand in order and apart: the first one begins at the front of the text, and each other one right behind
+-- The pieces stand in order and apart: the first one begins at the front of the text, and each other one right after
 -- the semicolon of the one before.
 pub record LieInOrder (pieces : List Piece) : Type 0 where
   pub first : IfSome (slice_get pieces 0) (λ piece. piece.start ≡ 0)

@@ -8,9 +8,9 @@ pub data Segment : Type 0 where
   Plain : ℕ → Segment
   -- a string with both of its quotes, by the bytes between them
   Closed : List ℕ → Segment
-  -- a string that its line or the text ends, by the bytes behind its quote
+  -- a string that its line or the text ends, by the bytes after its quote
   Open : List ℕ → Segment
-  -- a comment, by the bytes behind its apostrophe
+  -- a comment, by the bytes after its apostrophe
   Comment : List ℕ → Segment
 
 -- the bytes of a segment: 34 is the quote, 39 the apostrophe

@@ -14,12 +14,12 @@ use Rattle.stapl_lexer.specs.PieceFaults.{is_foreign, is_open_string, is_compres
 use Rattle.stapl_lexer.specs.Reasons.{reason_number}
 use Rattle.stapl_lexer.specs.Segments.{Segment, Divides}
 
--- the first n bytes are white space and comments, and behind them no such stands
+-- the first n bytes are white space and comments, and after them no such stands
 pub record IsBlankFront (bytes : List ℕ) (n : ℕ) : Type 0 where
   pub blank : AreBlanks bytes (drop n bytes)
   pub solid : IsSolid (drop n bytes)
 
--- the first n bytes pass a test, and the byte behind them, where there is one, fails it
+-- the first n bytes pass a test, and the byte after them, where there is one, fails it
 pub record IsRun (test : ℕ → Bool) (bytes : List ℕ) (n : ℕ) : Type 0 where
   pub within : n ≤ length bytes
   pub passes : list_all test (take n bytes) ≡ true
@@ -36,7 +36,7 @@ pub record IsNumberFront (bytes : List ℕ) (n value : ℕ) : Type 0 where
   pub number : IsNumber (take n bytes) (drop n bytes)
   pub value_is : value ≡ min (number_value (take n bytes)) cap
 
--- a digit of a literal stands behind n bytes of white space and comments
+-- a digit of a literal stands after n bytes of white space and comments
 pub record IsNextDigit (kind : TokenKind) (bytes : List ℕ) (n : ℕ) : Type 0 where
   pub within : n < length bytes
   pub blank : AreBlanks bytes (drop n bytes)
@@ -76,7 +76,7 @@ abbrev pub held_value : ℕ → ℤ
 held_value value = if nat_lt 2147483648 value then pos 0 else cast_signed w32 value
 
 -- The text is read from one place up to another: these are the tokens so far, and it is known whether all of them are
--- good, and whether one is a number that is too large. What the rest has, the whole has behind these tokens.
+-- good, and whether one is a number that is too large. What the rest has, the whole has after these tokens.
 pub record IsReadUpTo (text : List ℕ) (start limit : ℕ) (tokens : List Token) (good large : Bool)
     (is_crc : Option Bool) (at : ℕ) : Type 0 where
   pub within : at ≤ limit

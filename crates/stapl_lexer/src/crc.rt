@@ -5,7 +5,7 @@ ghost use Rattle.stapl_lexer.specs.Crc.{remainder_behind, remainder, bits_of_byt
 // The CCITT polynomial with its bits reversed.
 const POLYNOMIAL: u16 = 0x8408;
 
-// The remainder behind one more bit.
+// The remainder after one more bit.
 fn behind_bit(crc: u16, bit: bool) -> u16
     ensures { result ≡ remainder_behind crc bit }
 {
@@ -17,7 +17,7 @@ fn behind_bit(crc: u16, bit: bool) -> u16
     }
 }
 
-// The remainder behind the bits of one more byte, the lowest first. A carriage return has none.
+// The remainder after the bits of one more byte, the lowest first. A carriage return has none.
 fn behind_byte(mut crc: u16, byte: u8) -> u16
     ensures { result ≡ remainder crc (bits_of_byte byte) }
 {

@@ -33,7 +33,7 @@ fn comment_end(bytes: &[u8]) -> Option<usize>
     bytes.iter().position(|byte| *byte == b'\n')
 }
 
-// How much of a string stands behind its first quote.
+// How much of a string stands after its first quote.
 #[tactic(auto, using(crate::proofs::SegmentLemmas::position_or_length, crate::proofs::SegmentLemmas::position_within, crate::proofs::SegmentLemmas::closed_begins, crate::proofs::SegmentLemmas::open_begins))]
 fn string_len(behind: &[u8]) -> usize
     ensures within { result ≤ length behind.now }
@@ -47,7 +47,7 @@ fn string_len(behind: &[u8]) -> usize
     }
 }
 
-// How much of a comment stands behind its apostrophe.
+// How much of a comment stands after its apostrophe.
 #[tactic(auto, using(crate::proofs::SegmentLemmas::position_or_length, crate::proofs::SegmentLemmas::position_within, crate::proofs::SegmentLemmas::comment_begins))]
 fn comment_len(behind: &[u8]) -> usize
     ensures within { result ≤ length behind.now }
@@ -209,7 +209,7 @@ fn push_if_some(pieces: &mut Vec<Piece>, piece: Option<Piece>) -> Result<(), All
 }
 
 /// The pieces of a text of at most `TEXT_LIMIT` bytes, which may be any bytes (JESD71, program text). Each semicolon
-/// outside strings and comments ends a piece. What is left behind the last one is a piece that is not closed, where a
+/// outside strings and comments ends a piece. What is left after the last one is a piece that is not closed, where a
 /// byte of it is neither white space nor comment. The only error is want of memory. The time is linear in the length of
 /// the text.
 #[tactic(auto, using(crate::proofs::CutLemmas::cut_all))]

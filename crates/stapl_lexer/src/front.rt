@@ -178,7 +178,7 @@ fn mark_front(bytes: &[u8]) -> Front
     }
 }
 
-// Whether four digits are all that stands there: how many digits were read, and what stands behind them.
+// Whether four digits are all that stands there: how many digits were read, and what stands after them.
 fn are_four_digits(count: usize, behind: &[u8]) -> bool
     requires { length behind.now ≤ text_limit }
     ensures yes { result ≡ true → (count ≡ 4) × AreBlanks behind.now [] }
@@ -187,7 +187,7 @@ fn are_four_digits(count: usize, behind: &[u8]) -> bool
     count == 4 && blank_len(behind) == behind.len()
 }
 
-// What stands behind the word CRC.
+// What stands after the word CRC.
 fn check_front(bytes: &[u8]) -> Front
     requires some { 0 < length bytes.now }
     requires small { length bytes.now ≤ text_limit }

@@ -1,4 +1,4 @@
-//! The digits of literals, and those behind the word `CRC`.
+//! The digits of literals, and those after the word `CRC`.
 ghost use Rattle.std.specs.Prelude.{◌≡◌, ℕ, ◌≤◌, ◌<◌, ◌∷◌, List, true, false, if◌then◌else◌, length, IfSome, IfNone, IfOk};
 ghost use Rattle.std.specs.List.{list_all};
 ghost use Rattle.stapl_lexer.specs.PieceTokens.{is_literal_digit, HasNoDigit, digits_in};

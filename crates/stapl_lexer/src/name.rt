@@ -21,7 +21,7 @@ const MAX_LEN: usize = 32;
 /// case is ignored, so contracts see a name as its bytes in upper case.
 #[derive(Clone, Copy)]
 pub struct Name {
-    // The name in upper case, and zeros behind it.
+    // The name in upper case, and zeros after it.
     bytes: [u8; MAX_LEN],
     len: u8,
 }

@@ -4,7 +4,7 @@
 /// program text). Places count the bytes of the text from 0.
 #[derive(Clone, Copy, Debug, PartialEq, Eq)]
 pub struct Piece {
-    /// Where the piece begins: at the front of the text, or behind the semicolon of the piece before.
+    /// Where the piece begins: at the front of the text, or after the semicolon of the piece before.
     pub start: u32,
     /// Where the piece ends: the place of its semicolon, or the length of the text where it has none.
     pub end: u32,

@@ -66,7 +66,7 @@ fn placed(kind: TokenKind, front: Front, start: usize, bytes: &[u8]) -> Lexeme
     }
 }
 
-// The next token between two places, behind white space and comments; none where they hold nothing else.
+// The next token between two places, after white space and comments; none where they hold nothing else.
 fn next_lexeme(text: &[u8], is_crc: Option<bool>, at: usize, limit: usize) -> Option<Lexeme>
     requires ordered { at ≤ limit }
     requires within { limit ≤ length text.now }
@@ -86,7 +86,7 @@ fn next_lexeme(text: &[u8], is_crc: Option<bool>, at: usize, limit: usize) -> Op
     Some(placed(kind, front, start, bytes))
 }
 
-// Whether the first word is CRC, behind one more token.
+// Whether the first word is CRC, after one more token.
 fn first_word(is_crc: Option<bool>, kind: TokenKind, own: &[u8]) -> Option<bool>
     ensures { result ≡ first_word is_crc kind own.now }
 {

@@ -22,13 +22,13 @@ pub enum Reason {
     NumberTooLarge = 7,
     /// Brackets or the word IF stand too deep, or too many operators stand in the piece.
     TooDeep = 8,
-    /// Behind the label, the piece begins with no statement word, and with no name that `=` or `[` follows.
+    /// After the label, the piece begins with no statement word, and with no name that `=` or `[` follows.
     UnknownStatement = 9,
     /// A word of JESD71 stands in the piece that this profile leaves out.
     Unsupported = 10,
     /// The piece is not in the grammar.
     Syntax = 11,
-    /// The statement may not stand behind the earlier pieces.
+    /// The statement may not stand after the earlier pieces.
     Order = 12,
     /// The piece declares a block, an action, a variable of its block or a label of its procedure that an earlier piece
     /// declares.

@@ -17,7 +17,7 @@ pub enum TokenKind {
     Hexadecimal,
     /// A mark of one or two bytes, or a single byte that begins no token.
     Mark,
-    /// The four hexadecimal digits behind the word `CRC`. White space and comments may stand between them.
+    /// The four hexadecimal digits after the word `CRC`. White space and comments may stand between them.
     Hex4,
 }
 
@@ -28,7 +28,7 @@ pub struct Token {
     pub kind: TokenKind,
     /// The place of its first byte.
     pub start: u32,
-    /// The place behind its last byte.
+    /// The place after its last byte.
     pub end: u32,
     /// The value of a number, where 2147483648 stands for -2147483648; 0 for every other token.
     pub value: i32,

@@ -441,7 +441,7 @@ module _ (code : CodeLists) (chosen : List ℕ) (work : Workspace) (n : ℕ) (no
       ap (λ (m : ℕ). m + counted_then (begins_chosen (entry_of (entries_of code.procedures)) (prologue [] started k)) (run_ticks_of code n)) first
       ∙ ap (λ (h : Happened). whole + counted_then h (run_ticks_of code n)) (sym (first_begun k))
 
--- what the prologue did, and the first chosen procedure behind it
+-- what the prologue did, and the first chosen procedure after it
 pub begun_does : {C O : Type 0} (breakage : PinCable C O → Breakage) (board : C → Option (List Card))
     (makes : C → List Signal → C → Type 0) (shown : O → Shown) (a b : PinCable C O) (entry : ℕ → ℕ)
     (turn rest : Chain → Happened) (count left : Chain → ℕ) (steps now : ℕ) → Does breakage board makes shown turn count a steps rest left b now →

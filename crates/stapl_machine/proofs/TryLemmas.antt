@@ -1,4 +1,4 @@
--- On the rest of a turn behind instructions that were tried.
+-- On the rest of a turn after instructions that were tried.
 use Rattle.std.proofs.Common.{◌≡◌, ◌<◌, ℕ, ◌+◌, List, [], length, drop, get_or, sym, ap, ◌∙◌, arith}
 use Rattle.stapl_meaning.specs.declared.values.Value.{Value}
 use Rattle.stapl_meaning.specs.Deeds.{Chain}

@@ -214,7 +214,7 @@ module _ {C O : Type 0} (breakage : PinCable C O → Breakage) (board : C → Op
           (p.ticked (tdos q.clocks ++ more) ∙ ap (λ (k : Chain). steps + count k) (sym (before_both breakage board makes shown both a p.clocks q.clocks more))) (q.most more);
     }
 
--- the count behind an instruction
+-- the count after an instruction
 tick_on : (a s k t u v : ℕ) → s ≡ a + k → t ≡ k + u → u ≡ v → s + v ≡ a + t
 tick_on a s k t u v e f g = omega arith
 

@@ -12,7 +12,7 @@ use Rattle.stapl_instructions.specs.Acts.{state_of}
 use Rattle.stapl_instructions.specs.RunRooms.{HoldsFrom}
 use Rattle.stapl_machine.specs.Turns.{rest_of, ticks_from, no_ticks}
 
--- the rest of the turn behind instruction i, which was tried, and how many instructions it takes
+-- the rest of the turn after instruction i, which was tried, and how many instructions it takes
 abbrev pub behind_try : CodeLists → ℕ → List ℕ → Tried → Workspace → Chain → Happened
 behind_try code i chosen tried.On work = rest_of code (i + 1) chosen work
 behind_try code i chosen (tried.To place) work = Led [] place (state_of chosen work)
@@ -29,7 +29,7 @@ IsCleanTry code i tried.On work = HoldsFrom code (i + 1) work
 IsCleanTry code i (tried.To place) work = work.operands.items ≡ []
 IsCleanTry code i tried.Not work = HoldsFrom code i work
 
--- the same behind some instructions
+-- the same after some instructions
 abbrev pub behind_reached : CodeLists → List ℕ → Reached → Workspace → Chain → Happened
 behind_reached code chosen (reached.Within i) work = rest_of code i chosen work
 behind_reached code chosen (reached.Turn place) work = Led [] place (state_of chosen work)

@@ -23,7 +23,7 @@ chosen_run code n s k = goes_on (happens k (next_chosen (entry_of (entries_of co
 abbrev pub chosen_ticks : CodeLists → ℕ → State → Chain → ℕ
 chosen_ticks code n s k = counted_then (happens k (next_chosen (entry_of (entries_of code.procedures)) s s.chosen)) (run_ticks_of code n)
 
--- at most n turns behind a prologue that came to this in a state, and how many instructions they take
+-- at most n turns after a prologue that came to this in a state, and how many instructions they take
 abbrev pub begun_run : CodeLists → ℕ → (Chain → Happened) → State → Chain → Run
 begun_run code n h s k = goes_on (begins_chosen (entry_of (entries_of code.procedures)) (h k)) s k (run_of code n)
 

@@ -54,7 +54,7 @@ fn run_turns<C: Cable, O: Paper, L: Ledger>(
     Ok(Some(Ending::Spent))
 }
 
-// The turns of a play, behind its prologue.
+// The turns of a play, after its prologue.
 fn run_chosen<C: Cable, O: Paper, L: Ledger>(
     code: &CodeLists,
     chosen: &[u32],

@@ -17,7 +17,7 @@ use Rattle.stapl_meaning.specs.Scopes.{data_behind, plays, idle, pieces_from, ha
 use Rattle.stapl_meaning.proofs.Declared.{block_here}
 use Rattle.stapl_meaning.proofs.Sound.{IsSound}
 
--- the DATA block that is open behind these statements
+-- the DATA block that is open after these statements
 abbrev pub data_from : Option (List ℕ) → List StmtTree → Option (List ℕ)
 data_from now [] = now
 data_from now (st ∷ rest) = data_from (data_behind now st.body) rest

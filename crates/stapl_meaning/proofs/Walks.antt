@@ -548,7 +548,7 @@ module _ (w : WalkRule) where
       stop_if (is_stable_state tap) (with_stop registers.Instruction tap s) (with_stop registers.Instruction tap (changed s))
       (λ e. (ap (λ x. record (changed s) { ir = x }) (sym (w.ir_stop s.ir tap)), (w.ir_stop_ok s.ir tap e h.0, h.1, h.2)))
 
-  -- another scope that finds the same variables, and the changed place behind the statement
+  -- another scope that finds the same variables, and the changed place after the statement
   abbrev pub beside : Scope → Scope → Scope
   beside scope other = record other { look = scope.look; follow = w.place scope.follow }
 

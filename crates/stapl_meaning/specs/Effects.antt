@@ -94,7 +94,7 @@ copied (IntoRange n) source (high ∷ low ∷ values) s =
     (λ old. then_get (span_of (length old) high low) (span_written n old source values s))
 copied (IntoRange n) source _ s = Stuck
 
--- an INTEGER array with these elements from index 0 on, and 0 behind them
+-- an INTEGER array with these elements from index 0 on, and 0 after them
 abbrev pub with_integers : List ℤ → Option Held → Got Held
 with_integers zs (Some (held.Ints old)) = Known (held.Ints (padded (pos 0) (length old) zs))
 with_integers zs _ = Stuck
@@ -149,17 +149,17 @@ abbrev pub topmost : ValueKind → List Record → Got (Value × List Record)
 topmost kind (Pushed z ∷ records) = Known (value_as kind z, records)
 topmost kind _ = Faults NoRecord
 
--- the topmost record is taken off, and behind the other values it is assigned
+-- the topmost record is taken off, and after the other values it is assigned
 abbrev pub popped : ValueKind → (List Value → State → Got Did) → List Value → State → Got Did
 popped kind assigns values s =
     then_get (topmost kind s.records) (λ top. assigns (values ++ top.0 ∷ []) (with_records s top.1))
 
--- to the target, which is a procedure; a record keeps the place behind
+-- to the target, which is a procedure; a record keeps the place after
 abbrev pub called : ℕ → List Value → State → Got Did
 called behind [] s = with_room s (Known (Jumps (with_records s (Called behind ∷ s.records))))
 called behind _ s = Stuck
 
--- The procedure is over. Records are dropped down to and with the nearest CALL, behind which the play goes on; if there
+-- The procedure is over. Records are dropped down to and with the nearest CALL, after which the play goes on; if there
 -- is none, all are.
 abbrev pub returned_from : List Record → State → Did
 returned_from [] s = Returns (with_records s [])
@@ -170,7 +170,7 @@ abbrev pub returned : List Value → State → Got Did
 returned [] s = Known (returned_from s.records s)
 returned _ s = Stuck
 
--- Loops. A loop is a record with the variable, the limit and the step of its FOR, and with the place behind that.
+-- Loops. A loop is a record with the variable, the limit and the step of its FOR, and with the place after that.
 
 -- the state with a loop on top of these records, whose variable holds this integer
 abbrev pub with_loop : Loop → List Record → ℤ → State → Got State
@@ -179,7 +179,7 @@ with_loop l records z s =
     (λ variables. Known (with_variables (with_records s (Looped l ∷ records)) variables))
 
 -- The loop of the variable of number n begins, from a first value, a limit and a step. Older records of that variable
--- stay. The limit is tested by NEXT alone, behind the body.
+-- stay. The limit is tested by NEXT alone, after the body.
 abbrev pub looped : ℕ → ℕ → List Value → State → Got Did
 looped n behind (Int first ∷ Int limit ∷ Int step ∷ []) s =
     if int_eq step (pos 0) then Faults ZeroStep

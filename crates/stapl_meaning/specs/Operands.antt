@@ -1,4 +1,4 @@
--- The operands of a statement: each an expression, the kind that is wanted of it, and the test that stands behind it.
+-- The operands of a statement: each an expression, the kind that is wanted of it, and the test that stands after it.
 -- Source: JESD71, statements. That a statement takes all its operands from left to right before it does anything, and
 -- tests each before the next, is this profile's rule.
 use Rattle.std.specs.Prelude.{ℕ, ℤ, pos, Bool, true, false, List, [], ◌∷◌, ◌++◌, Option, None, Some, if◌then◌else◌, slice_get}
@@ -55,7 +55,7 @@ character_of (Int z) = passed (is_index z 256) BadChar (Int z)
 character_of (Bit b) = Stuck
 
 module _ (look : Lookup) (variables : List Held) where
-  -- a value behind its test; another may stand before it
+  -- a value after its test; another may stand before it
   abbrev pub tested : Test → Option Value → Value → Got Value
   tested Plain before v = Known v
   tested Character before v = character_of v

@@ -80,7 +80,7 @@ pub record ScanParts : Type 0 where
   pub target : Option Target
   pub compare : Option CompareParts
 
--- how many values the parts of a scan have behind its length: the indexes of ranges and of elements, or an integer
+-- how many values the parts of a scan have after its length: the indexes of ranges and of elements, or an integer
 abbrev pub source_width : Source → ℕ
 source_width (These bits) = 0
 source_width (Whole n) = 0

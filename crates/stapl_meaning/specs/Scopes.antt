@@ -19,7 +19,7 @@ use Rattle.stapl_meaning.specs.declared.values.Held.TheVariants as held
 use Rattle.stapl_meaning.specs.Values.{Lookup}
 
 -- What a statement finds: variables by their names, the place of a label by its name, the place where the procedure of
--- a number begins, the number of a procedure by its name, and the place behind the statement.
+-- a number begins, the number of a procedure by its name, and the place after the statement.
 pub record Scope : Type 0 where
   pub look : Lookup
   pub label : List ℕ → ℕ
@@ -29,7 +29,7 @@ pub record Scope : Type 0 where
 
 -- A program as it plays.
 
--- the DATA block that is open behind a statement, if this one was open before it
+-- the DATA block that is open after a statement, if this one was open before it
 abbrev pub data_behind : Option (List ℕ) → BodyTree → Option (List ℕ)
 data_behind now (data_block name) = Some name
 data_behind now end_data = None
@@ -125,7 +125,7 @@ abbrev pub procedure_number : List StmtTree → List ℕ → ℕ
 procedure_number [] name = 0
 procedure_number (st ∷ rest) name = procedure_before st.body name (procedure_number rest name)
 
--- the place behind the beginning of the procedure of a number
+-- the place after the beginning of the procedure of a number
 abbrev pub entry_from : List StmtTree → ℕ → ℕ
 entry_from [] p = 0
 entry_from (st ∷ rest) zero = suc (if begins_procedure st.body then 0 else entry_from rest zero)

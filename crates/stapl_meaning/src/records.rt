@@ -9,7 +9,7 @@ pub struct Loop {
     pub limit: i32,
     /// What NEXT adds to the variable: not 0.
     pub step: i32,
-    /// Where its body begins: the place behind FOR.
+    /// Where its body begins: the place after FOR.
     pub place: u32,
 }
 
@@ -18,7 +18,7 @@ pub struct Loop {
 pub enum Record {
     /// A value, by PUSH. A Boolean is 0 or 1.
     Pushed(i32),
-    /// The place behind a CALL.
+    /// The place after a CALL.
     Called(u32),
     /// A loop, by FOR.
     Looped(Loop),

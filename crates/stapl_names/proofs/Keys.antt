@@ -59,7 +59,7 @@ module _ {K V : Type 0} where
         by true h = ap (λ b. lookup (eq k) (if b then es else es ++ (x ∷ []))) h ∙ there (lookup (eq k) es) refl (eq k x.0) refl h
         by false h = ap (λ b. lookup (eq k) (if b then es else es ++ (x ∷ []))) h ∙ lookup_append (eq k) es (x ∷ [])
 
-    -- what is put behind entries is found by its first entry, unless its key was there
+    -- what is put after entries is found by its first entry, unless its key was there
     pub found_behind : (k : K) (xs es : List (K × V)) → lookup (eq k) (firsts_behind eq es xs) ≡ option_or (lookup (eq k) es) (lookup (eq k) xs)
     found_behind k [] es = or_none (lookup (eq k) es)
     found_behind k (x ∷ xs) es =

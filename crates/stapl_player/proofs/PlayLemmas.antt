@@ -1,4 +1,4 @@
--- The first clocks and the run behind them are one play.
+-- The first clocks and the run after them are one play.
 use Rattle.std.proofs.Common.{◌≡◌, ◌≤◌, ◌+◌, ℕ, Bool, List, [], ◌++◌, map, Option, sym, ap, subst, ◌∙◌, arith, append_assoc}
 use Rattle.std.proofs.lemmas.List.{map-append}
 use Rattle.tap_states.specs.declared.Tap.TheVariants.{Reset}

@@ -94,7 +94,7 @@ pub struct Scan {
 }
 
 /// A statement without its label (JESD71, statements). The fields stand in the written order. A string is kept by the
-/// bytes between its quotes, a state by its number. What would make the largest variants larger lies behind a pointer,
+/// bytes between its quotes, a state by its number. What would make the largest variants larger lies after a pointer,
 /// so that each statement takes little memory.
 #[derive(Drop)]
 pub enum Body {
@@ -102,7 +102,7 @@ pub enum Body {
     Note(ItemList<u8>, ItemList<u8>),
     /// ACTION: its name, its text, and its items.
     Action(Box<Name>, Option<ItemList<u8>>, Box<ItemList<Item>>),
-    /// PROCEDURE: its name, and the names behind USES.
+    /// PROCEDURE: its name, and the names after USES.
     Procedure(Name, Option<Box<ItemList<Name>>>),
     /// DATA.
     Data(Name),
@@ -205,6 +205,6 @@ impl Body {
 pub struct Stmt {
     /// The name of the label before it.
     pub label: Option<Box<Name>>,
-    /// The statement behind the label.
+    /// The statement after the label.
     pub body: Body,
 }

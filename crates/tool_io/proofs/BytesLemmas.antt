@@ -40,7 +40,7 @@ moves_all m = m.written ∙ ap (then_bytes _) (sym (m.parts ∙ append-nil m.fro
 pub moves_of_all : {a b : Option (List ℕ)} {xs : List ℕ} → b ≡ then_bytes a xs → Moves a xs b []
 moves_of_all {xs = xs} e = record { front = xs; parts = sym (append-nil xs); written = e }
 
--- more bytes behind, which stay
+-- more bytes after, which stay
 pub moves_with : {a b : Option (List ℕ)} {xs ys : List ℕ} (zs : List ℕ) → Moves a xs b ys → Moves a (xs ++ zs) b (ys ++ zs)
 moves_with zs m = record {
   front = m.front;

@@ -53,7 +53,7 @@ put_then_front {a = a} {xs = xs} {ys = ys} first second = record {
   went = second.went ∙ ap (λ (v : Option (List ℕ)). then_bytes v second.front) first.went ∙ then_bytes-twice _ first.front second.front;
 }
 
--- more text that was to be put behind
+-- more text that was to be put after
 pub front_with : {K : Type 0} {written : K → Option (List ℕ)} {a b : Lines K} {xs : List ℕ} (more : List ℕ) →
     PutsFront written a xs b → PutsFront written a (xs ++ more) b
 front_with {a = a} {xs = xs} more m = record {
@@ -126,3 +126,10 @@ pub put_then_put : {K T E : Type 0} {written : K → Option (List ℕ)} {a b c :
     Puts written a xs b → HasPut written b ys c r → HasPut written a (xs ++ ys) c r
 put_then_put (Ok x) first second = record { ok = put_then first second.ok; front = tt }
 put_then_put (Err e) first second = record { ok = tt; front = put_then_front first second.front }
+
+-- the same text
+pub puts_same : {K : Type 0} {written : K → Option (List ℕ)} {a b : Lines K} {xs ys : List ℕ} → xs ≡ ys → Puts written a xs b → Puts written a ys b
+puts_same {written = written} {a = a} {b = b} e m = subst (λ (zs : List ℕ). Puts written a zs b) e m
+
+pub front_same : {K : Type 0} {written : K → Option (List ℕ)} {a b : Lines K} {xs ys : List ℕ} → xs ≡ ys → PutsFront written a xs b → PutsFront written a ys b
+front_same {written = written} {a = a} {b = b} e m = subst (λ (zs : List ℕ). PutsFront written a zs b) e m

@@ -51,7 +51,7 @@ impl<'a, K: Sink> Lines<'a, K> {
         }
     }
 
-    /// Puts the bytes behind all that was put before. The sink is not touched while all that is gathered fits into
+    /// Puts the bytes after all that was put before. The sink is not touched while all that is gathered fits into
     /// 4,096 bytes.
     ///
     /// `Failed` as of the sink.

@@ -1,9 +1,8 @@
 //! What the tool answers to its words, over a store and a sink in memory.
 use board_text::BoardReason;
-use chain_sim::is_rack;
 use code_files::CodeReason;
-use dev_card::{Device, MOST_DEVICES};
-use dev_kinds::{Flash, Plain, Regs};
+use dev_card::Device;
+use device_rack::fill_rack;
 use play_status::Status;
 use play_tool::run_tool;
 use play_words::{Mode, read_words};
@@ -40,14 +39,7 @@ fn answer(
     )?;
     let mut out = MemSink::new(alloc, 1000, bite.max(1), vec![in alloc; failing]?)?;
     let mut rack: Vec<Box<dyn Device>> = Vec::new(alloc);
-    for _place in 0..MOST_DEVICES {
-        rack.push(Box::new(alloc, Plain::unfitted())?)?;
-        rack.push(Box::new(alloc, Regs::unfitted())?)?;
-        rack.push(Box::new(alloc, Flash::unfitted())?)?;
-    }
-    if !is_rack(&rack) {
-        return Err(Fail::from("no rack"));
-    }
+    fill_rack(alloc, &mut rack)?;
     let status = run_tool(alloc, &owned, &mut shelf, &mut rack, &mut out);
     Ok((status, out.written().to_vec(alloc)?))
 }

@@ -53,7 +53,7 @@ begins_with {front = front} more b = record {
   is = ap (λ (v : List ℕ). v ++ more) b.is ∙ append_assoc front b.more more;
 }
 
--- more text that was to be put behind
+-- more text that was to be put after
 pub front_with : {K : Type 0} {shown : K → Shown} {a b : K} {xs : List ℕ} (more : List ℕ) →
     PutsFront shown a xs b → PutsFront shown a (xs ++ more) b
 front_with {shown = shown} {a = a} {xs = xs} more m = record {

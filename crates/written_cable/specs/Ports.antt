@@ -41,7 +41,7 @@ pub record IsKept {C O : Type 0} (breakage : PinCable C O → Breakage) (line_fa
   pub line_cause : HasPartCause line (port_line_faults line_faults pin_faults) (IsPortLineLast is_line_last is_pin_last) breakage old new
   pub pins_cause : HasPartCause pins (port_pin_faults faults) (IsPortPinLast is_last) breakage old new
 
--- the state and the chain are those behind the run, where it has an ending
+-- the state and the chain are those after the run, where it has an ending
 abbrev pub LeavesSo : Run → Option Ending → State → Chain → Type 0
 LeavesSo run None s k = Unit {0}
 LeavesSo run (Some ending) s k = (run.state ≡ s) × (run.chain ≡ k)
@@ -62,7 +62,7 @@ module _ {C O : Type 0} (breakage : PinCable C O → Breakage) (board : C → Op
     pub clocks_are : clocks_in (signals_of events) ≡ clocks
     pub front : PutsFront shown (lines_of old) (bytes_of (writes_pins old) (digits_of old) events) (lines_of new)
 
-  -- the chain before clocks that were made, whatever is still to be heard behind them
+  -- the chain before clocks that were made, whatever is still to be heard after them
   abbrev pub chain_before : PinCable C O → List Clock → List Bool → Chain
   chain_before port clocks more = port_chain board port (tdos clocks ++ more)
 

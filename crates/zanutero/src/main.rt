@@ -1,9 +1,8 @@
 //! The tool over the real files and the real output.
 #![tactic(auto)]
 
-use chain_sim::is_rack;
-use dev_card::{Device, MOST_DEVICES};
-use dev_kinds::{Flash, Plain, Regs};
+use dev_card::Device;
+use device_rack::fill_rack;
 use play_status::Status;
 use std::alloc::AllocError;
 use std::process::ExitCode;
@@ -14,19 +13,11 @@ use tool_io::{FileShelf, StdSink};
 /// The exit code where the words cannot be had: there is no memory for them, or one is not UTF-8.
 const NO_WORDS: u8 = 11;
 
-// Makes the devices of the rack, of each kind as many as a board may have, and runs the command with them.
+// Makes the devices of the rack, and runs the command with them.
 fn run(rt: &HostRuntime, words: &[String]) -> Result<Status, AllocError> {
     let alloc = rt.alloc();
     let mut rack: Vec<Box<dyn Device>> = Vec::new(alloc);
-    for _place in 0..MOST_DEVICES {
-        rack.push(Box::new(alloc, Plain::unfitted())?)?;
-        rack.push(Box::new(alloc, Regs::unfitted())?)?;
-        rack.push(Box::new(alloc, Flash::unfitted())?)?;
-    }
-    // It is one, which tells the proofs so.
-    if !is_rack(&rack) {
-        return Err(AllocError);
-    }
+    fill_rack(alloc, &mut rack)?;
     let mut shelf = FileShelf::new(rt);
     let mut out = StdSink::new(io::writer(rt));
     Ok(run_command(alloc, words, &mut shelf, &mut rack, &mut out))

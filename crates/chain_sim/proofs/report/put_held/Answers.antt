@@ -1,8 +1,7 @@
 use Rattle.std.proofs.Common.{List, ℕ, ◌≤◌, length, ap, sym, ◌∙◌, subst}
 use Rattle.dev_card.specs.declared.desc.RegDesc.{RegDesc}
 use Rattle.tool_io.specs.Lines.{HasPut}
-use Rattle.tool_io.proofs.PutLemmas.{puts_nothing, put_done}
-use Rattle.chain_sim.proofs.PutParts.{puts_same}
+use Rattle.tool_io.proofs.PutLemmas.{puts_nothing, put_done, puts_same}
 use Rattle.chain_sim.proofs.ReportCards.{plain_held, registers_fit, registers_held, memory_fits, memory_held}
 use Rattle.chain_sim.proofs.report.put_held.Goals as goal
 

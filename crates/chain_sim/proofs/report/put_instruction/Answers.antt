@@ -1,7 +1,6 @@
 use Rattle.base.specs.Bits.{low_bits}
 use Rattle.bit_list.specs.Hexadecimal.{all_hex_digits}
-use Rattle.tool_io.proofs.PutLemmas.{put_then, put_then_front, front_with, put_failed, put_done}
-use Rattle.chain_sim.proofs.PutParts.{puts_same, front_same}
+use Rattle.tool_io.proofs.PutLemmas.{put_then, put_then_front, front_with, put_failed, put_done, puts_same, front_same}
 use Rattle.chain_sim.proofs.ReportCards.{instruction_fits, instruction_shown}
 use Rattle.chain_sim.proofs.report.put_instruction.Goals as goal
 

@@ -1,8 +1,7 @@
 use Rattle.std.proofs.Common.{[], ◌∷◌}
 use Rattle.dev_card.specs.Sound.{card_in}
-use Rattle.tool_io.proofs.PutLemmas.{put_then, put_then_front, front_with, put_failed, put_done}
+use Rattle.tool_io.proofs.PutLemmas.{put_then, put_then_front, front_with, put_failed, put_done, puts_same, front_same}
 use Rattle.chain_sim.specs.Reports.{instruction_in, held_in}
-use Rattle.chain_sim.proofs.PutParts.{puts_same, front_same}
 use Rattle.chain_sim.proofs.ReportCards.{line_shown}
 use Rattle.chain_sim.proofs.report.put_line.Goals as goal
 

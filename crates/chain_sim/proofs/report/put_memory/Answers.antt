@@ -1,9 +1,8 @@
 use Rattle.std.proofs.Common.{drop}
 use Rattle.dev_card.specs.Reports.{words_text}
 use Rattle.dev_card.specs.Sound.{card_in}
-use Rattle.tool_io.proofs.PutLemmas.{put_then, put_then_front, front_with, put_failed, put_done}
+use Rattle.tool_io.proofs.PutLemmas.{put_then, put_then_front, front_with, put_failed, put_done, puts_same, front_same}
 use Rattle.chain_sim.specs.Reports.{cells_in}
-use Rattle.chain_sim.proofs.PutParts.{puts_same, front_same}
 use Rattle.chain_sim.proofs.ReportCards.{memory_parts}
 use Rattle.chain_sim.proofs.report.put_memory.Goals as goal
 
