@@ -1,5 +1,5 @@
-//! Lists and stacks that contracts see as lists, numbers as lists of bits and their lowest bits, how decimal numbers are
-//! spelled, and a count of steps.
+//! Lists and stacks that contracts see as lists, numbers as lists of bits and their lowest bits, how decimal numbers
+//! are spelled, and a count of steps.
 #![tactic(auto)]
 
 mod decimals;
