@@ -4,9 +4,9 @@ use Rattle.std.proofs.lemmas.List.{map-append}
 use Rattle.std.specs.Option.{option_map}
 use Rattle.dev_card.specs.declared.desc.Kind.{Kind}
 use Rattle.dev_card.specs.Card.{Card}
-use Rattle.dev_card.specs.Board.{Clock, Input, clocks_of, board_after}
+use Rattle.dev_card.specs.Board.{Clock, clocks_of, board_after}
 use Rattle.dev_card.specs.Sound.{AllSound, SoundCard, card_in}
-use Rattle.dev_card.proofs.ScanLines.{after-append, clocks-append, after_none, after_both}
+use Rattle.dev_card.proofs.ScanLines.{clocks-append, after_none, after_both}
 use Rattle.scan_paths.specs.Cables.{Signal, clocks_in, input_of}
 use Rattle.scan_paths.proofs.Signals.{clocks_in_both}
 use Rattle.chain_sim.specs.Places.{inside_or_unfitted, joined, cards_at}

@@ -1,15 +1,11 @@
 -- On a code and what is chosen of it.
-use Rattle.std.proofs.Common.{◌≡◌, ◌∙◌, ◌≤◌, ℕ, zero, suc, pos, true, false, List, [], ◌∷◌, map, Option, Some, refl, sym, ap, subst, arith}
-use Rattle.std.specs.Prelude.{All}
-use Rattle.std.proofs.lemmas.List.{length-replicate}
-use Rattle.std.proofs.lemmas.List.Elements.{All-head, All-tail}
+use Rattle.std.proofs.Common.{◌≡◌, ◌∙◌, ℕ, true, List, Option, Some, refl, sym, ap, subst}
 use Rattle.stapl_meaning.specs.Choices.{Choice, chosen}
 use Rattle.stapl_meaning.specs.Plays.{Run}
-use Rattle.stapl_code.specs.declared.raw.VarDef.{VarDef}
 use Rattle.stapl_code.specs.declared.raw.CodeLists.{CodeLists}
-use Rattle.stapl_code.specs.Ranges.{IsVariable, IsInRange}
-use Rattle.stapl_code.specs.Safe.{Fits, AllFit}
-use Rattle.stapl_instructions.specs.Zeros.{zero_of, zeros_of_code}
+use Rattle.stapl_code.specs.Ranges.{IsInRange}
+use Rattle.stapl_code.specs.Safe.{AllFit}
+use Rattle.stapl_instructions.specs.Zeros.{zeros_of_code}
 use Rattle.stapl_player.specs.Choices.{code_choice}
 use Rattle.dev_card.specs.declared.desc.Desc.{Desc}
 use Rattle.dev_card.specs.Sound.{SoundCard}

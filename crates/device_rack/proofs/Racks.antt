@@ -1,6 +1,5 @@
 -- A rack with a device of each kind for each device of a board, by one device of each kind more.
-use Rattle.std.proofs.Common.{◌≡◌, ℕ, zero, suc, List, [], ◌∷◌, ◌++◌, refl, ap}
-use Rattle.dev_card.specs.declared.desc.Kind.{Kind}
+use Rattle.std.proofs.Common.{◌≡◌, ℕ, zero, suc, [], ◌∷◌, ◌++◌, refl, ap}
 use Rattle.dev_card.specs.declared.desc.Kind.TheVariants.{Plain, Regs, Flash}
 use Rattle.chain_sim.specs.Rack.{rack_kinds}
 

@@ -1,7 +1,6 @@
 -- That an instruction was loaded is that a scan of the instruction registers was made, and no clock since led into
 -- reset.
 use Rattle.std.proofs.Common.{◌≡◌, ◌≢◌, ◌<◌, ◌||◌, ◌⊎◌, inl, inr, Bool, true, false, List, [], ◌∷◌, ◌++◌, length, replicate, refl, sym, ap, subst, ◌∙◌, arith, ℕ, suc, zero, cond}
-use Rattle.std.proofs.lemmas.List.{length-append}
 use Rattle.std.proofs.lemmas.Bool.{false≢true}
 use Rattle.tap_states.specs.declared.Tap.{Tap}
 use Rattle.tap_states.specs.declared.Tap.TheVariants.{Reset, Idle, DrPause, IrPause}
@@ -9,7 +8,6 @@ use Rattle.tap_states.specs.Tap.{next_of, is_stable_state}
 use Rattle.tap_states.specs.Path.{path_of}
 use Rattle.dev_card.specs.Board.{Input}
 use Rattle.dev_card.specs.Line.{shift_state, exit_state, pause_state}
-use Rattle.dev_card.specs.Padding.{program_bits}
 use Rattle.dev_card.specs.Clocks.{with_zero, rest_tms, entry_inputs, shift_inputs, pause_inputs, stop_inputs}
 use Rattle.dev_card.specs.Scans.{BoardScan, scan_bits, inputs_of_scan}
 use Rattle.padded_plays.specs.QuietClocks.{loaded_at, loaded_after}

@@ -1,10 +1,9 @@
 -- The inputs of moves and stays, clock by clock, and the states to which they and five ones lead.
 use Rattle.std.proofs.Common.{◌≡◌, ◌<◌, ◌≤◌, ◌+◌, ◌-◌, ◌/◌, ◌%◌, ℕ, suc, zero, nat_eq, Bool, true, false, List, [], ◌∷◌, replicate, Option, Some, None, refl, sym, ap, subst, ◌∙◌, arith}
-use Rattle.std.proofs.lemmas.Bool.{false≢true}
 use Rattle.std.specs.Option.{option_map}
 use Rattle.base.specs.Bits.{low_bits}
 use Rattle.tap_states.specs.declared.Tap.{Tap}
-use Rattle.tap_states.specs.declared.Tap.TheVariants.{Reset, Idle, DrPause, IrPause}
+use Rattle.tap_states.specs.declared.Tap.TheVariants.{Reset}
 use Rattle.tap_states.specs.Tap.{next_of, is_stable_state}
 use Rattle.tap_states.specs.Path.{walk, five_ones}
 use Rattle.dev_card.specs.Card.{Card}

@@ -14,7 +14,7 @@ use Rattle.dev_card.specs.Sound.{AllSound}
 use Rattle.dev_card.specs.Scans.{BoardScan, scan_bits, inputs_of_scan, board_after_scan, captured_bits, captured_from, IsScanOfRun, IsScanOfEachRun}
 use Rattle.dev_card.proofs.Reaching.{steps_in, entry_leads}
 use Rattle.dev_card.proofs.ScanLines.{scans_as_line, clocks-append}
-use Rattle.dev_card.proofs.Scanning.{inputs_of_whole, captured_is_seen, length_of_padded, scan_of_run, some_bits}
+use Rattle.dev_card.proofs.Scanning.{inputs_of_whole, captured_is_seen, scan_of_run, some_bits}
 use Rattle.scan_paths.specs.Cables.{Signal, HasMade, HasMadeFront, WhereTold}
 use Rattle.scan_paths.specs.Scans.{HasSeen, HasScanned, HasScannedFront}
 use Rattle.scan_paths.proofs.CallsInARow.{made_both, front_longer, front_after}

@@ -5,12 +5,10 @@ use Rattle.std.proofs.lemmas.Bool.{cases_lt}
 use Rattle.stapl_lexer.specs.declared.piece.Piece.{Piece}
 use Rattle.stapl_lexer.specs.declared.reason.Reason.{Reason}
 use Rattle.stapl_lexer.specs.Pieces.{IsCut}
-use Rattle.stapl_lexer.specs.Reasons.{reason_number}
 use Rattle.stapl_lexer.proofs.PieceLemmas.{cut_one_way}
 use Rattle.stapl_syntax.specs.Trees.{StmtTree}
 use Rattle.stapl_syntax.specs.Programs.{IsReadAs, AreReadAs, line_of_index}
 use Rattle.stapl_syntax.specs.Programs.{SmallestReasonAt, NoneBefore, IsProgram, FirstFault, is_too_long, is_first}
-use Rattle.stapl_lexer.proofs.ReasonLemmas.{same_number}
 use Rattle.stapl_grammar.proofs.LawLemmas.{one_piece_statement}
 use Rattle.stapl_syntax.proofs.ReasonLemmas.{one_smallest_reason_at}
 

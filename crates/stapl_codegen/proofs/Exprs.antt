@@ -1,7 +1,6 @@
 -- The code of an expression leaves its value, and that of operands leaves theirs.
-use Rattle.std.proofs.Common.{◌≡◌, ℕ, zero, suc, ◌+◌, List, [], ◌∷◌, ◌++◌, length, Option, Some, None, arith, refl, ap, ◌∙◌}
+use Rattle.std.proofs.Common.{◌≡◌, ℕ, zero, suc, List, [], ◌∷◌, length, Option, Some, None, refl, ap, ◌∙◌}
 use Rattle.std.specs.Prelude.{ℤ, pos, negsuc, Bool, slice_get}
-use Rattle.std.proofs.lemmas.List.{append-nil}
 use Rattle.stapl_lexer.specs.declared.terminal.BinOp.{BinOp}
 use Rattle.stapl_lexer.specs.declared.terminal.BinOp.TheVariants as operators
 use Rattle.stapl_syntax.specs.declared.signs.UnOp.{UnOp}
@@ -19,7 +18,7 @@ use Rattle.stapl_meaning.specs.States.{State, Happened, Broke, Lacks}
 use Rattle.stapl_code.specs.declared.instr.Instr.{Instr}
 use Rattle.stapl_code.specs.declared.instr.Instr.TheVariants.{LoadAt, Unary, Binary, ToInt}
 use Rattle.stapl_code.specs.declared.instr.Source.TheVariants as sources
-use Rattle.stapl_code.specs.Machine.{Constants, PutsTwo, puts, kept, on_made, continues, stretch, taken, taken_onto}
+use Rattle.stapl_code.specs.Machine.{Constants, PutsTwo, puts, kept, on_made, continues, stretch}
 use Rattle.stapl_codegen.specs.Emit.{operator_number, sign_number, absolute_number, literal_code, test_code, expr_code, int_code, operands_code}
 use Rattle.stapl_code.proofs.Heads.{head_of}
 use Rattle.stapl_code.proofs.PutOn.{onto}

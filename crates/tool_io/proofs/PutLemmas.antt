@@ -1,5 +1,5 @@
 -- On calls of `Lines`, one after another.
-use Rattle.std.proofs.Common.{◌≡◌, ℕ, ◌+◌, ◌<◌, length, take, drop, get_or, add-one, List, [], ◌∷◌, ◌++◌, sym, ap, ◌∙◌, append_assoc, Option, Result, Ok, Err}
+use Rattle.std.proofs.Common.{◌≡◌, ℕ, ◌+◌, ◌<◌, length, take, drop, get_or, add-one, List, [], ◌∷◌, ◌++◌, sym, ap, ◌∙◌, append_assoc, Option, Result, Ok, Err, subst}
 use Rattle.std.specs.Prelude.{IsErr}
 use Rattle.std.specs.List.{flat_map}
 use Rattle.std.proofs.Math.Seq.{take-suc}

@@ -1,10 +1,10 @@
 -- The first clocks of a play, one after another.
-use Rattle.std.proofs.Common.{◌≡◌, ◌≤◌, ◌+◌, ℕ, Bool, true, false, List, [], ◌∷◌, ◌++◌, length, map, Option, Some, None, append_assoc, refl, sym, ap, ◌∙◌, arith, length-append}
+use Rattle.std.proofs.Common.{◌≡◌, ◌≤◌, ◌+◌, ℕ, Bool, true, false, List, [], ◌∷◌, ◌++◌, length, map, Option, Some, append_assoc, refl, sym, ap, ◌∙◌, arith, length-append}
 use Rattle.std.proofs.lemmas.List.{append-nil, map-append}
 use Rattle.std.specs.Option.{option_map}
 use Rattle.dev_card.specs.Card.{Card}
 use Rattle.dev_card.specs.Board.{Clock, Input, clocks_of, board_after}
-use Rattle.dev_card.proofs.ScanLines.{after-append, clocks-append, after_none, after_both}
+use Rattle.dev_card.proofs.ScanLines.{clocks-append, after_none, after_both}
 use Rattle.scan_paths.specs.Cables.{Signal, Pulses, pulsed, input_of, IsClocked}
 use Rattle.scan_paths.proofs.Way.{IsUnderWay}
 use Rattle.dev_card.specs.FarEnds.{FarEnd, Told, Heard, far_clocks}
