@@ -6,8 +6,8 @@ use Rattle.stapl_syntax.specs.Names.{Names, Numbered, numbered, inside_behind, i
 use Rattle.stapl_syntax.specs.Rules as rules
 use Rattle.stapl_syntax.specs.Rules.{is_action, is_block, is_crc, in_data_block, known_from, place_after, Facts}
 use Rattle.stapl_checker.specs.declared.course.Course.{Course}
-use Rattle.stapl_checker.specs.declared.walk.Walk.{Walk}
-use Rattle.stapl_checker.specs.declared.walk.Walk.TheVariants.{Stops, Ends}
+use Rattle.stapl_checker.specs.declared.walk.Walked.{Walked}
+use Rattle.stapl_checker.specs.declared.walk.Walked.TheVariants.{Stops, Ends}
 use Rattle.stapl_checker.specs.Counts.{totals_of, totals_behind}
 use Rattle.stapl_checker.specs.Places.{place_of}
 use Rattle.stapl_checker.specs.Scopes.{named, IsInside}
@@ -95,6 +95,6 @@ pub record ComesToEnd (names : Names) (statements : List StmtTree) (c : Course) 
   pub none : NoneBroken names statements (length statements)
   pub course : IsCourse names (numbered_trees statements) (length statements) c
 
-abbrev pub IsWalk : Names → List StmtTree → Walk → Type 0
-IsWalk names statements (Stops i reason) = StopsAt names statements i reason
-IsWalk names statements (Ends c) = ComesToEnd names statements c
+abbrev pub IsWalked : Names → List StmtTree → Walked → Type 0
+IsWalked names statements (Stops i reason) = StopsAt names statements i reason
+IsWalked names statements (Ends c) = ComesToEnd names statements c

@@ -11,7 +11,7 @@ ghost use Rattle.stapl_checker.specs.Firsts.{front_of, first_by, reason_of_cours
 
 use crate::course::Course;
 use crate::reading::{Reading, Unread};
-use crate::walk::{Walk, unless_late, walk};
+use crate::walk::{Walked, unless_late, walk};
 use stapl_lexer::Reason;
 use stapl_names::Names;
 
@@ -76,7 +76,7 @@ pub(crate) fn first_fault(names: &Names, reading: &Reading) -> Option<Fault>
 {
     let statements = &reading.statements[..front_of(reading)];
     match walk(names, statements) {
-        Walk::Stops(index, reason) => Some(Fault { index, reason }),
-        Walk::Ends(course) => fault_behind(course, reading.unread, statements.len() as u32),
+        Walked::Stops(index, reason) => Some(Fault { index, reason }),
+        Walked::Ends(course) => fault_behind(course, reading.unread, statements.len() as u32),
     }
 }

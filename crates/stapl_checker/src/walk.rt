@@ -3,7 +3,7 @@ ghost use Rattle.std.specs.Prelude.{◌≡◌, ◌≤◌, ◌<◌, ◌+◌, ◌-
 ghost use Rattle.stapl_lexer.specs.Pieces.{text_limit};
 ghost use Rattle.stapl_syntax.specs.Trees.{stmt_tree};
 ghost use Rattle.stapl_checker.specs.Scopes.{IsInside};
-ghost use Rattle.stapl_checker.specs.Courses.{BeginsListed, facts_in, IsWalk};
+ghost use Rattle.stapl_checker.specs.Courses.{BeginsListed, facts_in, IsWalked};
 ghost use Rattle.stapl_checker.specs.Judgements.{rule_broken, unless_late};
 
 use crate::course::Course;
@@ -17,7 +17,7 @@ pub(crate) const PIECE_LIMIT: usize = 100_000;
 
 /// What the walk finds.
 #[derive(Clone, Copy)]
-pub(crate) enum Walk {
+pub(crate) enum Walked {
     /// The statement with this index breaks a rule: its smallest reason.
     Stops(u32, Reason),
     /// No statement does: what is kept at the end.
@@ -48,18 +48,18 @@ fn reason_here(names: &Names, course: Course, index: u32, statement: &Stmt) -> O
 }
 
 /// Goes through the first statements of a program.
-pub(crate) fn walk(names: &Names, statements: &[Stmt]) -> Walk
+pub(crate) fn walk(names: &Names, statements: &[Stmt]) -> Walked
     requires few { length statements.now ≤ text_limit + 1 }
     requires listed { All (λ st. BeginsListed names.now st.body) (map stmt_tree statements.now) }
-    ensures { IsWalk names.now (map stmt_tree statements.now) result }
+    ensures { IsWalked names.now (map stmt_tree statements.now) result }
 {
     let mut course = Course::first();
     for (i, statement) in statements.iter().enumerate() {
         match reason_here(names, course, i as u32, statement) {
-            Some(reason) => return Walk::Stops(i as u32, reason),
+            Some(reason) => return Walked::Stops(i as u32, reason),
             None => {}
         }
         course = course.after(names, &statement.body);
     }
-    Walk::Ends(course)
+    Walked::Ends(course)
 }
