@@ -32,7 +32,7 @@ at_next i x y z ks m =
     let e : 3 * suc i + m ≡ suc (suc (suc (3 * i + m))) = omega arith in
     ap (slice_get (x ∷ y ∷ z ∷ ks)) e
 
-kind_in_rack : (n i : ℕ) (k : Kind) → i < n → slice_get (rack_kinds n) (3 * i + kind_number k) ≡ Some k
+pub kind_in_rack : (n i : ℕ) (k : Kind) → i < n → slice_get (rack_kinds n) (3 * i + kind_number k) ≡ Some k
 kind_in_rack zero i k h = absurd (omega arith)
 kind_in_rack (suc n) zero Plain h = refl
 kind_in_rack (suc n) zero Regs h = refl

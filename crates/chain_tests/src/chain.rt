@@ -14,7 +14,7 @@ ghost use Rattle.chain_sim.specs.Rack.{IsRack};
 use base::ItemList;
 use chain_sim::{Chain, fit_board};
 use dev_card::{Desc, Device, FlashDesc, IdCode, Kind, RegDesc};
-use device_rack::fill_rack;
+use device_rack::{fill_rack, is_rack};
 use scan_paths::{Cable, move_to, reset_chain};
 use stapl_lexer::Name;
 use std::alloc::{AllocError, Global};
@@ -232,7 +232,8 @@ fn clocks_chains_as_the_standard_says(rt: HostRuntime) -> Result<(), Fail> {
         let descs = board(alloc, name, identities)?;
         assert!(rt; !descs.is_empty() && descs.len() <= 16);
         let mut rack: Vec<Box<dyn Device>> = Vec::new(alloc);
-        fill_rack(alloc, &mut rack)?;
+        fill_rack!(alloc, rack);
+        assert!(rt; is_rack(&rack));
         let same = fits_and_gives(alloc, &mut rack, &descs, clocks)?;
         assert!(rt; same, "{identities:?}");
     }

@@ -6,7 +6,7 @@ ghost use Rattle.chain_sim.specs.Rack.{IsRack};
 use crate::chain::board;
 use chain_sim::{fit_board, put_report};
 use dev_card::{Desc, Device};
-use device_rack::fill_rack;
+use device_rack::{fill_rack, is_rack};
 use stapl_lexer::Name;
 use std::alloc::Global;
 use std::test::Fail;
@@ -38,7 +38,8 @@ fn reports_each_kind_after_power_up(rt: HostRuntime) -> Result<(), Fail> {
     let alloc = rt.alloc();
     let name = Name::read(b"U1").ok_or("no name")?;
     let mut rack: Vec<Box<dyn Device>> = Vec::new(alloc);
-    fill_rack(alloc, &mut rack)?;
+    fill_rack!(alloc, rack);
+    assert!(rt; is_rack(&rack));
     let descs = board(alloc, name, &[0x8000_0003, 0, 0])?;
     assert!(rt; !descs.is_empty() && descs.len() <= 16);
     let text = "D U1 ir=2\nD U1 ir=F U1=00\nD U1 ir=F addr=0000\n";

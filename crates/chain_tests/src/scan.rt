@@ -7,7 +7,7 @@ use crate::chain::board;
 use bit_list::{Bits, BitsRefused, MOST_DIGITS};
 use chain_sim::{Chain, fit_board};
 use dev_card::{Desc, Device};
-use device_rack::fill_rack;
+use device_rack::{fill_rack, is_rack};
 use scan_paths::{BasePads, Pads, ScanPlan, scan};
 use stapl_lexer::Name;
 use std::alloc::Global;
@@ -143,7 +143,8 @@ fn captures_at_the_places_of_the_data(rt: HostRuntime) -> Result<(), Fail> {
         let descs = board(alloc, name, case.identities)?;
         assert!(rt; !descs.is_empty() && descs.len() <= 16);
         let mut rack: Vec<Box<dyn Device>> = Vec::new(alloc);
-        fill_rack(alloc, &mut rack)?;
+        fill_rack!(alloc, rack);
+        assert!(rt; is_rack(&rack));
         assert!(rt;
             fits_and_scans(alloc, &mut rack, &descs, &case)?,
             "{}",

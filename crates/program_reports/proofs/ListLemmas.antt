@@ -28,3 +28,9 @@ pub items_put : {K A B : Type 0} {written : K → Option (List ℕ)} {a b : Line
 items_put {A = A} {written = written} {a = a} {b = b} text view items i le puts =
     subst (λ (t : List ℕ). Puts written a t b)
     (ap (λ (xs : List A). flat_map (λ x. text (view x)) xs) (take_all i items le) ∙ sym (flat_map-map text view items)) puts
+
+-- all items, each as it is
+pub all_put : {K A : Type 0} {written : K → Option (List ℕ)} {a b : Lines K} (text : A → List ℕ) (items : List A) (i : ℕ) →
+    length items ≤ i → Puts written a (flat_map text (take i items)) b → Puts written a (flat_map text items) b
+all_put {A = A} {written = written} {a = a} {b = b} text items i le puts =
+    subst (λ (t : List ℕ). Puts written a t b) (ap (λ (xs : List A). flat_map text xs) (take_all i items le)) puts

@@ -2,7 +2,7 @@
 use board_text::BoardReason;
 use code_files::CodeReason;
 use dev_card::Device;
-use device_rack::fill_rack;
+use device_rack::{fill_rack, is_rack};
 use play_status::Status;
 use play_tool::run_tool;
 use play_words::{Mode, read_words};
@@ -39,7 +39,10 @@ fn answer(
     )?;
     let mut out = MemSink::new(alloc, 1000, bite.max(1), vec![in alloc; failing]?)?;
     let mut rack: Vec<Box<dyn Device>> = Vec::new(alloc);
-    fill_rack(alloc, &mut rack)?;
+    fill_rack!(alloc, rack);
+    if !is_rack(&rack) {
+        return Err(Fail::from("no rack"));
+    }
     let status = run_tool(alloc, &owned, &mut shelf, &mut rack, &mut out);
     Ok((status, out.written().to_vec(alloc)?))
 }

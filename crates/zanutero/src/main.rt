@@ -2,7 +2,7 @@
 #![tactic(auto)]
 
 use dev_card::Device;
-use device_rack::fill_rack;
+use device_rack::{fill_rack, is_rack};
 use play_status::Status;
 use std::alloc::AllocError;
 use std::process::ExitCode;
@@ -17,7 +17,11 @@ const NO_WORDS: u8 = 11;
 fn run(rt: &HostRuntime, words: &[String]) -> Result<Status, AllocError> {
     let alloc = rt.alloc();
     let mut rack: Vec<Box<dyn Device>> = Vec::new(alloc);
-    fill_rack(alloc, &mut rack)?;
+    fill_rack!(alloc, rack);
+    // It is one, which tells the proofs so.
+    if !is_rack(&rack) {
+        return Err(AllocError);
+    }
     let mut shelf = FileShelf::new(rt);
     let mut out = StdSink::new(io::writer(rt));
     Ok(run_command(alloc, words, &mut shelf, &mut rack, &mut out))

@@ -1,0 +1,81 @@
+//! Explanations of words, a paragraph for each meaning of a word.
+ghost use Rattle.std.specs.Prelude.{◌≡◌, ◌++◌, ◌<◌, [], map, length, slice_index_or, IfOk};
+ghost use Rattle.std.specs.List.{flat_map};
+ghost use Rattle.tool_io.specs.Lines.{IsWhole, HasPut, KeepsLines};
+ghost use Rattle.tool_io.specs.Texts.{word_line};
+ghost use Rattle.stapl_lexer.specs.Reasons.{reason_name};
+ghost use Rattle.program_reports.specs.Explanations.{is_about, paragraphs, word_paragraphs, reason_paragraphs};
+
+use crate::explanation_texts::EXPLANATIONS;
+use stapl_lexer::Reason;
+use std::alloc::{AllocError, Global};
+use tool_io::{Failed, Lines, Sink, put_word_line};
+
+// Whether a line begins with these bytes.
+fn is_about(line: &str, head: &[u8]) -> bool
+    ensures { result ≡ is_about head.now line.now }
+{
+    line.as_bytes().starts_with(head)
+}
+
+// One text after another.
+fn joined(alloc: Global, front: &[u8], rest: &[u8]) -> Result<Vec<u8>, AllocError>
+    ensures { IfOk result (λ text. text.items ≡ front.now ++ rest.now) }
+{
+    let mut text = Vec::from_slice(alloc, front)?;
+    text.extend_from_slice(rest)?;
+    Ok(text)
+}
+
+// The lines of the table that begin with these bytes.
+fn lines_with(alloc: Global, head: &[u8]) -> Result<Vec<&'static str>, AllocError>
+    ensures { IfOk result (λ found. map (λ line. line.now) found.items ≡ paragraphs head.now) }
+{
+    EXPLANATIONS
+        .lines()
+        .filter(|line| is_about(line, head))
+        .collect(alloc)
+}
+
+/// What is said of a word, a paragraph for each of its meanings; none if nothing is said of it. The only error is want
+/// of memory.
+pub fn explanation(alloc: Global, word: &[u8]) -> Result<Vec<&'static str>, AllocError>
+    ensures { IfOk result (λ found. map (λ line. line.now) found.items ≡ word_paragraphs word.now) }
+{
+    let head = joined(alloc, word, b",")?;
+    lines_with(alloc, &head)
+}
+
+/// What is said of a reason against a program. The only error is want of memory.
+pub fn reason_explanation(alloc: Global, reason: Reason) -> Result<Vec<&'static str>, AllocError>
+    ensures { IfOk result (λ found. map (λ line. line.now) found.items ≡ reason_paragraphs reason) }
+{
+    let head = joined(alloc, reason.name(), b", of a program:")?;
+    lines_with(alloc, &head)
+}
+
+// Puts one of some paragraphs.
+fn put_paragraph<K: Sink>(lines: &mut Lines<K>, paragraphs: &[&str], i: usize) -> Result<(), Failed>
+    requires whole { IsWhole lines.old }
+    requires inside { i < length paragraphs.now }
+    ensures put { HasPut K.written lines.old
+        (word_line (slice_index_or (map (λ line. line.now) paragraphs.now) i [])) lines.new result }
+    ensures kept { KeepsLines K.faults K.is_last lines.old lines.new result }
+{
+    put_word_line(lines, paragraphs[i].as_bytes())
+}
+
+/// Puts paragraphs, a line for each.
+///
+/// `Failed` as of the sink.
+pub fn put_paragraphs<K: Sink>(lines: &mut Lines<K>, paragraphs: &[&str]) -> Result<(), Failed>
+    requires { IsWhole lines.old }
+    ensures put { HasPut K.written lines.old (flat_map word_line (map (λ line. line.now) paragraphs.now))
+        lines.new result }
+    ensures kept { KeepsLines K.faults K.is_last lines.old lines.new result }
+{
+    for i in 0..paragraphs.len() {
+        put_paragraph(lines, paragraphs, i)?;
+    }
+    Ok(())
+}
