@@ -1,21 +1,24 @@
 //! What a command does with its words.
-ghost use Rattle.std.specs.Prelude.{◌≡◌, map, string_bytes, OnOk, OnErr};
+ghost use Rattle.std.specs.Prelude.{◌≡◌, true, false, map, string_bytes, OnOk, OnErr, IsErrOf};
 ghost use Rattle.tool_io.specs.Bytes.{then_bytes, MovesFront};
 ghost use Rattle.tool_io.specs.Causes.{HasCause, HasRisen, NeverFalls, NoneFalls};
-ghost use Rattle.tool_answers.specs.Answers.{WroteFront};
+ghost use Rattle.tool_answers.specs.Answers.{Wrote, WroteFront, HasWritten};
 ghost use Rattle.chain_sim.specs.Rack.{IsRack};
-ghost use Rattle.named_files.specs.Files.{HasReadCause};
+ghost use Rattle.named_files.specs.Files.{HasReadCause, KeepsShelf};
 ghost use Rattle.play_status.specs.Statuses.{IsFault, ComesBeforeFitting};
 ghost use Rattle.play_tool.specs.Answers.{WordsAnswer};
-ghost use Rattle.play_tool.specs.ReadContents.{OfWords, IsReachedBy, AskForPlay, Answered};
-ghost use Rattle.tool_command.specs.Commands.{CommandAnswer};
+ghost use Rattle.play_tool.specs.ReadContents.{OfWords, AskForPlay, Answered};
+ghost use Rattle.tool_questions.specs.Questions.{ask_question, QuestionAnswer, OfQuestion, IsAskedOf};
+ghost use Rattle.tool_command.specs.Commands.{CommandAnswer, IsReachedByCommand, status_of};
 
 use crate::help::text_asked;
 use dev_card::Device;
 use play_status::Status;
 use play_tool::run_tool;
 use std::alloc::Global;
+use tool_answers::NoAnswer;
 use tool_io::{Failed, Lines, Shelf, Sink};
+use tool_questions::{answer_question, ask_question};
 
 // Writes a text and nothing else.
 #[tactic(auto, using(tool_io::proofs::PutLemmas::front_written, tool_io::proofs::PutLemmas::finish_front))]
@@ -28,6 +31,39 @@ fn write_text<K: Sink>(out: &mut K, text: &[u8]) -> Result<(), Failed>
     lines.put(text)?;
     lines.finish()?;
     Ok(())
+}
+
+// Answers a question.
+fn run_question<S: Shelf, K: Sink>(
+    alloc: Global,
+    words: &[String],
+    shelf: &mut S,
+    out: &mut K,
+) -> Result<Status, NoAnswer>
+    requires { ask_question (map string_bytes words.now) ≡ true }
+    ensures wrote { OfQuestion (S.told shelf.old) (map string_bytes words.now) (λ held.
+        HasWritten (QuestionAnswer held (map string_bytes words.now)) (K.written out.old) (K.written out.new) result) }
+    ensures shelf { KeepsShelf S.told S.faults S.is_last (IsAskedOf (map string_bytes words.now))
+        shelf.old shelf.new result }
+    ensures later { NeverFalls K.faults K.is_last out.old out.new }
+    ensures write { IsErrOf result NoAnswer.Write → HasRisen K.faults K.is_last out.old out.new }
+{
+    let mut lines = Lines::new(out);
+    let status = answer_question(alloc, words, shelf, &mut lines)?;
+    lines.finish()?;
+    Ok(status)
+}
+
+// The status of a run.
+fn status_of(result: Result<Status, NoAnswer>) -> Status
+    ensures { result ≡ status_of result.entry }
+{
+    match result {
+        Ok(status) => status,
+        Err(NoAnswer::Read) => Status::ReadFault,
+        Err(NoAnswer::Write) => Status::WriteFault,
+        Err(NoAnswer::Memory) => Status::Memory,
+    }
 }
 
 /// Writes the text that the words ask for, or does what they ask of the tool, with the devices of the rack. All that it
@@ -43,23 +79,32 @@ pub fn run_command<S: Shelf, K: Sink>(
 
     // Every status but those of faults and of want of memory is the answer's to the words and the contents of their
     // files, as they were read in this call; its text is written and nothing else, and the rack holds what the play
-    // leaves. With a store that tells its files the contents are what it holds.
-    ensures answer { (IsFault result → ⊥) → OfWords (S.told shelf.old) (map string_bytes words.now) (λ contents.
+    // leaves. With a store that tells its files the contents are what it holds. The same of a question, and of the file
+    // that it names.
+    ensures answer { (IsFault result → ⊥) → ask_question (map string_bytes words.now) ≡ false →
+        OfWords (S.told shelf.old) (map string_bytes words.now) (λ contents.
         Answered (CommandAnswer (WordsAnswer (map string_bytes words.now) (λ request. contents))
         (map string_bytes words.now)) (map string_bytes words.now) contents (K.written out.old) (K.written out.new)
         result (map fitted rack.new.items)) }
+    ensures question { (IsFault result → ⊥) → ask_question (map string_bytes words.now) ≡ true →
+        OfQuestion (S.told shelf.old) (map string_bytes words.now) (λ held.
+        Wrote (QuestionAnswer held (map string_bytes words.now)) (K.written out.old) (K.written out.new) result) }
 
     // A read fault comes only where the count of a file that the words name rose, of the program only if no told board
     // is refused, and then nothing is written.
     ensures read { result ≡ Status.ReadFault → HasReadCause S.faults S.is_last
-        (IsReachedBy (S.told shelf.old) (map string_bytes words.now)) shelf.old shelf.new }
+        (IsReachedByCommand (S.told shelf.old) (map string_bytes words.now)) shelf.old shelf.new }
     ensures nothing { result ≡ Status.ReadFault → K.written out.new ≡ K.written out.old }
 
     // A write fault comes only where the sink's count rose, and then a prefix of the text is written.
     ensures write { result ≡ Status.WriteFault → HasRisen K.faults K.is_last out.old out.new }
-    ensures front { result ≡ Status.WriteFault → OfWords (S.told shelf.old) (map string_bytes words.now) (λ contents.
+    ensures front { result ≡ Status.WriteFault → ask_question (map string_bytes words.now) ≡ false →
+        OfWords (S.told shelf.old) (map string_bytes words.now) (λ contents.
         WroteFront (CommandAnswer (WordsAnswer (map string_bytes words.now) (λ request. contents))
         (map string_bytes words.now)) (K.written out.old) (K.written out.new)) }
+    ensures question_front { result ≡ Status.WriteFault → ask_question (map string_bytes words.now) ≡ true →
+        OfQuestion (S.told shelf.old) (map string_bytes words.now) (λ held.
+        WroteFront (QuestionAnswer held (map string_bytes words.now)) (K.written out.old) (K.written out.new)) }
 
     // After want of memory nothing is written.
     ensures memory { result ≡ Status.Memory → K.written out.new ≡ K.written out.old }
@@ -75,6 +120,9 @@ pub fn run_command<S: Shelf, K: Sink>(
     ensures other { (AskForPlay (map string_bytes words.now) → ⊥) → rack.new.items ≡ rack.old.items }
     ensures kinds { map kind_of rack.new.items ≡ map kind_of rack.old.items }
 {
+    if ask_question(words) {
+        return status_of(run_question(alloc, words, shelf, out));
+    }
     match text_asked(words) {
         Some(text) => match write_text(out, text) {
             Ok(()) => Status::Done(0),

@@ -32,6 +32,12 @@ const HELP: &[u8] = b"zanutero: checks, lists, compiles and plays STAPL programs
       plays the action NAME of the code in the file code=PATH, as play does
   zanutero soak seed=N
       makes a large board and program from N, 0 to 4294967295, and plays them
+  zanutero --explain WORD
+      says what a reason, a fault, an exit code or the word of a statement
+      means, and what to do
+  zanutero --piece N program=PATH
+      shows piece N of the program, from 1, with its line, and if the program
+      is refused there, why and what to do
   zanutero --help
   zanutero --version
 

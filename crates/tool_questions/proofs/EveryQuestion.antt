@@ -1,0 +1,139 @@
+-- Each question has an answer: each text has pieces, and a first fault or none, and each word says something or nothing.
+use Rattle.std.proofs.Common.{◌≡◌, ◌≢◌, ◌<◌, ◌≤◌, ℕ, pos, Bool, true, false, ◌||◌, List, [], ◌∷◌, length, Option, Some, None, refl, sym, ap, ◌∙◌, subst, arith, codes, ◌⊎◌, inl, inr}
+use Rattle.std.proofs.lemmas.Bool.{cases_lt, cases_eq, false≢true}
+use Rattle.std.proofs.lemmas.Slice.Eq.{bytes_eq-Decides}
+use Rattle.std.specs.List.{flat_map}
+use Rattle.std.specs.Str.{bytes_eq}
+use Rattle.tool_io.specs.Texts.{word_line}
+use Rattle.stapl_lexer.specs.declared.reason.Reason.{Reason}
+use Rattle.stapl_lexer.specs.declared.reason.Reason.TheVariants.{TooLong}
+use Rattle.stapl_lexer.specs.declared.piece.Piece.{Piece}
+use Rattle.stapl_lexer.specs.Pieces.{IsCut, text_limit}
+use Rattle.stapl_lexer.proofs.Existence.{cut_exists}
+use Rattle.stapl_syntax.specs.Trees.{StmtTree}
+use Rattle.stapl_syntax.specs.Programs.{IsProgram, FirstFault}
+use Rattle.stapl_checker.proofs.Answered.{program_or_fault}
+use Rattle.stapl_checker.proofs.UniqueLemmas.{no_fault}
+use Rattle.command_words.proofs.FoundOrNot.{IsFoundOrNot, path_or_not, number_or_not, same_or_not}
+use Rattle.named_files.specs.Texts.{usage_line}
+use Rattle.program_reports.specs.Explanations.{word_paragraphs}
+use Rattle.play_status.specs.declared.status.Status.{Status}
+use Rattle.play_status.specs.declared.status.Status.TheVariants.{Done, Usage}
+use Rattle.tool_questions.specs.declared.report.PieceReport.{PieceReport}
+use Rattle.tool_questions.specs.declared.report.Refusal.{Refusal}
+use Rattle.tool_questions.specs.Pieces.{piece_numbered, RefusalAt, refusal_text, shown_text, IsReport, KnownAnswer, shown, ended, lacking, IsLongAnswer, too_long, PieceAnswer, known, long}
+use Rattle.tool_questions.specs.Questions.{is_question, ask_question, IsUsage, IsExplained, explained, unknown, WordAnswer, NamesPiece, NamesProgram, no_file, after_file, AreFileUsage, IsFileUsage, IsNumberUsage, HasPieceUsage, no_number, after_number, PieceQuestionAnswer, asked, refused, QuestionAnswer, of_word, of_piece}
+use Rattle.tool_questions.proofs.ReportLemmas.{elsewhere}
+
+-- A relation of a text and a status has an answer.
+record IsAnswered (answers : List ℕ → Status → Type 0) : Type 0 where
+  text : List ℕ
+  status : Status
+  answer : answers text status
+
+usage : (m : ℕ) → IsAnswered (IsUsage m)
+usage m = record { text = usage_line m; status = Usage m; answer = record { said_is = refl; status_is = refl } }
+
+-- A text.
+
+record HasRefusal (text : List ℕ) (number : ℕ) : Type 0 where
+  refusal : Option Refusal
+  is : RefusalAt text number refusal
+
+refusal_here : (text : List ℕ) (p number line : ℕ) (reason : Reason) → FirstFault text p line reason → (p ≡ number) ⊎ (p ≡ number → ⊥) → HasRefusal text number
+refusal_here text p number line reason fault (inl e) =
+    record { refusal = Some (record { line = line; reason = reason }); is = subst (λ (n : ℕ). FirstFault text n line reason) e fault }
+refusal_here text p number line reason fault (inr other) = record { refusal = None; is = elsewhere text p number line reason other fault }
+
+refusal_by : (text : List ℕ) (number : ℕ) → ((statements : List StmtTree) × IsProgram text statements)
+    ⊎ ((piece : ℕ) × (line : ℕ) × (reason : Reason) × FirstFault text piece line reason) → HasRefusal text number
+refusal_by text number (inl program) = record { refusal = None; is = λ line reason fault. no_fault program.0 program.1 fault }
+refusal_by text number (inr fault) = refusal_here text fault.0 number fault.1 fault.2 fault.3 (cases_eq fault.0 number)
+
+known_by : (text : List ℕ) (number : ℕ) (pieces : List Piece) → IsCut text pieces → (place : Option Piece) → place ≡ piece_numbered number pieces → (refusal : Option Refusal) →
+    RefusalAt text number refusal → IsAnswered (KnownAnswer text number)
+known_by text number pieces cut (Some piece) at refusal is =
+    record {
+      text = shown_text text number piece refusal;
+      status = Done (pos 0);
+      answer = shown (record { place = Some piece; refusal = refusal }) piece (record { pieces = pieces; cut = cut; place = at; refusal = is }) refl;
+    }
+known_by text number pieces cut None at (Some refusal) is =
+    record {
+      text = refusal_text number (Some refusal);
+      status = Done (pos 0);
+      answer = ended (record { place = None; refusal = Some refusal }) refusal (record { pieces = pieces; cut = cut; place = at; refusal = is }) refl refl;
+    }
+known_by text number pieces cut None at None is =
+    record {
+      text = usage_line 2;
+      status = Usage 2;
+      answer = lacking (record { place = None; refusal = None }) (record { pieces = pieces; cut = cut; place = at; refusal = is }) refl refl;
+    }
+
+every_known : (text : List ℕ) (number : ℕ) → IsAnswered (KnownAnswer text number)
+every_known text number =
+    let pieces = cut_exists text in
+    let found = refusal_by text number (program_or_fault text) in
+    known_by text number pieces.0 pieces.1 (piece_numbered number pieces.0) refl found.refusal found.is
+
+piece_by : (text : List ℕ) (number : ℕ) → (text_limit < length text) ⊎ (length text ≤ text_limit) → IsAnswered (PieceAnswer text number)
+piece_by text number (inl more) =
+    record { text = refusal_text 0 (Some (record { line = 0; reason = TooLong })); status = Done (pos 0); answer = long more too_long }
+piece_by text number (inr short) = let a = every_known text number in record { text = a.text; status = a.status; answer = known short a.answer }
+
+every_piece : (text : List ℕ) (number : ℕ) → IsAnswered (PieceAnswer text number)
+every_piece text number = piece_by text number (cases_lt text_limit (length text))
+
+-- The words.
+
+explained_by : (word : List ℕ) (paragraphs : List (List ℕ)) → word_paragraphs word ≡ paragraphs → IsAnswered (IsExplained word)
+explained_by word [] e = let a = usage 2 in record { text = a.text; status = a.status; answer = unknown e a.answer }
+explained_by word (first ∷ rest) e =
+    record { text = flat_map word_line (word_paragraphs word); status = Done (pos 0); answer = explained (λ none. absurd (cc)) refl refl }
+
+every_word : (rest : List (List ℕ)) → IsAnswered (WordAnswer rest)
+every_word [] = usage 2
+every_word (word ∷ []) = explained_by word (word_paragraphs word) refl
+every_word (word ∷ other ∷ rest) = usage 3
+
+refuses : (bytes : List ℕ) (rest : List (List ℕ)) (m : ℕ) → HasPieceUsage rest m → IsAnswered (PieceQuestionAnswer (Some bytes) rest)
+refuses bytes rest m is = let a = usage m in record { text = a.text; status = a.status; answer = refused m is a.answer }
+
+shows : (bytes word file path : List ℕ) (n : ℕ) → NamesPiece word n → NamesProgram file path → IsAnswered (PieceQuestionAnswer (Some bytes) (word ∷ file ∷ []))
+shows bytes word file path n number named =
+    let a = every_piece bytes n in record { text = a.text; status = a.status; answer = asked n path (number, named) a.answer }
+
+by_file : (bytes word file : List ℕ) (rest : List (List ℕ)) (n : ℕ) → NamesPiece word n → IsFoundOrNot (NamesProgram file) →
+    IsAnswered (PieceQuestionAnswer (Some bytes) (word ∷ file ∷ rest))
+by_file bytes word file rest n number (inr none) = refuses bytes (word ∷ file ∷ rest) 3 (after_number n number (no_file none refl))
+by_file bytes word file [] n number (inl found) = shows bytes word file found.0 n number found.1
+by_file bytes word file (more ∷ rest) n number (inl found) = refuses bytes (word ∷ file ∷ more ∷ rest) 4 (after_number n number (after_file found.0 found.1 refl))
+
+by_number : (bytes word : List ℕ) (rest : List (List ℕ)) → IsFoundOrNot (NamesPiece word) → IsAnswered (PieceQuestionAnswer (Some bytes) (word ∷ rest))
+by_number bytes word rest (inr none) = refuses bytes (word ∷ rest) 2 (no_number none refl)
+by_number bytes word [] (inl found) = refuses bytes (word ∷ []) 3 (after_number found.0 found.1 refl)
+by_number bytes word (file ∷ rest) (inl found) = by_file bytes word file rest found.0 found.1 (path_or_not (codes "program=") file)
+
+every_piece_question : (bytes : List ℕ) (rest : List (List ℕ)) → IsAnswered (PieceQuestionAnswer (Some bytes) rest)
+every_piece_question bytes [] = refuses bytes [] 2 refl
+every_piece_question bytes (word ∷ rest) = by_number bytes word rest (number_or_not (codes "") 0 4294967295 word)
+
+by_first : (bytes first : List ℕ) (rest : List (List ℕ)) → (first ≡ codes "--explain") ⊎ (first ≡ codes "--explain" → ⊥) →
+    (first ≡ codes "--piece") ⊎ (first ≡ codes "--piece" → ⊥) → is_question first ≡ true → IsAnswered (QuestionAnswer (Some bytes) (first ∷ rest))
+by_first bytes first rest (inl e) piece asks =
+    let a = every_word rest in record { text = a.text; status = a.status; answer = of_word rest (ap (λ (w : List ℕ). w ∷ rest) e) a.answer }
+by_first bytes first rest (inr no_word) (inl e) asks =
+    let a = every_piece_question bytes rest in record { text = a.text; status = a.status; answer = of_piece rest (ap (λ (w : List ℕ). w ∷ rest) e) a.answer }
+by_first bytes first rest (inr no_word) (inr no_piece) asks = absurd (neither (bytes_eq first (codes "--explain")) (bytes_eq first (codes "--piece")) refl refl asks)
+  where
+    neither : (x y : Bool) → bytes_eq first (codes "--explain") ≡ x → bytes_eq first (codes "--piece") ≡ y → (x || y) ≡ true → ⊥
+    neither true y a b c = no_word ((bytes_eq-Decides first (codes "--explain")).0 a)
+    neither false true a b c = no_piece ((bytes_eq-Decides first (codes "--piece")).0 b)
+    neither false false a b c = false≢true c
+
+pub every_question : (bytes : List ℕ) (words : List (List ℕ)) → ask_question words ≡ true →
+    (text : List ℕ) × (status : Status) × QuestionAnswer (Some bytes) words text status
+every_question bytes [] asks = absurd (false≢true asks)
+every_question bytes (first ∷ rest) asks =
+    let a = by_first bytes first rest (same_or_not first (codes "--explain")) (same_or_not first (codes "--piece")) asks in (a.text, a.status, a.answer)

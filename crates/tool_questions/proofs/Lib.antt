@@ -1,0 +1,5 @@
+pub mod ReportLemmas
+pub mod WordLemmas
+pub mod OneAnswer
+pub mod EveryQuestion
+pub mod StatusLemmas

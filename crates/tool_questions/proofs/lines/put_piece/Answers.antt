@@ -1,0 +1,31 @@
+use Rattle.std.proofs.Common.{codes, pos, drop, sym, refl, ◌∙◌}
+use Rattle.std.proofs.lemmas.Str.Ascii.{trim_ascii_is}
+use Rattle.std.specs.Char.{is_ascii_whitespace}
+use Rattle.std.specs.List.{prefix_len}
+use Rattle.tool_io.specs.Texts.{labelled, number_line}
+use Rattle.tool_io.proofs.PutLemmas.{put_then, put_then_front, front_with, put_failed, put_then_put}
+use Rattle.tool_questions.specs.Pieces.{piece_bytes}
+use Rattle.tool_questions.proofs.lines.put_piece.Goals as goal
+
+pub returns-in_err-put_count-clause-put : goal.returns-in_err-put_count-clause-put
+returns-in_err-put_count-clause-put g c =
+    put_failed c.from_residual.result c.from_residual.ensures.0
+    (front_with (codes "\n") (front_with (piece_bytes c.args.text.now c.args.piece.now)
+    (front_with (number_line (codes " line ") (pos c.args.piece.now.line)) c.in_err-put_count.ensures.put.front)))
+
+pub returns-in_err-put_count_line-clause-put : goal.returns-in_err-put_count_line-clause-put
+returns-in_err-put_count_line-clause-put g c =
+    put_failed c.from_residual-in_err-put_count_line.result c.from_residual-in_err-put_count_line.ensures.0
+    (front_with (codes "\n") (front_with (piece_bytes c.args.text.now c.args.piece.now)
+    (put_then_front c.in_ok-put_count.ensures.put.ok c.in_err-put_count_line.ensures.put.front)))
+
+pub returns-in_err-put-clause-put : goal.returns-in_err-put-clause-put
+returns-in_err-put-clause-put g c =
+    put_failed c.from_residual-in_err-put.result c.from_residual-in_err-put.ensures.0
+    (front_with (codes "\n") (put_then_front (put_then c.in_ok-put_count.ensures.put.ok c.in_ok-put_count_line.ensures.put.ok)
+    (rw (trim_ascii_is _ c.trim_ascii.result.now _ refl c.trim_ascii.ensures.value) at c.in_err-put.ensures.put.front)))
+
+pub returns-clause-put : goal.returns-clause-put
+returns-clause-put g c =
+    put_then_put c.put-2.result (put_then (put_then c.in_ok-put_count.ensures.put.ok c.in_ok-put_count_line.ensures.put.ok)
+    (rw (trim_ascii_is _ c.trim_ascii.result.now _ refl c.trim_ascii.ensures.value) at c.in_ok-put.ensures.put.ok)) c.put-2.ensures.put

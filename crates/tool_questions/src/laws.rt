@@ -1,0 +1,23 @@
+//! Laws of the definitions: each question has one answer.
+ghost use Rattle.std.specs.Prelude.{◌≡◌, ℕ, true, List, Option, Some};
+ghost use Rattle.play_status.specs.declared.status.Status.{Status};
+ghost use Rattle.play_status.specs.Statuses.{IsFault};
+ghost use Rattle.tool_questions.specs.Questions.{ask_question, QuestionAnswer};
+
+/// A question has at most one answer.
+pub fn one_answer()
+    ensures { (held : Option (List ℕ)) (words : List (List ℕ)) (a b : List ℕ) (s t : Status) →
+        QuestionAnswer held words a s → QuestionAnswer held words b t → (a ≡ b) × (s ≡ t) }
+{}
+
+/// Each question has an answer, whatever the file holds that it names.
+pub fn questions_are_answered()
+    ensures { (bytes : List ℕ) (words : List (List ℕ)) → ask_question words ≡ true →
+        (text : List ℕ) × (status : Status) × QuestionAnswer (Some bytes) words text status }
+{}
+
+/// No answer has the status of a fault of reading or writing, or of want of memory.
+pub fn answers_are_no_faults()
+    ensures { (held : Option (List ℕ)) (words : List (List ℕ)) (text : List ℕ) (status : Status) →
+        QuestionAnswer held words text status → IsFault status → ⊥ }
+{}

@@ -1,0 +1,148 @@
+//! The answer to a question about a piece of a program.
+ghost use Rattle.std.specs.Prelude.{◌≡◌, ◌≤◌, None, Some, map, length, IfSome, IfOk};
+ghost use Rattle.tool_io.specs.Lines.{IsWhole, IsSinkUntouched};
+ghost use Rattle.tool_answers.specs.Answers.{Says, KeepsOutput};
+ghost use Rattle.named_files.specs.Files.{OfFile, KeepsShelf};
+ghost use Rattle.stapl_lexer.specs.Pieces.{LiesIn, text_limit};
+ghost use Rattle.tool_questions.specs.Pieces.{why_refused, IsReport, PieceAnswer, IsLongAnswer, HeldPieceAnswer};
+
+use crate::lines::{Shown, put_refused, put_shown};
+use crate::report::{PieceReport, Refusal, report_of};
+use named_files::put_usage;
+use play_status::Status;
+use program_reports::reason_explanation;
+use stapl_lexer::{Reason, TEXT_LIMIT};
+use std::alloc::{AllocError, Global};
+use tool_answers::NoAnswer;
+use tool_io::{Lines, ReadRefused, Shelf, Sink, read_whole};
+
+// What is said of the reason of a refusal, if there is one.
+fn why_refused(alloc: Global, refusal: Option<Refusal>) -> Result<Vec<&'static str>, AllocError>
+    ensures { IfOk result (λ why. map (λ line. line.now) why.items ≡ why_refused refusal) }
+{
+    match refusal {
+        Some(refusal) => reason_explanation(alloc, refusal.reason),
+        None => Ok(Vec::new(alloc)),
+    }
+}
+
+// Says what is known of a piece that the text does not have.
+fn answer_end<K: Sink>(
+    text: &[u8],
+    number: u32,
+    report: PieceReport,
+    why: &[&'static str],
+    lines: &mut Lines<K>,
+) -> Result<Status, NoAnswer>
+    requires small { length text.now ≤ text_limit }
+    requires report { IsReport text.now number report }
+    requires none { report.place ≡ None }
+    requires why { map (λ line. line.now) why.now ≡ why_refused report.refusal }
+    requires whole { IsWhole lines.old }
+    ensures says { Says K.written (PieceAnswer text.now number) ⊥ lines.old lines.new result }
+    ensures output { KeepsOutput K.faults K.is_last lines.old lines.new result }
+{
+    match report.refusal {
+        Some(refusal) => {
+            put_refused(lines, number, refusal, why)?;
+            Ok(Status::Done(0))
+        }
+        None => {
+            put_usage(lines, 2)?;
+            Ok(Status::Usage(2))
+        }
+    }
+}
+
+// Says what is known of a piece.
+fn answer_report<K: Sink>(
+    text: &[u8],
+    number: u32,
+    report: PieceReport,
+    why: &[&'static str],
+    lines: &mut Lines<K>,
+) -> Result<Status, NoAnswer>
+    requires small { length text.now ≤ text_limit }
+    requires report { IsReport text.now number report }
+    requires lies { IfSome report.place (LiesIn text.now) }
+    requires why { map (λ line. line.now) why.now ≡ why_refused report.refusal }
+    requires whole { IsWhole lines.old }
+    ensures says { Says K.written (PieceAnswer text.now number) ⊥ lines.old lines.new result }
+    ensures output { KeepsOutput K.faults K.is_last lines.old lines.new result }
+{
+    let refusal = report.refusal;
+    match report.place {
+        Some(piece) => {
+            let shown = Shown {
+                text,
+                number,
+                piece,
+                refusal,
+                why,
+            };
+            put_shown(lines, &shown)?;
+            Ok(Status::Done(0))
+        }
+        None => answer_end(text, number, report, why, lines),
+    }
+}
+
+// Says what is known of a piece of a text that is not too long.
+fn answer_text<K: Sink>(
+    alloc: Global,
+    text: &[u8],
+    number: u32,
+    lines: &mut Lines<K>,
+) -> Result<Status, NoAnswer>
+    requires small { length text.now ≤ text_limit }
+    requires whole { IsWhole lines.old }
+    ensures says { Says K.written (PieceAnswer text.now number) ⊥ lines.old lines.new result }
+    ensures output { KeepsOutput K.faults K.is_last lines.old lines.new result }
+{
+    let report = report_of(alloc, text, number)?;
+    let why = why_refused(alloc, report.refusal)?;
+    answer_report(text, number, report, &why, lines)
+}
+
+// Says that a text is too long.
+fn answer_long<K: Sink>(alloc: Global, lines: &mut Lines<K>) -> Result<Status, NoAnswer>
+    requires whole { IsWhole lines.old }
+    ensures says { Says K.written IsLongAnswer ⊥ lines.old lines.new result }
+    ensures output { KeepsOutput K.faults K.is_last lines.old lines.new result }
+{
+    let refusal = Refusal {
+        line: 0,
+        reason: Reason::TooLong,
+    };
+    let why = why_refused(alloc, Some(refusal))?;
+    put_refused(lines, 0, refusal, &why)?;
+    Ok(Status::Done(0))
+}
+
+/// Says what is known of the piece with this number, counted from 1, of the program in a file, which may be any bytes:
+/// its line and its text, and if the program is refused there, the line of the refusal and what is said of the reason.
+/// If the program is refused at its end, that is at the number after its last piece; a program that is too long is
+/// refused whatever the number. If there is no such piece, the second word of the command is refused.
+///
+/// `Read` comes only if the count of the file rose, or stands at its last value; `Write` as of the sink; `Memory` is
+/// want of memory, and then nothing has reached the sink.
+pub(crate) fn answer_piece<S: Shelf, K: Sink>(
+    alloc: Global,
+    path: &str,
+    number: u32,
+    shelf: &mut S,
+    lines: &mut Lines<K>,
+) -> Result<Status, NoAnswer>
+    requires { IsWhole lines.old }
+    ensures says { OfFile (S.told shelf.old) (Some path.now) (λ held.
+        Says K.written (HeldPieceAnswer number held) (IsSinkUntouched lines.old lines.new) lines.old lines.new result) }
+    ensures shelf { KeepsShelf S.told S.faults S.is_last (λ read. read ≡ path.now) shelf.old shelf.new result }
+    ensures output { KeepsOutput K.faults K.is_last lines.old lines.new result }
+{
+    match read_whole(alloc, shelf, path, TEXT_LIMIT as u32) {
+        Ok(bytes) => answer_text(alloc, &bytes, number, lines),
+        Err(ReadRefused::TooLong) => answer_long(alloc, lines),
+        Err(ReadRefused::ReadFault) => Err(NoAnswer::Read),
+        Err(ReadRefused::Memory) => Err(NoAnswer::Memory),
+    }
+}
