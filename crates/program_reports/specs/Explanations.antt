@@ -11,8 +11,8 @@ use Rattle.program_reports.specs.declared.explanation_texts.TheConstants.{EXPLAN
 abbrev pub is_about : List ℕ → List ℕ → Bool
 is_about head line = bytes_eq (take (length head) line) head
 
--- the lines of the table that begin with these bytes
-abbrev pub paragraphs : List ℕ → List (List ℕ)
+-- the lines of the table that begin with these bytes; it does not unfold by itself, since the table is long
+unfoldable pub paragraphs : List ℕ → List (List ℕ)
 paragraphs head = filter (is_about head) (lines EXPLANATIONS.now)
 
 -- what is said of a word: the lines that begin with it and a comma
