@@ -21,5 +21,5 @@ class Help:
         lines = re.sub(r"\n +\[", " [", usage)
         found = re.findall(r"^  zanutero (\w+)((?: \[?\w+=\S+)+)$", lines, re.MULTILINE)
         self.modes = {mode: keys.split() for mode, keys in found}
-        self.words = re.findall(r"^  zanutero (--\w+)$", lines, re.MULTILINE)
+        self.words = re.findall(r"^  zanutero (--\w+)", lines, re.MULTILINE)
         self.exit_codes = re.findall(r"^  (\d+) ", codes, re.MULTILINE)
