@@ -9,7 +9,8 @@ def answer(program, word):
 
 
 class Help:
-    """The parts of the program's --help: what it is, its modes with their keys, examples and exit codes.
+    """The parts of the program's --help: what it is, its modes with their keys, the other first words with what follows
+    them, examples and exit codes.
 
     A key stands there as the help writes it: `key=KIND`, in [ ] if it may be missing.
     """
@@ -21,5 +22,5 @@ class Help:
         lines = re.sub(r"\n +\[", " [", usage)
         found = re.findall(r"^  zanutero (\w+)((?: \[?\w+=\S+)+)$", lines, re.MULTILINE)
         self.modes = {mode: keys.split() for mode, keys in found}
-        self.words = re.findall(r"^  zanutero (--\w+)", lines, re.MULTILINE)
+        self.words = dict(re.findall(r"^  zanutero (--\w+)(.*)$", lines, re.MULTILINE))
         self.exit_codes = re.findall(r"^  (\d+) ", codes, re.MULTILINE)
