@@ -28,14 +28,16 @@ returns-in-Ok-clause-shelf g c = record {
 
 pub returns-in_err-put_board_refusal-in-Err-At-clause-answers : goal.returns-in_err-put_board_refusal-in-Err-At-clause-answers
 returns-in_err-put_board_refusal-in-Err-At-clause-answers g c =
-    board_failed (g.S.Shelf.told c.args.shelf.now) c.args.request.now c.in-Err-At.line c.in-Err-At.reason
-    (fault_is _ _ _ _ (sym c.in-Err-At.line-is) (sym c.in-Err-At.reason-is) (c.in-Err-At.ensures.fault _ _ (ap Err c.in-Err-At.field-0-is)))
+    board_failed (g.S.Shelf.told c.args.shelf.now) c.args.request.now _ _
+    (fault_is {told = g.S.Shelf.told c.args.shelf.now} {named = c.args.request.now.board} c.in-Err-At.line _ c.in-Err-At.reason _
+    (sym c.in-Err-At.line-is) (sym c.in-Err-At.reason-is) (c.in-Err-At.ensures.fault c.in-Err-At.line c.in-Err-At.reason (ap Err c.in-Err-At.field-0-is)))
     c.from_residual.result c.from_residual.ensures.1 c.in_err-put_board_refusal-in-Err-At.ensures.put.front
 
 pub returns-in_ok-put_board_refusal-in-Err-At-clause-answers : goal.returns-in_ok-put_board_refusal-in-Err-At-clause-answers
 returns-in_ok-put_board_refusal-in-Err-At-clause-answers g c =
-    board_is_refused (g.S.Shelf.told c.args.shelf.now) c.args.request.now c.in-Err-At.line c.in-Err-At.reason
-    (fault_is _ _ _ _ (sym c.in-Err-At.line-is) (sym c.in-Err-At.reason-is) (c.in-Err-At.ensures.fault _ _ (ap Err c.in-Err-At.field-0-is)))
+    board_is_refused (g.S.Shelf.told c.args.shelf.now) c.args.request.now _ _
+    (fault_is {told = g.S.Shelf.told c.args.shelf.now} {named = c.args.request.now.board} c.in-Err-At.line _ c.in-Err-At.reason _
+    (sym c.in-Err-At.line-is) (sym c.in-Err-At.reason-is) (c.in-Err-At.ensures.fault c.in-Err-At.line c.in-Err-At.reason (ap Err c.in-Err-At.field-0-is)))
     c.in_ok-put_board_refusal-in-Err-At.ensures.put.ok
 
 pub returns-in-Err-Read-clause-answers : goal.returns-in-Err-Read-clause-answers
