@@ -16,8 +16,8 @@ pub of_question_as : {told : Option (List (List ℕ × List ℕ))} {words : List
     OfQuestion told words P → OfQuestion told words Q
 of_question_as f o = record { named = o.named; asked = o.asked; file = of_file_as f o.file }
 
-module _ {A : List ℕ → Status → Type 0} {before after : Option (List ℕ)} where
-  pub asked_wrote : (r : Result Status NoAnswer) → HasWritten A before after r → (IsFault (status_of r) → ⊥) → Wrote A before after (status_of r)
+module _ {A : List ℕ → Status → Type 0} where
+  pub asked_wrote : {before after : Option (List ℕ)} → (r : Result Status NoAnswer) → HasWritten A before after r → (IsFault (status_of r) → ⊥) → Wrote A before after (status_of r)
   asked_wrote (Ok status) w works = w
   asked_wrote (Err Read) w works = absurd (works tt)
   asked_wrote (Err Write) w works = absurd (works tt)
@@ -25,31 +25,31 @@ module _ {A : List ℕ → Status → Type 0} {before after : Option (List ℕ)}
 
   -- no answer has the status of a fault, so the cause of one is known
   module _ (no_fault : (text : List ℕ) (status : Status) → A text status → IsFault status → ⊥) where
-    pub asked_read : (r : Result Status NoAnswer) → HasWritten A before after r → status_of r ≡ statuses.ReadFault → IsErrOf r Read
-    asked_read (Ok status) w e = absurd (no_fault w.text status w.answer (subst IsFault (sym e) tt))
-    asked_read (Err Read) w e = refl
-    asked_read (Err Write) w e = absurd cc
-    asked_read (Err Memory) w e = absurd cc
+    pub asked_read : (before after : Option (List ℕ)) (r : Result Status NoAnswer) → HasWritten A before after r → status_of r ≡ statuses.ReadFault → IsErrOf r Read
+    asked_read _ _ (Ok status) w e = absurd (no_fault w.text status w.answer (subst IsFault (sym e) tt))
+    asked_read _ _ (Err Read) w e = refl
+    asked_read _ _ (Err Write) w e = absurd cc
+    asked_read _ _ (Err Memory) w e = absurd cc
 
-    pub asked_write : (r : Result Status NoAnswer) → HasWritten A before after r → status_of r ≡ statuses.WriteFault → IsErrOf r Write
-    asked_write (Ok status) w e = absurd (no_fault w.text status w.answer (subst IsFault (sym e) tt))
-    asked_write (Err Read) w e = absurd cc
-    asked_write (Err Write) w e = refl
-    asked_write (Err Memory) w e = absurd cc
+    pub asked_write : (before after : Option (List ℕ)) (r : Result Status NoAnswer) → HasWritten A before after r → status_of r ≡ statuses.WriteFault → IsErrOf r Write
+    asked_write _ _ (Ok status) w e = absurd (no_fault w.text status w.answer (subst IsFault (sym e) tt))
+    asked_write _ _ (Err Read) w e = absurd cc
+    asked_write _ _ (Err Write) w e = refl
+    asked_write _ _ (Err Memory) w e = absurd cc
 
-    pub asked_front : (r : Result Status NoAnswer) → HasWritten A before after r → status_of r ≡ statuses.WriteFault → WroteFront A before after
+    pub asked_front : {before after : Option (List ℕ)} → (r : Result Status NoAnswer) → HasWritten A before after r → status_of r ≡ statuses.WriteFault → WroteFront A before after
     asked_front (Ok status) w e = absurd (no_fault w.text status w.answer (subst IsFault (sym e) tt))
     asked_front (Err Read) w e = absurd cc
     asked_front (Err Write) w e = w
     asked_front (Err Memory) w e = absurd cc
 
-    pub asked_nothing : (r : Result Status NoAnswer) → HasWritten A before after r → status_of r ≡ statuses.ReadFault → after ≡ before
+    pub asked_nothing : {before after : Option (List ℕ)} → (r : Result Status NoAnswer) → HasWritten A before after r → status_of r ≡ statuses.ReadFault → after ≡ before
     asked_nothing (Ok status) w e = absurd (no_fault w.text status w.answer (subst IsFault (sym e) tt))
     asked_nothing (Err Read) w e = w
     asked_nothing (Err Write) w e = absurd cc
     asked_nothing (Err Memory) w e = w
 
-    pub asked_no_memory : (r : Result Status NoAnswer) → HasWritten A before after r → status_of r ≡ statuses.Memory → after ≡ before
+    pub asked_no_memory : {before after : Option (List ℕ)} → (r : Result Status NoAnswer) → HasWritten A before after r → status_of r ≡ statuses.Memory → after ≡ before
     asked_no_memory (Ok status) w e = absurd (no_fault w.text status w.answer (subst IsFault (sym e) tt))
     asked_no_memory (Err Read) w e = w
     asked_no_memory (Err Write) w e = absurd cc

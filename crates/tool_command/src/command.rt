@@ -55,10 +55,10 @@ fn run_question<S: Shelf, K: Sink>(
 }
 
 // The status of a run.
-fn status_of(result: Result<Status, NoAnswer>) -> Status
-    ensures { result ≡ status_of result.entry }
+fn status_of(ended: Result<Status, NoAnswer>) -> Status
+    ensures { result ≡ status_of ended }
 {
-    match result {
+    match ended {
         Ok(status) => status,
         Err(NoAnswer::Read) => Status::ReadFault,
         Err(NoAnswer::Write) => Status::WriteFault,

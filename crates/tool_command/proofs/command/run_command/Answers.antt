@@ -62,7 +62,7 @@ pub returns-then-ask_question-clause-read : goal.returns-then-ask_question-claus
 returns-then-ask_question-clause-read g c = λ e.
     let w = c.run_question.ensures.wrote.file in
     let cause = c.run_question.ensures.shelf.read
-    (asked_read (question_status w.held (map (string_bytes {Z = Global}) c.args.words.now)) c.run_question.result w.holds (sym c.status_of.ensures ∙ e)) in
+    (asked_read (question_status w.held (map (string_bytes {Z = Global}) c.args.words.now)) _ _ c.run_question.result w.holds (sym c.status_of.ensures ∙ e)) in
     record { path = cause.path; is_reached = by_question cause.is_reached; rose = cause.rose }
 
 pub returns-then-ask_question-clause-nothing : goal.returns-then-ask_question-clause-nothing
@@ -74,7 +74,7 @@ pub returns-then-ask_question-clause-write : goal.returns-then-ask_question-clau
 returns-then-ask_question-clause-write g c = λ e.
     let w = c.run_question.ensures.wrote.file in
     c.run_question.ensures.write
-    (asked_write (question_status w.held (map (string_bytes {Z = Global}) c.args.words.now)) c.run_question.result w.holds (sym c.status_of.ensures ∙ e))
+    (asked_write (question_status w.held (map (string_bytes {Z = Global}) c.args.words.now)) _ _ c.run_question.result w.holds (sym c.status_of.ensures ∙ e))
 
 pub returns-then-ask_question-clause-front : goal.returns-then-ask_question-clause-front
 returns-then-ask_question-clause-front g c = λ fault none. absurd (false≢true (sym none ∙ sym c.ask_question.ensures ∙ c.if-ask_question.true))
