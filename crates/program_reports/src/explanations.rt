@@ -1,6 +1,6 @@
 //! Explanations of words, a paragraph for each meaning of a word.
-ghost use Rattle.std.specs.Prelude.{◌≡◌, ◌++◌, ◌<◌, [], map, length, slice_index_or, IfOk};
-ghost use Rattle.std.specs.List.{flat_map};
+ghost use Rattle.std.specs.Prelude.{◌≡◌, ◌==◌, ◌++◌, ◌<◌, [], map, length, slice_index_or, codes, IfOk};
+ghost use Rattle.std.specs.List.{flat_map, list_any};
 ghost use Rattle.tool_io.specs.Lines.{IsWhole, HasPut, KeepsLines};
 ghost use Rattle.tool_io.specs.Texts.{word_line};
 ghost use Rattle.stapl_lexer.specs.Reasons.{reason_name};
@@ -37,13 +37,31 @@ fn lines_with(alloc: Global, head: &[u8]) -> Result<Vec<&'static str>, AllocErro
         .collect(alloc)
 }
 
+// The lines of the table that begin with a word and a comma.
+fn lines_about(alloc: Global, word: &[u8]) -> Result<Vec<&'static str>, AllocError>
+    ensures { IfOk result (λ found. map (λ line. line.now) found.items ≡ paragraphs (word.now ++ codes ",")) }
+{
+    let head = joined(alloc, word, b",")?;
+    lines_with(alloc, &head)
+}
+
+// Whether a word has a comma, which ends the word of each line of the table.
+fn has_comma(word: &[u8]) -> bool
+    ensures { result ≡ list_any (λ b. b == 44) word.now }
+{
+    word.iter().any(|b| *b == b',')
+}
+
 /// What is said of a word, a paragraph for each of its meanings; none if nothing is said of it. The only error is want
 /// of memory.
 pub fn explanation(alloc: Global, word: &[u8]) -> Result<Vec<&'static str>, AllocError>
     ensures { IfOk result (λ found. map (λ line. line.now) found.items ≡ word_paragraphs word.now) }
 {
-    let head = joined(alloc, word, b",")?;
-    lines_with(alloc, &head)
+    if has_comma(word) {
+        return Ok(Vec::new(alloc));
+    }
+    let found = lines_about(alloc, word)?;
+    Ok(found)
 }
 
 /// What is said of a reason against a program. The only error is want of memory.

@@ -13,6 +13,7 @@ pub mod ScanKinds
 pub mod DepthSteps
 pub mod BreakSteps
 pub mod Preceded
+pub mod Endings
 pub mod SizeLemmas
 pub mod RoomLemmas
 pub mod ValidRooms

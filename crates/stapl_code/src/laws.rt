@@ -1,4 +1,11 @@
 //! Laws of the definitions.
+ghost use Rattle.std.specs.Prelude.{◌≡◌, ℕ, List, Some};
+ghost use Rattle.stapl_meaning.specs.declared.events.Ending.TheVariants.{Spent};
+ghost use Rattle.stapl_meaning.specs.declared.values.Held.{Held};
+ghost use Rattle.stapl_meaning.specs.Deeds.{Chain};
+ghost use Rattle.stapl_meaning.specs.Plays.{ending_of, IsGoing};
+ghost use Rattle.stapl_code.specs.declared.instr.Instr.{Instr};
+ghost use Rattle.stapl_code.specs.Machine.{Constants, code_play};
 ghost use Rattle.stapl_code.specs.Safe.{NeverStuck, DepthIsKept, TurnsAreBounded, PlaysAreBounded};
 ghost use Rattle.stapl_code.specs.Rooms.{CodesHoldTheirDepth, StepsLeaveTheirCount};
 
@@ -8,6 +15,13 @@ ghost use Rattle.stapl_code.specs.Rooms.{CodesHoldTheirDepth, StepsLeaveTheirCou
 /// answers the clocks of the chain.
 pub fn never_stuck()
     ensures { NeverStuck }
+{}
+
+/// A play of any code is spent only if it still goes on after its turns.
+pub fn only_a_play_that_goes_on_is_spent()
+    ensures { (entries : List ℕ) (constants : Constants) (code : List Instr) (chosen : List ℕ) (variables : List Held) (n : ℕ) (k : Chain) →
+        ending_of (code_play entries constants code chosen variables n k).outcome ≡ Some Spent →
+        IsGoing (code_play entries constants code chosen variables n k).outcome }
 {}
 
 /// No play of a valid code in range holds more operands at once than its depth, if the chain is in a stable state when

@@ -1,5 +1,5 @@
 //! What instructions change beside the operands.
-ghost use Rattle.std.specs.Prelude.{◌≡◌, All, IfOk, map};
+ghost use Rattle.std.specs.Prelude.{◌≡◌, All, IfOk, map, []};
 ghost use Rattle.stapl_code.specs.Ranges.{IsVariable};
 ghost use Rattle.stapl_meaning.specs.Plays.{first_settings};
 ghost use Rattle.stapl_instructions.specs.Acts.{IsUnused};
@@ -26,7 +26,9 @@ pub struct Shifted {
 
 impl Shifted {
     /// No bits, and the memory for four of the longest scans.
-    pub fn none(alloc: Global) -> Result<Shifted, AllocError> {
+    pub fn none(alloc: Global) -> Result<Shifted, AllocError>
+        ensures { IfOk result (λ s. s ≡ record { «data» = []; captured = []; expected = []; mask = [] }) }
+    {
         Ok(Shifted {
             data: ScanBits::new(alloc)?,
             captured: ScanBits::new(alloc)?,

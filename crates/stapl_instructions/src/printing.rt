@@ -1,5 +1,5 @@
 //! How the text of a Print is joined.
-ghost use Rattle.std.specs.Prelude.{◌≡◌, ◌≤◌, ◌+◌, ◌∷◌, ◌++◌, [], List, ℕ, pos, length, drop, slice_get, vec_capacity, IfSome};
+ghost use Rattle.std.specs.Prelude.{◌≡◌, ◌≤◌, ◌+◌, ◌^◌, ◌∷◌, ◌++◌, [], List, ℕ, pos, length, drop, slice_get, vec_capacity, IfSome, IfNone};
 ghost use Rattle.std.specs.Fmt.{signed_decimal};
 ghost use Rattle.stapl_meaning.specs.Values.{Got, Known, then_get, integer_of};
 ghost use Rattle.stapl_meaning.specs.Operands.{character_of};
@@ -218,9 +218,10 @@ fn part_room(code: &CodeLists, part: PrintPart) -> usize
     }
 }
 
-// The most bytes of these parts, if they can be counted.
+// The most bytes of these parts, if they are fewer than 2^64.
 fn parts_room(code: &CodeLists, parts: &[PrintPart]) -> Option<usize>
-    ensures { IfSome result (λ n. n ≡ parts_room code.now.texts parts.now) }
+    ensures some { IfSome result (λ n. n ≡ parts_room code.now.texts parts.now) }
+    ensures none { IfNone result (2 ^ 64 ≤ parts_room code.now.texts parts.now) }
 {
     let mut n: usize = 0;
     for part in parts {
@@ -233,7 +234,8 @@ fn parts_room(code: &CodeLists, parts: &[PrintPart]) -> Option<usize>
 }
 
 fn instr_room(code: &CodeLists, instr: &Instr) -> Option<usize>
-    ensures { IfSome result (λ n. n ≡ instr_room code.now.texts instr.now) }
+    ensures some { IfSome result (λ n. n ≡ instr_room code.now.texts instr.now) }
+    ensures none { IfNone result (2 ^ 64 ≤ instr_room code.now.texts instr.now) }
 {
     match instr {
         Instr::Print(parts) => parts_room(code, parts.as_slice()),
@@ -241,9 +243,10 @@ fn instr_room(code: &CodeLists, instr: &Instr) -> Option<usize>
     }
 }
 
-/// The most bytes that a Print of the code may put, if they can be counted.
+/// The most bytes that a Print of the code may put, or `None` if they are 2^64 or more.
 pub fn print_room(code: &CodeLists) -> Option<usize>
-    ensures { IfSome result (λ n. n ≡ print_room code.now.texts code.now.instrs) }
+    ensures some { IfSome result (λ n. n ≡ print_room code.now.texts code.now.instrs) }
+    ensures none { IfNone result (2 ^ 64 ≤ print_room code.now.texts code.now.instrs) }
 {
     let mut most: usize = 0;
     for instr in code.instrs.as_slice() {

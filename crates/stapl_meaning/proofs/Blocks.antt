@@ -1,7 +1,6 @@
 -- Which pieces of a program play, and which block is open before them: the blocks of DATA are put out, and all others
 -- are as in the program.
-use Rattle.std.proofs.Common.{◌≡◌, ℕ, zero, suc, ◌+◌, Bool, true, false, not, ◌&&◌, ◌||◌, if◌then◌else◌, List, [], ◌∷◌, length, take, map, slice_get, Option, Some, None, is_some, refl, sym, ap, subst, ◌∙◌, All}
-use Rattle.std.specs.List.{cons_option}
+use Rattle.std.proofs.Common.{◌≡◌, ℕ, zero, suc, ◌+◌, Bool, true, false, not, ◌&&◌, ◌||◌, if◌then◌else◌, List, [], ◌∷◌, length, take, map, slice_get, Option, Some, None, is_some, refl, sym, ap, subst, ◌∙◌, All, IfSome}
 use Rattle.std.specs.Map.{lookup}
 use Rattle.std.specs.Str.{bytes_eq}
 use Rattle.std.specs.Prelude.{unwrap_or}
@@ -223,14 +222,15 @@ module _ (program : List StmtTree) (sound : IsSound program) where
 -- What holds of that of each statement, by its place, holds of all of them.
 pub all_presets : (P : Preset → Type 0) (rest : List StmtTree) (now : Option (List ℕ)) →
     ((i : ℕ) (st : StmtTree) (preset : Preset) → slice_get rest i ≡ Some st → preset_of (data_from now (take i rest)) st.body ≡ Some preset → P preset) →
-    All P (presets_from now rest)
-all_presets P [] now each = All-nil P
+    All (λ o. IfSome o P) (presets_from now rest)
+all_presets P [] now each = All-nil (λ (o : Option Preset). IfSome o P)
 all_presets P (st ∷ rest) now each =
-    by (preset_of now st.body) refl (all_presets P rest (data_behind now st.body) (λ i s preset at is. each (suc i) s preset at is))
+    All-cons (λ (o : Option Preset). IfSome o P) (preset_of now st.body) (presets_from (data_behind now st.body) rest) (own (preset_of now st.body) refl)
+    (all_presets P rest (data_behind now st.body) (λ i s preset at is. each (suc i) s preset at is))
   where
-    by : (o : Option Preset) → preset_of now st.body ≡ o → All P (presets_from (data_behind now st.body) rest) → All P (cons_option o (presets_from (data_behind now st.body) rest))
-    by None e more = more
-    by (Some preset) e more = All-cons P preset (presets_from (data_behind now st.body) rest) (each 0 st preset refl e) more
+    own : (o : Option Preset) → preset_of now st.body ≡ o → IfSome o P
+    own None e = tt
+    own (Some preset) e = each 0 st preset refl e
 
 -- It stands in the block that is open, and has an initial value.
 pub record IsPresetIn (now : Option (List ℕ)) (body : BodyTree) (preset : Preset) : Type 0 where

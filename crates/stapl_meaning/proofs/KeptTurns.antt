@@ -54,9 +54,10 @@ module _ (w : WalkRule) (pads : (which : Padding) (bits : List Bool) (s : State)
   pub turn_kept : (program : Played) (i : ℕ) (s : State) → Fits w s → KeptTurned w (turn program i s)
   turn_kept program i s h = of_statement (scope_at program i) (i + 1) s (slice_get program.pieces i) h
 
-  set_up_same : (program : Played) (presets : List Preset) (s : State) → Fits w s → SameTurned (still w) (set_up program presets s) (set_up program presets s)
+  set_up_same : (program : Played) (presets : List (Option Preset)) (s : State) → Fits w s → SameTurned (still w) (set_up program presets s) (set_up program presets s)
   set_up_same program [] s h = record { same = refl; kept = (w.none_ok, h) }
-  set_up_same program (p ∷ presets) s h =
+  set_up_same program (None ∷ presets) s h = set_up_same program presets s h
+  set_up_same program (Some p ∷ presets) s h =
       let scope : Scope = preset_scope program p in
       carried_same (still w) scope scope (goes scope.entry) p.body s (set_up program presets) (set_up program presets)
       (λ e. padding) (same_target (target scope p.body)) h (λ t k. set_up_same program presets t k)

@@ -3,6 +3,7 @@ pub mod RunLaws
 pub mod Walks
 pub mod KeptTurns
 pub mod SaidEvents
+pub mod Endings
 pub mod Entries
 pub mod Sound
 pub mod Declared

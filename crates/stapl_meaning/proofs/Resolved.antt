@@ -147,7 +147,7 @@ module _ (program : List StmtTree) (sound : IsSound program) where
         few_values = ap has_too_many_values p.is ∙ few_values_at program sound i st at;
       }
 
-  pub typed_presets : All (IsTypedPreset (as_played program)) (presets_from None program)
+  pub typed_presets : All (λ o. IfSome o (IsTypedPreset (as_played program))) (presets_from None program)
   typed_presets = all_presets (IsTypedPreset (as_played program)) program None typed_preset
 
 -- ---- items of an ACTION

@@ -17,6 +17,8 @@ use Rattle.dev_card.specs.Scans.{BoardScan}
 use Rattle.stapl_meaning.specs.declared.events.Event.{Event}
 use Rattle.stapl_meaning.specs.declared.events.Event.TheVariants.{Print, Export, Hertz, Usec}
 use Rattle.stapl_meaning.specs.declared.events.ExportValue.TheVariants.{Array}
+use Rattle.stapl_meaning.specs.declared.events.Ending.{Ending}
+use Rattle.stapl_meaning.specs.declared.events.Ending.TheVariants.{Exit, Fault}
 use Rattle.stapl_meaning.specs.declared.events.RunFault.{RunFault}
 use Rattle.stapl_meaning.specs.declared.events.RunFault.TheVariants.{BadLength, LengthMismatch, ZeroStep, NoRecord, RecordsFull}
 use Rattle.stapl_meaning.specs.declared.records.Loop.{Loop}
@@ -49,7 +51,7 @@ sets_padding _ = false
 -- What is to be shown of all turns. States are changed in the places that their records keep (`place`, and with it
 -- `records`) and in the settings of their scans (`ir`, `dr`), and scans are changed by that (`job`). Something is kept of
 -- the settings and of the procedures that are still to run (`IrOk`, `DrOk`, `ChosenOk`), and it is enough for what holds of
--- the deeds of a turn (`DeedsOk`) and of its scans (`JobOk`).
+-- the deeds of a turn (`DeedsOk`) and of its scans (`JobOk`). Something holds of how it ends a run (`EndOk`).
 pub record WalkRule : Type 1 where
   pub place : ℕ → ℕ
   pub records : List Record → List Record
@@ -61,6 +63,7 @@ pub record WalkRule : Type 1 where
   pub ChosenOk : List ℕ → Type 0
   pub DeedsOk : List Deed → Type 0
   pub JobOk : BoardScan → Type 0
+  pub EndOk : Ending → Type 0
   -- records, one by one
   pub no_record : records [] ≡ []
   pub on_value : (z : ℤ) (rs : List Record) → records (Pushed z ∷ rs) ≡ Pushed z ∷ records rs
@@ -85,6 +88,9 @@ pub record WalkRule : Type 1 where
   pub ir_job_ok : (x : ScanSettings) (bits : List Bool) → IrOk x → 0 < length bits → JobOk (scan_of registers.Instruction x bits)
   pub dr_job_ok : (x : ScanSettings) (bits : List Bool) → DrOk x → 0 < length bits → JobOk (scan_of registers.Data x bits)
   pub chosen_none : ChosenOk []
+  -- endings
+  pub exit_ok : (code : ℤ) → EndOk (Exit code)
+  pub fault_ok : (fault : RunFault) (piece : ℕ) → EndOk (Fault fault piece)
 
 -- the rule that leaves states and scans as they are, and asks nothing
 abbrev pub plain_rule : WalkRule
@@ -99,6 +105,7 @@ plain_rule = record {
   ChosenOk = λ ps. Unit {0};
   DeedsOk = λ ds. Unit {0};
   JobOk = λ job. Unit {0};
+  EndOk = λ ending. Unit {0};
   no_record = refl;
   on_value = λ z rs. refl;
   on_call = λ i rs. refl;
@@ -119,6 +126,8 @@ plain_rule = record {
   ir_job_ok = λ x bits h some. tt;
   dr_job_ok = λ x bits h some. tt;
   chosen_none = tt;
+  exit_ok = λ code. tt;
+  fault_ok = λ fault piece. tt;
 }
 
 -- so many bits that are asked for are so many
@@ -171,7 +180,7 @@ module _ (w : WalkRule) where
   KeptDid (Jumps s) = Fits s
   KeptDid (Resumes place s) = Fits s
   KeptDid (Returns s) = Fits s
-  KeptDid (Ends ending s) = Fits s
+  KeptDid (Ends ending s) = Fits s × w.EndOk ending
 
   abbrev pub KeptGot : Got Did → Type 0
   KeptGot (Known did) = KeptDid did
@@ -228,7 +237,7 @@ module _ (w : WalkRule) where
       then_same (source_bits s.store.variables source vs) (from s) (from (changed s)) (λ bits.
       then_same (asked source span.count bits) (put s) (put (changed s)) (λ new. falls_same (with_variables s (slice_set s.store.variables n (held.Bits (spliced span.low new old)))) h))
 
-  copied_same : (into : Target) (source : Source) → SameEffect (copied into source)
+  pub copied_same : (into : Target) (source : Source) → SameEffect (copied into source)
   copied_same (IntoWhole n) source vs s h =
       let go : State → List Bool → Got Did = λ t old. span_written n old source vs t (record { low = 0; count = length old }) in
       then_same (bits_held (slice_get s.store.variables n)) (go s) (go (changed s)) (λ old. span_same n old source vs s (record { low = 0; count = length old }) h)
@@ -240,15 +249,15 @@ module _ (w : WalkRule) where
       then_same (bits_held (slice_get s.store.variables n)) (go s) (go t) (λ old.
       then_same (span_of (length old) high low) (span_written n old source vs s) (span_written n old source vs t) (λ span. span_same n old source vs s span h))
 
-  integers_same : (n : ℕ) (zs : List ℤ) → SameEffect (integers_set n zs)
+  pub integers_same : (n : ℕ) (zs : List ℤ) → SameEffect (integers_set n zs)
   integers_same n zs [] s h = written_same s (replaced s.store.variables n (with_integers zs (slice_get s.store.variables n))) h
   integers_same n zs (v ∷ vs) s h = stuck_same
 
-  jumped_same : SameEffect jumped
+  pub jumped_same : SameEffect jumped
   jumped_same [] s h = record { same = refl; kept = h }
   jumped_same (v ∷ vs) s h = stuck_same
 
-  parted_same : SameEffect parted
+  pub parted_same : SameEffect parted
   parted_same [] s h = stuck_same
   parted_same (Int z ∷ vs) s h = stuck_same
   parted_same (Bit true ∷ []) s h = falls_same s h
@@ -267,7 +276,7 @@ module _ (w : WalkRule) where
       subst (λ n. SameGot (with_room s x) (cond (nat_lt n record_limit) y (Faults RecordsFull))) (sym (as_many s.records))
       (either_same (nat_lt (length s.records) record_limit) x (Faults RecordsFull) y (Faults RecordsFull) h (fault_same RecordsFull))
 
-  pushed_same : SameEffect pushed
+  pub pushed_same : SameEffect pushed
   pushed_same [] s h = stuck_same
   pushed_same (v ∷ []) s h =
       let r : Record = Pushed (number_of v) in
@@ -278,7 +287,7 @@ module _ (w : WalkRule) where
       })
   pushed_same (v ∷ w ∷ vs) s h = stuck_same
 
-  called_same : (behind : ℕ) (vs : List Value) (s : State) → Fits s → SameGot (called behind vs s) (called (w.place behind) vs (changed s))
+  pub called_same : (behind : ℕ) (vs : List Value) (s : State) → Fits s → SameGot (called behind vs s) (called (w.place behind) vs (changed s))
   called_same behind [] s h =
       let t : State = changed s in
       room_same s (Known (Jumps (with_records s (Called behind ∷ s.records)))) (Known (Jumps (with_records t (Called (w.place behind) ∷ t.records)))) (record {
@@ -314,7 +323,7 @@ module _ (w : WalkRule) where
   loop_same (Faults k) l records go go2 s h f = fault_same k
   loop_same Stuck l records go go2 s h f = stuck_same
 
-  looped_same : (n behind : ℕ) (vs : List Value) (s : State) → Fits s → SameGot (looped n behind vs s) (looped n (w.place behind) vs (changed s))
+  pub looped_same : (n behind : ℕ) (vs : List Value) (s : State) → Fits s → SameGot (looped n behind vs s) (looped n (w.place behind) vs (changed s))
   looped_same n behind (Int first ∷ Int limit ∷ Int step ∷ []) s h =
       let l : Loop = record { variable = n; limit = limit; step = step; place = behind } in
       let t : State = changed s in
@@ -362,7 +371,7 @@ module _ (w : WalkRule) where
       by true others = k l rs
       by false others = others
 
-  repeated_same : (n : ℕ) → SameEffect (repeated n)
+  pub repeated_same : (n : ℕ) → SameEffect (repeated n)
   repeated_same n [] s h =
       let t : State = changed s in
       let round : State → Loop × List Record → ℤ → Got Did = λ t top z. went_round top.0 top.1 z t in
@@ -386,35 +395,35 @@ module _ (w : WalkRule) where
   returned_from_same (Looped l ∷ rs) s h =
       subst (λ qs. SameDid (returned_from rs s) (returned_from qs (changed s))) (sym (w.on_loop l rs)) (returned_from_same rs s h)
 
-  returned_same : SameEffect returned
+  pub returned_same : SameEffect returned
   returned_same [] s h = let r = returned_from_same s.records s h in record { same = ap Known r.same; kept = r.kept }
   returned_same (v ∷ vs) s h = stuck_same
 
-  exited_same : SameEffect exited
+  pub exited_same : SameEffect exited
   exited_same [] s h = stuck_same
-  exited_same (Int code ∷ []) s h = record { same = refl; kept = h }
+  exited_same (Int code ∷ []) s h = record { same = refl; kept = (h, w.exit_ok code) }
   exited_same (Int code ∷ v ∷ vs) s h = stuck_same
   exited_same (Bit b ∷ vs) s h = stuck_same
 
   says_same : (ds : List Deed) (s : State) → w.DeedsOk ds → Fits s → SameGot (Known (Falls ds s)) (Known (Falls ds (changed s)))
   says_same ds s n h = record { same = refl; kept = (n, h) }
 
-  printed_same : (text : Got (List ℕ)) (s : State) → Fits s → SameGot (printed text s) (printed text (changed s))
+  pub printed_same : (text : Got (List ℕ)) (s : State) → Fits s → SameGot (printed text s) (printed text (changed s))
   printed_same (Known bytes) s h = record { same = refl; kept = (w.says_ok (Print bytes) refl, h) }
   printed_same (Faults k) s h = fault_same k
   printed_same Stuck s h = stuck_same
 
-  exported_same : (key : List ℕ) → SameEffect (exported key)
+  pub exported_same : (key : List ℕ) → SameEffect (exported key)
   exported_same key [] s h = stuck_same
   exported_same key (v ∷ []) s h = record { same = refl; kept = (w.says_ok (Export key (export_of v)) refl, h) }
   exported_same key (v ∷ w ∷ vs) s h = stuck_same
 
-  bits_same : (key : List ℕ) (source : Source) → SameEffect (bits_exported key source)
+  pub bits_same : (key : List ℕ) (source : Source) → SameEffect (bits_exported key source)
   bits_same key source vs s h =
       let go : State → List Bool → Got Did = λ t bits. Known (Falls (Says (Export key (Array bits)) ∷ []) t) in
       then_same (source_bits s.store.variables source vs) (go s) (go (changed s)) (λ bits. record { same = refl; kept = (w.says_ok (Export key (Array bits)) refl, h) })
 
-  moved_same : (states : List Tap) → SameEffect (moved_through states)
+  pub moved_same : (states : List Tap) → SameEffect (moved_through states)
   moved_same states [] s h = record { same = refl; kept = (w.moves_ok states, h) }
   moved_same states (v ∷ vs) s h = stuck_same
 
@@ -461,10 +470,10 @@ module _ (w : WalkRule) where
   wait_if true g s n h = waits_same g s (n refl) h
   wait_if false g s n h = stuck_same
 
-  waited_same : (kind : WaitKind) (at end : Tap) → SameEffect (waited kind at end)
+  pub waited_same : (kind : WaitKind) (at end : Tap) → SameEffect (waited kind at end)
   waited_same kind at end vs s h = wait_if (is_stable_state at) (waited_for kind at end vs) s (waited_for_kept kind at end vs) h
 
-  tuned_same : SameEffect tuned
+  pub tuned_same : SameEffect tuned
   tuned_same [] s h = record { same = refl; kept = (w.says_ok (Hertz 0) refl, h) }
   tuned_same (Int n ∷ []) s h =
       let go : State → ℕ → Got Did = λ t hertz. Known (Falls (Says (Hertz hertz) ∷ []) t) in
@@ -514,7 +523,7 @@ module _ (w : WalkRule) where
   some_length (pos (suc n)) b e = omega arith
   some_length (negsuc n) b e = absurd (false≢true e)
 
-  scanned_same : (parts : ScanParts) → SameEffect (scanned parts)
+  pub scanned_same : (parts : ScanParts) → SameEffect (scanned parts)
   scanned_same parts [] s h = stuck_same
   scanned_same parts (Bit b ∷ vs) s h = stuck_same
   scanned_same parts (Int z ∷ vs) s h =
@@ -525,7 +534,7 @@ module _ (w : WalkRule) where
       then_same (scan_found s.store.variables parts vs) (go s) (go t) (λ found.
       then_some (least && most) (nat_abs z) BadLength (scan_asked parts found s) (scan_asked parts found t) (some_length z most) (λ n some. scan_asked_same parts found s n some h))
 
-  surrounded_same : PaddingRule → (which : Padding) (source : Option Source) → SameEffect (surrounded which source)
+  pub surrounded_same : PaddingRule → (which : Padding) (source : Option Source) → SameEffect (surrounded which source)
   surrounded_same r which source [] s h = stuck_same
   surrounded_same r which source (Bit b ∷ vs) s h = stuck_same
   surrounded_same r which source (Int z ∷ vs) s h =
@@ -539,7 +548,7 @@ module _ (w : WalkRule) where
   stop_if true s u h = let p = h refl in record { same = ap (λ t. Known (Falls [] t)) p.0; kept = (w.none_ok, p.1) }
   stop_if false s u h = stuck_same
 
-  stopped_same : (register : Register) (tap : Tap) → SameEffect (stopped register tap)
+  pub stopped_same : (register : Register) (tap : Tap) → SameEffect (stopped register tap)
   stopped_same register tap (v ∷ vs) s h = stuck_same
   stopped_same registers.Data tap [] s h =
       stop_if (is_stable_state tap) (with_stop registers.Data tap s) (with_stop registers.Data tap (changed s))
@@ -605,7 +614,7 @@ module _ (w : WalkRule) where
 
   abbrev pub KeptTurned : Turned → Type 0
   KeptTurned (Leads deeds place s) = w.DeedsOk deeds × Fits s
-  KeptTurned (Over deeds ending s) = w.DeedsOk deeds × Fits s
+  KeptTurned (Over deeds ending s) = w.DeedsOk deeds × Fits s × w.EndOk ending
   KeptTurned (Broken deeds fault s) = w.DeedsOk deeds × Fits s
   KeptTurned (Scanning deeds job rest) = w.DeedsOk deeds × w.JobOk job × ((bits : List Bool) → KeptTurned (rest bits))
   KeptTurned (NoTurn deeds) = w.DeedsOk deeds
@@ -629,7 +638,7 @@ module _ (w : WalkRule) where
 
   kept_preceded : (before : List Deed) (t : Turned) → w.DeedsOk before → KeptTurned t → KeptTurned (preceded before t)
   kept_preceded before (Leads ds place s) b h = (w.both_ok before ds b h.0, h.1)
-  kept_preceded before (Over ds ending s) b h = (w.both_ok before ds b h.0, h.1)
+  kept_preceded before (Over ds ending s) b h = (w.both_ok before ds b h.0, h.1, h.2)
   kept_preceded before (Broken ds k s) b h = (w.both_ok before ds b h.0, h.1)
   kept_preceded before (Scanning ds job rest) b h = (w.both_ok before ds b h.0, h.1, h.2)
   kept_preceded before (NoTurn ds) b h = w.both_ok before ds b h
@@ -647,7 +656,7 @@ module _ (w : WalkRule) where
   kept_piece : (piece : ℕ) (t : Turned) → KeptTurned t → KeptTurned (turn_of_piece piece t)
   kept_piece piece (Leads ds place s) h = h
   kept_piece piece (Over ds ending s) h = h
-  kept_piece piece (Broken ds k s) h = h
+  kept_piece piece (Broken ds k s) h = (h.0, h.1, w.fault_ok k piece)
   kept_piece piece (Scanning ds job rest) h = (h.0, h.1, λ bits. kept_piece piece (rest bits) (h.2 bits))
   kept_piece piece (NoTurn ds) h = h
 
@@ -660,7 +669,7 @@ module _ (w : WalkRule) where
 
   pub chosen_same : (e1 e2 : ℕ → ℕ) → SameEntries e1 e2 → (s : State) → Fits s → (ps : List ℕ) → w.ChosenOk ps
       → SameTurned (next_chosen e1 s ps) (next_chosen e2 (changed s) ps)
-  chosen_same e1 e2 e s h [] b = record { same = refl; kept = (w.none_ok, (h.0, h.1, w.chosen_none)) }
+  chosen_same e1 e2 e s h [] b = record { same = refl; kept = (w.none_ok, (h.0, h.1, w.chosen_none), w.exit_ok (pos 0)) }
   chosen_same e1 e2 e s h (p ∷ ps) b =
       let q = e p ps b in
       record { same = ap (λ n. Leads [] n (changed (record s { chosen = ps }))) q.0; kept = (w.none_ok, (h.0, h.1, q.1)) }
@@ -679,7 +688,7 @@ module _ (w : WalkRule) where
   led_same e1 e2 e to (Jumps s) go go2 h k = jumps_same to s h
   led_same e1 e2 e to (Resumes place s) go go2 h k = record { same = refl; kept = (w.none_ok, h) }
   led_same e1 e2 e to (Returns s) go go2 h k = chosen_same e1 e2 e s h s.chosen h.2
-  led_same e1 e2 e to (Ends ending s) go go2 h k = record { same = refl; kept = (w.none_ok, h) }
+  led_same e1 e2 e to (Ends ending s) go go2 h k = record { same = refl; kept = (w.none_ok, h.0, h.1) }
 
   got_led_same : (e1 e2 : ℕ → ℕ) → SameEntries e1 e2 → (to : Option ℕ) (g g2 : Got Did) (s : State) (go go2 : State → Turned) → Fits s → SameGot g g2
       → ((t : State) → Fits t → SameTurned (go t) (go2 (changed t)))

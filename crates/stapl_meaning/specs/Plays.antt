@@ -63,10 +63,15 @@ abbrev pub start : List ℕ → List Held → State
 start chosen variables =
     record { chosen = chosen; records = []; store = record { variables = variables }; ir = first_settings; dr = first_settings }
 
+-- what a piece presets is set, if it does, and then what follows it
+abbrev pub preset_done : Played → Option Preset → State → (State → Turned) → Turned
+preset_done program None s go = go s
+preset_done program (Some preset) s go = carried (preset_scope program preset) preset.body s go
+
 -- The initial values of DATA blocks are set, one after the other. This takes no turn, and leads to no place of its own.
-abbrev pub set_up : Played → List Preset → State → Turned
+abbrev pub set_up : Played → List (Option Preset) → State → Turned
 set_up program [] s = Leads [] 0 s
-set_up program (preset ∷ presets) s = carried (preset_scope program preset) preset.body s (set_up program presets)
+set_up program (preset ∷ presets) s = preset_done program preset s (set_up program presets)
 
 -- the beginning of a play: DATA blocks are set, and then the first chosen procedure begins
 abbrev pub beginning : Played → State → Turned
@@ -96,3 +101,8 @@ abbrev pub ending_of : Outcome → Option Ending
 ending_of (Ended ending) = Some ending
 ending_of (Going place) = Some Spent
 ending_of Stopped = None
+
+-- the run still goes on
+abbrev pub IsGoing : Outcome → Type 0
+IsGoing (Going place) = Unit {0}
+IsGoing _ = ⊥

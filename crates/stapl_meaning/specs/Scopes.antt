@@ -1,7 +1,6 @@
 -- What of a program plays, and what its names stand for. Source: JESD71, procedures, DATA blocks and variables. Places
 -- are those of pieces, counted from 0.
 use Rattle.std.specs.Prelude.{ℕ, zero, suc, pos, ◌+◌, ◌-◌, List, [], ◌∷◌, take, length, Bool, true, false, Option, Some, None, if◌then◌else◌, map, replicate, nat_abs}
-use Rattle.std.specs.List.{cons_option}
 use Rattle.std.specs.Option.{option_map_or}
 use Rattle.std.specs.Map.{lookup}
 use Rattle.std.specs.Str.{bytes_eq}
@@ -67,15 +66,16 @@ abbrev pub preset_of : Option (List ℕ) → BodyTree → Option Preset
 preset_of None body = None
 preset_of (Some block) body = if has_initial_value body then Some (record { block = block; body = body }) else None
 
-abbrev pub presets_from : Option (List ℕ) → List StmtTree → List Preset
+-- what each piece of a program presets, if it does
+abbrev pub presets_from : Option (List ℕ) → List StmtTree → List (Option Preset)
 presets_from now [] = []
-presets_from now (st ∷ rest) = cons_option (preset_of now st.body) (presets_from (data_behind now st.body) rest)
+presets_from now (st ∷ rest) = preset_of now st.body ∷ presets_from (data_behind now st.body) rest
 
--- What of a program plays: the names of all of it, the initial values of its DATA blocks in their order, and its
--- pieces.
+-- What of a program plays: the names of all of it, the initial values of its DATA blocks, each at the place of its
+-- piece, and its pieces.
 pub record Played : Type 0 where
   pub names : Names
-  pub presets : List Preset
+  pub presets : List (Option Preset)
   pub pieces : List StmtTree
 
 -- the names of a program

@@ -123,7 +123,7 @@ pub record IsTyped (program : Played) : Type 0 where
   pub play : All (λ (st : StmtTree). plays None st.body ≡ true) program.pieces
   pub ordered : IsOrdered false program.pieces
   pub statements : (i : ℕ) (st : StmtTree) → slice_get program.pieces i ≡ Some st → is_outer st.body ≡ false → IsTypedAt program i st.body
-  pub presets : All (IsTypedPreset program) program.presets
+  pub presets : All (λ o. IfSome o (IsTypedPreset program)) program.presets
   pub items : All (λ (st : StmtTree). NamesProcedures program st.body) program.pieces
   pub blocks_apart : AllPairs (λ a b. a ≢ b) (keys_of program.names.blocks)
   pub procedures_are : plain_blocks program.names.blocks ≡ procedure_names program.pieces

@@ -1,5 +1,5 @@
 //! Laws of the definitions.
-ghost use Rattle.std.specs.Prelude.{◌≡◌, ℕ, ◌+◌, List};
+ghost use Rattle.std.specs.Prelude.{◌≡◌, ℕ, ◌+◌, List, Some};
 ghost use Rattle.stapl_syntax.specs.Trees.{StmtTree};
 ghost use Rattle.stapl_syntax.specs.Programs.{IsProgram};
 ghost use Rattle.stapl_meaning.specs.Deeds.{Chain};
@@ -7,7 +7,8 @@ ghost use Rattle.stapl_meaning.specs.SaidEvents.{TurnSaysNoClock};
 ghost use Rattle.stapl_meaning.specs.States.{State, Turned};
 ghost use Rattle.stapl_meaning.specs.Scopes.{Played, as_played};
 ghost use Rattle.stapl_meaning.specs.Turns.{IsTurn, turn, IsFound};
-ghost use Rattle.stapl_meaning.specs.Plays.{run, then_runs, beginning};
+ghost use Rattle.stapl_meaning.specs.declared.events.Ending.TheVariants.{Spent};
+ghost use Rattle.stapl_meaning.specs.Plays.{run, then_runs, beginning, procedures_run, ending_of, IsGoing};
 ghost use Rattle.stapl_meaning.specs.Typed.{IsTyped};
 
 /// A statement does what the function gives, and where the function finds something to do, the statement does that.
@@ -31,6 +32,12 @@ pub fn no_turn_says_a_clock()
 pub fn runs_follow_each_other()
     ensures { (program : Played) (n m i : ℕ) (s : State) (k : Chain) →
         run program (n + m) i s k ≡ then_runs (run program n i s k) (run program m) }
+{}
+
+/// A run of chosen procedures is spent only if it still goes on after its turns.
+pub fn only_a_run_that_goes_on_is_spent()
+    ensures { (program : Played) (chosen : List ℕ) (n : ℕ) (k : Chain) →
+        ending_of (procedures_run program chosen n k).outcome ≡ Some Spent → IsGoing (procedures_run program chosen n k).outcome }
 {}
 
 /// Each program is typed.
