@@ -1,7 +1,6 @@
 -- No turn of a code ends a run as spent: it ends it with an exit or a fault. So a play is spent only if it still goes on.
-use Rattle.std.proofs.Common.{◌≡◌, ℕ, zero, suc, ◌-◌, Bool, List, [], ◌∷◌, length, drop, Option, Some, None, refl}
+use Rattle.std.proofs.Common.{◌≡◌, ℕ, zero, suc, ◌-◌, List, [], ◌∷◌, length, drop, Option, Some, None, refl}
 use Rattle.std.specs.Prelude.{slice_get}
-use Rattle.stapl_lexer.specs.declared.terminal.Padding.{Padding}
 use Rattle.stapl_meaning.specs.declared.events.Ending.TheVariants.{Spent}
 use Rattle.stapl_meaning.specs.declared.records.Record.{Record}
 use Rattle.stapl_meaning.specs.declared.values.Value.{Value}

@@ -1,7 +1,6 @@
 -- A program gives the compiler what it asks for.
-use Rattle.std.proofs.Common.{◌≡◌, ℕ, ◌≤◌, Bool, true, false, ◌||◌, if◌then◌else◌, List, [], ◌∷◌, ◌++◌, Option, None, Some, length, get_or, arith, refl, sym, ap, subst, ◌∙◌, true≢false}
+use Rattle.std.proofs.Common.{◌≡◌, ℕ, ◌≤◌, Bool, true, false, ◌||◌, if◌then◌else◌, List, [], ◌∷◌, ◌++◌, Option, None, Some, length, drop, get_or, arith, refl, sym, ap, subst, ◌∙◌, true≢false}
 use Rattle.std.specs.Prelude.{All, IfSome, sum_by}
-use Rattle.std.specs.List.{cons_option}
 use Rattle.std.proofs.lemmas.List.{append-nil}
 use Rattle.std.proofs.lemmas.List.Elements.{All-nil, All-cons, All-head, All-tail, All-append, All-weaker}
 use Rattle.std.proofs.lemmas.List.Sums.{sum_by-cons}
@@ -16,8 +15,9 @@ use Rattle.stapl_meaning.specs.Scopes.{data_behind, plays, idle, pieces_from, ha
 use Rattle.stapl_meaning.specs.Typed.{IsTypedPreset, IsTyped}
 use Rattle.stapl_meaning.proofs.Blocks.{preset_in}
 use Rattle.stapl_code.specs.Ranges.{IsLiteral}
-use Rattle.stapl_codegen.specs.Emit.{part_texts, array_literals, given_literals, compare_literals, row_texts, row_literals, rows_items, presets_items, statements_items, program_items, texts_of, literals_of}
-use Rattle.stapl_codegen.specs.Accepted.{IsAccepted}
+use Rattle.stapl_codegen.specs.Emit.{part_texts, array_literals, given_literals, compare_literals, row_texts, row_literals, rows_items, preset_items, statements_items, first_items, pieces_items, texts_of, literals_of}
+use Rattle.stapl_codegen.specs.Accepted.{preset_size, IsAccepted}
+use Rattle.stapl_codegen.specs.Correct.{Starts, AllStart}
 use Rattle.stapl_codegen.proofs.Drafts.{one_row}
 
 -- what holds of the items of each row holds of those of the program
@@ -117,38 +117,56 @@ module _ (P : BodyTree → Type 0) where
       by true = All-head Holds st rest each
       by false = none
 
-  abbrev HoldsOf : Preset → Type 0
-  HoldsOf preset = P preset.body
+  abbrev HoldsOf : Option Preset → Type 0
+  HoldsOf o = IfSome o (λ (preset : Preset). P preset.body)
 
   presets_all : (now : Option (List ℕ)) (rest : List StmtTree) → All Holds rest → All HoldsOf (presets_from now rest)
   presets_all now [] each = All-nil HoldsOf
   presets_all now (st ∷ rest) each =
-      by (preset_of now st.body) refl (presets_all (data_behind now st.body) rest (All-tail Holds st rest each))
+      All-cons HoldsOf (preset_of now st.body) (presets_from (data_behind now st.body) rest) (by (preset_of now st.body) refl)
+      (presets_all (data_behind now st.body) rest (All-tail Holds st rest each))
     where
-      by : (o : Option Preset) → preset_of now st.body ≡ o → All HoldsOf (presets_from (data_behind now st.body) rest) → All HoldsOf (cons_option o (presets_from (data_behind now st.body) rest))
-      by None e more = more
-      by (Some preset) e more =
-          All-cons HoldsOf preset (presets_from (data_behind now st.body) rest)
-          (subst P (sym (preset_in now st.body preset e).is) (All-head Holds st rest each)) more
+      by : (o : Option Preset) → preset_of now st.body ≡ o → HoldsOf o
+      by None e = tt
+      by (Some preset) e = subst P (sym (preset_in now st.body preset e).is) (All-head Holds st rest each)
 
 -- the same of the items of rows
 module _ {A : Type 0} (of : BodyTree → List A) (P : A → Type 0) (Q : BodyTree → Type 0) (row : (b : BodyTree) → Q b → All P (rows_items of (rows b))) where
-  items_of_presets : (presets : List Preset) → All (λ (preset : Preset). has_initial_value preset.body ≡ true) presets →
-      All (λ (preset : Preset). Q preset.body) presets → All P (presets_items of presets)
-  items_of_presets [] starts each = All-nil P
-  items_of_presets (preset ∷ presets) starts each =
-      let one : rows preset.body ≡ preset.body ∷ [] = one_row preset.body (All-head (λ (preset : Preset). has_initial_value preset.body ≡ true) preset presets starts) in
-      let own = row preset.body (All-head (λ (preset : Preset). Q preset.body) preset presets each) in
-      All-append P (of preset.body) (presets_items of presets) (subst (All P) (ap (rows_items of) one ∙ append-nil (of preset.body)) own)
-      (items_of_presets presets (All-tail (λ (preset : Preset). has_initial_value preset.body ≡ true) preset presets starts) (All-tail (λ (preset : Preset). Q preset.body) preset presets each))
+  abbrev OfPreset : Option Preset → Type 0
+  OfPreset o = IfSome o (λ (preset : Preset). Q preset.body)
 
-  items_of_program : Q end_data → (statements : List StmtTree) → IsTyped (as_played statements) → All (λ (st : StmtTree). Q st.body) statements → All P (program_items of (as_played statements))
-  items_of_program none statements typed each =
-      All-append P (presets_items of (presets_from None statements)) (statements_items of (pieces_from None statements))
-      (items_of_presets (presets_from None statements)
-      (All-weaker (IsTypedPreset (as_played statements)) (λ (preset : Preset). has_initial_value preset.body ≡ true) (λ preset typed. typed.starts) (presets_from None statements) typed.presets)
-      (presets_all Q None statements each))
-      (all_items of P Q row (pieces_from None statements) (pieces_all Q none None statements each))
+  items_of_first : (sts : List StmtTree) → All (λ (st : StmtTree). Q st.body) sts → All P (first_items of sts)
+  items_of_first [] each = All-nil P
+  items_of_first (st ∷ rest) each = row st.body (All-head (λ (st : StmtTree). Q st.body) st rest each)
+
+  items_of_preset : (o : Option Preset) → Starts o → OfPreset o → All P (preset_items of o)
+  items_of_preset None starts own = All-nil P
+  items_of_preset (Some preset) starts own =
+      subst (All P) (ap (rows_items of) (one_row preset.body starts) ∙ append-nil (of preset.body)) (row preset.body own)
+
+  items_of_pieces : (presets : List (Option Preset)) (sts : List StmtTree) → AllStart presets → All OfPreset presets → All (λ (st : StmtTree). Q st.body) sts → All P (pieces_items of presets sts)
+  items_of_pieces [] sts starts own each = all_items of P Q row sts each
+  items_of_pieces (o ∷ os) sts starts own each =
+      All-append P (first_items of sts) (preset_items of o ++ pieces_items of os (drop 1 sts)) (items_of_first sts each)
+      (All-append P (preset_items of o) (pieces_items of os (drop 1 sts)) (items_of_preset o (All-head Starts o os starts) (All-head OfPreset o os own))
+      (items_of_pieces os (drop 1 sts) (All-tail Starts o os starts) (All-tail OfPreset o os own) (others sts each)))
+    where
+      others : (sts : List StmtTree) → All (λ (st : StmtTree). Q st.body) sts → All (λ (st : StmtTree). Q st.body) (drop 1 sts)
+      others [] each = each
+      others (st ∷ rest) each = All-tail (λ (st : StmtTree). Q st.body) st rest each
+
+  items_of_program : Q end_data → (statements : List StmtTree) → AllStart (presets_from None statements) → All (λ (st : StmtTree). Q st.body) statements →
+      All P (pieces_items of (presets_from None statements) (pieces_from None statements))
+  items_of_program none statements starts each =
+      items_of_pieces (presets_from None statements) (pieces_from None statements) starts (presets_all Q None statements each) (pieces_all Q none None statements each)
+
+-- each initial value of a typed program is one
+pub all_start : (program : Played) → IsTyped program → AllStart program.presets
+all_start program typed = All-weaker (λ (o : Option Preset). IfSome o (IsTypedPreset program)) Starts by program.presets typed.presets
+  where
+    by : (o : Option Preset) → IfSome o (IsTypedPreset program) → Starts o
+    by None typed = tt
+    by (Some preset) typed = typed.starts
 
 -- how large the pieces are, and the initial values of DATA blocks: each statement has a symbol
 
@@ -190,24 +208,22 @@ pieces_size now (st ∷ rest) =
     by true = omega arith
     by false = some_size st.body
 
-abbrev presets_size : List Preset → ℕ
-presets_size presets = sum_by (λ (preset : Preset). body_size preset.body) presets
-
-pub preset_size : (now : Option (List ℕ)) (rest : List StmtTree) → presets_size (presets_from now rest) ≤ statements_size rest
-preset_size now [] = omega arith
-preset_size now (st ∷ rest) = by (preset_of now st.body) refl (preset_size (data_behind now st.body) rest)
+pub presets_size : (now : Option (List ℕ)) (rest : List StmtTree) → sum_by preset_size (presets_from now rest) ≤ statements_size rest
+presets_size now [] = omega arith
+presets_size now (st ∷ rest) =
+    let more = presets_size (data_behind now st.body) rest in
+    let own = by (preset_of now st.body) refl in
+    omega (
+      arith,
+      more,
+      own,
+      sum_by-cons (λ (st : StmtTree). body_size st.body) st rest,
+      sum_by-cons preset_size (preset_of now st.body) (presets_from (data_behind now st.body) rest),
+    )
   where
-    by : (o : Option Preset) → preset_of now st.body ≡ o → presets_size (presets_from (data_behind now st.body) rest) ≤ statements_size rest →
-        presets_size (cons_option o (presets_from (data_behind now st.body) rest)) ≤ statements_size (st ∷ rest)
-    by None e more = omega (arith, more, sum_by-cons (λ (st : StmtTree). body_size st.body) st rest)
-    by (Some preset) e more =
-        omega (
-          arith,
-          more,
-          ap body_size (preset_in now st.body preset e).is,
-          sum_by-cons (λ (st : StmtTree). body_size st.body) st rest,
-          sum_by-cons (λ (preset : Preset). body_size preset.body) preset (presets_from (data_behind now st.body) rest),
-        )
+    by : (o : Option Preset) → preset_of now st.body ≡ o → preset_size o ≤ body_size st.body
+    by None e = omega arith
+    by (Some preset) e = omega (arith, ap body_size (preset_in now st.body preset e).is)
 
 -- an initial value is that of a statement of a procedure or a DATA block
 inner_start : (b : BodyTree) → has_initial_value b ≡ true → (is_outer_shape b || is_inner_shape b) ≡ true → is_inner_shape b ≡ true
@@ -217,10 +233,13 @@ inner_start (integer name start) starts shaped = shaped
 inner_start (integer_array name size start) starts shaped = shaped
 inner_start _ starts shaped = absurd (true≢false (sym starts))
 
-presets_inner : (program : Played) (presets : List Preset) → All (IsTypedPreset program) presets →
-    All (λ (preset : Preset). (is_outer_shape preset.body || is_inner_shape preset.body) ≡ true) presets →
-    All (λ (preset : Preset). is_inner_shape preset.body ≡ true) presets
-presets_inner program presets typed shaped = λ k d below. inner_start (get_or presets k d).body (typed k d below).starts (shaped k d below)
+presets_inner : (program : Played) (presets : List (Option Preset)) → All (λ o. IfSome o (IsTypedPreset program)) presets →
+    All (HoldsOf (λ b. (is_outer_shape b || is_inner_shape b) ≡ true)) presets → All (HoldsOf (λ b. is_inner_shape b ≡ true)) presets
+presets_inner program presets typed shaped = λ k d below. by (get_or presets k d) (typed k d below) (shaped k d below)
+  where
+    by : (o : Option Preset) → IfSome o (IsTypedPreset program) → HoldsOf (λ b. (is_outer_shape b || is_inner_shape b) ≡ true) o → HoldsOf (λ b. is_inner_shape b ≡ true) o
+    by None typed shaped = tt
+    by (Some preset) typed shaped = inner_start preset.body typed.starts shaped
 
 pub accepted : (text : List ℕ) (program : List StmtTree) → IsProgram text program → IsTyped (as_played program) → All HasShape program →
     All (λ (st : StmtTree). IsWellNamed st.body) program → All (λ (st : StmtTree). PrintsShortStrings (length text) st.body) program →
@@ -231,9 +250,9 @@ accepted text program is typed shaped named short held small = record {
   typed = typed;
   named = pieces_all IsWellNamed tt None program named;
   size = let few = is.short in omega (arith, small, few, pieces_size None program);
-  presets_size = let few = is.short in omega (arith, small, few, preset_size None program);
+  presets_size = let few = is.short in omega (arith, small, few, presets_size None program);
   literals = few_bits (length text) is.short (literals_of (as_played program))
-      (items_of_program row_literals (AreLiteralBits (length text)) (HoldsLiterals (length text)) (held_body (length text)) tt program typed held);
+      (items_of_program row_literals (AreLiteralBits (length text)) (HoldsLiterals (length text)) (held_body (length text)) tt program (all_start (as_played program) typed) held);
   texts = weaker (length text) is.short (texts_of (as_played program))
-      (items_of_program row_texts (IsShort (length text)) (PrintsShortStrings (length text)) (short_body (length text)) tt program typed short);
+      (all_items row_texts (IsShort (length text)) (PrintsShortStrings (length text)) (short_body (length text)) (pieces_from None program) (pieces_all (PrintsShortStrings (length text)) tt None program short));
 }

@@ -1,7 +1,7 @@
 -- How many bytes the instructions of a program take: at most six for each symbol of its statements and of its DATA
 -- blocks, and a few more for what they hold.
 use Rattle.std.proofs.Common.{◌≡◌, ℕ, ℤ, zero, suc, pos, ◌+◌, ◌*◌, ◌≤◌, Bool, true, false, cond, List, [], ◌∷◌, ◌++◌, Option, None, Some, length, arith, refl, sym, ap, ◌∙◌}
-use Rattle.std.specs.Prelude.{All}
+use Rattle.std.specs.Prelude.{All, IfSome}
 use Rattle.std.specs.List.{sum_by}
 use Rattle.std.proofs.lemmas.Bool.{true≢false}
 use Rattle.std.proofs.lemmas.List.{length-map}
@@ -27,8 +27,8 @@ use Rattle.stapl_code.specs.declared.instr.Source.TheVariants as sources
 use Rattle.stapl_code.specs.declared.instr.Instr.{Instr}
 use Rattle.stapl_code.specs.declared.instr.Instr.TheVariants.{Turn, Push, PushBit, Load, LoadAt, CheckIndex, CheckRange, Store, StoreAt, Unary, Binary, ToInt, CopyBits, SetBits, SetInts, For, Next, PushRecord, PopRecord, Call, Jump, JumpIfZero, EndProc, Print, Export, CheckChar, Exit, Scan as Scans, Stop, Pad, State as GoThrough, Wait, Frequency}
 use Rattle.stapl_codegen.proofs.Views.{IsInner, an_end, a_bit, some_bits, an_integer, no_integers, some_integers, a_simple, inner_view}
-use Rattle.stapl_codegen.specs.Emit.{operator_number, sign_number, absolute_number, past, literal_code, shown_part, array_literals, expr_code, int_code, operands_code, given_code, target_code, compare_code, print_parts, export_part, Firsts, last, behind_row, row_code, body_code, at_first, firsts_at, presets_code, piece_code, pieces_code, code_to}
-use Rattle.stapl_codegen.specs.Accepted.{IsAccepted}
+use Rattle.stapl_codegen.specs.Emit.{operator_number, sign_number, absolute_number, past, literal_code, shown_part, array_literals, expr_code, int_code, operands_code, given_code, target_code, compare_code, print_parts, export_part, Firsts, last, row_code, body_code, firsts_at, preset_firsts, preset_code, presets_code, piece_code, pieces_code, code_to}
+use Rattle.stapl_codegen.specs.Accepted.{preset_size, IsAccepted}
 use Rattle.stapl_codegen.proofs.Lists.{operands_both}
 
 -- ---- instructions
@@ -409,35 +409,38 @@ preset_fits scope place first (integer name None) rest starts = absurd (true≢f
 preset_fits scope place first (integer_array name size None) rest starts = absurd (true≢false (sym starts))
 preset_fits scope place first _ rest starts = absurd (true≢false (sym starts))
 
-presets_fit : (program : Played) (place : ℕ → ℕ) (first : Firsts) (presets : List Preset) (rest : List Instr) →
-    All (IsTypedPreset program) presets →
-    code_bytes (presets_code program place first presets rest)
-    ≤ 6 * sum_by (λ (preset : Preset). body_size preset.body) presets
-    + 4 * sum_by (λ (preset : Preset). body_bytes preset.body) presets
+-- how many bytes an initial value of a DATA block holds, if there is one
+abbrev pub preset_bytes : Option Preset → ℕ
+preset_bytes None = 0
+preset_bytes (Some preset) = body_bytes preset.body
+
+presets_fit : (program : Played) (place : ℕ → ℕ) (i : ℕ) (presets : List (Option Preset)) (rest : List Instr) →
+    All (λ o. IfSome o (IsTypedPreset program)) presets →
+    code_bytes (presets_code program place i presets rest)
+    ≤ 6 * sum_by preset_size presets
+    + 4 * sum_by preset_bytes presets
     + code_bytes rest
-presets_fit program place first [] rest typed = omega arith
-presets_fit program place first (preset ∷ presets) rest typed =
-    let more : List Instr = presets_code program place (behind_row first preset.body) presets rest in
-    let starts = (All-head (IsTypedPreset program) preset presets typed).starts in
-    let left = All-tail (IsTypedPreset program) preset presets typed in
-    let one = preset_fits (preset_scope program preset) place first preset.body more starts in
-    let others = presets_fit program place (behind_row first preset.body) presets rest left in
-    omega (
-      arith,
-      sum_by-cons (λ (preset : Preset). body_size preset.body) preset presets,
-      sum_by-cons (λ (preset : Preset). body_bytes preset.body) preset presets,
-      one,
-      others,
-    )
+presets_fit program place i [] rest typed = omega arith
+presets_fit program place i (preset ∷ presets) rest typed =
+    let Typed : Option Preset → Type 0 = λ o. IfSome o (IsTypedPreset program) in
+    let more : List Instr = presets_code program place (i + 1) presets rest in
+    let one = by preset more (All-head Typed preset presets typed) in
+    let others = presets_fit program place (i + 1) presets rest (All-tail Typed preset presets typed) in
+    omega (arith, sum_by-cons preset_size preset presets, sum_by-cons preset_bytes preset presets, one, others)
+  where
+    by : (o : Option Preset) (more : List Instr) → IfSome o (IsTypedPreset program) →
+        code_bytes (preset_code program place i o more) ≤ 6 * preset_size o + 4 * preset_bytes o + code_bytes more
+    by None more typed = omega arith
+    by (Some preset) more typed = preset_fits (preset_scope program preset) place (preset_firsts program i) preset.body more typed.starts
 
 -- the code of a program
 pub program_code_fits : (program : Played) (place : ℕ → ℕ) → IsAccepted program →
     code_bytes (code_to program place)
     ≤ 6 * statements_size program.pieces + 5 * statements_bytes program.pieces
-    + 6 * sum_by (λ (preset : Preset). body_size preset.body) program.presets
-    + 4 * sum_by (λ (preset : Preset). body_bytes preset.body) program.presets
+    + 6 * sum_by preset_size program.presets
+    + 4 * sum_by preset_bytes program.presets
 program_code_fits program place accepted =
     let pieces = pieces_fit program place 0 program.pieces accepted.shaped in
     let code : List Instr = pieces_code program place 0 program.pieces in
-    let all = presets_fit program place at_first program.presets code accepted.typed.presets in
+    let all = presets_fit program place 0 program.presets code accepted.typed.presets in
     omega (arith, all, pieces)

@@ -1,26 +1,27 @@
 -- A piece more of a draft.
 use Rattle.std.proofs.Common.{◌≡◌, ℕ, zero, suc, ◌+◌, ◌-◌, ◌<◌, ◌≤◌, Bool, true, false, List, [], ◌∷◌, ◌++◌, Option, Some, None, map, length, get_or, drop, take, arith, length-append, append_assoc, sym, ap, subst, ◌∙◌, refl, ⊎_elim}
-use Rattle.std.specs.Prelude.{if◌then◌else◌, slice_index, IfSome}
+use Rattle.std.specs.Prelude.{if◌then◌else◌, slice_index}
 use Rattle.std.proofs.lemmas.List.{get_or_append_left, append-nil, take-map, drop_all, take_all}
-use Rattle.std.specs.List.{cons_option}
 use Rattle.std.proofs.lemmas.Bool.{cases_lt, true≢false}
 use Rattle.std.proofs.Math.Seq.{get_or-append_seam}
 use Rattle.stapl_syntax.specs.Trees.{BodyTree, boolean, boolean_array, integer, integer_array, call, StmtTree}
 use Rattle.stapl_syntax.specs.Statements.{is_outer}
 use Rattle.stapl_syntax.specs.Names.{numbered_from, numbered, inside_behind, inside_from, inside_after}
 use Rattle.stapl_meaning.specs.Turns.{rows}
-use Rattle.stapl_meaning.specs.Scopes.{has_initial_value, Preset, Played, block_at, entry_from, procedure_number, scope_at, preset_scope}
+use Rattle.stapl_meaning.specs.Scopes.{has_initial_value, Preset, Played, block_at, entry_from, procedure_number, scope_at}
 use Rattle.stapl_meaning.specs.Typed.{NamesProcedures, IsTyped}
 use Rattle.stapl_meaning.proofs.Entries.{all_at}
 use Rattle.stapl_code.specs.declared.instr.Instr.{Instr}
 use Rattle.stapl_code.specs.declared.instr.Instr.TheVariants.{Turn}
 use Rattle.stapl_code.specs.Machine.{nowhere}
-use Rattle.stapl_codegen.specs.Emit.{Firsts, past, behind_row, row_code, body_code, row_texts, row_literals, rows_items, presets_items, statements_items, items_before, body_texts, body_literals, at_first, firsts_at, presets_code, piece_code, pieces_code, code_to, start_in, start_of, total_of}
+use Rattle.stapl_codegen.specs.Emit.{Firsts, past, body_code, row_texts, row_literals, rows_items, preset_items, statements_items, first_items, pieces_items, texts_before, literals_before, body_texts, body_literals, firsts_at, preset_firsts, preset_code, presets_code, piece_code, pieces_code, code_to, start_in, start_of, total_of}
 use Rattle.stapl_codegen.specs.Numbers.{numbers_from}
-use Rattle.stapl_codegen.specs.Drafts.{number_in, Site, Draft, site_at, site_behind, preset_site, scope_of_site, firsts_in, piece_code_in, preset_code_in, preset_items, ArePresetsLeft, StartsTo, IsDraft}
+use Rattle.stapl_codegen.specs.Drafts.{number_in, Site, Draft, site_at, site_behind, preset_site, scope_of_site, piece_code_in, initial_code_in, preset_code_in, ArePresetsWritten, AreDrafted, StartsTo, IsDraft}
 use Rattle.stapl_codegen.specs.Accepted.{IsAccepted}
+use Rattle.stapl_codegen.specs.Correct.{Starts}
 use Rattle.stapl_code.proofs.Heads.{head_of, get_head}
-use Rattle.stapl_codegen.proofs.Lists.{RowAlike, row_append, row_same, body_same, presets_before, piece_append}
+use Rattle.stapl_codegen.proofs.Lists.{RowAlike, row_same, body_same, preset_before, presets_before, piece_append}
+use Rattle.stapl_codegen.proofs.Texts.{literals_more}
 use Rattle.stapl_codegen.proofs.Numbers.{calls_known}
 use Rattle.stapl_codegen.proofs.Sizes.{code_length}
 
@@ -44,14 +45,6 @@ items_behind of (x ∷ xs) st =
     ap (λ l. rows_items of (rows x.body) ++ l) (items_behind of xs st)
     ∙ sym (append_assoc (rows_items of (rows x.body)) (statements_items of xs) (rows_items of (rows st.body)))
 
--- the first i pieces of a program are written
-pub record AreDrafted (program : Played) (i : ℕ) (d : Draft) (starts : List ℕ) : Type 0 where
-  pub code : d.code ++ pieces_code program (λ j. j) i (drop i program.pieces) ≡ code_to program (λ j. j)
-  pub texts : d.texts ≡ items_before row_texts program i
-  pub literals : d.literals ≡ items_before row_literals program i
-  pub site : d.site ≡ site_at program i
-  pub begins : StartsTo program i starts
-
 -- the statement at a place
 module _ (program : Played) (i : ℕ) (st : StmtTree) (is : drop i program.pieces ≡ st ∷ drop (i + 1) program.pieces) where
   pub inside_more : (inside inside' : Option (List ℕ)) → inside ≡ block_at program.pieces i → inside' ≡ inside_behind inside st.body → inside' ≡ block_at program.pieces (i + 1)
@@ -68,15 +61,17 @@ module _ (program : Played) (i : ℕ) (st : StmtTree) (is : drop i program.piece
       ∙ ap (λ (s : Site). site_behind s st.body) so_far
       ∙ ap (λ (o : Option (List ℕ)). record (site_at program (i + 1)) { inside = o }) (inside_more _ _ refl refl)
 
-  items_more : {A : Type 0} (of : BodyTree → List A) (items items' : List A) → items ≡ items_before of program i → items' ≡ items ++ rows_items of (rows st.body) →
-      items' ≡ items_before of program (i + 1)
-  items_more of items items' so_far after =
+  texts_more : (texts texts' : List (List ℕ)) → texts ≡ texts_before program i → texts' ≡ texts ++ body_texts st.body → texts' ≡ texts_before program (i + 1)
+  texts_more texts texts' so_far after =
       after
-      ∙ ap (λ t. t ++ rows_items of (rows st.body)) so_far
-      ∙ append_assoc (presets_items of program.presets) (statements_items of (take i program.pieces)) (rows_items of (rows st.body))
-      ∙ ap (λ l. presets_items of program.presets ++ l)
-      (sym (items_behind of (take i program.pieces) st)
-      ∙ sym (ap (statements_items of) (take_more i program.pieces st (drop (i + 1) program.pieces) is)))
+      ∙ ap (λ t. t ++ body_texts st.body) so_far
+      ∙ sym (items_behind row_texts (take i program.pieces) st)
+      ∙ sym (ap (statements_items row_texts) (take_more i program.pieces st (drop (i + 1) program.pieces) is))
+
+  literals_after : (o : Option Preset) → drop i program.presets ≡ o ∷ drop (i + 1) program.presets → (literals literals' : List (List Bool)) → literals ≡ literals_before program i →
+      literals' ≡ literals ++ (body_literals st.body ++ preset_items row_literals o) → literals' ≡ literals_before program (i + 1)
+  literals_after o at literals literals' so_far after =
+      after ∙ ap (λ l. l ++ (body_literals st.body ++ preset_items row_literals o)) so_far ∙ sym (literals_more program i o st at is)
 
   abbrev From : ℕ → List Instr
   From k = pieces_code program (λ j. j) k (drop k program.pieces)
@@ -98,12 +93,12 @@ module _ (program : Played) (i : ℕ) (st : StmtTree) (is : drop i program.piece
       (body_same program.names (λ p. 0) (entry_from program.pieces) (number_in program.names (numbers_from 0 program.names.blocks)) (procedure_number program.pieces) (length program.pieces)
       (block_at program.pieces i) i (λ j. j) first st.body (calls_known program typed (block_at program.pieces i) i (λ j. j) st.body (calls typed)))
 
-  code_is : IsTyped program → (d : Draft) → d.texts ≡ items_before row_texts program i → d.literals ≡ items_before row_literals program i → d.site ≡ site_at program i →
+  code_is : IsTyped program → (d : Draft) → d.texts ≡ texts_before program i → d.literals ≡ literals_before program i → d.site ≡ site_at program i →
       piece_code_in d st ≡ piece_code program (λ j. j) i st []
   code_is typed d texts literals site =
       ap (λ (s : Site). piece_code_in (record { code = []; texts = d.texts; literals = d.literals; site = s }) st) site
       ∙ ap (λ (t : List (List ℕ)). piece_code_in (record { code = []; texts = t; literals = d.literals; site = site_at program i }) st) texts
-      ∙ ap (λ (l : List (List Bool)). piece_code_in (record { code = []; texts = items_before row_texts program i; literals = l; site = site_at program i }) st) literals
+      ∙ ap (λ (l : List (List Bool)). piece_code_in (record { code = []; texts = texts_before program i; literals = l; site = site_at program i }) st) literals
       ∙ same_by typed (is_outer st.body) (firsts_at program i)
 
   code_more : (c c' all : List Instr) → c ++ From i ≡ all → c' ≡ c ++ piece_code program (λ j. j) i st [] → c' ++ From (i + 1) ≡ all
@@ -137,13 +132,14 @@ starts_more program i start starts s e = record {
 }
 
 module _ (program : Played) (i : ℕ) (d : Draft) (starts : List ℕ) (so_far : AreDrafted program i d starts) where
-  pub piece_more : IsTyped program → (st : StmtTree) (is : drop i program.pieces ≡ st ∷ drop (i + 1) program.pieces) (d' : Draft) (start : ℕ) (starts' : List ℕ) →
-      d'.code ≡ d.code ++ piece_code_in d st → d'.texts ≡ d.texts ++ body_texts st.body → d'.literals ≡ d.literals ++ body_literals st.body → d'.site ≡ site_behind d.site st.body →
+  pub piece_more : IsTyped program → (st : StmtTree) (is : drop i program.pieces ≡ st ∷ drop (i + 1) program.pieces) (o : Option Preset) (at_preset : drop i program.presets ≡ o ∷ drop (i + 1) program.presets)
+      (d' : Draft) (start : ℕ) (starts' : List ℕ) → d'.code ≡ d.code ++ piece_code_in d st → d'.texts ≡ d.texts ++ body_texts st.body →
+      d'.literals ≡ d.literals ++ (body_literals st.body ++ preset_items row_literals o) → d'.site ≡ site_behind d.site st.body →
       start ≡ (if is_outer st.body then nowhere else length d.code) → starts' ≡ starts ++ start ∷ [] → AreDrafted program (i + 1) d' starts'
-  piece_more typed st is d' start starts' code texts literals site at more = record {
+  piece_more typed st is o at_preset d' start starts' code texts literals site at more = record {
     code = code_more program i st is d.code d'.code _ so_far.code (code ∙ ap (λ l. d.code ++ l) (code_is program i st is typed d so_far.texts so_far.literals so_far.site));
-    texts = items_more program i st is row_texts d.texts d'.texts so_far.texts texts;
-    literals = items_more program i st is row_literals d.literals d'.literals so_far.literals literals;
+    texts = texts_more program i st is d.texts d'.texts so_far.texts texts;
+    literals = literals_after program i st is o at_preset d.literals d'.literals so_far.literals literals;
     site = site_more program i st is d.site d'.site so_far.site site;
     begins = subst (StartsTo program (i + 1)) (sym more) (starts_more program i start starts so_far.begins (start_more program i st is d.code start so_far.code at));
   }
@@ -154,11 +150,13 @@ module _ (program : Played) (i : ℕ) (d : Draft) (starts : List ℕ) (so_far : 
       omega (arith, all, ap length so_far.code, length-append d.code (pieces_code program (λ j. j) i (drop i program.pieces)))
 
   -- all pieces are written
-  pub is_draft : i ≡ length program.pieces → IsDraft program d.code d.texts d.literals starts
-  is_draft all = record {
+  pub is_draft : i ≡ length program.pieces → i ≡ length program.presets → IsDraft program d.code d.texts d.literals starts
+  is_draft all presets = record {
     code_is = sym (append-nil d.code) ∙ ap (λ l. d.code ++ pieces_code program (λ j. j) i l) (sym (drop_all i program.pieces (omega (arith, all)))) ∙ so_far.code;
-    texts_are = so_far.texts ∙ ap (λ l. presets_items row_texts program.presets ++ statements_items row_texts l) (take_all i program.pieces (omega (arith, all)));
-    literals_are = so_far.literals ∙ ap (λ l. presets_items row_literals program.presets ++ statements_items row_literals l) (take_all i program.pieces (omega (arith, all)));
+    texts_are = so_far.texts ∙ ap (statements_items row_texts) (take_all i program.pieces (omega (arith, all)));
+    literals_are = so_far.literals
+        ∙ ap (λ l. pieces_items row_literals (take i program.presets) l) (take_all i program.pieces (omega (arith, all)))
+        ∙ ap (λ (l : List (Option Preset)). pieces_items row_literals l program.pieces) (take_all i program.presets (omega (arith, presets)));
     begins = subst (λ n. StartsTo program n starts) all so_far.begins;
   }
 
@@ -185,12 +183,14 @@ pub behind_items : {A : Type 0} (xs ys zs : List A) → zs ≡ xs ++ ys → past
 behind_items xs ys zs e = omega (arith, past_length (length xs) ys, ap length e, length-append xs ys)
 
 -- the code of an initial value where it stands
-preset_same : (program : Played) (d : Draft) (preset : Preset) → has_initial_value preset.body ≡ true → d.site ≡ site_at program 0 →
-    preset_code_in d (Some preset) ≡ row_code (preset_scope program preset) (λ j. j) (firsts_in d) preset.body []
-preset_same program d preset starts site =
-    ap (λ (s : Site). row_code (scope_of_site (preset_site s preset)) (λ j. j) (firsts_in d) preset.body []) site
+preset_same : (program : Played) (site : Site) (i : ℕ) (literal : ℕ) (o : Option Preset) → Starts o → site ≡ site_at program 0 → literal ≡ (preset_firsts program i).literal → (d : Draft) → d.site ≡ site →
+    preset_code_in d literal o ≡ preset_code program (λ j. j) i o []
+preset_same program site i literal None starts same number d at = refl
+preset_same program site i literal (Some preset) starts same number d at =
+    ap (λ (s : Site). initial_code_in (preset_site s preset) literal preset.body) (at ∙ same)
+    ∙ ap (λ n. initial_code_in (preset_site (site_at program 0) preset) n preset.body) number
     ∙ row_same program.names (λ p. 0) (entry_from program.pieces) (number_in program.names (numbers_from 0 program.names.blocks)) (procedure_number program.pieces) (length program.pieces)
-    (Some preset.block) 0 (λ j. j) (firsts_in d) preset.body (none_called preset.body starts) []
+    (Some preset.block) 0 (λ j. j) (preset_firsts program i) preset.body (none_called preset.body starts) []
   where
     none_called : (b : BodyTree) → has_initial_value b ≡ true →
         RowAlike program.names (λ p. 0) (entry_from program.pieces) (number_in program.names (numbers_from 0 program.names.blocks)) (procedure_number program.pieces)
@@ -198,60 +198,71 @@ preset_same program d preset starts site =
     none_called (call name) e = absurd (true≢false (sym e))
     none_called _ e = tt
 
-module _ (program : Played) (d d' : Draft) (more : List Preset) where
-  -- a statement more, which has an initial value or none
-  pub preset_more : (o : Option Preset) → IfSome o (λ (preset : Preset). has_initial_value preset.body ≡ true) → ArePresetsLeft program d (cons_option o more) →
-      d'.code ≡ d.code ++ preset_code_in d o → d'.texts ≡ d.texts ++ preset_items row_texts o →
-      d'.literals ≡ d.literals ++ preset_items row_literals o → d'.site ≡ d.site → ArePresetsLeft program d' more
-  preset_more None starts left code texts literals site =
-      let same_texts = texts ∙ append-nil d.texts in
-      let same_literals = literals ∙ append-nil d.literals in
-      record {
-        code = ap (λ c. c ++ presets_code program (λ j. j) (firsts_in d') more []) (code ∙ append-nil d.code)
-            ∙ ap (λ n. d.code ++ presets_code program (λ j. j) (record { text = n; literal = length d'.literals }) more []) (ap length same_texts)
-            ∙ ap (λ n. d.code ++ presets_code program (λ j. j) (record { text = length d.texts; literal = n }) more []) (ap length same_literals)
-            ∙ left.code;
-        texts = ap (λ l. l ++ presets_items row_texts more) same_texts ∙ left.texts;
-        literals = ap (λ l. l ++ presets_items row_literals more) same_literals ∙ left.literals;
-        site = site ∙ left.site;
-      }
-  preset_more (Some preset) starts left code texts literals site =
-      let one : List Instr = row_code (preset_scope program preset) (λ j. j) (firsts_in d) preset.body [] in
-      let others : Firsts → List Instr = λ first. presets_code program (λ j. j) first more [] in
-      let next : Firsts = behind_row (firsts_in d) preset.body in
-      let split : row_code (preset_scope program preset) (λ j. j) (firsts_in d) preset.body (others next) ≡ one ++ others next =
-      row_append (preset_scope program preset) (λ j. j) (firsts_in d) preset.body [] (others next) in
-      record {
-        code = ap (λ c. c ++ others (firsts_in d')) (code ∙ ap (λ c. d.code ++ c) (preset_same program d preset starts left.site))
-            ∙ ap (λ n. (d.code ++ one) ++ others (record { text = n; literal = length d'.literals })) (sym (behind_items d.texts (row_texts preset.body) d'.texts texts))
-            ∙ ap (λ n. (d.code ++ one) ++ others (record { text = next.text; literal = n })) (sym (behind_items d.literals (row_literals preset.body) d'.literals literals))
-            ∙ append_assoc d.code one (others next)
-            ∙ ap (λ c. d.code ++ c) (sym split)
-            ∙ left.code;
-        texts = ap (λ l. l ++ presets_items row_texts more) texts ∙ append_assoc d.texts (row_texts preset.body) (presets_items row_texts more) ∙ left.texts;
-        literals = ap (λ l. l ++ presets_items row_literals more) literals ∙ append_assoc d.literals (row_literals preset.body) (presets_items row_literals more) ∙ left.literals;
-        site = site ∙ left.site;
-      }
+-- so many literals stand before the initial value at a place, and before the next place
+module _ (program : Played) (i : ℕ) (o : Option Preset) (st : StmtTree) (presets : drop i program.presets ≡ o ∷ drop (i + 1) program.presets) (pieces : drop i program.pieces ≡ st ∷ drop (i + 1) program.pieces) where
+  pub own_counted : (before own : ℕ) → before ≡ length (literals_before program i) → own ≡ length (body_literals st.body) → before + own ≡ (preset_firsts program i).literal
+  own_counted before own counted is =
+      omega (
+        arith,
+        counted,
+        is,
+        ap (λ l. length (literals_before program i ++ first_items row_literals l)) pieces,
+        length-append (literals_before program i) (body_literals st.body),
+      )
+
+  pub next_counted : (before own more : ℕ) → before ≡ length (literals_before program i) → own ≡ length (body_literals st.body) → more ≡ length (preset_items row_literals o) →
+      before + own + more ≡ length (literals_before program (i + 1))
+  next_counted before own more counted is next =
+      omega (
+        arith,
+        counted,
+        is,
+        next,
+        ap length (literals_more program i o st presets pieces),
+        length-append (literals_before program i) (body_literals st.body ++ preset_items row_literals o),
+        length-append (body_literals st.body) (preset_items row_literals o),
+      )
+
+-- a statement more, which has an initial value or none
+pub preset_more : (program : Played) (i : ℕ) (d d' : Draft) (before own number more behind : ℕ) (o : Option Preset) (st : StmtTree) → drop i program.presets ≡ o ∷ drop (i + 1) program.presets →
+    drop i program.pieces ≡ st ∷ drop (i + 1) program.pieces → Starts o → ArePresetsWritten program i d before → own ≡ length (body_literals st.body) →
+    more ≡ length (preset_items row_literals o) → number ≡ before + own → behind ≡ number + more → d'.code ≡ d.code ++ preset_code_in d number o → d'.texts ≡ d.texts → d'.literals ≡ d.literals → d'.site ≡ d.site →
+    ArePresetsWritten program (i + 1) d' behind
+preset_more program i d d' before own number more behind o st presets pieces starts so_far is next first last code texts literals site =
+    let here : List Instr = preset_code program (λ j. j) i o [] in
+    let others : List Instr = presets_code program (λ j. j) (i + 1) (drop (i + 1) program.presets) [] in
+    record {
+      code = ap (λ c. c ++ others)
+          (code ∙ ap (λ c. d.code ++ c) (preset_same program d.site i number o starts so_far.site (first ∙ own_counted program i o st presets pieces before own so_far.counted is) d refl))
+          ∙ append_assoc d.code here others
+          ∙ ap (λ c. d.code ++ c) (sym (preset_before program (λ j. j) i o others) ∙ ap (λ l. presets_code program (λ j. j) i l []) (sym presets))
+          ∙ so_far.code;
+      texts = texts ∙ so_far.texts;
+      no_literals = literals ∙ so_far.no_literals;
+      site = site ∙ so_far.site;
+      counted = last ∙ ap (λ n. n + more) first ∙ next_counted program i o st presets pieces before own more so_far.counted is next;
+    }
 
 -- nothing is written yet
-pub none_written : (program : Played) (d : Draft) → d.code ≡ [] → d.texts ≡ [] → d.literals ≡ [] → d.site ≡ site_at program 0 → ArePresetsLeft program d program.presets
+pub none_written : (program : Played) (d : Draft) → d.code ≡ [] → d.texts ≡ [] → d.literals ≡ [] → d.site ≡ site_at program 0 → ArePresetsWritten program 0 d 0
 none_written program d code texts literals site = record {
-  code = ap (λ c. c ++ presets_code program (λ j. j) (firsts_in d) program.presets []) code
-      ∙ ap (λ n. presets_code program (λ j. j) (record { text = n; literal = length d.literals }) program.presets []) (ap length texts)
-      ∙ ap (λ n. presets_code program (λ j. j) (record { text = 0; literal = n }) program.presets []) (ap length literals);
-  texts = ap (λ l. l ++ presets_items row_texts program.presets) texts;
-  literals = ap (λ l. l ++ presets_items row_literals program.presets) literals;
+  code = ap (λ c. c ++ presets_code program (λ j. j) 0 program.presets []) code;
+  texts = texts;
+  no_literals = literals;
   site = site;
+  counted = refl;
 }
 
 -- all of them are written, and the pieces follow
-pub none_left : (program : Played) (d : Draft) → ArePresetsLeft program d [] → AreDrafted program 0 d []
-none_left program d left =
+pub all_written : (program : Played) (i : ℕ) (d : Draft) (literals : ℕ) → i ≡ length program.presets → ArePresetsWritten program i d literals → AreDrafted program 0 d []
+all_written program i d literals all so_far =
     let pieces : List Instr = pieces_code program (λ j. j) 0 program.pieces in
+    let none : drop i program.presets ≡ [] = drop_all i program.presets (omega (arith, all)) in
     record {
-      code = ap (λ c. c ++ pieces) (sym (append-nil d.code) ∙ left.code) ∙ sym (presets_before program (λ j. j) at_first program.presets pieces);
-      texts = sym (append-nil d.texts) ∙ left.texts ∙ sym (append-nil (presets_items row_texts program.presets));
-      literals = sym (append-nil d.literals) ∙ left.literals ∙ sym (append-nil (presets_items row_literals program.presets));
-      site = left.site;
+      code = ap (λ c. c ++ pieces) (sym (append-nil d.code) ∙ ap (λ l. d.code ++ presets_code program (λ j. j) i l []) (sym none) ∙ so_far.code)
+          ∙ sym (presets_before program (λ j. j) 0 program.presets pieces);
+      texts = so_far.texts;
+      literals = so_far.no_literals;
+      site = so_far.site;
       begins = record { all = refl; each = λ k below. absurd (omega (arith, below)) };
     }

@@ -1,10 +1,10 @@
 -- The file of the code of a program is no longer than 64 bytes for each byte of its text, and 64 more.
 use Rattle.std.proofs.Common.{◌≡◌, ℕ, ℤ, zero, suc, ◌+◌, ◌*◌, ◌≤◌, Bool, true, false, if◌then◌else◌, List, [], ◌∷◌, ◌++◌, Option, None, Some, length, length-append, map, drop, arith, refl, ap}
-use Rattle.std.specs.Prelude.{All, is_some}
+use Rattle.std.specs.Prelude.{is_some}
 use Rattle.std.specs.List.{sum_by, flat_map, cons_option}
 use Rattle.std.specs.Map.{lookup}
 use Rattle.std.proofs.lemmas.List.{length-map}
-use Rattle.std.proofs.lemmas.List.Elements.{All-head, All-tail, All-weaker}
+use Rattle.std.proofs.lemmas.List.Elements.{All-head, All-tail}
 use Rattle.std.proofs.lemmas.List.Sums.{sum_by-cons, sum_by-append}
 use Rattle.tap_states.specs.declared.Tap.{Tap}
 use Rattle.stapl_syntax.specs.Trees.{ArrayTree, literal, PartTree, string, value, character, CompareTree, scalar, element, BodyTree, action, procedure, boolean, boolean_array, integer, integer_array, assign_array, assign_range, if_then, print, exported_value, exported_array, export, scan, pad, StmtTree}
@@ -12,8 +12,7 @@ use Rattle.stapl_syntax.specs.Names.{numbered_from, numbered, inside_behind, key
 use Rattle.stapl_shapes.specs.Sizes.{statements_size}
 use Rattle.stapl_shapes.specs.Bytes.{literal_bytes, string_bytes, array_bytes, given_bytes, compare_bytes, part_bytes, body_bytes, statement_bytes, statements_bytes}
 use Rattle.stapl_meaning.specs.Turns.{rows}
-use Rattle.stapl_meaning.specs.Scopes.{data_behind, plays, idle, pieces_from, has_initial_value, Preset, preset_of, presets_from, Played, as_played}
-use Rattle.stapl_meaning.specs.Typed.{IsTypedPreset}
+use Rattle.stapl_meaning.specs.Scopes.{data_behind, plays, idle, pieces_from, Preset, preset_of, presets_from, Played, as_played}
 use Rattle.stapl_meaning.proofs.Blocks.{preset_in}
 use Rattle.stapl_code.specs.declared.instr.PrintPart.{PrintPart}
 use Rattle.stapl_code.specs.declared.instr.PrintPart.TheVariants as parts
@@ -38,11 +37,12 @@ use Rattle.stapl_code.specs.Fields as fields
 use Rattle.stapl_code.specs.Instrs as instrs
 use Rattle.stapl_code.specs.Files as files
 use Rattle.stapl_code.specs.Files.{file}
-use Rattle.stapl_codegen.specs.Emit.{part_texts, array_literals, given_literals, compare_literals, row_texts, row_literals, rows_items, presets_items, statements_items, program_items, texts_of, literals_of, start_of, program_code, procedure_def, procedures_from, item_def, action_def, actions_from}
+use Rattle.stapl_codegen.specs.Emit.{part_texts, array_literals, given_literals, compare_literals, row_texts, row_literals, rows_items, preset_items, statements_items, first_items, pieces_items, texts_of, literals_of, start_of, program_code, procedure_def, procedures_from, item_def, action_def, actions_from}
 use Rattle.stapl_codegen.specs.Generated.{variable_def, lists_of}
 use Rattle.stapl_codegen.specs.Accepted.{IsAccepted}
-use Rattle.stapl_codegen.proofs.Accepted.{pieces_size, preset_size}
-use Rattle.stapl_codegen.proofs.CodeBytes.{if_there, shown_part_bytes, shown_parts_bytes, instr_bytes, code_bytes, program_code_fits}
+use Rattle.stapl_codegen.specs.Correct.{Starts, AllStart}
+use Rattle.stapl_codegen.proofs.Accepted.{pieces_size, presets_size, all_start}
+use Rattle.stapl_codegen.proofs.CodeBytes.{if_there, shown_part_bytes, shown_parts_bytes, instr_bytes, code_bytes, preset_bytes, program_code_fits}
 use Rattle.stapl_codegen.proofs.Drafts.{one_row}
 
 -- ---- instructions
@@ -361,8 +361,8 @@ row_bits (integer_array name size (Some zs)) = omega arith
 row_bits _ = omega arith
 
 -- what the initial values of DATA blocks hold
-abbrev presets_bytes : List Preset → ℕ
-presets_bytes presets = sum_by (λ (preset : Preset). body_bytes preset.body) presets
+abbrev presets_bytes : List (Option Preset) → ℕ
+presets_bytes presets = sum_by preset_bytes presets
 
 -- what rows have takes no more than what they hold
 module _ {A : Type 0} (of : BodyTree → List A) (m : A → ℕ)
@@ -375,34 +375,32 @@ module _ {A : Type 0} (of : BodyTree → List A) (m : A → ℕ)
       let both = sum_by-append m (rows_items of (rows st.body)) (statements_items of rest) in
       omega (arith, own, more, both, sum_by-cons statement_bytes st rest)
 
-  presets_have : (presets : List Preset) → All (λ (preset : Preset). has_initial_value preset.body ≡ true) presets →
-      sum_by m (presets_items of presets) ≤ presets_bytes presets
-  presets_have [] starts = omega arith
-  presets_have (preset ∷ presets) starts =
-      let Starts : Preset → Type 0 = λ preset. has_initial_value preset.body ≡ true in
+  first_has : (sts : List StmtTree) → sum_by m (first_items of sts) + statements_bytes (drop 1 sts) ≤ statements_bytes sts
+  first_has [] = omega arith
+  first_has (st ∷ rest) = let own = row st.body in omega (arith, own, sum_by-cons statement_bytes st rest)
+
+  preset_has : (o : Option Preset) → Starts o → sum_by m (preset_items of o) ≤ preset_bytes o
+  preset_has None starts = omega arith
+  preset_has (Some preset) starts =
       let b : BodyTree = preset.body in
-      let own = row b in
-      let row_is = one_row b (All-head Starts preset presets starts) in
-      let one = ap (λ (bs : List BodyTree). sum_by m (rows_items of bs)) row_is in
-      let more = presets_have presets (All-tail Starts preset presets starts) in
+      let one = ap (λ (bs : List BodyTree). sum_by m (rows_items of bs)) (one_row b starts) in
+      omega (arith, row b, one, sum_by-append m (of b) [])
+
+  pieces_have : (presets : List (Option Preset)) (sts : List StmtTree) → AllStart presets → sum_by m (pieces_items of presets sts) ≤ presets_bytes presets + statements_bytes sts
+  pieces_have [] sts starts = let all = statements_have sts in omega (arith, all)
+  pieces_have (o ∷ os) sts starts =
+      let own = first_has sts in
+      let one = preset_has o (All-head Starts o os starts) in
+      let more = pieces_have os (drop 1 sts) (All-tail Starts o os starts) in
       omega (
         arith,
         own,
         one,
         more,
-        sum_by-append m (of b) [],
-        sum_by-append m (of b) (presets_items of presets),
-        sum_by-cons (λ (preset : Preset). body_bytes preset.body) preset presets,
+        sum_by-append m (first_items of sts) (preset_items of o ++ pieces_items of os (drop 1 sts)),
+        sum_by-append m (preset_items of o) (pieces_items of os (drop 1 sts)),
+        sum_by-cons preset_bytes o os,
       )
-
-  program_has : (program : Played) → IsAccepted program →
-      sum_by m (program_items of program) ≤ presets_bytes program.presets + statements_bytes program.pieces
-  program_has program accepted =
-      let starts = All-weaker (IsTypedPreset program) (λ (preset : Preset). has_initial_value preset.body ≡ true)
-      (λ preset typed. typed.starts) program.presets accepted.typed.presets in
-      let one = presets_have program.presets starts in
-      let two = statements_have program.pieces in
-      omega (arith, one, two, sum_by-append m (presets_items of program.presets) (statements_items of program.pieces))
 
 -- ---- programs
 
@@ -428,22 +426,20 @@ pieces_few now (st ∷ rest) =
 presets_few : (now : Option (List ℕ)) (rest : List StmtTree) →
     presets_bytes (presets_from now rest) ≤ statements_bytes rest
 presets_few now [] = omega arith
-presets_few now (st ∷ rest) = by (preset_of now st.body) refl (presets_few (data_behind now st.body) rest)
+presets_few now (st ∷ rest) =
+    let more = presets_few (data_behind now st.body) rest in
+    let own = by (preset_of now st.body) refl in
+    omega (
+      arith,
+      more,
+      own,
+      sum_by-cons statement_bytes st rest,
+      sum_by-cons preset_bytes (preset_of now st.body) (presets_from (data_behind now st.body) rest),
+    )
   where
-    others : List Preset
-    others = presets_from (data_behind now st.body) rest
-
-    by : (o : Option Preset) → preset_of now st.body ≡ o → presets_bytes others ≤ statements_bytes rest →
-        presets_bytes (cons_option o others) ≤ statements_bytes (st ∷ rest)
-    by None e more = omega (arith, more, sum_by-cons statement_bytes st rest)
-    by (Some preset) e more =
-        omega (
-          arith,
-          more,
-          ap body_bytes (preset_in now st.body preset e).is,
-          sum_by-cons statement_bytes st rest,
-          sum_by-cons (λ (preset : Preset). body_bytes preset.body) preset others,
-        )
+    by : (o : Option Preset) → preset_of now st.body ≡ o → preset_bytes o ≤ statement_bytes st
+    by None e = omega arith
+    by (Some preset) e = omega (arith, ap body_bytes (preset_in now st.body preset e).is)
 
 -- ---- files
 
@@ -479,14 +475,14 @@ file_is_short text program accepted size bytes =
     let played : Played = as_played program in
     let code : CodeLists = lists_of played in
     let variables = variables_few program in
-    let literals = program_has row_literals literal_bytes row_bits played accepted in
-    let texts = program_has row_texts string_bytes row_strings played accepted in
+    let literals = pieces_have row_literals literal_bytes row_bits played.presets played.pieces (all_start played accepted.typed) in
+    let texts = statements_have row_texts string_bytes row_strings played.pieces in
     let procedures = procedures_fit (start_of played) 0 played.pieces in
     let actions = actions_fit played played.pieces in
     let instructions = code_fits (program_code played) in
     let own = program_code_fits played (start_of played) accepted in
     let sizes = pieces_size None program in
-    let preset_sizes = preset_size None program in
+    let preset_sizes = presets_size None program in
     let pieces = pieces_few None program in
     let presets = presets_few None program in
     omega (

@@ -5,23 +5,22 @@ use Rattle.std.specs.Option.{option_map}
 use Rattle.std.proofs.lemmas.Option.{slice_get-map}
 use Rattle.stapl_syntax.specs.declared.names.Declaration.{Declaration}
 use Rattle.stapl_syntax.specs.Names.{declaration}
-use Rattle.std.proofs.lemmas.List.Elements.{All-weaker}
 use Rattle.stapl_syntax.specs.Trees.{BodyTree, call, if_then, StmtTree}
 use Rattle.stapl_syntax.specs.Statements.{is_outer}
 use Rattle.stapl_syntax.specs.Programs.{piece_limit}
-use Rattle.stapl_meaning.specs.Scopes.{has_initial_value, Preset, Played, scope_at}
-use Rattle.stapl_meaning.specs.Typed.{IsDeclared, IsTypedPreset, NamesProcedures, IsTyped}
+use Rattle.stapl_meaning.specs.Scopes.{Played, scope_at}
+use Rattle.stapl_meaning.specs.Typed.{IsDeclared, NamesProcedures, IsTyped}
 use Rattle.stapl_code.specs.declared.instr.Instr.TheVariants.{Turn}
 use Rattle.stapl_code.specs.declared.raw.ProcDef.{ProcDef}
 use Rattle.stapl_code.specs.declared.raw.VarDef.{VarDef}
 use Rattle.stapl_code.specs.declared.instr.Instr.{Instr}
 use Rattle.stapl_code.specs.Ranges.{AreProcedures, IsInstr, IsInRange}
-use Rattle.stapl_codegen.specs.Emit.{body_code, at_first, firsts_at, literals_of, texts_of, presets_code, pieces_code, program_code, start_of, procedures_of}
-use Rattle.stapl_codegen.specs.Correct.{AllStart}
+use Rattle.stapl_codegen.specs.Emit.{body_code, firsts_at, literals_of, texts_of, presets_code, pieces_code, program_code, start_of, procedures_of}
 use Rattle.stapl_codegen.specs.Accepted.{IsAccepted}
 use Rattle.stapl_codegen.specs.Generated.{lists_of, IsCodeOf}
 use Rattle.stapl_code.proofs.Heads.{head_of, get_head, drop_tail}
-use Rattle.stapl_codegen.proofs.Texts.{texts_below, literals_below, presets_below}
+use Rattle.stapl_codegen.proofs.Accepted.{all_start}
+use Rattle.stapl_codegen.proofs.Texts.{texts_below, literals_below}
 use Rattle.stapl_codegen.proofs.Lists.{presets_before}
 use Rattle.stapl_codegen.proofs.PrologueFine.{presets_range}
 use Rattle.stapl_codegen.proofs.Ordered.{closed}
@@ -96,7 +95,7 @@ module _ (program : Played) (accepted : IsAccepted program) where
   size : length (program_code program) ≤ 8488608
   size = code_length program (start_of program) accepted
 
-  fine : AreFine program accepted.shaped accepted.typed (length (presets_code program (start_of program) at_first program.presets [])) (procedures_of program)
+  fine : AreFine program accepted.shaped accepted.typed (length (presets_code program (start_of program) 0 program.presets [])) (procedures_of program)
   fine = procedures_fine program accepted.shaped accepted.typed
 
   procedures : AreProcedures (procedures_of program)
@@ -105,19 +104,17 @@ module _ (program : Played) (accepted : IsAccepted program) where
   -- the first procedure begins after the prologue, so the pieces have code
   code_some : pieces_code program (start_of program) 0 program.pieces ≢ []
   code_some =
-      let prologue : List Instr = presets_code program (start_of program) at_first program.presets [] in
+      let prologue : List Instr = presets_code program (start_of program) 0 program.presets [] in
       let pieces : List Instr = pieces_code program (start_of program) 0 program.pieces in
-      let all : length (program_code program) ≡ length (prologue ++ pieces) = ap length (presets_before program (start_of program) at_first program.presets pieces) in
+      let all : length (program_code program) ≡ length (prologue ++ pieces) = ap length (presets_before program (start_of program) 0 program.presets pieces) in
       let below = begins_somewhere (length (program_code program)) (length prologue) (procedures_of program) procedures.some fine.begin in
       not_empty pieces (omega (arith, below, all, length-append prologue pieces))
 
   instrs_range : InRange variables (length (literals_of program)) (length (texts_of program)) (length (procedures_of program)) (program_code program)
   instrs_range =
       let limit = accepted.typed.few in
-      let few = presets_below program in
-      presets_range program (start_of program) (length (literals_of program)) (length (texts_of program)) (length (procedures_of program)) at_first program.presets
-      (pieces_code program (start_of program) 0 program.pieces)
-      accepted.typed.presets accepted.presets_shaped (omega (arith, few.0)) (omega (arith, few.1))
+      presets_range program (start_of program) (length (literals_of program)) (length (texts_of program)) (length (procedures_of program)) 0 program.presets
+      (pieces_code program (start_of program) 0 program.pieces) refl (omega arith) accepted.typed.presets accepted.presets_shaped
       (pieces_range program accepted.shaped accepted.typed program.pieces 0 refl (omega (arith, limit)))
 
   pub in_range : IsInRange (lists_of program)
@@ -132,11 +129,8 @@ module _ (program : Played) (accepted : IsAccepted program) where
         countable = omega (arith, size);
       }
 
-  starts : AllStart program.presets
-  starts = All-weaker (IsTypedPreset program) (λ (preset : Preset). has_initial_value preset.body ≡ true) (λ preset typed. typed.starts) program.presets accepted.typed.presets
-
   pub code : IsCodeOf program (lists_of program)
   code = record {
     lists = refl;
-    stands = stands program (closed false program.pieces accepted.typed.ordered) (omega (arith, size)) starts code_some;
+    stands = stands program (closed false program.pieces accepted.typed.ordered) (omega (arith, size)) (all_start program accepted.typed) code_some;
   }

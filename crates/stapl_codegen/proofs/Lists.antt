@@ -1,6 +1,6 @@
 -- The code of expressions, operands, rows and pieces: what stands after it, and its targets.
 use Rattle.std.proofs.Common.{◌≡◌, ℕ, zero, suc, ◌+◌, Bool, true, false, cond, List, [], ◌∷◌, ◌++◌, length, map, drop, arith, append_assoc, refl, sym, ap, ◌∙◌}
-use Rattle.std.specs.Prelude.{ℤ, pos, negsuc, Option, Some}
+use Rattle.std.specs.Prelude.{ℤ, pos, negsuc, Option, None, Some}
 use Rattle.stapl_syntax.specs.Trees.{ExprTree, number, scalar, element, unary, binary, abs, int, ArrayTree, literal, whole, range, of_int, BodyTree, end_procedure, boolean, boolean_array, integer, integer_array, assign, assign_element, assign_array, assign_range, call, goto, if_then, for_loop, next, push, pop, print, exported_value, exported_array, export, exit, scan, stop, pad, state_list, wait_cycles, wait_usec, frequency, StmtTree}
 use Rattle.stapl_syntax.specs.Statements.{is_outer}
 use Rattle.stapl_syntax.specs.Names.{Names}
@@ -13,7 +13,7 @@ use Rattle.stapl_meaning.specs.Turns.{operands, rows}
 use Rattle.stapl_code.specs.declared.instr.Instr.{Instr}
 use Rattle.stapl_code.specs.declared.instr.Instr.TheVariants.{Turn, LoadAt, Unary, Binary, ToInt, Call}
 use Rattle.stapl_code.specs.declared.instr.Source.TheVariants as sources
-use Rattle.stapl_codegen.specs.Emit.{operator_number, sign_number, absolute_number, literal_code, test_code, expr_code, int_code, operands_code, Firsts, last, between, behind_row, row_code, rows_code, body_code, firsts_at, at_first, presets_code, piece_code, pieces_code, code_to, retarget}
+use Rattle.stapl_codegen.specs.Emit.{operator_number, sign_number, absolute_number, literal_code, test_code, expr_code, int_code, operands_code, Firsts, last, between, behind_row, row_code, rows_code, body_code, firsts_at, preset_firsts, preset_code, presets_code, piece_code, pieces_code, code_to, retarget}
 use Rattle.stapl_codegen.proofs.Rows.{IsRows, no_row, one_row, more_rows, rows_view}
 
 literal_retarget : (place : ℕ → ℕ) (kind : ValueKind) (z : ℤ) → retarget place (literal_code kind z) ≡ literal_code kind z
@@ -257,21 +257,30 @@ module _ (names : Names) (entry entry' : ℕ → ℕ) (number number' : List ℕ
   body_same first b alike = rows_same first (rows b) (rows_alike b (rows b) (rows_view b) alike)
 
 module _ (program : Played) (place : ℕ → ℕ) where
-  presets_append : (first : Firsts) (presets : List Preset) (c d : List Instr) → presets_code program place first presets (c ++ d) ≡ presets_code program place first presets c ++ d
-  presets_append first [] c d = refl
-  presets_append first (preset ∷ presets) c d =
-      ap (row_code (preset_scope program preset) place first preset.body) (presets_append (behind_row first preset.body) presets c d)
-      ∙ row_append (preset_scope program preset) place first preset.body (presets_code program place (behind_row first preset.body) presets c) d
+  preset_append : (i : ℕ) (preset : Option Preset) (c d : List Instr) → preset_code program place i preset (c ++ d) ≡ preset_code program place i preset c ++ d
+  preset_append i None c d = refl
+  preset_append i (Some preset) c d = row_append (preset_scope program preset) place (preset_firsts program i) preset.body c d
 
-  pub presets_before : (first : Firsts) (presets : List Preset) (c : List Instr) → presets_code program place first presets c ≡ presets_code program place first presets [] ++ c
-  presets_before first presets c = presets_append first presets [] c
+  presets_append : (i : ℕ) (presets : List (Option Preset)) (c d : List Instr) → presets_code program place i presets (c ++ d) ≡ presets_code program place i presets c ++ d
+  presets_append i [] c d = refl
+  presets_append i (preset ∷ presets) c d =
+      ap (preset_code program place i preset) (presets_append (i + 1) presets c d) ∙ preset_append i preset (presets_code program place (i + 1) presets c) d
 
-  presets_retarget : (first : Firsts) (presets : List Preset) (c : List Instr) →
-      map (retarget place) (presets_code program (λ j. j) first presets c) ≡ presets_code program place first presets (map (retarget place) c)
-  presets_retarget first [] c = refl
-  presets_retarget first (preset ∷ presets) c =
-      row_retarget (preset_scope program preset) place first preset.body (presets_code program (λ j. j) (behind_row first preset.body) presets c)
-      ∙ ap (row_code (preset_scope program preset) place first preset.body) (presets_retarget (behind_row first preset.body) presets c)
+  pub presets_before : (i : ℕ) (presets : List (Option Preset)) (c : List Instr) → presets_code program place i presets c ≡ presets_code program place i presets [] ++ c
+  presets_before i presets c = presets_append i presets [] c
+
+  pub preset_before : (i : ℕ) (preset : Option Preset) (c : List Instr) → preset_code program place i preset c ≡ preset_code program place i preset [] ++ c
+  preset_before i preset c = preset_append i preset [] c
+
+  preset_retarget : (i : ℕ) (preset : Option Preset) (c : List Instr) → map (retarget place) (preset_code program (λ j. j) i preset c) ≡ preset_code program place i preset (map (retarget place) c)
+  preset_retarget i None c = refl
+  preset_retarget i (Some preset) c = row_retarget (preset_scope program preset) place (preset_firsts program i) preset.body c
+
+  presets_retarget : (i : ℕ) (presets : List (Option Preset)) (c : List Instr) →
+      map (retarget place) (presets_code program (λ j. j) i presets c) ≡ presets_code program place i presets (map (retarget place) c)
+  presets_retarget i [] c = refl
+  presets_retarget i (preset ∷ presets) c =
+      preset_retarget i preset (presets_code program (λ j. j) (i + 1) presets c) ∙ ap (preset_code program place i preset) (presets_retarget (i + 1) presets c)
 
   piece_append_by : (t : Bool) (i : ℕ) (st : StmtTree) (c d : List Instr) →
       cond t (c ++ d) (Turn (i + 1) ∷ body_code (scope_at program i) place (firsts_at program i) st.body (c ++ d)) ≡ cond t c
@@ -296,8 +305,8 @@ module _ (program : Played) (place : ℕ → ℕ) where
 
   pub code_retarget : map (retarget place) (code_to program (λ j. j)) ≡ code_to program place
   code_retarget =
-      presets_retarget at_first program.presets (pieces_code program (λ j. j) 0 program.pieces)
-      ∙ ap (presets_code program place at_first program.presets) (pieces_retarget 0 program.pieces)
+      presets_retarget 0 program.presets (pieces_code program (λ j. j) 0 program.pieces)
+      ∙ ap (presets_code program place 0 program.presets) (pieces_retarget 0 program.pieces)
 
   -- the code of all pieces ends with that of the last ones
   pub pieces_split : (n i : ℕ) (sts : List StmtTree) → (before : List Instr) × (pieces_code program place i sts ≡ before ++ pieces_code program place (i + n) (drop n sts))
@@ -311,10 +320,10 @@ module _ (program : Played) (place : ℕ → ℕ) where
   pub code_split : (i : ℕ) → (before : List Instr) × (code_to program place ≡ before ++ pieces_code program place i (drop i program.pieces))
   code_split i =
       let r = pieces_split i 0 program.pieces in
-      let prologue : List Instr = presets_code program place at_first program.presets [] in
+      let prologue : List Instr = presets_code program place 0 program.presets [] in
       let e : 0 + i ≡ i = omega arith in (
         prologue ++ r.0,
-        presets_before at_first program.presets (pieces_code program place 0 program.pieces)
+        presets_before 0 program.presets (pieces_code program place 0 program.pieces)
             ∙ ap (λ c. prologue ++ c) (r.1 ∙ ap (λ j. r.0 ++ pieces_code program place j (drop i program.pieces)) e)
             ∙ sym (append_assoc prologue r.0 (pieces_code program place i (drop i program.pieces))),
       )

@@ -1,5 +1,5 @@
 -- The prologue of the code does what the initial values of DATA blocks do.
-use Rattle.std.proofs.Common.{◌≡◌, ℕ, true, List, [], ◌∷◌, ◌++◌, refl, sym, ap, ◌∙◌, append_assoc}
+use Rattle.std.proofs.Common.{◌≡◌, ℕ, true, List, [], ◌∷◌, ◌++◌, Option, None, Some, ◌+◌, drop, add-one, refl, sym, ap, ◌∙◌, append_assoc}
 use Rattle.std.proofs.lemmas.List.Elements.{All-head, All-tail}
 use Rattle.stapl_syntax.specs.Trees.{BodyTree, end_data}
 use Rattle.stapl_meaning.specs.declared.values.Value.{Value}
@@ -9,13 +9,14 @@ use Rattle.stapl_meaning.specs.Deeds.{Deed, Chain}
 use Rattle.stapl_meaning.specs.States.{State, Did, Falls, Jumps, Resumes, Returns, Ends, Captures, Turned, Leads, Over, Broken, Scanning, NoTurn, with_got, preceded, next_chosen, begun, led, Led, happens}
 use Rattle.stapl_meaning.specs.Scopes.{has_initial_value, Preset, Scope, Played, entry_from, preset_scope}
 use Rattle.stapl_meaning.specs.Turns.{operands, effect, target, carried}
-use Rattle.stapl_meaning.specs.Plays.{set_up, beginning}
+use Rattle.stapl_meaning.specs.Plays.{preset_done, set_up, beginning}
 use Rattle.stapl_code.specs.declared.instr.Instr.{Instr}
 use Rattle.stapl_code.specs.Machine.{Constants, entry_of, begins_chosen, stretch}
+use Rattle.stapl_code.proofs.Heads.{drop_tail}
 use Rattle.stapl_code.proofs.Preceded.{happens_begun}
-use Rattle.stapl_codegen.specs.Emit.{Firsts, behind_row, row_texts, row_literals, presets_items, presets_code}
-use Rattle.stapl_codegen.proofs.Constants.{HasConstants, row_has, others_have}
-use Rattle.stapl_codegen.specs.Correct.{placed_state, AllStart}
+use Rattle.stapl_codegen.specs.Emit.{Firsts, row_texts, row_literals, preset_firsts, presets_code}
+use Rattle.stapl_codegen.proofs.Constants.{HasConstants}
+use Rattle.stapl_codegen.specs.Correct.{placed_state, Starts, AllStart}
 use Rattle.stapl_codegen.proofs.Rows.{starts_no_call}
 use Rattle.stapl_codegen.proofs.Bodies.{end_law, row_follows, row_tied}
 use Rattle.stapl_codegen.proofs.Placed.{placed, preceded_placed}
@@ -39,9 +40,9 @@ begun_preceded entry deeds (NoTurn more) = refl
 -- ---- where the last one leads is of no matter
 
 -- initial values are set, and this place follows
-abbrev set_up_to : Played → ℕ → List Preset → State → Turned
+abbrev set_up_to : Played → ℕ → List (Option Preset) → State → Turned
 set_up_to program place [] s = Leads [] place s
-set_up_to program place (preset ∷ presets) s = carried (preset_scope program preset) preset.body s (set_up_to program place presets)
+set_up_to program place (preset ∷ presets) s = preset_done program preset s (set_up_to program place presets)
 
 module _ (entry : ℕ → ℕ) (scope : Scope) where
   -- two ways to go on, after which the same begins
@@ -70,10 +71,11 @@ module _ (entry : ℕ → ℕ) (scope : Scope) where
     carried_alike : (b : BodyTree) (s : State) → begun entry (carried scope b s go) ≡ begun entry (carried scope b s go')
     carried_alike b s = values_alike b s (values_of scope.look s.store.variables (operands scope b))
 
-set_up_alike : (program : Played) (place : ℕ) (presets : List Preset) (s : State) →
+set_up_alike : (program : Played) (place : ℕ) (presets : List (Option Preset)) (s : State) →
     begun (entry_from program.pieces) (set_up_to program place presets s) ≡ begun (entry_from program.pieces) (set_up program presets s)
 set_up_alike program place [] s = refl
-set_up_alike program place (preset ∷ presets) s =
+set_up_alike program place (None ∷ presets) s = set_up_alike program place presets s
+set_up_alike program place (Some preset ∷ presets) s =
     carried_alike (entry_from program.pieces) (preset_scope program preset) (set_up_to program place presets) (set_up program presets)
     (set_up_alike program place presets) preset.body s
 
@@ -84,19 +86,32 @@ module _ (program : Played) (place : ℕ → ℕ) (entries : List ℕ) (constant
   abbrev LeadsTo : ℕ → List Instr → Type 0
   LeadsTo first_place rest = (t : State) (k : Chain) → stretch entries constants total rest [] t k ≡ Led [] (place first_place) t k
 
-  prologue_follows : (first_place : ℕ) (first : Firsts) (presets : List Preset) (rest : List Instr) (s : State) (k : Chain) →
-      HasConstants constants first (presets_items row_texts presets) (presets_items row_literals presets) → AllStart presets → LeadsTo first_place rest →
-      stretch entries constants total (presets_code program place first presets rest) [] (placed_state place s) k ≡ happens k (placed place (set_up_to program first_place presets s))
-  prologue_follows first_place first [] rest s k has start behind = behind (placed_state place s) k
-  prologue_follows first_place first (preset ∷ presets) rest s k has start behind =
-      let Starts : Preset → Type 0 = λ (p : Preset). has_initial_value p.body ≡ true in
-      let b : BodyTree = preset.body in
-      let own = row_has constants first (row_texts b) (presets_items row_texts presets) (row_literals b) (presets_items row_literals presets) has in
-      let others = others_have constants first (row_texts b) (presets_items row_texts presets) (row_literals b) (presets_items row_literals presets) has in
-      row_follows place entries constants total (preset_scope program preset) s k first b (presets_code program place (behind_row first b) presets rest)
-      (set_up_to program first_place presets) (row_tied place entries constants total (preset_scope program preset) first b entry_is own)
-      (λ is. absurd (starts_no_call b (All-head Starts preset presets start) is))
-      (λ t l. prologue_follows first_place (behind_row first b) presets rest t l others (All-tail Starts preset presets start) behind)
+  -- the constants have what an initial value at a place has
+  abbrev AreKnown : Type 0
+  AreKnown = (i : ℕ) (preset : Preset) (others : List (Option Preset)) → drop i program.presets ≡ Some preset ∷ others → has_initial_value preset.body ≡ true →
+      HasConstants constants (preset_firsts program i) (row_texts preset.body) (row_literals preset.body)
+
+  module _ (first_place : ℕ) (rest : List Instr) (known : AreKnown) where
+    -- from a place on, the prologue does what the initial values do
+    abbrev Follows : ℕ → List (Option Preset) → Type 0
+    Follows i presets = (s : State) (k : Chain) →
+        stretch entries constants total (presets_code program place i presets rest) [] (placed_state place s) k ≡ happens k (placed place (set_up_to program first_place presets s))
+
+    preset_follows : (i : ℕ) (o : Option Preset) (presets : List (Option Preset)) → drop i program.presets ≡ o ∷ presets → Starts o → Follows (i + 1) presets → Follows i (o ∷ presets)
+    preset_follows i None presets e starts others s k = others s k
+    preset_follows i (Some preset) presets e starts others s k =
+        let b : BodyTree = preset.body in
+        let first : Firsts = preset_firsts program i in
+        row_follows place entries constants total (preset_scope program preset) s k first b (presets_code program place (i + 1) presets rest)
+        (set_up_to program first_place presets) (row_tied place entries constants total (preset_scope program preset) first b entry_is (known i preset presets e starts))
+        (λ is. absurd (starts_no_call b starts is))
+        others
+
+    prologue_follows : LeadsTo first_place rest → (i : ℕ) (presets : List (Option Preset)) → drop i program.presets ≡ presets → AllStart presets → Follows i presets
+    prologue_follows behind i [] e start s k = behind (placed_state place s) k
+    prologue_follows behind i (o ∷ presets) e start s k =
+        let next : drop (i + 1) program.presets ≡ presets = rw add-one (drop_tail i program.presets ∙ ap (drop 1) e) in
+        preset_follows i o presets e (All-head Starts o presets start) (prologue_follows behind (i + 1) presets next (All-tail Starts o presets start)) s k
 
   begun_placed : (t : Turned) → begun (entry_of entries) (placed place t) ≡ placed place (begun (entry_from program.pieces) t)
   begun_placed (Leads deeds i s) =
@@ -108,12 +123,11 @@ module _ (program : Played) (place : ℕ → ℕ) (entries : List ℕ) (constant
   begun_placed (NoTurn deeds) = refl
 
   -- the beginning of a run of chosen procedures
-  pub begins_alike : (first_place : ℕ) (first : Firsts) (rest : List Instr) (s : State) (k : Chain) →
-      HasConstants constants first (presets_items row_texts program.presets) (presets_items row_literals program.presets) → AllStart program.presets → LeadsTo first_place rest →
-      begins_chosen (entry_of entries) (stretch entries constants total (presets_code program place first program.presets rest) [] (placed_state place s) k)
+  pub begins_alike : (first_place : ℕ) (rest : List Instr) (s : State) (k : Chain) → AreKnown → AllStart program.presets → LeadsTo first_place rest →
+      begins_chosen (entry_of entries) (stretch entries constants total (presets_code program place 0 program.presets rest) [] (placed_state place s) k)
       ≡ happens k (placed place (beginning program s))
-  begins_alike first_place first rest s k has start behind =
+  begins_alike first_place rest s k known start behind =
       let front : Turned = set_up_to program first_place program.presets s in
-      ap (begins_chosen (entry_of entries)) (prologue_follows first_place first program.presets rest s k has start behind)
+      ap (begins_chosen (entry_of entries)) (prologue_follows first_place rest known behind 0 program.presets refl start s k)
       ∙ sym (happens_begun (entry_of entries) k (placed place front))
       ∙ ap (happens k) (begun_placed front ∙ ap (placed place) (set_up_alike program first_place program.presets s))

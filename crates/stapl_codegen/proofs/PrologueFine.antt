@@ -1,5 +1,5 @@
 -- The prologue of the code of an accepted program breaks no rule, and its instructions are in their ranges.
-use Rattle.std.proofs.Common.{◌≡◌, ℕ, ◌+◌, ◌≤◌, Bool, true, false, ◌&&◌, List, [], ◌∷◌, length, length-append, Option, Some, None, arith, refl, sym, ap, subst, ◌∙◌, true≢false}
+use Rattle.std.proofs.Common.{◌≡◌, ℕ, ◌+◌, ◌≤◌, Bool, true, false, ◌&&◌, List, [], ◌∷◌, length, drop, add-one, Option, Some, None, arith, refl, sym, ap, subst, ◌∙◌, true≢false}
 use Rattle.std.specs.Prelude.{All, IfSome, map, nat_abs, slice_get}
 use Rattle.std.specs.Option.{option_map}
 use Rattle.std.proofs.lemmas.List.{append-nil}
@@ -21,9 +21,11 @@ use Rattle.stapl_code.specs.declared.raw.VarDef.{VarDef}
 use Rattle.stapl_code.specs.Kinds.{kinds_behind}
 use Rattle.stapl_code.specs.Valid.{is_last, sets_up, kinds_kept, judged, prologue_break}
 use Rattle.stapl_meaning.specs.Turns.{rows}
-use Rattle.stapl_codegen.specs.Emit.{Firsts, row_texts, row_literals, behind_row, rows_items, presets_items, row_code, rows_code, presets_code}
+use Rattle.stapl_codegen.specs.Emit.{Firsts, row_texts, row_literals, rows_items, literals_of, preset_firsts, row_code, rows_code, preset_code, presets_code}
 use Rattle.stapl_codegen.specs.Generated.{kind_number, variable_def}
-use Rattle.stapl_codegen.proofs.Drafts.{past_length, one_row}
+use Rattle.stapl_code.proofs.Heads.{drop_tail}
+use Rattle.stapl_codegen.proofs.Drafts.{one_row}
+use Rattle.stapl_codegen.proofs.Texts.{no_texts, preset_below}
 use Rattle.stapl_codegen.proofs.Ranges.{InRange, CallsThere, AreThere, agrees_from, body_range}
 use Rattle.stapl_codegen.proofs.Sides.{held_kind}
 use Rattle.stapl_codegen.proofs.WellKinded.{Agrees, scalar_agrees, bits_agree, integers_agree}
@@ -92,13 +94,17 @@ module _ (program : Played) where
   agrees_in : (preset : Preset) → Agrees defs (preset_scope program preset).look
   agrees_in preset = agrees_from program.names (Some preset.block)
 
-  pub prologue_fine : (place : ℕ → ℕ) (first : Firsts) (presets : List Preset) → All (IsTypedPreset program) presets → Fine [] (presets_code program place first presets [])
-  prologue_fine place first [] typed = λ i. refl
-  prologue_fine place first (preset ∷ presets) typed =
-      let own = All-head (IsTypedPreset program) preset presets typed in
-      preset_fine (preset_scope program preset) (agrees_in preset) place first preset.body (presets_code program place (behind_row first preset.body) presets [])
-      own.starts (kind_declared (preset_scope program preset).look own.piece preset.block (declaration preset.body) own.declares)
-      (prologue_fine place (behind_row first preset.body) presets (All-tail (IsTypedPreset program) preset presets typed))
+  pub prologue_fine : (place : ℕ → ℕ) (i : ℕ) (presets : List (Option Preset)) → All (λ o. IfSome o (IsTypedPreset program)) presets → Fine [] (presets_code program place i presets [])
+  prologue_fine place i [] typed = λ i. refl
+  prologue_fine place i (preset ∷ presets) typed =
+      let Typed : Option Preset → Type 0 = λ o. IfSome o (IsTypedPreset program) in
+      by preset (presets_code program place (i + 1) presets []) (All-head Typed preset presets typed) (prologue_fine place (i + 1) presets (All-tail Typed preset presets typed))
+    where
+      by : (o : Option Preset) (rest : List Instr) → IfSome o (IsTypedPreset program) → Fine [] rest → Fine [] (preset_code program place i o rest)
+      by None rest own more = more
+      by (Some preset) rest own more =
+          preset_fine (preset_scope program preset) (agrees_in preset) place (preset_firsts program i) preset.body rest
+          own.starts (kind_declared (preset_scope program preset).look own.piece preset.block (declaration preset.body) own.declares) more
 
   -- ---- ranges
 
@@ -116,23 +122,18 @@ module _ (program : Played) where
     preset_suits look (integer_array name size start) starts = refl
     preset_suits look _ starts = absurd (true≢false (sym starts))
 
-    -- the numbers of the constants of the first and of the others
-    there : (first : Firsts) (preset : Preset) (presets : List Preset) → has_initial_value preset.body ≡ true → rows preset.body ≡ preset.body ∷ [] →
-        first.text + length (presets_items row_texts (preset ∷ presets)) ≤ texts → first.literal + length (presets_items row_literals (preset ∷ presets)) ≤ literals →
+    -- the numbers of the constants of an initial value
+    there : (first : Firsts) (preset : Preset) → has_initial_value preset.body ≡ true → rows preset.body ≡ preset.body ∷ [] →
+        first.text ≤ texts → first.literal + length (row_literals preset.body) ≤ literals →
         AreThere defs literals texts procedures (preset_scope program preset) (agrees_in preset) place first preset.body
-    there first preset presets starts one few_texts few_literals = record {
+    there first preset starts one few_texts few_literals = record {
       few_texts = omega (
         arith,
         few_texts,
-        length-append (row_texts preset.body) (presets_items row_texts presets),
+        ap length (no_texts preset.body starts),
         ap length (ap (rows_items row_texts) one ∙ append-nil (row_texts preset.body)),
       );
-      few_literals = omega (
-        arith,
-        few_literals,
-        length-append (row_literals preset.body) (presets_items row_literals presets),
-        ap length (ap (rows_items row_literals) one ∙ append-nil (row_literals preset.body)),
-      );
+      few_literals = omega (arith, few_literals, ap length (ap (rows_items row_literals) one ∙ append-nil (row_literals preset.body)));
       calls = none_called preset.body starts;
     }
       where
@@ -141,20 +142,28 @@ module _ (program : Played) where
         none_called (if_then c b) e = absurd (true≢false (sym e))
         none_called _ e = tt
 
-    pub presets_range : (first : Firsts) (presets : List Preset) (rest : List Instr) → All (IsTypedPreset program) presets → All (λ (preset : Preset). is_inner_shape preset.body ≡ true) presets →
-        first.text + length (presets_items row_texts presets) ≤ texts → first.literal + length (presets_items row_literals presets) ≤ literals →
-        InRange defs literals texts procedures rest → InRange defs literals texts procedures (presets_code program place first presets rest)
-    presets_range first [] rest typed shaped few_texts few_literals more = more
-    presets_range first (preset ∷ presets) rest typed shaped few_texts few_literals more =
-        let own = All-head (IsTypedPreset program) preset presets typed in
+    -- an initial value at a place, before the rest
+    preset_range : (i : ℕ) (o : Option Preset) (others : List (Option Preset)) (rest : List Instr) → drop i program.presets ≡ o ∷ others → length (literals_of program) ≤ literals →
+        IfSome o (IsTypedPreset program) → IfSome o (λ preset. is_inner_shape preset.body ≡ true) →
+        InRange defs literals texts procedures rest → InRange defs literals texts procedures (preset_code program place i o rest)
+    preset_range i None others rest e all own shaped more = more
+    preset_range i (Some preset) others rest e all own shaped more =
         let scope : Scope = preset_scope program preset in
+        let first : Firsts = preset_firsts program i in
         let one = one_row preset.body own.starts in
-        let next : Firsts = behind_row first preset.body in
-        let others = presets_range next presets rest (All-tail (IsTypedPreset program) preset presets typed) (All-tail (λ (preset : Preset). is_inner_shape preset.body ≡ true) preset presets shaped)
-        (omega (arith, few_texts, past_length first.text (row_texts preset.body), length-append (row_texts preset.body) (presets_items row_texts presets)))
-        (omega (arith, few_literals, past_length first.literal (row_literals preset.body), length-append (row_literals preset.body) (presets_items row_literals presets))) more in
-        subst (λ bs. InRange defs literals texts procedures (rows_code scope place first bs (presets_code program place next presets rest))) one
-        (body_range defs literals texts procedures scope (agrees_in preset) place first preset.body (presets_code program place next presets rest)
-        (All-head (λ (preset : Preset). is_inner_shape preset.body ≡ true) preset presets shaped) (preset_suits scope.look preset.body own.starts)
+        subst (λ bs. InRange defs literals texts procedures (rows_code scope place first bs rest)) one
+        (body_range defs literals texts procedures scope (agrees_in preset) place first preset.body rest
+        shaped (preset_suits scope.look preset.body own.starts)
         (defined scope.look own.piece preset.block (declaration preset.body) own.declares) own.few_values
-        (there first preset presets own.starts one few_texts few_literals) others)
+        (there first preset own.starts one (omega arith) (omega (arith, all, preset_below i program preset others e))) more)
+
+    pub presets_range : (i : ℕ) (presets : List (Option Preset)) (rest : List Instr) → drop i program.presets ≡ presets → length (literals_of program) ≤ literals →
+        All (λ o. IfSome o (IsTypedPreset program)) presets → All (λ (o : Option Preset). IfSome o (λ preset. is_inner_shape preset.body ≡ true)) presets →
+        InRange defs literals texts procedures rest → InRange defs literals texts procedures (presets_code program place i presets rest)
+    presets_range i [] rest e all typed shaped more = more
+    presets_range i (preset ∷ presets) rest e all typed shaped more =
+        let Typed : Option Preset → Type 0 = λ o. IfSome o (IsTypedPreset program) in
+        let Shaped : Option Preset → Type 0 = λ o. IfSome o (λ (preset : Preset). is_inner_shape preset.body ≡ true) in
+        let next : drop (i + 1) program.presets ≡ presets = rw add-one (drop_tail i program.presets ∙ ap (drop 1) e) in
+        preset_range i preset presets (presets_code program place (i + 1) presets rest) e all (All-head Typed preset presets typed) (All-head Shaped preset presets shaped)
+        (presets_range (i + 1) presets rest next all (All-tail Typed preset presets typed) (All-tail Shaped preset presets shaped) more)

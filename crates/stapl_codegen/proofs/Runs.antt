@@ -14,11 +14,11 @@ use Rattle.stapl_code.specs.declared.instr.Instr.{Instr}
 use Rattle.stapl_code.specs.declared.instr.Instr.TheVariants.{Turn}
 use Rattle.stapl_code.specs.Machine.{Constants, nowhere, stretch, begins, code_turn, code_run}
 use Rattle.stapl_code.proofs.Preceded.{scan_alike, scan_through, happens_in_piece}
-use Rattle.stapl_codegen.specs.Emit.{body_code, at_first, firsts_at, constants_in, pieces_code, program_code, start_of, program_entries}
+use Rattle.stapl_codegen.specs.Emit.{body_code, firsts_at, constants_in, pieces_code, program_code, start_of, program_entries}
 use Rattle.stapl_codegen.specs.Correct.{GoesOn, IsClosed, placed_state, placed_run, AllStart, Stands}
 use Rattle.stapl_code.proofs.Heads.{head_of, get_head, drop_tail}
 use Rattle.stapl_codegen.proofs.Lists.{body_before, code_split}
-use Rattle.stapl_codegen.proofs.Texts.{presets_known, constants_at}
+use Rattle.stapl_codegen.proofs.Texts.{preset_known, constants_at}
 use Rattle.stapl_codegen.proofs.Bodies.{Behind, body_follows}
 use Rattle.stapl_codegen.proofs.Placed.{placed, piece_placed}
 use Rattle.stapl_codegen.proofs.Prologue.{begins_alike}
@@ -249,6 +249,6 @@ module _ (program : Played) where
       stands chosen n k =
           let s : State = start chosen (zeros_of program) in
           ap (λ h. goes_on h s k (code_run Entries These Code n))
-          (begins_alike program place Entries These All (entry_is program) first_turn.first at_first (From 0 program.pieces) s k (presets_known program) start_all turn_behind
+          (begins_alike program place Entries These All (entry_is program) first_turn.first (From 0 program.pieces) s k (λ i preset others e. preset_known i program preset others e) start_all turn_behind
           ∙ happens_placed place k (beginning program s))
           ∙ goes_follows n (run_follows n) (happens k (beginning program s)) s k

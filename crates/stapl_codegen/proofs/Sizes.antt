@@ -1,7 +1,7 @@
 -- How many instructions a program has: no more than the symbols of its statements and of its DATA blocks, and one for
 -- each piece.
 use Rattle.std.proofs.Common.{◌≡◌, ℕ, ◌+◌, ◌≤◌, Bool, true, false, cond, List, [], ◌∷◌, ◌++◌, Option, None, Some, length, arith, refl, sym, ap, ◌∙◌}
-use Rattle.std.specs.Prelude.{All}
+use Rattle.std.specs.Prelude.{All, IfSome}
 use Rattle.std.specs.List.{sum_by}
 use Rattle.std.proofs.lemmas.Bool.{true≢false}
 use Rattle.std.proofs.lemmas.List.Elements.{All-head, All-tail}
@@ -23,8 +23,8 @@ use Rattle.stapl_code.specs.declared.instr.Instr.{Instr}
 use Rattle.stapl_code.specs.declared.instr.Instr.TheVariants.{Turn, LoadAt, CheckIndex, CheckRange, Unary, Binary, ToInt, Store, StoreAt, For, PushRecord, PopRecord, JumpIfZero, Print, Export, CheckChar, Exit}
 use Rattle.stapl_code.specs.declared.instr.Source.TheVariants as sources
 use Rattle.stapl_codegen.proofs.Views.{IsInner, an_end, a_bit, some_bits, an_integer, no_integers, some_integers, a_simple, inner_view}
-use Rattle.stapl_codegen.specs.Emit.{operator_number, sign_number, absolute_number, expr_code, int_code, operands_code, print_parts, export_part, Firsts, last, behind_row, row_code, body_code, at_first, firsts_at, presets_code, piece_code, pieces_code, code_to}
-use Rattle.stapl_codegen.specs.Accepted.{IsAccepted}
+use Rattle.stapl_codegen.specs.Emit.{operator_number, sign_number, absolute_number, expr_code, int_code, operands_code, print_parts, export_part, Firsts, last, row_code, body_code, firsts_at, preset_firsts, preset_code, presets_code, piece_code, pieces_code, code_to}
+use Rattle.stapl_codegen.specs.Accepted.{preset_size, IsAccepted}
 use Rattle.stapl_codegen.proofs.Lists.{operands_both}
 
 module _ (look : Lookup) where
@@ -257,18 +257,23 @@ preset_length scope place first (integer name None) rest starts = absurd (true�
 preset_length scope place first (integer_array name size None) rest starts = absurd (true≢false (sym starts))
 preset_length scope place first _ rest starts = absurd (true≢false (sym starts))
 
-presets_length : (program : Played) (place : ℕ → ℕ) (first : Firsts) (presets : List Preset) (rest : List Instr) → All (IsTypedPreset program) presets →
-    length (presets_code program place first presets rest) ≤ sum_by (λ (preset : Preset). body_size preset.body) presets + length rest
-presets_length program place first [] rest typed = omega arith
-presets_length program place first (preset ∷ presets) rest typed =
-    let more : List Instr = presets_code program place (behind_row first preset.body) presets rest in
-    let one = preset_length (preset_scope program preset) place first preset.body more (All-head (IsTypedPreset program) preset presets typed).starts in
-    let others = presets_length program place (behind_row first preset.body) presets rest (All-tail (IsTypedPreset program) preset presets typed) in
-    omega (arith, sum_by-cons (λ (preset : Preset). body_size preset.body) preset presets, one, others)
+presets_length : (program : Played) (place : ℕ → ℕ) (i : ℕ) (presets : List (Option Preset)) (rest : List Instr) → All (λ o. IfSome o (IsTypedPreset program)) presets →
+    length (presets_code program place i presets rest) ≤ sum_by preset_size presets + length rest
+presets_length program place i [] rest typed = omega arith
+presets_length program place i (preset ∷ presets) rest typed =
+    let Typed : Option Preset → Type 0 = λ o. IfSome o (IsTypedPreset program) in
+    let more : List Instr = presets_code program place (i + 1) presets rest in
+    let one = by preset more (All-head Typed preset presets typed) in
+    let others = presets_length program place (i + 1) presets rest (All-tail Typed preset presets typed) in
+    omega (arith, sum_by-cons preset_size preset presets, one, others)
+  where
+    by : (o : Option Preset) (more : List Instr) → IfSome o (IsTypedPreset program) → length (preset_code program place i o more) ≤ preset_size o + length more
+    by None more typed = omega arith
+    by (Some preset) more typed = preset_length (preset_scope program preset) place (preset_firsts program i) preset.body more typed.starts
 
 -- the code of a program
 pub code_length : (program : Played) (place : ℕ → ℕ) → IsAccepted program → length (code_to program place) ≤ 8488608
 code_length program place accepted =
     let pieces = pieces_length program place 0 program.pieces accepted.shaped in
-    let all = presets_length program place at_first program.presets (pieces_code program place 0 program.pieces) accepted.typed.presets in
+    let all = presets_length program place 0 program.presets (pieces_code program place 0 program.pieces) accepted.typed.presets in
     omega (arith, all, pieces, accepted.size, accepted.presets_size, accepted.typed.few)

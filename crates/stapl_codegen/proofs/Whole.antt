@@ -14,7 +14,7 @@ use Rattle.stapl_code.specs.declared.instr.Instr.TheVariants.{Turn}
 use Rattle.stapl_code.specs.declared.raw.VarDef.{VarDef}
 use Rattle.stapl_code.specs.declared.raw.ProcDef.{ProcDef}
 use Rattle.stapl_code.specs.Valid.{next_entry, procedure_break, procedures_break, prologue_break, entry_break, first_of, IsValid}
-use Rattle.stapl_codegen.specs.Emit.{body_code, at_first, firsts_at, presets_code, procedure_def, procedures_from, procedures_of, pieces_code, program_code, start_of}
+use Rattle.stapl_codegen.specs.Emit.{body_code, firsts_at, presets_code, procedure_def, procedures_from, procedures_of, pieces_code, program_code, start_of}
 use Rattle.stapl_codegen.specs.Generated.{lists_of}
 use Rattle.stapl_code.proofs.Heads.{drop_tail}
 use Rattle.stapl_codegen.proofs.Heads.{drop_front}
@@ -156,10 +156,10 @@ module _ (program : Played) (shaped : All HasShape program.pieces) (typed : IsTy
 
   -- the prologue, which ends where the first procedure begins
   abbrev prologue : List Instr
-  prologue = presets_code program (start_of program) at_first program.presets []
+  prologue = presets_code program (start_of program) 0 program.presets []
 
   prologue_first : code ≡ prologue ++ From 0 program.pieces
-  prologue_first = presets_before program (start_of program) at_first program.presets (From 0 program.pieces)
+  prologue_first = presets_before program (start_of program) 0 program.presets (From 0 program.pieces)
 
   -- all procedures, after the prologue
   pub procedures_fine : AreFine (length prologue) (procedures_of program)
@@ -187,6 +187,6 @@ module _ (program : Played) (shaped : All HasShape program.pieces) (typed : IsTy
       ap (λ n. take n code) count ∙ ap (take (length prologue)) prologue_first ∙ take_at prologue (From 0 program.pieces) (length prologue) refl in
       ap (λ n. first_of (prologue_break defs 0 [] (slice_range code 0 n)) (first_of (procedures_break defs code ps) (entry_break total ps))) fine.next
       ∙ ap (λ c. first_of (prologue_break defs 0 [] c) (first_of (procedures_break defs code ps) (entry_break total ps))) slice
-      ∙ ap (λ o. first_of o (first_of (procedures_break defs code ps) (entry_break total ps))) (prologue_fine program (start_of program) at_first program.presets typed.presets 0)
+      ∙ ap (λ o. first_of o (first_of (procedures_break defs code ps) (entry_break total ps))) (prologue_fine program (start_of program) 0 program.presets typed.presets 0)
       ∙ ap (λ o. first_of o (entry_break total ps)) fine.unbroken
       ∙ ap (λ b. if b then None else Some (total - 1)) (begin_all (length prologue) ps fine.begin)

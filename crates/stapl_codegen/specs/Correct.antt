@@ -1,5 +1,5 @@
 -- That a code does what a program does.
-use Rattle.std.specs.Prelude.{◌≡◌, ◌≢◌, ℕ, ◌≤◌, Bool, true, false, List, [], ◌∷◌, length, map, All}
+use Rattle.std.specs.Prelude.{◌≡◌, ◌≢◌, ℕ, ◌≤◌, Bool, true, false, List, [], ◌∷◌, length, map, Option, All, IfSome}
 use Rattle.stapl_syntax.specs.Trees.{BodyTree, end_procedure, StmtTree}
 use Rattle.stapl_syntax.specs.Statements.{is_outer}
 use Rattle.stapl_meaning.specs.declared.values.Held.{Held}
@@ -60,9 +60,12 @@ Stands program place entries constants code variables =
     (chosen : List ℕ) (n : ℕ) (k : Chain) →
     code_play entries constants code chosen variables n k ≡ placed_run place (procedures_run program chosen n k)
 
--- each declaration of a DATA block that is set has an initial value
-abbrev pub AllStart : List Preset → Type 0
-AllStart presets = All (λ (preset : Preset). has_initial_value preset.body ≡ true) presets
+-- a declaration of a DATA block that is set has an initial value
+abbrev pub Starts : Option Preset → Type 0
+Starts preset = IfSome preset (λ (p : Preset). has_initial_value p.body ≡ true)
+
+abbrev pub AllStart : List (Option Preset) → Type 0
+AllStart presets = All Starts presets
 
 -- the code of a program stands for it
 abbrev pub CodeStands : Type 0

@@ -1,5 +1,5 @@
 -- What is written so far of the code of a program, and where its pieces begin.
-use Rattle.std.specs.Prelude.{◌≡◌, ℕ, ◌+◌, ◌<◌, Bool, List, [], ◌∷◌, ◌++◌, length, slice_index, Option, None, Some, if◌then◌else◌}
+use Rattle.std.specs.Prelude.{◌≡◌, ℕ, ◌+◌, ◌<◌, Bool, List, [], ◌∷◌, ◌++◌, length, drop, slice_index, Option, None, Some, if◌then◌else◌}
 use Rattle.std.specs.List.{position_or_len}
 use Rattle.std.specs.Map.{keys_of}
 use Rattle.std.specs.Str.{bytes_eq}
@@ -16,7 +16,7 @@ use Rattle.stapl_code.specs.declared.instr.Compare.{Compare}
 use Rattle.stapl_code.specs.declared.instr.Instr.{Instr}
 use Rattle.stapl_code.specs.declared.instr.Instr.TheVariants.{Turn}
 use Rattle.stapl_codegen.specs.Numbers.{numbers_from}
-use Rattle.stapl_codegen.specs.Emit.{expr_code, int_code, operands_code, source_code, given_code, target_code, compare_code, print_parts, Firsts, row_texts, row_literals, presets_items, at_first, row_code, body_code, presets_code, texts_of, literals_of, code_to, start_of}
+use Rattle.stapl_codegen.specs.Emit.{expr_code, int_code, operands_code, source_code, given_code, target_code, compare_code, print_parts, Firsts, texts_before, literals_before, pieces_code, row_code, body_code, presets_code, texts_of, literals_of, code_to, start_of}
 
 -- Where a piece stands: the names of its program, at each of its blocks and after them the number of the next
 -- procedure, how many pieces the program has, the block that is open before the piece, and the number of the piece,
@@ -121,22 +121,21 @@ piece_code_in d st = if is_outer st.body then [] else Turn d.site.piece ∷ body
 abbrev pub preset_site : Site → Preset → Site
 preset_site site preset = record site { inside = Some preset.block }
 
-abbrev pub preset_code_in : Draft → Option Preset → List Instr
-preset_code_in d None = []
-preset_code_in d (Some preset) =
-    row_code (scope_of_site (preset_site d.site preset)) (λ j. j) (firsts_in d) preset.body []
+-- its literal, if it has one, has this number
+abbrev pub initial_code_in : Site → ℕ → BodyTree → List Instr
+initial_code_in site literal b = row_code (scope_of_site site) (λ j. j) (record { text = 0; literal = literal }) b []
 
--- what an initial value has
-abbrev pub preset_items : {A : Type 0} → (BodyTree → List A) → Option Preset → List A
-preset_items of None = []
-preset_items of (Some preset) = of preset.body
+abbrev pub preset_code_in : Draft → ℕ → Option Preset → List Instr
+preset_code_in d literal None = []
+preset_code_in d literal (Some preset) = initial_code_in (preset_site d.site preset) literal preset.body
 
--- these initial values are still to be written
-pub record ArePresetsLeft (program : Played) (d : Draft) (presets : List Preset) : Type 0 where
-  pub code : d.code ++ presets_code program (λ j. j) (firsts_in d) presets [] ≡ presets_code program (λ j. j) at_first program.presets []
-  pub texts : d.texts ++ presets_items row_texts presets ≡ presets_items row_texts program.presets
-  pub literals : d.literals ++ presets_items row_literals presets ≡ presets_items row_literals program.presets
+-- The initial values before a place are written, and nothing else is; so many literals stand before the place.
+pub record ArePresetsWritten (program : Played) (i : ℕ) (d : Draft) (literals : ℕ) : Type 0 where
+  pub code : d.code ++ presets_code program (λ j. j) i (drop i program.presets) [] ≡ presets_code program (λ j. j) 0 program.presets []
+  pub texts : d.texts ≡ []
+  pub no_literals : d.literals ≡ []
   pub site : d.site ≡ site_at program 0
+  pub counted : literals ≡ length (literals_before program i)
 
 -- these are where the first n pieces of a program begin
 pub record StartsTo (program : Played) (n : ℕ) (starts : List ℕ) : Type 0 where
@@ -146,6 +145,14 @@ pub record StartsTo (program : Played) (n : ℕ) (starts : List ℕ) : Type 0 wh
 -- these are where the pieces of a program begin
 abbrev pub AreStarts : Played → List ℕ → Type 0
 AreStarts program starts = StartsTo program (length program.pieces) starts
+
+-- the first i pieces of a program are written
+pub record AreDrafted (program : Played) (i : ℕ) (d : Draft) (starts : List ℕ) : Type 0 where
+  pub code : d.code ++ pieces_code program (λ j. j) i (drop i program.pieces) ≡ code_to program (λ j. j)
+  pub texts : d.texts ≡ texts_before program i
+  pub literals : d.literals ≡ literals_before program i
+  pub site : d.site ≡ site_at program i
+  pub begins : StartsTo program i starts
 
 -- These are the instructions of a program, whose targets are its places, its texts, its literals, and where its pieces
 -- begin.

@@ -278,26 +278,30 @@ rows_code scope place first (b ∷ bs) rest = row_code scope place first b (rows
 abbrev pub body_code : Scope → (ℕ → ℕ) → Firsts → BodyTree → List Instr → List Instr
 body_code scope place first b rest = rows_code scope place first (rows b) rest
 
--- what each row has: from rows one after the other, from initial values of DATA blocks, and from statements
+-- what each row has: from rows one after the other, from an initial value of a DATA block, if there is one, and from
+-- statements
 module _ {A : Type 0} (of : BodyTree → List A) where
   abbrev pub rows_items : List BodyTree → List A
   rows_items [] = []
   rows_items (b ∷ bs) = of b ++ rows_items bs
 
-  abbrev pub presets_items : List Preset → List A
-  presets_items [] = []
-  presets_items (preset ∷ presets) = of preset.body ++ presets_items presets
+  abbrev pub preset_items : Option Preset → List A
+  preset_items None = []
+  preset_items (Some preset) = of preset.body
 
   abbrev pub statements_items : List StmtTree → List A
   statements_items [] = []
   statements_items (st ∷ rest) = rows_items (rows st.body) ++ statements_items rest
 
-  -- from a program: from its DATA blocks, and then from its pieces, or from those before a place
-  abbrev pub program_items : Played → List A
-  program_items program = presets_items program.presets ++ statements_items program.pieces
+  -- from the first of some statements
+  abbrev pub first_items : List StmtTree → List A
+  first_items [] = []
+  first_items (st ∷ rest) = rows_items (rows st.body)
 
-  abbrev pub items_before : Played → ℕ → List A
-  items_before program i = presets_items program.presets ++ statements_items (take i program.pieces)
+  -- from pieces in their order, each with its initial value of a DATA block
+  abbrev pub pieces_items : List (Option Preset) → List StmtTree → List A
+  pieces_items [] pieces = statements_items pieces
+  pieces_items (preset ∷ presets) pieces = first_items pieces ++ (preset_items preset ++ pieces_items presets (drop 1 pieces))
 
 -- the texts and the literals of a statement
 abbrev pub body_texts : BodyTree → List (List ℕ)
@@ -306,30 +310,42 @@ body_texts b = rows_items row_texts (rows b)
 abbrev pub body_literals : BodyTree → List (List Bool)
 body_literals b = rows_items row_literals (rows b)
 
--- the texts and the literals of a program, in their order
+-- The texts and the literals of a program, in the order of their places in it. DATA blocks have literals alone.
 abbrev pub texts_of : Played → List (List ℕ)
-texts_of program = program_items row_texts program
+texts_of program = statements_items row_texts program.pieces
 
 abbrev pub literals_of : Played → List (List Bool)
-literals_of program = program_items row_literals program
+literals_of program = pieces_items row_literals program.presets program.pieces
 
 abbrev pub constants_in : Played → Constants
 constants_in program = record { texts = texts_of program; literals = literals_of program }
 
--- the numbers of the first text and the first literal of a program, and of those after the place of a piece
-abbrev pub at_first : Firsts
-at_first = record { text = 0; literal = 0 }
+-- those before a place
+abbrev pub texts_before : Played → ℕ → List (List ℕ)
+texts_before program i = statements_items row_texts (take i program.pieces)
 
+abbrev pub literals_before : Played → ℕ → List (List Bool)
+literals_before program i = pieces_items row_literals (take i program.presets) (take i program.pieces)
+
+-- the numbers of the first text and the first literal of the piece at a place
 abbrev pub firsts_at : Played → ℕ → Firsts
-firsts_at program i =
-    record { text = length (items_before row_texts program i); literal = length (items_before row_literals program i) }
+firsts_at program i = record { text = length (texts_before program i); literal = length (literals_before program i) }
+
+-- the same of the initial value of a DATA block at a place, which has no text, and comes after what its piece has
+abbrev pub preset_firsts : Played → ℕ → Firsts
+preset_firsts program i =
+    record { text = 0; literal = length (literals_before program i ++ first_items row_literals (drop i program.pieces)) }
 
 module _ (program : Played) (place : ℕ → ℕ) where
-  -- the code that sets initial values of DATA blocks, before the rest
-  abbrev pub presets_code : Firsts → List Preset → List Instr → List Instr
-  presets_code first [] rest = rest
-  presets_code first (preset ∷ presets) rest =
-      row_code (preset_scope program preset) place first preset.body (presets_code (behind_row first preset.body) presets rest)
+  -- the code that sets an initial value of a DATA block at a place, if there is one, before the rest
+  abbrev pub preset_code : ℕ → Option Preset → List Instr → List Instr
+  preset_code i None rest = rest
+  preset_code i (Some preset) rest = row_code (preset_scope program preset) place (preset_firsts program i) preset.body rest
+
+  -- the same of those from a place on
+  abbrev pub presets_code : ℕ → List (Option Preset) → List Instr → List Instr
+  presets_code i [] rest = rest
+  presets_code i (preset ∷ presets) rest = preset_code i preset (presets_code (i + 1) presets rest)
 
   -- the code of the piece at a place: its turn, and its statement; a statement outside procedures has no code
   abbrev pub piece_code : ℕ → StmtTree → List Instr → List Instr
@@ -344,7 +360,7 @@ module _ (program : Played) (place : ℕ → ℕ) where
 
   -- the code of the program: its prologue sets DATA blocks
   abbrev pub code_to : List Instr
-  code_to = presets_code at_first program.presets (pieces_code 0 program.pieces)
+  code_to = presets_code 0 program.presets (pieces_code 0 program.pieces)
 
 -- How long the code is, and where the code of a piece begins. Neither depends on the targets of jumps.
 abbrev pub total_of : Played → ℕ

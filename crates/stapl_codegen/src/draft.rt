@@ -2,16 +2,17 @@
 ghost use Rattle.std.specs.Prelude.{◌≡◌, [], ◌++◌, None, ◌<◌, ◌^◌, ◌-◌, map, OnOk, IfOk, if◌then◌else◌};
 ghost use Rattle.stapl_syntax.specs.Trees.{end_data, body_tree, stmt_tree, trees};
 ghost use Rattle.stapl_syntax.specs.Statements.{is_outer};
-ghost use Rattle.stapl_meaning.specs.Scopes.{idle, preset_of, presets_from, program_names, as_played};
+ghost use Rattle.stapl_meaning.specs.Scopes.{idle, plays, preset_of, program_names, as_played};
 ghost use Rattle.stapl_code.specs.Machine.{nowhere};
-ghost use Rattle.stapl_codegen.specs.Emit.{row_texts, row_literals, body_texts, body_literals, texts_of, literals_of, program_code, start_of, retarget};
-ghost use Rattle.stapl_codegen.specs.Drafts.{site_behind, piece_code_in, preset_code_in, preset_items, ArePresetsLeft, AreStarts, IsDraft};
+ghost use Rattle.stapl_codegen.specs.Emit.{row_literals, preset_items, body_texts, body_literals, texts_of, literals_of, program_code, start_of, retarget};
+ghost use Rattle.stapl_codegen.specs.Drafts.{site_behind, piece_code_in, preset_code_in, ArePresetsWritten, AreDrafted, AreStarts, IsDraft};
 ghost use Rattle.stapl_codegen.specs.Accepted.{IsAccepted};
 ghost use Rattle.stapl_codegen.specs.Numbers.{numbers_from};
 
 use crate::blocks::{data_behind, has_initial_value, plays};
 use crate::definitions::Numbers;
 use crate::emit::Emitter;
+use crate::literals::{own_literals, preset_literals, sum};
 use bit_list::Bits;
 use stapl_code::Instr;
 use stapl_lexer::Name;
@@ -39,15 +40,37 @@ fn start_at(before: usize, playing: bool, st: &Stmt) -> u32
     before as u32
 }
 
-// Writes a piece, which does nothing if it does not play.
-fn draft_piece(emitter: &mut Emitter, playing: bool, st: &Stmt) -> Result<(), AllocError>
-    requires { emitter.old.site.piece < 2 ^ 32 - 1 }
+// Keeps the literal of the initial value of a statement, if it stands in a DATA block and has one.
+fn keep_preset(emitter: &mut Emitter, block: &Option<Name>, body: &Body) -> Result<(), AllocError>
+    ensures code { emitter.new.code ≡ emitter.old.code }
+    ensures texts { emitter.new.texts ≡ emitter.old.texts }
+    ensures literals { OnOk result (emitter.new.literals
+        ≡ emitter.old.literals ++ preset_items row_literals (preset_of block.now (body_tree body.now))) }
+    ensures site { emitter.new.site ≡ emitter.old.site }
+{
+    if block.is_none() || !has_initial_value(body) {
+        return Ok(());
+    }
+    emitter.keep(body)?;
+    Ok(())
+}
+
+// Writes a piece, which does nothing if it does not play, and keeps its initial value, if it has one.
+fn draft_piece(
+    emitter: &mut Emitter,
+    playing: bool,
+    block: &Option<Name>,
+    st: &Stmt,
+) -> Result<(), AllocError>
+    requires piece { emitter.old.site.piece < 2 ^ 32 - 1 }
+    requires playing { playing ≡ plays block.now (body_tree st.now.body) }
     ensures code { OnOk result (emitter.new.code
         ≡ emitter.old.code ++ piece_code_in emitter.old (if playing then stmt_tree st.now else idle)) }
     ensures texts { OnOk result (emitter.new.texts
         ≡ emitter.old.texts ++ body_texts (if playing then stmt_tree st.now else idle).body) }
     ensures literals { OnOk result (emitter.new.literals
-        ≡ emitter.old.literals ++ body_literals (if playing then stmt_tree st.now else idle).body) }
+        ≡ emitter.old.literals ++ (body_literals (if playing then stmt_tree st.now else idle).body
+        ++ preset_items row_literals (preset_of block.now (body_tree st.now.body)))) }
     ensures site { OnOk result (emitter.new.site
         ≡ site_behind emitter.old.site (if playing then stmt_tree st.now else idle).body) }
 {
@@ -55,19 +78,23 @@ fn draft_piece(emitter: &mut Emitter, playing: bool, st: &Stmt) -> Result<(), Al
         emitter.statement(st)?;
         return Ok(());
     }
+    keep_preset(emitter, block, &st.body)?;
     emitter.skip();
     Ok(())
 }
 
-// Writes the initial value of a statement, if it stands in a DATA block and has one.
-fn draft_preset(emitter: &mut Emitter, block: &Option<Name>, body: &Body) -> Result<(), AllocError>
+// Writes the initial value of a statement, if it stands in a DATA block and has one; so many literals are before it.
+fn draft_preset(
+    emitter: &mut Emitter,
+    block: &Option<Name>,
+    body: &Body,
+    literals: usize,
+) -> Result<(), AllocError>
     requires { emitter.old.site.inside ≡ None }
     ensures code { OnOk result (emitter.new.code
-        ≡ emitter.old.code ++ preset_code_in emitter.old (preset_of block.now (body_tree body.now))) }
-    ensures texts { OnOk result (emitter.new.texts
-        ≡ emitter.old.texts ++ preset_items row_texts (preset_of block.now (body_tree body.now))) }
-    ensures literals { OnOk result (emitter.new.literals
-        ≡ emitter.old.literals ++ preset_items row_literals (preset_of block.now (body_tree body.now))) }
+        ≡ emitter.old.code ++ preset_code_in emitter.old literals (preset_of block.now (body_tree body.now))) }
+    ensures texts { emitter.new.texts ≡ emitter.old.texts }
+    ensures literals { emitter.new.literals ≡ emitter.old.literals }
     ensures site { OnOk result (emitter.new.site ≡ emitter.old.site) }
 {
     let Some(name) = block else {
@@ -76,18 +103,23 @@ fn draft_preset(emitter: &mut Emitter, block: &Option<Name>, body: &Body) -> Res
     if !has_initial_value(body) {
         return Ok(());
     }
-    emitter.preset(name, body)?;
+    let number = u32::try_from(literals).map_err(|_| AllocError)?;
+    emitter.preset(name, body, number)?;
     Ok(())
 }
 
-// Writes the initial values of the DATA blocks of a program, before its pieces.
+// Writes the initial values of the DATA blocks of a program, before its pieces. Their literals are numbered among those
+// of all pieces.
 fn draft_presets(emitter: &mut Emitter, program: &[Stmt]) -> Result<(), AllocError>
-    requires { ArePresetsLeft (as_played (trees program.now)) emitter.old (presets_from None (trees program.now)) }
-    ensures { OnOk result (ArePresetsLeft (as_played (trees program.now)) emitter.new []) }
+    requires { ArePresetsWritten (as_played (trees program.now)) 0 emitter.old 0 }
+    ensures { OnOk result (AreDrafted (as_played (trees program.now)) 0 emitter.new []) }
 {
+    let mut literals = 0;
     let mut block = None;
     for st in program {
-        draft_preset(emitter, &block, &st.body)?;
+        let own = sum(literals, own_literals(&block, &st.body))?;
+        draft_preset(emitter, &block, &st.body, own)?;
+        literals = sum(own, preset_literals(&block, &st.body))?;
         block = data_behind(block, &st.body);
     }
     Ok(())
@@ -108,7 +140,7 @@ fn draft_program(alloc: Global, program: &[Stmt], numbers: &Numbers) -> Result<W
     for st in program {
         let playing = plays(&block, &st.body);
         starts.push(start_at(emitter.len(), playing, st))?;
-        draft_piece(&mut emitter, playing, st)?;
+        draft_piece(&mut emitter, playing, &block, st)?;
         block = data_behind(block, &st.body);
     }
     let (code, texts, literals) = emitter.into_parts();

@@ -7,7 +7,7 @@ ghost use Rattle.stapl_code.specs.declared.instr.Instr.TheVariants.{Store, SetBi
 ghost use Rattle.stapl_codegen.specs.Emit.{part_texts, array_literals, row_texts, row_literals, body_texts, body_literals};
 ghost use Rattle.stapl_meaning.specs.Scopes.{has_initial_value};
 ghost use Rattle.stapl_codegen.specs.Drafts.{scope_of_site, site_behind};
-ghost use Rattle.stapl_codegen.specs.Drafts.{expr_code_in, int_code_in, operands_code_in, array_operands_in, source_in, part_operands_in, print_parts_in, body_code_in, piece_code_in, preset_code_in};
+ghost use Rattle.stapl_codegen.specs.Drafts.{expr_code_in, int_code_in, operands_code_in, array_operands_in, source_in, part_operands_in, print_parts_in, body_code_in, piece_code_in, initial_code_in, preset_code_in};
 
 use crate::definitions::Numbers;
 use crate::tables::{
@@ -406,6 +406,18 @@ impl<'a> Emitter<'a> {
         Ok(())
     }
 
+    // The bits of an array more, which are set to the literal of a number.
+    fn set_bits(&mut self, name: &Name, literal: u32) -> Result<(), AllocError>
+        ensures code { OnOk result (self.new.code
+            ≡ self.old.code ++ SetBits ((scope_of_site self.old.site).look.variable name.now) literal ∷ []) }
+        ensures texts { self.new.texts ≡ self.old.texts }
+        ensures literals { self.new.literals ≡ self.old.literals }
+        ensures site { self.new.site ≡ self.old.site }
+    {
+        let number = self.variable(name);
+        self.put(Instr::SetBits(number, literal))
+    }
+
     // The initial bits of an array more.
     fn start_bits(&mut self, name: &Name, bits: &Bits) -> Result<(), AllocError>
         ensures code { OnOk result (self.new.code ≡ self.old.code
@@ -414,9 +426,8 @@ impl<'a> Emitter<'a> {
         ensures literals { OnOk result (self.new.literals ≡ self.old.literals ++ bits.now ∷ []) }
         ensures site { self.new.site ≡ self.old.site }
     {
-        let number = self.variable(name);
         let literal = self.literal(bits)?;
-        self.put(Instr::SetBits(number, literal))?;
+        self.set_bits(name, literal)?;
         Ok(())
     }
 
@@ -621,21 +632,65 @@ impl<'a> Emitter<'a> {
         self.piece += 1;
     }
 
-    /// The initial value of a declaration of a DATA block more.
-    #[tactic(auto, using(crate::proofs::Emits::one_row_items))]
-    pub(crate) fn preset(&mut self, block: &Name, body: &Body) -> Result<(), AllocError>
+    // An initial value more, whose literal, if it has one, has this number.
+    fn initial(&mut self, body: &Body, number: u32) -> Result<(), AllocError>
+        requires starts { has_initial_value (body_tree body.now) ≡ true }
+        ensures code { OnOk result
+            (self.new.code ≡ self.old.code ++ initial_code_in self.old.site number (body_tree body.now)) }
+        ensures texts { self.new.texts ≡ self.old.texts }
+        ensures literals { self.new.literals ≡ self.old.literals }
+        ensures site { self.new.site ≡ self.old.site }
+    {
+        match body {
+            Body::Boolean(name, Some(bit)) => {
+                self.start_scalar(name, literal(ValueKind::Bit, bit_number(*bit)))
+            }
+            Body::BooleanArray(name, _, Some(_)) => self.set_bits(name, number),
+            Body::Integer(name, Some(value)) => self.start_scalar(name, Instr::Push(*value)),
+            Body::IntegerArray(name, _, Some(values)) => self.start_integers(
+                name,
+                values.as_slice(),
+            ),
+            _ => Ok(()),
+        }
+    }
+
+    /// The initial value of a declaration of a DATA block more, whose literal, if it has one, has this number.
+    pub(crate) fn preset(
+        &mut self,
+        block: &Name,
+        body: &Body,
+        number: u32,
+    ) -> Result<(), AllocError>
         requires starts { has_initial_value (body_tree body.now) ≡ true }
         requires outside { self.old.site.inside ≡ None }
         ensures code { OnOk result (self.new.code ≡ self.old.code
-            ++ preset_code_in self.old (Some record { block = block.now; body = body_tree body.now })) }
-        ensures texts { OnOk result (self.new.texts ≡ self.old.texts ++ row_texts (body_tree body.now)) }
-        ensures literals { OnOk result (self.new.literals ≡ self.old.literals ++ row_literals (body_tree body.now)) }
+            ++ preset_code_in self.old number (Some record { block = block.now; body = body_tree body.now })) }
+        ensures texts { self.new.texts ≡ self.old.texts }
+        ensures literals { self.new.literals ≡ self.old.literals }
         ensures site { OnOk result (self.new.site ≡ self.old.site) }
     {
         self.inside = Some(*block);
-        self.body(body)?;
+        self.initial(body, number)?;
         self.inside = None;
         Ok(())
+    }
+
+    /// The literal of an initial value more, if it has one.
+    pub(crate) fn keep(&mut self, body: &Body) -> Result<(), AllocError>
+        requires starts { has_initial_value (body_tree body.now) ≡ true }
+        ensures code { self.new.code ≡ self.old.code }
+        ensures texts { self.new.texts ≡ self.old.texts }
+        ensures literals { OnOk result (self.new.literals ≡ self.old.literals ++ row_literals (body_tree body.now)) }
+        ensures site { self.new.site ≡ self.old.site }
+    {
+        match body {
+            Body::BooleanArray(_, _, Some(bits)) => {
+                let _number = self.literal(bits)?;
+                Ok(())
+            }
+            _ => Ok(()),
+        }
     }
 
     /// How many instructions are written.

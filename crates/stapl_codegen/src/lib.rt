@@ -8,6 +8,7 @@ mod definitions;
 mod draft;
 mod emit;
 pub mod laws;
+mod literals;
 mod recording;
 mod scanning;
 mod tables;

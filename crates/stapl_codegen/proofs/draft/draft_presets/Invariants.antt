@@ -1,8 +1,11 @@
-use Rattle.std.proofs.Common.{drop}
 use Rattle.stapl_syntax.specs.Trees.{trees}
-use Rattle.stapl_meaning.specs.Scopes.{presets_from, as_played}
-use Rattle.stapl_codegen.specs.Drafts.{ArePresetsLeft}
+use Rattle.stapl_meaning.specs.Scopes.{as_played}
+use Rattle.stapl_codegen.specs.Drafts.{ArePresetsWritten}
+use Rattle.stapl_codegen.proofs.Places.{IsOpenAt}
 use Rattle.stapl_codegen.proofs.draft.draft_presets.Given as goal
 
 abbrev pub invariant-loop-st : goal.invariant-loop-st
-invariant-loop-st l = ArePresetsLeft (as_played (trees l.program)) l.emitter (presets_from l.block (drop l.st-index (trees l.program)))
+invariant-loop-st l = record {
+  written : ArePresetsWritten (as_played (trees l.program)) l.st-index l.emitter l.literals;
+  at : IsOpenAt (trees l.program) l.st-index l.block;
+}

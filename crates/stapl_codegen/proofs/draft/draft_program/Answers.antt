@@ -4,15 +4,15 @@ use Rattle.std.specs.Prelude.{if◌then◌else◌}
 use Rattle.stapl_syntax.specs.Trees.{end_data, body_tree, stmt_tree, trees}
 use Rattle.stapl_syntax.specs.Statements.{is_outer}
 use Rattle.stapl_syntax.specs.Names.{Names}
-use Rattle.stapl_meaning.specs.Scopes.{plays, idle, program_names, as_played}
+use Rattle.stapl_meaning.specs.Scopes.{plays, idle, preset_of, program_names, as_played}
 use Rattle.stapl_meaning.proofs.Blocks.{body_of, same_count}
 use Rattle.stapl_code.specs.Machine.{nowhere}
-use Rattle.stapl_codegen.specs.Emit.{body_texts, body_literals}
+use Rattle.stapl_codegen.specs.Emit.{row_literals, preset_items, body_texts, body_literals}
 use Rattle.stapl_codegen.specs.Numbers.{numbers_from}
-use Rattle.stapl_codegen.specs.Drafts.{IsDraft, site_behind, piece_code_in}
+use Rattle.stapl_codegen.specs.Drafts.{AreDrafted, IsDraft, site_behind, piece_code_in}
 use Rattle.stapl_codegen.proofs.Heads.{mapped_more}
-use Rattle.stapl_codegen.proofs.Places.{at_start, piece, piece_first, next}
-use Rattle.stapl_codegen.proofs.Drafts.{AreDrafted, drafted_size, none_written, none_left, piece_more, is_draft}
+use Rattle.stapl_codegen.proofs.Places.{at_start, piece, piece_first, preset_first, next, presets_count}
+use Rattle.stapl_codegen.proofs.Drafts.{drafted_size, none_written, piece_more, is_draft}
 use Rattle.stapl_codegen.proofs.draft.draft_program.Goals as goal
 
 pub overflow_cast-program : goal.overflow_cast-program
@@ -36,7 +36,7 @@ pub loop-st-init : goal.loop-st-init
 loop-st-init c =
     let program = as_played (trees c.args.program.now) in
     record {
-      drafted = subst (λ l. AreDrafted program 0 c.draft_presets.new.emitter l) (sym c.new-starts.ensures.items) (none_left program c.draft_presets.new.emitter c.in_ok-draft_presets.ensures);
+      drafted = subst (λ l. AreDrafted program 0 c.draft_presets.new.emitter l) (sym c.new-starts.ensures.items) c.in_ok-draft_presets.ensures;
       at = at_start (trees c.args.program.now);
     }
 
@@ -61,10 +61,10 @@ loop-st-preserved c =
     let ensures = c.in_ok-draft_piece.ensures in
     record {
       drafted = piece_more program i before c.loop-st.starts.items c.loop-st.invariant.drafted c.requires.accepted.typed own (piece_first sts i block (stmt_tree st) (drop (i + 1) sts) is at)
-          c.draft_piece.new.emitter c.start_at.result c.push.new.self.items
+          (preset_of block (body_tree st.body)) (preset_first sts i block (stmt_tree st) (drop (i + 1) sts) is at) c.draft_piece.new.emitter c.start_at.result c.push.new.self.items
           (ensures.code ∙ ap (λ b. before.code ++ piece_code_in before (if b then stmt_tree st else idle)) playing)
           (ensures.texts ∙ ap (λ b. before.texts ++ body_texts (if b then stmt_tree st else idle).body) playing)
-          (ensures.literals ∙ ap (λ b. before.literals ++ body_literals (if b then stmt_tree st else idle).body) playing)
+          (ensures.literals ∙ ap (λ b. before.literals ++ (body_literals (if b then stmt_tree st else idle).body ++ preset_items row_literals (preset_of block (body_tree st.body)))) playing)
           (ensures.site ∙ ap (λ b. site_behind before.site (if b then stmt_tree st else idle).body) playing)
           (c.start_at.ensures
           ∙ ap (λ b. if is_outer (if b then body_tree st.body else end_data) then nowhere else c.len.result) playing
@@ -83,7 +83,8 @@ returns c =
     let past = c.loop-st-test.false in
     let all : c.loop-st.st-index ≡ length program.pieces = omega (arith, before, past, same_count None sts, length-map c.args.program.now stmt_tree) in
     let e = c.into_parts-code.ensures in
-    let draft = is_draft program c.loop-st.st-index c.loop-st.emitter starts c.loop-st.invariant.drafted all in
+    let presets : c.loop-st.st-index ≡ length program.presets = omega (arith, before, past, presets_count None sts, length-map c.args.program.now stmt_tree) in
+    let draft = is_draft program c.loop-st.st-index c.loop-st.emitter starts c.loop-st.invariant.drafted all presets in
     subst (λ code. IsDraft program code c.into_parts-code.result.1.items c.into_parts-code.result.2.items starts) (sym e.code)
     (subst (λ texts. IsDraft program c.loop-st.emitter.code texts c.into_parts-code.result.2.items starts) (sym e.texts)
     (subst (λ literals. IsDraft program c.loop-st.emitter.code c.loop-st.emitter.texts literals starts) (sym e.literals) draft))

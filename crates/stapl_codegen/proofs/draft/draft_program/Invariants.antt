@@ -1,6 +1,6 @@
 use Rattle.stapl_syntax.specs.Trees.{trees}
 use Rattle.stapl_meaning.specs.Scopes.{as_played}
-use Rattle.stapl_codegen.proofs.Drafts.{AreDrafted}
+use Rattle.stapl_codegen.specs.Drafts.{AreDrafted}
 use Rattle.stapl_codegen.proofs.Places.{IsOpenAt}
 use Rattle.stapl_codegen.proofs.draft.draft_program.Given as goal
 
