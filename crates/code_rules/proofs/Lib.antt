@@ -1,0 +1,9 @@
+pub mod InstructionTests
+pub mod KindLemmas
+pub mod RangeLemmas
+pub mod PartLemmas
+pub mod KindBreaks
+pub mod SearchSteps
+pub mod ProcedureBreaks
+pub mod PrologueBreaks
+pub mod FirstBreaks

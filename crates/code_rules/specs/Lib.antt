@@ -1,0 +1,4 @@
+pub mod Places
+pub mod Instructions
+pub mod KindMoves
+pub mod Rules
