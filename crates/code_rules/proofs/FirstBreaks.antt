@@ -33,7 +33,7 @@ entry_by None entry e = absurd cc
 entry_by (Some p) entry e = (p, refl, cc)
 
 module _ (code : CodeLists) (range : IsInRange code) where
-  abbrev total : ℕ
+  abbrev pub total : ℕ
   total = length code.instrs
 
   abbrev IsProcedure : ℕ → ProcDef → Type 0
@@ -79,7 +79,7 @@ module _ (code : CodeLists) (range : IsInRange code) where
     | inr none ↦ absurd (no_more n m q (d ∙ none) e h)
   ]
 
-  part_ends : (ps : List ProcDef) (n : ℕ) → drop n code.procedures ≡ ps → BeginsAt code (next_entry total ps) ⊎ (total ≤ next_entry total ps)
+  pub part_ends : (ps : List ProcDef) (n : ℕ) → drop n code.procedures ≡ ps → BeginsAt code (next_entry total ps) ⊎ (total ≤ next_entry total ps)
   part_ends [] n d = inr (omega arith)
   part_ends (p ∷ ps) n d = inl (begins_at n p (head_is ps n p d))
 
@@ -115,10 +115,10 @@ module _ (code : CodeLists) (range : IsInRange code) where
       (omega arith) (inl refl) (λ some. at_first part.first))
       (search_procedures ps (n + 1) behind)
 
-  abbrev prologue_end : ℕ
+  abbrev pub prologue_end : ℕ
   prologue_end = next_entry total code.procedures
 
-  all_after : (entry : ℕ) → BeginsAt code entry → prologue_end ≤ entry
+  pub all_after : (entry : ℕ) → BeginsAt code entry → prologue_end ≤ entry
   all_after entry b =
       let q = procedure_of entry b in
       omega (arith, q.2, later_begins code.procedures 0 refl b.procedure q.0 q.1 (omega arith))

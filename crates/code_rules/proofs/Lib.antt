@@ -7,3 +7,7 @@ pub mod SearchSteps
 pub mod ProcedureBreaks
 pub mod PrologueBreaks
 pub mod FirstBreaks
+pub mod ValidFacts
+pub mod KeptRecords
+pub mod StepLeads
+pub mod PlayLeads

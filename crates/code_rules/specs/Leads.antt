@@ -1,0 +1,58 @@
+-- Where the turns of a valid code begin, and where they lead. The rules are this profile's.
+use Rattle.std.specs.Prelude.{◌≡◌, ℕ, ◌+◌, List, length, Some, slice_get}
+use Rattle.stapl_meaning.specs.declared.values.Held.{Held}
+use Rattle.stapl_meaning.specs.Deeds.{Chain}
+use Rattle.stapl_meaning.specs.Plays.{Outcome, Going}
+use Rattle.stapl_code.specs.declared.raw.CodeLists.{CodeLists}
+use Rattle.stapl_code.specs.declared.instr.Instr.TheVariants.{Turn, Call}
+use Rattle.stapl_code.specs.Machine.{code_play}
+use Rattle.stapl_code.specs.Ranges.{IsInRange}
+use Rattle.stapl_code.specs.Valid.{IsValid}
+use Rattle.stapl_code.specs.Safe.{entries_of, constants_of, AllBelow}
+use Rattle.code_rules.specs.Places.{StandsAt, BeginsAt, IsOfProcedure}
+use Rattle.code_rules.specs.Rules.{IsTurnBeside}
+
+-- a Call of the procedure that begins at this entry is in front of this place
+pub record FollowsCall (code : CodeLists) (entry place : ℕ) : Type 0 where
+  pub before : ℕ
+  pub procedure : ℕ
+  pub entry_is : slice_get (entries_of code.procedures) procedure ≡ Some entry
+  pub call : StandsAt code before (Call procedure)
+  pub next : before + 1 ≡ place
+
+-- Where the turn that begins at a place may lead: to a Turn of the same procedure; to the beginning of a procedure,
+-- which is called or chosen next; or to what follows a Call of this procedure, when it returns.
+pub data MayLead (code : CodeLists) (from to : ℕ) : Type 0 where
+  goes_inside : IsTurnBeside code from to → MayLead code from to
+  goes_to_entry : BeginsAt code to → MayLead code from to
+  goes_back : (entry : ℕ) → IsOfProcedure code entry from → FollowsCall code entry to → MayLead code from to
+
+-- A valid code, of which these procedures are played. They exist.
+pub record IsPlayed (code : CodeLists) (chosen : List ℕ) : Type 0 where
+  pub range : IsInRange code
+  pub valid : IsValid code
+  pub exist : AllBelow (length code.procedures) chosen
+
+-- how a play stands after at most n turns, with these first values of variables and this chain
+abbrev pub outcome_after : CodeLists → List ℕ → List Held → Chain → ℕ → Outcome
+outcome_after code chosen variables k n =
+    (code_play (entries_of code.procedures) (constants_of code) code.instrs chosen variables n k).outcome
+
+-- The first turn begins where a procedure does.
+abbrev pub FirstTurnsBegin : Type 0
+FirstTurnsBegin =
+    (code : CodeLists) (chosen : List ℕ) → IsPlayed code chosen → (variables : List Held) (k : Chain) (place : ℕ) →
+    outcome_after code chosen variables k 0 ≡ Going place → BeginsAt code place
+
+-- Each turn begins at a Turn.
+abbrev pub TurnsBeginAtTurns : Type 0
+TurnsBeginAtTurns =
+    (code : CodeLists) (chosen : List ℕ) → IsPlayed code chosen → (variables : List Held) (k : Chain) (n place : ℕ) →
+    outcome_after code chosen variables k n ≡ Going place → (piece : ℕ) × StandsAt code place (Turn piece)
+
+-- Each turn leads where it may.
+abbrev pub TurnsLeadWell : Type 0
+TurnsLeadWell =
+    (code : CodeLists) (chosen : List ℕ) → IsPlayed code chosen → (variables : List Held) (k : Chain) (n from to : ℕ) →
+    outcome_after code chosen variables k n ≡ Going from → outcome_after code chosen variables k (n + 1) ≡ Going to →
+    MayLead code from to
