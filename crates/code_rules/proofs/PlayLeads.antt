@@ -2,7 +2,7 @@
 use Rattle.std.proofs.Common.{◌≡◌, ℕ, zero, suc, ◌+◌, ◌-◌, ◌<◌, ◌≤◌, ◌⊎◌, inl, inr, Bool, true, false, List, [], ◌∷◌, Option, Some, None, length, drop, slice_get, arith, refl, sym, ap, subst, ◌∙◌, add-one, length-drop}
 use Rattle.std.specs.Prelude.{if◌then◌else◌}
 use Rattle.std.proofs.lemmas.Bool.{cases_lt}
-use Rattle.std.proofs.lemmas.Option.{slice_get_within}
+use Rattle.std.proofs.lemmas.Option.{slice_get_within, get_or_from_slice_get}
 use Rattle.tap_states.specs.Tap.{is_stable_state}
 use Rattle.stapl_meaning.specs.Deeds.{Deed, Scans, Chain, deed_events, deed_chain, deeds_events, deeds_chain, captured_on}
 use Rattle.stapl_meaning.specs.declared.events.Event.{Event}
@@ -21,7 +21,7 @@ use Rattle.stapl_code.specs.Ranges.{IsInRange}
 use Rattle.stapl_code.specs.Valid.{sets_up, IsValid}
 use Rattle.stapl_code.specs.Safe.{entries_of, constants_of, AllBelow}
 use Rattle.stapl_code.proofs.Heads.{head_of, get_head, drop_tail}
-use Rattle.code_rules.specs.Places.{StandsAt, BeginsAt, IsOfPrologue, IsOfProcedure}
+use Rattle.code_rules.specs.Places.{StandsAt, IsEntryOf, BeginsAt, IsOfPrologue, IsOfProcedure}
 use Rattle.code_rules.specs.Instructions.{IsTurn, IsEndProc, SetsUp}
 use Rattle.code_rules.specs.Rules.{foreign_in_prologue}
 use Rattle.code_rules.specs.Leads.{MayLead, IsPlayed, outcome_after}
@@ -29,10 +29,10 @@ use Rattle.code_rules.proofs.InstructionTests.{denied, decided, set_up_agrees}
 use Rattle.code_rules.proofs.PartLemmas.{same_instr}
 use Rattle.code_rules.proofs.FirstBreaks.{prologue_end, all_after, part_ends}
 use Rattle.code_rules.proofs.KeptRecords.{IfKnown, known_then, IsKept, Keeps, assigned_keeps, copied_keeps, set_keeps}
-use Rattle.code_rules.proofs.ValidFacts.{IsTurnIn, none_breaks, goes_on_in, turn_at_entry}
-use Rattle.code_rules.proofs.StepLeads.{RunsIn, Runs, Arrives, TurnedLeads, StepLeads, begins_of, step_leads}
+use Rattle.code_rules.proofs.ValidFacts.{IsTurnIn, none_breaks, goes_on_in, turn_at_entry, entry_at}
+use Rattle.code_rules.proofs.StepLeads.{EachChosen, RunsIn, Runs, Arrives, TurnedLeads, StepLeads, step_leads}
 
-module _ (code : CodeLists) where
+module _ (code : CodeLists) (chosen : List ℕ) where
   abbrev total : ℕ
   total = length code.instrs
 
@@ -44,7 +44,7 @@ module _ (code : CodeLists) where
 
   -- what happened in a turn that began at this place
   abbrev LeadsOn : ℕ → Happened → Type 0
-  LeadsOn from (Led events place s k) = Arrives code from place s
+  LeadsOn from (Led events place s k) = Arrives code chosen from place s
   LeadsOn from _ = Unit {0}
 
   with_leads : (from : ℕ) (events : List Event) (h : Happened) → LeadsOn from h → LeadsOn from (with_events events h)
@@ -59,7 +59,7 @@ module _ (code : CodeLists) where
   piece_leads from piece (Broke events f s k) a = tt
   piece_leads from piece (Lacks events) a = tt
 
-  happens_leads : (from : ℕ) (k : Chain) (t : Turned) → TurnedLeads code from t → LeadsOn from (happens k t)
+  happens_leads : (from : ℕ) (k : Chain) (t : Turned) → TurnedLeads code chosen from t → LeadsOn from (happens k t)
   happens_leads from k (Leads deeds place s) a = a
   happens_leads from k (Over deeds ending s) a = tt
   happens_leads from k (Broken deeds f s) a = tt
@@ -74,8 +74,8 @@ module _ (code : CodeLists) where
   if_leads from true h a = a
   if_leads from false h a = tt
 
-  continue_leads : (entry from : ℕ) (x : Instr) (k : Chain) (st : Step) (go : List Value → State → Chain → Happened) → StepLeads code entry from x st →
-      ((ops : List Value) (t : State) (l : Chain) → (IsEndProc x → ⊥) → Runs code entry t → LeadsOn from (go ops t l)) → LeadsOn from (continues k st go)
+  continue_leads : (entry from : ℕ) (x : Instr) (k : Chain) (st : Step) (go : List Value → State → Chain → Happened) → StepLeads code chosen entry from x st →
+      ((ops : List Value) (t : State) (l : Chain) → (IsEndProc x → ⊥) → Runs code chosen entry t → LeadsOn from (go ops t l)) → LeadsOn from (continues k st go)
   continue_leads entry from x k (Falls ops t) go a rest = rest ops t k a.0 a.1
   continue_leads entry from x k (Acts deeds ops t) go a rest =
       let l = deeds_chain k deeds in with_leads from (deeds_events k deeds) (go ops t l) (rest ops t l a.0 a.1)
@@ -91,7 +91,7 @@ module _ (code : CodeLists) where
   module _ (range : IsInRange code) (valid : IsValid code) where
     -- the rest of a turn, in the procedure of this entry
     stretch_leads : (entry from : ℕ) → IsOfProcedure code entry from → (l : List Instr) (i : ℕ) (ops : List Value) (s : State) (k : Chain) →
-        drop i code.instrs ≡ l → IsOfProcedure code entry i → Runs code entry s →
+        drop i code.instrs ≡ l → IsOfProcedure code entry i → Runs code chosen entry s →
         LeadsOn from (stretch (entries_of code.procedures) (constants_of code) total l ops s k)
     stretch_leads entry from own [] i ops s k d within r = tt
     stretch_leads entry from own (x ∷ rest) i ops s k d within r =
@@ -101,10 +101,10 @@ module _ (code : CodeLists) where
         let inside = subst (IsOfProcedure code entry) (sym f.1) within in
         continue_leads entry from x k (step (entries_of code.procedures) (constants_of code) here x ops s)
         (stretch (entries_of code.procedures) (constants_of code) total rest)
-        (step_leads code range valid entry from own here x ops s at inside r)
+        (step_leads code chosen range valid entry from own here x ops s at inside r)
         (λ o t l n runs. stretch_leads entry from own rest (i + 1) o t l f.2 (goes_on_in code range valid entry i x f.0 within n).0 runs)
 
-    turn_leads : (entry place : ℕ) (s : State) (k : Chain) → IsTurnIn code entry place → Runs code entry s →
+    turn_leads : (entry place : ℕ) (s : State) (k : Chain) → IsTurnIn code entry place → Runs code chosen entry s →
         LeadsOn place (code_turn (entries_of code.procedures) (constants_of code) code.instrs place s k)
     turn_leads entry place s k t r = by (drop place code.instrs) refl
       where
@@ -117,7 +117,7 @@ module _ (code : CodeLists) where
 
     -- a turn has led to a place where a procedure runs
     abbrev IsGoing : Happened → Type 0
-    IsGoing (Led events place s k) = (entry : ℕ) × IsTurnIn code entry place × Runs code entry s
+    IsGoing (Led events place s k) = (entry : ℕ) × IsTurnIn code entry place × Runs code chosen entry s
     IsGoing _ = Unit {0}
 
     going_on : (from : ℕ) (h : Happened) → LeadsOn from h → IsGoing h
@@ -141,8 +141,8 @@ module _ (code : CodeLists) where
         run_at n (next_of p u l) u l place (going_on p (next_of p u l) (turn_leads g.0 p u l g.1 g.2)) e
 
     one_leads : (from : ℕ) (h : Happened) (s : State) (k : Chain) (to : ℕ) → LeadsOn from h →
-        (goes_on h s k (code_run (entries_of code.procedures) (constants_of code) code.instrs 0)).outcome ≡ Going to → MayLead code from to
-    one_leads from (Led events p u l) s k to a e = let same : p ≡ to = cc in subst (MayLead code from) same a.may
+        (goes_on h s k (code_run (entries_of code.procedures) (constants_of code) code.instrs 0)).outcome ≡ Going to → MayLead code chosen from to
+    one_leads from (Led events p u l) s k to a e = let same : p ≡ to = cc in subst (MayLead code chosen from) same a.may
     one_leads from (Finished events ending u l) s k to a e = absurd cc
     one_leads from (Broke events f u l) s k to a e = absurd cc
     one_leads from (Lacks events) s k to a e = absurd cc
@@ -150,23 +150,23 @@ module _ (code : CodeLists) where
     -- from where a run stands the next turn leads where it may
     run_leads : (n : ℕ) (h : Happened) (s : State) (k : Chain) (from to : ℕ) → IsGoing h →
         (goes_on h s k (code_run (entries_of code.procedures) (constants_of code) code.instrs n)).outcome ≡ Going from →
-        (goes_on h s k (code_run (entries_of code.procedures) (constants_of code) code.instrs (suc n))).outcome ≡ Going to → MayLead code from to
+        (goes_on h s k (code_run (entries_of code.procedures) (constants_of code) code.instrs (suc n))).outcome ≡ Going to → MayLead code chosen from to
     run_leads n (Finished events ending u l) s k from to g e f = absurd cc
     run_leads n (Broke events b u l) s k from to g e f = absurd cc
     run_leads n (Lacks events) s k from to g e f = absurd cc
     run_leads zero (Led events p u l) s k from to g e f =
         let same : p ≡ from = cc in
-        subst (λ (m : ℕ). MayLead code m to) same (one_leads p (next_of p u l) u l to (turn_leads g.0 p u l g.1 g.2) f)
+        subst (λ (m : ℕ). MayLead code chosen m to) same (one_leads p (next_of p u l) u l to (turn_leads g.0 p u l g.1 g.2) f)
     run_leads (suc n) (Led events p u l) s k from to g e f =
         run_leads n (next_of p u l) u l from to (going_on p (next_of p u l) (turn_leads g.0 p u l g.1 g.2)) e f
 
     -- The prologue keeps the records, of which there are none, and the chosen procedures.
     record IsClean (s : State) : Type 0 where
       none : s.records ≡ []
-      exist : AllBelow (length code.procedures) s.chosen
+      chosen_is : s.chosen ≡ chosen
 
     kept_clean : (s t : State) → IsClean s → IsKept s t → IsClean t
-    kept_clean s t c k = record { none = k.records_are ∙ c.none; exist = subst (AllBelow (length code.procedures)) (sym k.chosen_are) c.exist }
+    kept_clean s t c k = record { none = k.records_are ∙ c.none; chosen_is = k.chosen_are ∙ c.chosen_is }
 
     abbrev TurnedClean : Turned → Type 0
     TurnedClean (Leads deeds place s) = IsClean s
@@ -319,36 +319,52 @@ module _ (code : CodeLists) where
         (λ o t l sets clean. prologue_clean rest (i + 1) o t l f.2 (still_before i x either sets) clean)
 
     -- the first chosen procedure has begun
+    record Begins (place : ℕ) (s : State) : Type 0 where
+      procedure : ℕ
+      first : slice_get chosen 0 ≡ Some procedure
+      entry_is : IsEntryOf code procedure place
+      runs : Runs code chosen place s
+
     abbrev HasBegun : Happened → Type 0
-    HasBegun (Led events place s k) = BeginsAt code place × Runs code place s
+    HasBegun (Led events place s k) = Begins place s
     HasBegun _ = Unit {0}
 
-    chosen_begun : (events : List Event) (s : State) (k : Chain) (ps : List ℕ) → s.records ≡ [] → AllBelow (length code.procedures) ps →
+    chosen_begun : (events : List Event) (s : State) (k : Chain) (ps : List ℕ) → s.records ≡ [] → ps ≡ chosen → EachChosen code chosen ps →
         HasBegun (with_events events (happens k (next_chosen (entry_of (entries_of code.procedures)) s ps)))
-    chosen_begun events s k [] e below = tt
-    chosen_begun events s k (p ∷ ps) e below = (
-      begins_of code range valid p below.0,
-      record {
-        records_run = subst (RunsIn code (entry_of (entries_of code.procedures) p)) (sym e) tt;
-        chosen_exist = below.1;
-      },
-    )
+    chosen_begun events s k [] e same each = tt
+    chosen_begun events s k (p ∷ ps) e same each = record {
+      procedure = p;
+      first = ap (λ l. slice_get l 0) (sym same);
+      entry_is = entry_at code range valid p each.0;
+      runs = record { records_run = subst (RunsIn code chosen (entry_of (entries_of code.procedures) p)) (sym e) tt; chosen_are = each.2 };
+    }
 
-    begun : (h : Happened) → EndsClean h → HasBegun (begins_chosen (entry_of (entries_of code.procedures)) h)
-    begun (Led events place s k) c = chosen_begun events s k s.chosen c.none c.exist
-    begun (Finished events ending s k) c = tt
-    begun (Broke events f s k) c = tt
-    begun (Lacks events) c = tt
+    -- each chosen procedure exists
+    each_from : (ps : List ℕ) (n : ℕ) → drop n chosen ≡ ps → AllBelow (length code.procedures) ps → EachChosen code chosen ps
+    each_from [] n d below = tt
+    each_from (p ∷ ps) n d below =
+        let at = get_head n chosen ∙ ap head_of d in
+        let behind : drop (n + 1) chosen ≡ ps = rw add-one (drop_tail n chosen ∙ ap (drop 1) d) in
+        (below.0, (n, slice_get_within chosen n p at, get_or_from_slice_get chosen n p p at), each_from ps (n + 1) behind below.1)
+
+    begun : (h : Happened) → AllBelow (length code.procedures) chosen → EndsClean h → HasBegun (begins_chosen (entry_of (entries_of code.procedures)) h)
+    begun (Led events place s k) below c =
+        chosen_begun events s k s.chosen c.none c.chosen_is (subst (EachChosen code chosen) (sym c.chosen_is) (each_from chosen 0 refl below))
+    begun (Finished events ending s k) below c = tt
+    begun (Broke events f s k) below c = tt
+    begun (Lacks events) below c = tt
 
     going : (h : Happened) → HasBegun h → IsGoing h
-    going (Led events place s k) b = (place, turn_at_entry code range valid place b.0, b.1)
+    going (Led events place s k) b = (place, turn_at_entry code range valid place (record { procedure = b.procedure; entry_is = b.entry_is }), b.runs)
     going (Finished events ending s k) b = tt
     going (Broke events f s k) b = tt
     going (Lacks events) b = tt
 
     first_begins : (h : Happened) (s : State) (k : Chain) (place : ℕ) → HasBegun h →
-        (goes_on h s k (code_run (entries_of code.procedures) (constants_of code) code.instrs 0)).outcome ≡ Going place → BeginsAt code place
-    first_begins (Led events p u l) s k place b e = let same : p ≡ place = cc in subst (BeginsAt code) same b.0
+        (goes_on h s k (code_run (entries_of code.procedures) (constants_of code) code.instrs 0)).outcome ≡ Going place →
+        (p : ℕ) × (slice_get chosen 0 ≡ Some p) × IsEntryOf code p place
+    first_begins (Led events p u l) s k place b e =
+        let same : p ≡ place = cc in (b.procedure, b.first, subst (IsEntryOf code b.procedure) same b.entry_is)
     first_begins (Finished events ending u l) s k place b e = absurd cc
     first_begins (Broke events f u l) s k place b e = absurd cc
     first_begins (Lacks events) s k place b e = absurd cc
@@ -357,26 +373,27 @@ module _ (code : CodeLists) (chosen : List ℕ) (played : IsPlayed code chosen) 
   abbrev beginning : Happened
   beginning = code_beginning (entries_of code.procedures) (constants_of code) code.instrs chosen variables k
 
-  has_begun : HasBegun code played.range played.valid beginning
+  has_begun : HasBegun code chosen played.range played.valid beginning
   has_begun =
-      begun code played.range played.valid
-      (stretch (entries_of code.procedures) (constants_of code) (length code.instrs) code.instrs [] (start chosen variables) k)
-      (prologue_clean code played.range played.valid code.instrs 0 [] (start chosen variables) k refl (omega arith)
-      (record { none = refl; exist = played.exist }))
+      begun code chosen played.range played.valid
+      (stretch (entries_of code.procedures) (constants_of code) (length code.instrs) code.instrs [] (start chosen variables) k) played.exist
+      (prologue_clean code chosen played.range played.valid code.instrs 0 [] (start chosen variables) k refl (omega arith)
+      (record { none = refl; chosen_is = refl }))
 
-  is_going : IsGoing code played.range played.valid beginning
-  is_going = going code played.range played.valid beginning has_begun
+  is_going : IsGoing code chosen played.range played.valid beginning
+  is_going = going code chosen played.range played.valid beginning has_begun
 
-  pub first_turn_begins : (place : ℕ) → outcome_after code chosen variables k 0 ≡ Going place → BeginsAt code place
-  first_turn_begins place e = first_begins code played.range played.valid beginning (start chosen variables) k place has_begun e
+  pub first_turn_begins : (place : ℕ) → outcome_after code chosen variables k 0 ≡ Going place →
+      (p : ℕ) × (slice_get chosen 0 ≡ Some p) × IsEntryOf code p place
+  first_turn_begins place e = first_begins code chosen played.range played.valid beginning (start chosen variables) k place has_begun e
 
   pub turns_begin : (n place : ℕ) → outcome_after code chosen variables k n ≡ Going place → (piece : ℕ) × StandsAt code place (Turn piece)
   turns_begin n place e =
-      let r = run_at code played.range played.valid n beginning (start chosen variables) k place is_going e in (r.1.piece, r.1.turn)
+      let r = run_at code chosen played.range played.valid n beginning (start chosen variables) k place is_going e in (r.1.piece, r.1.turn)
 
   pub turns_lead : (n from to : ℕ) → outcome_after code chosen variables k n ≡ Going from →
-      outcome_after code chosen variables k (n + 1) ≡ Going to → MayLead code from to
+      outcome_after code chosen variables k (n + 1) ≡ Going to → MayLead code chosen from to
   turns_lead n from to e f =
       let next : n + 1 ≡ suc n = omega arith in
-      run_leads code played.range played.valid n beginning (start chosen variables) k from to is_going e
+      run_leads code chosen played.range played.valid n beginning (start chosen variables) k from to is_going e
       (ap (outcome_after code chosen variables k) (sym next) ∙ f)

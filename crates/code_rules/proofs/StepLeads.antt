@@ -1,5 +1,5 @@
 -- One instruction of a valid code leads where it may, and the records keep the places of their procedures.
-use Rattle.std.proofs.Common.{◌≡◌, ℕ, suc, ◌+◌, ◌<◌, Bool, true, false, List, [], ◌∷◌, Option, Some, None, length, slice_get, arith, refl, sym, subst}
+use Rattle.std.proofs.Common.{◌≡◌, ℕ, suc, ◌+◌, ◌<◌, Bool, true, false, List, [], ◌∷◌, Option, Some, None, length, slice_get, arith, refl, sym, subst, Contains}
 use Rattle.std.specs.Prelude.{ℤ, pos, nat_lt, ◌==◌, ◌+ℤ◌}
 use Rattle.std.specs.Int.{int_wrap, w32}
 use Rattle.std.specs.Ordering.{int_eq}
@@ -22,10 +22,10 @@ use Rattle.stapl_code.specs.declared.instr.Instr.TheVariants.{Turn, Push, PushBi
 use Rattle.stapl_code.specs.Machine.{Made, Puts, PutsFrom, PutsTwo, Does, puts, does, one, two, unrecorded, kept, target_of, known_text, known_literal, known_source, known_given, known_scan, takes, made, Step, Falls, Acts, Scanned, Stops, Faulted, Wrong, taken, on_taken, acted, entry_of, lands, on_made, step}
 use Rattle.stapl_code.specs.Ranges.{IsInRange}
 use Rattle.stapl_code.specs.Valid.{IsValid}
-use Rattle.stapl_code.specs.Safe.{entries_of, constants_of, AllBelow}
+use Rattle.stapl_code.specs.Safe.{entries_of, constants_of}
 use Rattle.code_rules.specs.Places.{StandsAt, BeginsAt, IsOfProcedure}
 use Rattle.code_rules.specs.Instructions.{IsEndProc}
-use Rattle.code_rules.specs.Leads.{FollowsCall, MayLead, goes_inside, goes_to_entry, goes_back}
+use Rattle.code_rules.specs.Leads.{FollowsCall, MayLead, goes_inside, calls, goes_back, begins_next}
 use Rattle.code_rules.proofs.KeptRecords.{IfKnown, known_then, known_if, IsKept, Keeps, assigned_keeps, element_keeps, copied_keeps, set_keeps, printed_keeps, part_keeps, moved_keeps, waited_keeps, tuned_keeps, exited_keeps, scanned_keeps, surrounded_keeps, stopped_keeps}
 use Rattle.code_rules.proofs.ValidFacts.{IsTurnIn, turn_follows, turn_at_entry, target_in, entry_at, in_range}
 
@@ -35,7 +35,12 @@ known_next P Q (Known x) go h f = f x h
 known_next P Q (Faults k) go h f = tt
 known_next P Q Stuck go h f = tt
 
-module _ (code : CodeLists) where
+module _ (code : CodeLists) (chosen : List ℕ) where
+  -- these procedures exist, and are chosen
+  abbrev pub EachChosen : List ℕ → Type 0
+  EachChosen [] = Unit {0}
+  EachChosen (p ∷ ps) = (p < length code.procedures) × Contains chosen p × EachChosen ps
+
   -- The records when the procedure of this entry runs: its loops are above the nearest Call, which called it, and below
   -- that are the records of its caller.
   abbrev pub RunsIn : ℕ → List Record → Type 0
@@ -48,11 +53,11 @@ module _ (code : CodeLists) where
   -- the procedure of this entry runs
   pub record Runs (entry : ℕ) (s : State) : Type 0 where
     pub records_run : RunsIn entry s.records
-    pub chosen_exist : AllBelow (length code.procedures) s.chosen
+    pub chosen_are : EachChosen s.chosen
 
   -- the turn that begins at the first place leads to the second one, where a procedure runs
   pub record Arrives (from place : ℕ) (s : State) : Type 0 where
-    pub may : MayLead code from place
+    pub may : MayLead code chosen from place
     pub entry : ℕ
     pub turn : IsTurnIn code entry place
     pub runs : Runs entry s
@@ -76,7 +81,7 @@ module _ (code : CodeLists) where
   DidLeads entry from here x (did.Captures scan land) = (IsEndProc x → ⊥) × ((bits : List Bool) → Runs entry (land bits))
   DidLeads entry from here x (did.Jumps t) = (to : ℕ) → lands (entries_of code.procedures) here x ≡ Some to → Arrives from to t
   DidLeads entry from here x (did.Resumes place t) = Arrives from place t
-  DidLeads entry from here x (did.Returns t) = (t.records ≡ []) × AllBelow (length code.procedures) t.chosen
+  DidLeads entry from here x (did.Returns t) = (t.records ≡ []) × EachChosen t.chosen
   DidLeads entry from here x (did.Ends ending t) = Unit {0}
 
   abbrev MadeLeads : ℕ → ℕ → ℕ → Instr → Made → Type 0
@@ -88,24 +93,24 @@ module _ (code : CodeLists) where
   kept_runs : (entry : ℕ) (s t : State) → Runs entry s → IsKept s t → Runs entry t
   kept_runs entry s t r k = record {
     records_run = subst (RunsIn entry) (sym k.records_are) r.records_run;
-    chosen_exist = subst (AllBelow (length code.procedures)) (sym k.chosen_are) r.chosen_exist;
+    chosen_are = subst EachChosen (sym k.chosen_are) r.chosen_are;
   }
 
   module _ (range : IsInRange code) (valid : IsValid code) where
-    pub begins_of : (p : ℕ) → p < length code.procedures → BeginsAt code (entry_of (entries_of code.procedures) p)
+    begins_of : (p : ℕ) → p < length code.procedures → BeginsAt code (entry_of (entries_of code.procedures) p)
     begins_of p h = record { procedure = p; entry_is = entry_at code range valid p h }
 
     -- the next chosen procedure begins
-    pub chosen_leads : (from : ℕ) (t : State) (ps : List ℕ) → t.records ≡ [] → AllBelow (length code.procedures) ps →
+    pub chosen_leads : (from : ℕ) (t : State) (ps : List ℕ) → t.records ≡ [] → EachChosen ps →
         TurnedLeads from (next_chosen (entry_of (entries_of code.procedures)) t ps)
     chosen_leads from t [] e below = tt
     chosen_leads from t (p ∷ ps) e below =
         let begins = begins_of p below.0 in
         record {
-          may = goes_to_entry begins;
+          may = begins_next p below.1 (entry_at code range valid p below.0);
           entry = entry_of (entries_of code.procedures) p;
           turn = turn_at_entry code range valid (entry_of (entries_of code.procedures) p) begins;
-          runs = record { records_run = subst (RunsIn (entry_of (entries_of code.procedures) p)) (sym e) tt; chosen_exist = below.1 };
+          runs = record { records_run = subst (RunsIn (entry_of (entries_of code.procedures) p)) (sym e) tt; chosen_are = below.2 };
         }
 
     module _ (entry from : ℕ) (own : IsOfProcedure code entry from) where
@@ -192,7 +197,7 @@ module _ (code : CodeLists) where
         push_leads s r n (v ∷ []) =
             known_if (DidLeads entry from here x) (nat_lt (length s.records) record_limit)
             (Known (did.Falls [] (with_records s (Pushed (number_of v) ∷ s.records)))) (Faults RecordsFull)
-            (n, record { records_run = r.records_run; chosen_exist = r.chosen_exist }) tt
+            (n, record { records_run = r.records_run; chosen_are = r.chosen_are }) tt
         push_leads s r n _ = tt
 
         top_runs : (kind : ValueKind) (records : List Record) → RunsIn entry records →
@@ -202,16 +207,16 @@ module _ (code : CodeLists) where
 
         pop_leads : (s : State) → Runs entry s → (IsEndProc x → ⊥) → (g : Got (Value × List Record)) →
             IfKnown (λ (both : Value × List Record). RunsIn entry both.1) g → IfKnown (MadeLeads entry from here x) (unrecorded g s)
-        pop_leads s r n (Known both) k = (n, record { records_run = k; chosen_exist = r.chosen_exist })
+        pop_leads s r n (Known both) k = (n, record { records_run = k; chosen_are = r.chosen_are })
         pop_leads s r n (Faults f) k = tt
         pop_leads s r n Stuck k = tt
 
         loop_runs : (l : Loop) (records : List Record) (z : ℤ) (s : State) → IsTurnIn code entry l.place → RunsIn entry records →
-            AllBelow (length code.procedures) s.chosen → IfKnown (Runs entry) (with_loop l records z s)
+            EachChosen s.chosen → IfKnown (Runs entry) (with_loop l records z s)
         loop_runs l records z s t r c =
             known_then (Runs entry) (scalar_written s.store.variables l.variable (slice_get s.store.variables l.variable) (Int z))
             (λ (variables : List Held). Known (with_variables (with_records s (Looped l ∷ records)) variables))
-            (λ variables. record { records_run = (t, r); chosen_exist = c })
+            (λ variables. record { records_run = (t, r); chosen_are = c })
 
         for_leads : (n body : ℕ) (s : State) → Runs entry s → (IsEndProc x → ⊥) → IsTurnIn code entry body → (vs : List Value) →
             IfKnown (DidLeads entry from here x) (looped n body vs s)
@@ -221,7 +226,7 @@ module _ (code : CodeLists) where
             known_if (DidLeads entry from here x) (int_eq step (pos 0)) (Faults ZeroStep) (with_room s run) tt
             (known_if (DidLeads entry from here x) (nat_lt (length s.records) record_limit) run (Faults RecordsFull)
             (known_next (Runs entry) (DidLeads entry from here x) (with_loop l s.records first s) (λ t. Known (did.Falls [] t))
-            (loop_runs l s.records first s t r.records_run r.chosen_exist) (λ u runs. (e, runs))) tt)
+            (loop_runs l s.records first s t r.records_run r.chosen_are) (λ u runs. (e, runs))) tt)
         for_leads n body s r e t _ = tt
 
         abbrev IsLoop : Loop × List Record → Type 0
@@ -238,9 +243,9 @@ module _ (code : CodeLists) where
             let next : ℤ = int_wrap w32 (z +ℤ l.step) in
             known_if (DidLeads entry from here x) (is_over l z) (Known (did.Falls [] (with_records s records)))
             (then_get (with_loop l records next s) (λ t. Known (did.Resumes l.place t)))
-            (e, record { records_run = h.1; chosen_exist = r.chosen_exist })
+            (e, record { records_run = h.1; chosen_are = r.chosen_are })
             (known_next (Runs entry) (DidLeads entry from here x) (with_loop l records next s) (λ t. Known (did.Resumes l.place t))
-            (loop_runs l records next s h.0 h.1 r.chosen_exist) (λ u runs. to_turn l.place u h.0 runs))
+            (loop_runs l records next s h.0 h.1 r.chosen_are) (λ u runs. to_turn l.place u h.0 runs))
 
         next_leads : (n : ℕ) (s : State) → Runs entry s → (IsEndProc x → ⊥) → (vs : List Value) → IfKnown (DidLeads entry from here x) (repeated n vs s)
         next_leads n s r e [] =
@@ -250,7 +255,7 @@ module _ (code : CodeLists) where
             (λ z. round_leads top.0 top.1 z s r e h))
         next_leads n s r e _ = tt
 
-        return_leads : (records : List Record) (s : State) → RunsIn entry records → AllBelow (length code.procedures) s.chosen →
+        return_leads : (records : List Record) (s : State) → RunsIn entry records → EachChosen s.chosen →
             DidLeads entry from here x (returned_from records s)
         return_leads [] s r c = (refl, c)
         return_leads (Pushed z ∷ records) s r c = return_leads records s r c
@@ -259,11 +264,11 @@ module _ (code : CodeLists) where
           may = goes_back entry own r.0;
           entry = r.1.0;
           turn = r.1.1;
-          runs = record { records_run = r.1.2; chosen_exist = c };
+          runs = record { records_run = r.1.2; chosen_are = c };
         }
 
         end_leads : (s : State) → Runs entry s → (vs : List Value) → IfKnown (DidLeads entry from here x) (returned vs s)
-        end_leads s r [] = return_leads s.records s r.records_run r.chosen_exist
+        end_leads s r [] = return_leads s.records s r.records_run r.chosen_are
         end_leads s r _ = tt
 
         -- jumps to a Turn of the procedure
@@ -293,10 +298,10 @@ module _ (code : CodeLists) where
           record { before = here; procedure = p; entry_is = entry_at code range valid p there; call = at; next = behind } in
           let comes_back = subst (IsTurnIn code entry) behind (turn_follows code range valid entry here (Call p) at within (λ h. h) tt) in
           let arrives : Arrives from (entry_of (entries_of code.procedures) p) (with_records s (Called (suc here) ∷ s.records)) = record {
-            may = goes_to_entry begins;
+            may = calls entry here p own within at (entry_at code range valid p there);
             entry = entry_of (entries_of code.procedures) p;
             turn = turn_at_entry code range valid (entry_of (entries_of code.procedures) p) begins;
-            runs = record { records_run = (called_here, (entry, comes_back, r.records_run)); chosen_exist = r.chosen_exist };
+            runs = record { records_run = (called_here, (entry, comes_back, r.records_run)); chosen_are = r.chosen_are };
           } in
           known_if (DidLeads entry from here (Call p)) (nat_lt (length s.records) record_limit)
           (Known (did.Jumps (with_records s (Called (suc here) ∷ s.records)))) (Faults RecordsFull)

@@ -12,10 +12,6 @@ abbrev pub IsEndProc : Instr → Type 0
 IsEndProc EndProc = Unit {0}
 IsEndProc _ = ⊥
 
-abbrev pub IsCall : Instr → Type 0
-IsCall (Call p) = Unit {0}
-IsCall _ = ⊥
-
 -- the prologue may hold it
 abbrev pub SetsUp : Instr → Type 0
 SetsUp (Push z) = Unit {0}

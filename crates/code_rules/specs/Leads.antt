@@ -1,5 +1,5 @@
 -- Where the turns of a valid code begin, and where they lead. The rules are this profile's.
-use Rattle.std.specs.Prelude.{◌≡◌, ℕ, ◌+◌, List, length, Some, slice_get}
+use Rattle.std.specs.Prelude.{◌≡◌, ℕ, ◌+◌, List, length, Contains, Some, slice_get}
 use Rattle.stapl_meaning.specs.declared.values.Held.{Held}
 use Rattle.stapl_meaning.specs.Deeds.{Chain}
 use Rattle.stapl_meaning.specs.Plays.{Outcome, Going}
@@ -9,23 +9,28 @@ use Rattle.stapl_code.specs.Machine.{code_play}
 use Rattle.stapl_code.specs.Ranges.{IsInRange}
 use Rattle.stapl_code.specs.Valid.{IsValid}
 use Rattle.stapl_code.specs.Safe.{entries_of, constants_of, AllBelow}
-use Rattle.code_rules.specs.Places.{StandsAt, BeginsAt, IsOfProcedure}
+use Rattle.code_rules.specs.Places.{StandsAt, IsEntryOf, IsOfProcedure}
 use Rattle.code_rules.specs.Rules.{IsTurnBeside}
 
 -- a Call of the procedure that begins at this entry is in front of this place
 pub record FollowsCall (code : CodeLists) (entry place : ℕ) : Type 0 where
   pub before : ℕ
   pub procedure : ℕ
-  pub entry_is : slice_get (entries_of code.procedures) procedure ≡ Some entry
+  pub entry_is : IsEntryOf code procedure entry
   pub call : StandsAt code before (Call procedure)
   pub next : before + 1 ≡ place
 
--- Where the turn that begins at a place may lead: to a Turn of the same procedure; to the beginning of a procedure,
--- which is called or chosen next; or to what follows a Call of this procedure, when it returns.
-pub data MayLead (code : CodeLists) (from to : ℕ) : Type 0 where
-  goes_inside : IsTurnBeside code from to → MayLead code from to
-  goes_to_entry : BeginsAt code to → MayLead code from to
-  goes_back : (entry : ℕ) → IsOfProcedure code entry from → FollowsCall code entry to → MayLead code from to
+-- Where a turn may lead, if it begins at a place of a valid code of which these procedures are chosen.
+pub data MayLead (code : CodeLists) (chosen : List ℕ) (from to : ℕ) : Type 0 where
+  -- to a Turn of the same procedure
+  goes_inside : IsTurnBeside code from to → MayLead code chosen from to
+  -- to the beginning of a procedure, of which a Call is in this one
+  calls : (entry here p : ℕ) → IsOfProcedure code entry from → IsOfProcedure code entry here →
+      StandsAt code here (Call p) → IsEntryOf code p to → MayLead code chosen from to
+  -- back to what follows a Call of this procedure
+  goes_back : (entry : ℕ) → IsOfProcedure code entry from → FollowsCall code entry to → MayLead code chosen from to
+  -- to the beginning of a chosen procedure
+  begins_next : (p : ℕ) → Contains chosen p → IsEntryOf code p to → MayLead code chosen from to
 
 -- A valid code, of which these procedures are played. They exist.
 pub record IsPlayed (code : CodeLists) (chosen : List ℕ) : Type 0 where
@@ -38,11 +43,12 @@ abbrev pub outcome_after : CodeLists → List ℕ → List Held → Chain → �
 outcome_after code chosen variables k n =
     (code_play (entries_of code.procedures) (constants_of code) code.instrs chosen variables n k).outcome
 
--- The first turn begins where a procedure does.
+-- The first turn begins where the first chosen procedure does.
 abbrev pub FirstTurnsBegin : Type 0
 FirstTurnsBegin =
     (code : CodeLists) (chosen : List ℕ) → IsPlayed code chosen → (variables : List Held) (k : Chain) (place : ℕ) →
-    outcome_after code chosen variables k 0 ≡ Going place → BeginsAt code place
+    outcome_after code chosen variables k 0 ≡ Going place →
+    (p : ℕ) × (slice_get chosen 0 ≡ Some p) × IsEntryOf code p place
 
 -- Each turn begins at a Turn.
 abbrev pub TurnsBeginAtTurns : Type 0
@@ -55,4 +61,4 @@ abbrev pub TurnsLeadWell : Type 0
 TurnsLeadWell =
     (code : CodeLists) (chosen : List ℕ) → IsPlayed code chosen → (variables : List Held) (k : Chain) (n from to : ℕ) →
     outcome_after code chosen variables k n ≡ Going from → outcome_after code chosen variables k (n + 1) ≡ Going to →
-    MayLead code from to
+    MayLead code chosen from to

@@ -9,10 +9,14 @@ use Rattle.stapl_code.specs.Safe.{entries_of}
 abbrev pub StandsAt : CodeLists → ℕ → Instr → Type 0
 StandsAt code i x = slice_get code.instrs i ≡ Some x
 
+-- procedure p begins at this number
+abbrev pub IsEntryOf : CodeLists → ℕ → ℕ → Type 0
+IsEntryOf code p entry = slice_get (entries_of code.procedures) p ≡ Some entry
+
 -- a procedure begins at this number
 pub record BeginsAt (code : CodeLists) (entry : ℕ) : Type 0 where
   pub procedure : ℕ
-  pub entry_is : slice_get (entries_of code.procedures) procedure ≡ Some entry
+  pub entry_is : IsEntryOf code procedure entry
 
 -- Instruction i is in the prologue: each procedure begins after it. If there is no procedure, each instruction is.
 abbrev pub IsOfPrologue : CodeLists → ℕ → Type 0
