@@ -157,10 +157,10 @@ module _ (code : CodeLists) (range : IsInRange code) where
   one_past e =
       let f = find_false (λ (p : ProcDef). nat_lt p.entry total) code.procedures e in
       let at : IsProcedure f.1.0 f.0 = slice_get-get_or code.procedures f.1.0 f.0 f.1.1 ∙ ap Some f.1.2 in
-      record { entry = f.0.entry; begins = begins_at f.1.0 f.0 at; past = begins_past f.0 f.2; told = refl }
+      record { entry = f.0.entry; begins = begins_at f.1.0 f.0 at; past = begins_past f.0 f.2; last = refl }
 
   told_last : (i k : ℕ) → i < k → k < total → BeginsPastTheEnd code i → ⊥
-  told_last i k less within b = omega (arith, b.told)
+  told_last i k less within b = omega (arith, b.last)
 
   breaks_within : (i : ℕ) → BreaksRule code i → (i < total) ⊎ BeginsPastTheEnd code i
   breaks_within i (instruction x at b) = inl (slice_get_within code.instrs i x at)
@@ -177,7 +177,7 @@ module _ (code : CodeLists) (range : IsInRange code) where
     breaks = past_the_end (one_past e);
     first = λ i less b.
         let within : i < total = omega arith in
-        let told = (f i (omega arith) within within b).told in
+        let told = (f i (omega arith) within within b).last in
         omega (arith, told);
   }
 

@@ -9,7 +9,7 @@ use Rattle.stapl_code.specs.declared.instr.Instr.TheVariants.{Turn, Push, PushBi
 use Rattle.stapl_code.specs.Machine.{gives, goes_to}
 use Rattle.stapl_code.specs.Kinds.{clears}
 use Rattle.stapl_code.specs.Valid.{is_turn, is_end, sets_up, departs, is_stable_if, rests_well}
-use Rattle.code_rules.specs.Instructions.{IsTurn, IsEndProc, SetsUp, Empties, Departs, Names, WantsStable}
+use Rattle.code_rules.specs.Instructions.{IsTurnInstr, IsEndProc, SetsUp, Empties, Departs, HasTarget, WantsStable}
 
 -- a test says exactly whether this holds
 pub record Agrees (P : Type 0) (b : Bool) : Type 0 where
@@ -34,7 +34,7 @@ pub one_false : (a b : Bool) → a && b ≡ false → (a ≡ false) ⊎ (b ≡ f
 one_false true b e = inr e
 one_false false b e = inl refl
 
-pub turn_agrees : (x : Instr) → Agrees (IsTurn x) (is_turn (Some x))
+pub turn_agrees : (x : Instr) → Agrees (IsTurnInstr x) (is_turn (Some x))
 turn_agrees (Turn piece) = agreed tt
 turn_agrees _ = refused (λ h. h)
 
@@ -58,7 +58,7 @@ departs_agrees (Call p) = agreed tt
 departs_agrees Exit = agreed tt
 departs_agrees _ = refused (λ h. h)
 
-pub clears_agrees : (x : Instr) → Agrees (IsTurn x ⊎ Empties x) (clears x)
+pub clears_agrees : (x : Instr) → Agrees (IsTurnInstr x ⊎ Empties x) (clears x)
 clears_agrees (Turn piece) = agreed (inl tt)
 clears_agrees (Jump to) = agreed (inr tt)
 clears_agrees (JumpIfZero to) = agreed (inr tt)
@@ -81,13 +81,13 @@ gives_nothing EndProc e = refl
 gives_nothing Exit e = refl
 gives_nothing _ e = absurd cc
 
-pub names_goes : (x : Instr) (to : ℕ) → Names x to → goes_to x ≡ Some to
+pub names_goes : (x : Instr) (to : ℕ) → HasTarget x to → goes_to x ≡ Some to
 names_goes (Jump target) to h = ap Some h
 names_goes (JumpIfZero target) to h = ap Some h
 names_goes (For n body) to h = ap Some h
 names_goes _ to h = absurd h
 
-pub goes_names : (x : Instr) (to : ℕ) → goes_to x ≡ Some to → Names x to
+pub goes_names : (x : Instr) (to : ℕ) → goes_to x ≡ Some to → HasTarget x to
 goes_names (Jump target) to e = cc
 goes_names (JumpIfZero target) to e = cc
 goes_names (For n body) to e = cc

@@ -35,111 +35,111 @@ known_if P true g h a b = a
 known_if P false g h a b = b
 
 -- the second state has the records and the chosen procedures of the first one
-pub record IsKept (s t : State) : Type 0 where
+pub record HasSameRecords (s t : State) : Type 0 where
   pub records_are : t.records ≡ s.records
   pub chosen_are : t.chosen ≡ s.chosen
 
 -- an effect that goes on, and keeps both; or that ends the play
-abbrev pub Keeps : State → Did → Type 0
-Keeps s (Falls deeds t) = IsKept s t
-Keeps s (Captures scan lands) = (bits : List Bool) → IsKept s (lands bits)
-Keeps s (Ends ending t) = Unit {0}
-Keeps s _ = ⊥
+abbrev pub KeepsRecords : State → Did → Type 0
+KeepsRecords s (Falls deeds t) = HasSameRecords s t
+KeepsRecords s (Captures scan lands) = (bits : List Bool) → HasSameRecords s (lands bits)
+KeepsRecords s (Ends ending t) = Unit {0}
+KeepsRecords s _ = ⊥
 
 module _ (s : State) where
-  same : IsKept s s
+  same : HasSameRecords s s
   same = record { records_are = refl; chosen_are = refl }
 
-  written_keeps : (variables : Got (List Held)) → IfKnown (Keeps s) (written s variables)
+  written_keeps : (variables : Got (List Held)) → IfKnown (KeepsRecords s) (written s variables)
   written_keeps (Known list) = record { records_are = refl; chosen_are = refl }
   written_keeps (Faults k) = tt
   written_keeps Stuck = tt
 
-  pub assigned_keeps : (n : ℕ) (vs : List Value) → IfKnown (Keeps s) (assigned n vs s)
+  pub assigned_keeps : (n : ℕ) (vs : List Value) → IfKnown (KeepsRecords s) (assigned n vs s)
   assigned_keeps n [] = tt
   assigned_keeps n (v ∷ []) = written_keeps _
   assigned_keeps n (v ∷ w ∷ vs) = tt
 
-  pub element_keeps : (n : ℕ) (vs : List Value) → IfKnown (Keeps s) (element_assigned n vs s)
+  pub element_keeps : (n : ℕ) (vs : List Value) → IfKnown (KeepsRecords s) (element_assigned n vs s)
   element_keeps n (Int i ∷ v ∷ []) = written_keeps _
   element_keeps n _ = tt
 
-  span_keeps : (n : ℕ) (old : List Bool) (source : Source) (vs : List Value) (span : Span) → IfKnown (Keeps s) (span_written n old source vs s span)
+  span_keeps : (n : ℕ) (old : List Bool) (source : Source) (vs : List Value) (span : Span) → IfKnown (KeepsRecords s) (span_written n old source vs s span)
   span_keeps n old source vs span =
-      known_then (Keeps s) (source_bits s.store.variables source vs) _ (λ bits.
-      known_then (Keeps s) (asked source span.count bits) _ (λ new. record { records_are = refl; chosen_are = refl }))
+      known_then (KeepsRecords s) (source_bits s.store.variables source vs) _ (λ bits.
+      known_then (KeepsRecords s) (asked source span.count bits) _ (λ new. record { records_are = refl; chosen_are = refl }))
 
-  pub copied_keeps : (target : Target) (source : Source) (vs : List Value) → IfKnown (Keeps s) (copied target source vs s)
+  pub copied_keeps : (target : Target) (source : Source) (vs : List Value) → IfKnown (KeepsRecords s) (copied target source vs s)
   copied_keeps (IntoWhole n) source vs =
-      known_then (Keeps s) (bits_held (slice_get s.store.variables n)) _ (λ old. span_keeps n old source vs (record { low = 0; count = length old }))
+      known_then (KeepsRecords s) (bits_held (slice_get s.store.variables n)) _ (λ old. span_keeps n old source vs (record { low = 0; count = length old }))
   copied_keeps (IntoRange n) source (high ∷ low ∷ vs) =
-      known_then (Keeps s) (bits_held (slice_get s.store.variables n)) _ (λ old.
-      known_then (Keeps s) (span_of (length old) high low) _ (λ span. span_keeps n old source vs span))
+      known_then (KeepsRecords s) (bits_held (slice_get s.store.variables n)) _ (λ old.
+      known_then (KeepsRecords s) (span_of (length old) high low) _ (λ span. span_keeps n old source vs span))
   copied_keeps (IntoRange n) source _ = tt
 
-  pub set_keeps : (n : ℕ) (zs : List ℤ) (vs : List Value) → IfKnown (Keeps s) (integers_set n zs vs s)
+  pub set_keeps : (n : ℕ) (zs : List ℤ) (vs : List Value) → IfKnown (KeepsRecords s) (integers_set n zs vs s)
   set_keeps n zs [] = written_keeps _
   set_keeps n zs _ = tt
 
-  pub printed_keeps : (text : Got (List ℕ)) → IfKnown (Keeps s) (printed text s)
-  printed_keeps text = known_then (Keeps s) text _ (λ bytes. same)
+  pub printed_keeps : (text : Got (List ℕ)) → IfKnown (KeepsRecords s) (printed text s)
+  printed_keeps text = known_then (KeepsRecords s) text _ (λ bytes. same)
 
-  exported_keeps : (key : List ℕ) (vs : List Value) → IfKnown (Keeps s) (exported key vs s)
+  exported_keeps : (key : List ℕ) (vs : List Value) → IfKnown (KeepsRecords s) (exported key vs s)
   exported_keeps key (v ∷ []) = same
   exported_keeps key _ = tt
 
   pub part_keeps : (literals : List (List Bool)) (part : ExportPart) (key : List ℕ) (vs : List Value) →
-      IfKnown (Keeps s) (part_exported literals part key vs s)
+      IfKnown (KeepsRecords s) (part_exported literals part key vs s)
   part_keeps literals exports.Int key vs = exported_keeps key vs
   part_keeps literals exports.Bit key vs = exported_keeps key vs
   part_keeps literals (exports.Array source) key vs =
-      known_then (Keeps s) (known_source literals source) _ (λ from.
-      known_then (Keeps s) (source_bits s.store.variables from vs) _ (λ bits. same))
+      known_then (KeepsRecords s) (known_source literals source) _ (λ from.
+      known_then (KeepsRecords s) (source_bits s.store.variables from vs) _ (λ bits. same))
 
-  pub moved_keeps : (states : List Tap) (vs : List Value) → IfKnown (Keeps s) (moved_through states vs s)
+  pub moved_keeps : (states : List Tap) (vs : List Value) → IfKnown (KeepsRecords s) (moved_through states vs s)
   moved_keeps states [] = same
   moved_keeps states _ = tt
 
-  pub waited_keeps : (kind : WaitKind) (at last : Tap) (vs : List Value) → IfKnown (Keeps s) (waited kind at last vs s)
+  pub waited_keeps : (kind : WaitKind) (at last : Tap) (vs : List Value) → IfKnown (KeepsRecords s) (waited kind at last vs s)
   waited_keeps kind at last vs =
-      known_if (Keeps s) (is_stable_state at) (then_get (waited_for kind at last vs) (λ deeds. Known (Falls deeds s))) Stuck
-      (known_then (Keeps s) (waited_for kind at last vs) (λ deeds. Known (Falls deeds s)) (λ deeds. same)) tt
+      known_if (KeepsRecords s) (is_stable_state at) (then_get (waited_for kind at last vs) (λ deeds. Known (Falls deeds s))) Stuck
+      (known_then (KeepsRecords s) (waited_for kind at last vs) (λ deeds. Known (Falls deeds s)) (λ deeds. same)) tt
 
-  pub tuned_keeps : (vs : List Value) → IfKnown (Keeps s) (tuned vs s)
+  pub tuned_keeps : (vs : List Value) → IfKnown (KeepsRecords s) (tuned vs s)
   tuned_keeps [] = same
-  tuned_keeps (Int n ∷ []) = known_then (Keeps s) (hertz_of n) _ (λ h. same)
+  tuned_keeps (Int n ∷ []) = known_then (KeepsRecords s) (hertz_of n) _ (λ h. same)
   tuned_keeps _ = tt
 
-  pub exited_keeps : (vs : List Value) → IfKnown (Keeps s) (exited vs s)
+  pub exited_keeps : (vs : List Value) → IfKnown (KeepsRecords s) (exited vs s)
   exited_keeps (Int code ∷ []) = tt
   exited_keeps _ = tt
 
-  asked_keeps : (parts : ScanParts) (found : Found) (n : ℕ) → IfKnown (Keeps s) (scan_asked parts found s n)
+  asked_keeps : (parts : ScanParts) (found : Found) (n : ℕ) → IfKnown (KeepsRecords s) (scan_asked parts found s n)
   asked_keeps parts found n =
-      known_then (Keeps s) (asked parts.source n found.data_bits) _ (λ bits.
-      known_then (Keeps s) (target_asked n found.target) _ (λ target.
-      known_then (Keeps s) (compare_asked n parts.compare found.compare) _ (λ compare captured. record { records_are = refl; chosen_are = refl })))
+      known_then (KeepsRecords s) (asked parts.source n found.data_bits) _ (λ bits.
+      known_then (KeepsRecords s) (target_asked n found.target) _ (λ target.
+      known_then (KeepsRecords s) (compare_asked n parts.compare found.compare) _ (λ compare captured. record { records_are = refl; chosen_are = refl })))
 
-  pub scanned_keeps : (parts : ScanParts) (vs : List Value) → IfKnown (Keeps s) (scanned parts vs s)
+  pub scanned_keeps : (parts : ScanParts) (vs : List Value) → IfKnown (KeepsRecords s) (scanned parts vs s)
   scanned_keeps parts (Int z ∷ vs) =
-      known_then (Keeps s) (scan_found s.store.variables parts vs) _ (λ found.
-      known_then (Keeps s) (length_between 1 scan_limit z) _ (λ n. asked_keeps parts found n))
+      known_then (KeepsRecords s) (scan_found s.store.variables parts vs) _ (λ found.
+      known_then (KeepsRecords s) (length_between 1 scan_limit z) _ (λ n. asked_keeps parts found n))
   scanned_keeps parts _ = tt
 
-  padding_kept : (which : Padding) (bits : List Bool) → IsKept s (with_padding which bits s)
+  padding_kept : (which : Padding) (bits : List Bool) → HasSameRecords s (with_padding which bits s)
   padding_kept paddings.PreData bits = record { records_are = refl; chosen_are = refl }
   padding_kept paddings.PostData bits = record { records_are = refl; chosen_are = refl }
   padding_kept paddings.PreInstruction bits = record { records_are = refl; chosen_are = refl }
   padding_kept paddings.PostInstruction bits = record { records_are = refl; chosen_are = refl }
 
-  pub surrounded_keeps : (which : Padding) (source : Option Source) (vs : List Value) → IfKnown (Keeps s) (surrounded which source vs s)
-  surrounded_keeps which source (Int z ∷ vs) = known_then (Keeps s) (padding_bits s.store.variables source vs z) _ (λ bits. padding_kept which bits)
+  pub surrounded_keeps : (which : Padding) (source : Option Source) (vs : List Value) → IfKnown (KeepsRecords s) (surrounded which source vs s)
+  surrounded_keeps which source (Int z ∷ vs) = known_then (KeepsRecords s) (padding_bits s.store.variables source vs z) _ (λ bits. padding_kept which bits)
   surrounded_keeps which source _ = tt
 
-  stop_kept : (register : Register) (tap : Tap) → IsKept s (with_stop register tap s)
+  stop_kept : (register : Register) (tap : Tap) → HasSameRecords s (with_stop register tap s)
   stop_kept registers.Data tap = record { records_are = refl; chosen_are = refl }
   stop_kept registers.Instruction tap = record { records_are = refl; chosen_are = refl }
 
-  pub stopped_keeps : (register : Register) (tap : Tap) (vs : List Value) → IfKnown (Keeps s) (stopped register tap vs s)
-  stopped_keeps register tap [] = known_if (Keeps s) (is_stable_state tap) (Known (Falls [] (with_stop register tap s))) Stuck (stop_kept register tap) tt
+  pub stopped_keeps : (register : Register) (tap : Tap) (vs : List Value) → IfKnown (KeepsRecords s) (stopped register tap vs s)
+  stopped_keeps register tap [] = known_if (KeepsRecords s) (is_stable_state tap) (Known (Falls [] (with_stop register tap s))) Stuck (stop_kept register tap) tt
   stopped_keeps register tap _ = tt

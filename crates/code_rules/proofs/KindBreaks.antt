@@ -7,14 +7,14 @@ use Rattle.stapl_code.specs.declared.instr.Instr.{Instr}
 use Rattle.stapl_code.specs.declared.instr.Instr.TheVariants.{Turn}
 use Rattle.stapl_code.specs.Machine.{takes, gives}
 use Rattle.stapl_code.specs.Kinds.{clears, all_off, all_on, kinds_behind}
-use Rattle.code_rules.specs.Instructions.{IsTurn, Empties}
+use Rattle.code_rules.specs.Instructions.{IsTurnInstr, Empties}
 use Rattle.code_rules.specs.KindMoves.{MovesKinds, KindsBefore}
 use Rattle.code_rules.specs.Rules.{RuleBreak, operands_missing, variable_of_other_kind, left_before_turn, left_after}
 use Rattle.code_rules.proofs.InstructionTests.{clears_agrees, gives_nothing}
-use Rattle.code_rules.proofs.KindLemmas.{moves_kinds, kinds_are_moved, moves_once, FindsAll, Lacks, lacks_variable, lacks_operand, leaves_operand, lacks}
+use Rattle.code_rules.proofs.KindLemmas.{moves_kinds, kinds_are_moved, moves_once, FindsAll, LacksKinds, lacks_variable, lacks_operand, leaves_operand, lacks}
 use Rattle.code_rules.proofs.PartLemmas.{kinds_once}
 
-turn_takes : (x : Instr) → IsTurn x → takes x ≡ []
+turn_takes : (x : Instr) → IsTurnInstr x → takes x ≡ []
 turn_takes (Turn piece) h = refl
 turn_takes _ h = absurd h
 
@@ -25,11 +25,11 @@ none_reversed : (ks : List ValueKind) → ks ≡ [] → reverse ks ≡ []
 none_reversed ks e = ap reverse e
 
 module _ (code : CodeLists) (i : ℕ) (x : Instr) (ks : List ValueKind) (before : KindsBefore code i (reverse ks)) where
-  turn_below : (below : List ValueKind) → IsTurn x → all_off code.variables (takes x) ks ≡ Some below → ks ≡ below
+  turn_below : (below : List ValueKind) → IsTurnInstr x → all_off code.variables (takes x) ks ≡ Some below → ks ≡ below
   turn_below below t e = let same = ap (λ slots. all_off code.variables slots ks) (sym (turn_takes x t)) ∙ e in cc
 
   left_over : (below : List ValueKind) → clears x ≡ true → all_off code.variables (takes x) ks ≡ Some below → below ≢ [] →
-      IsTurn x ⊎ Empties x → RuleBreak code i x
+      IsTurnInstr x ⊎ Empties x → RuleBreak code i x
   left_over below c off some (inl t) =
       left_before_turn (reverse ks) t before (some_reversed ks (λ e. some (sym (turn_below below t off) ∙ e)))
   left_over below c off some (inr h) =
@@ -37,7 +37,7 @@ module _ (code : CodeLists) (i : ℕ) (x : Instr) (ks : List ValueKind) (before 
       let m = moves_kinds code.variables x ks below (record { below = below; takes_off = off; puts_on = on }) in
       left_after (reverse ks) (reverse below) h before m (some_reversed below some)
 
-  lack_breaks : Lacks code.variables x ks → RuleBreak code i x
+  lack_breaks : LacksKinds code.variables x ks → RuleBreak code i x
   lack_breaks (lacks_variable want c n) = variable_of_other_kind want c n
   lack_breaks (lacks_operand n) =
       operands_missing (reverse ks) before (λ after m. n (reverse after) (kinds_are_moved code.variables x ks after m))
@@ -63,7 +63,7 @@ module _ (code : CodeLists) (i : ℕ) (x : Instr) (ks : List ValueKind) (before 
         ((other : List ValueKind) → MovesKinds code.variables x kinds other → ⊥) → ⊥
     none_missing kinds k n = n (reverse after) (subst (λ l. MovesKinds code.variables x l (reverse after)) (sym (kinds_are kinds k)) moves_on)
 
-    pub none_before_turn : (kinds : List ValueKind) → IsTurn x → KindsBefore code i kinds → kinds ≢ [] → ⊥
+    pub none_before_turn : (kinds : List ValueKind) → IsTurnInstr x → KindsBefore code i kinds → kinds ≢ [] → ⊥
     none_before_turn kinds t k some =
         let clear = (clears_agrees x).is (inl t) in
         some (kinds_are kinds k ∙ none_reversed ks (turn_below finds.moved.below t finds.moved.takes_off ∙ finds.emptied clear))

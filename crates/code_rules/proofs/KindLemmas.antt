@@ -234,13 +234,13 @@ module _ (variables : List VarDef) where
       }
 
   -- why there are no kinds after an instruction: a variable is of another kind, operands are missing, or one is left
-  pub data Lacks (x : Instr) (ks : List ValueKind) : Type 0 where
-    lacks_variable : (want : Want) → Contains (wants x) want → (HasWanted variables want → ⊥) → Lacks x ks
-    lacks_operand : ((after : List ValueKind) → IsMoved x ks after → ⊥) → Lacks x ks
-    leaves_operand : (below : List ValueKind) → clears x ≡ true → all_off variables (takes x) ks ≡ Some below → below ≢ [] → Lacks x ks
+  pub data LacksKinds (x : Instr) (ks : List ValueKind) : Type 0 where
+    lacks_variable : (want : Want) → Contains (wants x) want → (HasWanted variables want → ⊥) → LacksKinds x ks
+    lacks_operand : ((after : List ValueKind) → IsMoved x ks after → ⊥) → LacksKinds x ks
+    leaves_operand : (below : List ValueKind) → clears x ≡ true → all_off variables (takes x) ks ≡ Some below → below ≢ [] → LacksKinds x ks
 
   lacks_by : (x : Instr) (ks below : List ValueKind) (clear : Bool) → clears x ≡ clear → all_off variables (takes x) ks ≡ Some below →
-      then_kinds (left_by clear below) (all_on variables (gives x)) ≡ None → Lacks x ks
+      then_kinds (left_by clear below) (all_on variables (gives x)) ≡ None → LacksKinds x ks
   lacks_by x ks [] true c at e = lacks_operand (λ after m.
       let off = m.takes_off in
       let same : ◌≡◌ {A = List ValueKind} m.below [] = cc in
@@ -254,15 +254,15 @@ module _ (variables : List VarDef) where
       cc)
 
   lacks_moves : (x : Instr) (ks : List ValueKind) (o : Option (List ValueKind)) → all_off variables (takes x) ks ≡ o →
-      then_kinds o (λ below. then_kinds (left_by (clears x) below) (all_on variables (gives x))) ≡ None → Lacks x ks
+      then_kinds o (λ below. then_kinds (left_by (clears x) below) (all_on variables (gives x))) ≡ None → LacksKinds x ks
   lacks_moves x ks None at e = lacks_operand (λ after m. let off = m.takes_off in cc)
   lacks_moves x ks (Some below) at e = lacks_by x ks below (clears x) refl at e
 
   lacks_met : (x : Instr) (ks : List ValueKind) (met : Bool) → list_all (is_met variables) (wants x) ≡ met →
-      (if met then kinds_moved variables x ks else None) ≡ None → Lacks x ks
+      (if met then kinds_moved variables x ks else None) ≡ None → LacksKinds x ks
   lacks_met x ks true m e = lacks_moves x ks (all_off variables (takes x) ks) refl e
   lacks_met x ks false m e =
       let w = find_false (is_met variables) (wants x) m in lacks_variable w.0 w.1 (denied (want_agrees w.0) w.2)
 
-  pub lacks : (x : Instr) (ks : List ValueKind) → kinds_behind variables x ks ≡ None → Lacks x ks
+  pub lacks : (x : Instr) (ks : List ValueKind) → kinds_behind variables x ks ≡ None → LacksKinds x ks
   lacks x ks e = lacks_met x ks (list_all (is_met variables) (wants x)) refl e

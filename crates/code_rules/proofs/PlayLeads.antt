@@ -22,15 +22,15 @@ use Rattle.stapl_code.specs.Valid.{sets_up, IsValid}
 use Rattle.stapl_code.specs.Safe.{entries_of, constants_of, AllBelow}
 use Rattle.stapl_code.proofs.Heads.{head_of, get_head, drop_tail}
 use Rattle.code_rules.specs.Places.{StandsAt, IsEntryOf, BeginsAt, IsOfPrologue, IsOfProcedure}
-use Rattle.code_rules.specs.Instructions.{IsTurn, IsEndProc, SetsUp}
+use Rattle.code_rules.specs.Instructions.{IsTurnInstr, IsEndProc, SetsUp}
 use Rattle.code_rules.specs.Rules.{foreign_in_prologue}
-use Rattle.code_rules.specs.Leads.{MayLead, IsPlayed, outcome_after}
+use Rattle.code_rules.specs.Leads.{MayLead, ArePlayable, outcome_after}
 use Rattle.code_rules.proofs.InstructionTests.{denied, decided, set_up_agrees}
 use Rattle.code_rules.proofs.PartLemmas.{same_instr}
 use Rattle.code_rules.proofs.FirstBreaks.{prologue_end, all_after, part_ends}
-use Rattle.code_rules.proofs.KeptRecords.{IfKnown, known_then, IsKept, Keeps, assigned_keeps, copied_keeps, set_keeps}
+use Rattle.code_rules.proofs.KeptRecords.{IfKnown, known_then, HasSameRecords, KeepsRecords, assigned_keeps, copied_keeps, set_keeps}
 use Rattle.code_rules.proofs.ValidFacts.{IsTurnIn, none_breaks, goes_on_in, turn_at_entry, entry_at}
-use Rattle.code_rules.proofs.StepLeads.{EachChosen, RunsIn, Runs, Arrives, TurnedLeads, StepLeads, step_leads}
+use Rattle.code_rules.proofs.StepLeads.{EachChosen, RunsIn, IsRunning, Arrives, TurnedLeads, StepLeads, step_leads}
 
 module _ (code : CodeLists) (chosen : List ℕ) where
   abbrev total : ℕ
@@ -75,7 +75,7 @@ module _ (code : CodeLists) (chosen : List ℕ) where
   if_leads from false h a = tt
 
   continue_leads : (entry from : ℕ) (x : Instr) (k : Chain) (st : Step) (go : List Value → State → Chain → Happened) → StepLeads code chosen entry from x st →
-      ((ops : List Value) (t : State) (l : Chain) → (IsEndProc x → ⊥) → Runs code chosen entry t → LeadsOn from (go ops t l)) → LeadsOn from (continues k st go)
+      ((ops : List Value) (t : State) (l : Chain) → (IsEndProc x → ⊥) → IsRunning code chosen entry t → LeadsOn from (go ops t l)) → LeadsOn from (continues k st go)
   continue_leads entry from x k (Falls ops t) go a rest = rest ops t k a.0 a.1
   continue_leads entry from x k (Acts deeds ops t) go a rest =
       let l = deeds_chain k deeds in with_leads from (deeds_events k deeds) (go ops t l) (rest ops t l a.0 a.1)
@@ -91,7 +91,7 @@ module _ (code : CodeLists) (chosen : List ℕ) where
   module _ (range : IsInRange code) (valid : IsValid code) where
     -- the rest of a turn, in the procedure of this entry
     stretch_leads : (entry from : ℕ) → IsOfProcedure code entry from → (l : List Instr) (i : ℕ) (ops : List Value) (s : State) (k : Chain) →
-        drop i code.instrs ≡ l → IsOfProcedure code entry i → Runs code chosen entry s →
+        drop i code.instrs ≡ l → IsOfProcedure code entry i → IsRunning code chosen entry s →
         LeadsOn from (stretch (entries_of code.procedures) (constants_of code) total l ops s k)
     stretch_leads entry from own [] i ops s k d within r = tt
     stretch_leads entry from own (x ∷ rest) i ops s k d within r =
@@ -104,7 +104,7 @@ module _ (code : CodeLists) (chosen : List ℕ) where
         (step_leads code chosen range valid entry from own here x ops s at inside r)
         (λ o t l n runs. stretch_leads entry from own rest (i + 1) o t l f.2 (goes_on_in code range valid entry i x f.0 within n).0 runs)
 
-    turn_leads : (entry place : ℕ) (s : State) (k : Chain) → IsTurnIn code entry place → Runs code chosen entry s →
+    turn_leads : (entry place : ℕ) (s : State) (k : Chain) → IsTurnIn code entry place → IsRunning code chosen entry s →
         LeadsOn place (code_turn (entries_of code.procedures) (constants_of code) code.instrs place s k)
     turn_leads entry place s k t r = by (drop place code.instrs) refl
       where
@@ -117,7 +117,7 @@ module _ (code : CodeLists) (chosen : List ℕ) where
 
     -- a turn has led to a place where a procedure runs
     abbrev IsGoing : Happened → Type 0
-    IsGoing (Led events place s k) = (entry : ℕ) × IsTurnIn code entry place × Runs code chosen entry s
+    IsGoing (Led events place s k) = (entry : ℕ) × IsTurnIn code entry place × IsRunning code chosen entry s
     IsGoing _ = Unit {0}
 
     going_on : (from : ℕ) (h : Happened) → LeadsOn from h → IsGoing h
@@ -161,30 +161,30 @@ module _ (code : CodeLists) (chosen : List ℕ) where
         run_leads n (next_of p u l) u l from to (going_on p (next_of p u l) (turn_leads g.0 p u l g.1 g.2)) e f
 
     -- The prologue keeps the records, of which there are none, and the chosen procedures.
-    record IsClean (s : State) : Type 0 where
+    record IsUntouched (s : State) : Type 0 where
       none : s.records ≡ []
       chosen_is : s.chosen ≡ chosen
 
-    kept_clean : (s t : State) → IsClean s → IsKept s t → IsClean t
+    kept_clean : (s t : State) → IsUntouched s → HasSameRecords s t → IsUntouched t
     kept_clean s t c k = record { none = k.records_are ∙ c.none; chosen_is = k.chosen_are ∙ c.chosen_is }
 
     abbrev TurnedClean : Turned → Type 0
-    TurnedClean (Leads deeds place s) = IsClean s
+    TurnedClean (Leads deeds place s) = IsUntouched s
     TurnedClean (Scanning deeds scan rest) = ⊥
     TurnedClean _ = Unit {0}
 
     abbrev StepClean : Instr → Step → Type 0
-    StepClean x (Falls ops t) = SetsUp x × IsClean t
-    StepClean x (Acts deeds ops t) = SetsUp x × IsClean t
-    StepClean x (Scanned scan ops land) = SetsUp x × ((bits : List Bool) → IsClean (land bits))
+    StepClean x (Falls ops t) = SetsUp x × IsUntouched t
+    StepClean x (Acts deeds ops t) = SetsUp x × IsUntouched t
+    StepClean x (Scanned scan ops land) = SetsUp x × ((bits : List Bool) → IsUntouched (land bits))
     StepClean x (Stops ops t) = TurnedClean t
     StepClean x _ = Unit {0}
 
-    acted_clean : (x : Instr) (deeds : List Deed) (below : List Value) (t : State) → SetsUp x × IsClean t → StepClean x (acted deeds below t)
+    acted_clean : (x : Instr) (deeds : List Deed) (below : List Value) (t : State) → SetsUp x × IsUntouched t → StepClean x (acted deeds below t)
     acted_clean x [] below t c = c
     acted_clean x (d ∷ deeds) below t c = c
 
-    did_clean : (x : Instr) (below : List Value) (s : State) (g : Got Did) → SetsUp x → IsClean s → IfKnown (Keeps s) g →
+    did_clean : (x : Instr) (below : List Value) (s : State) (g : Got Did) → SetsUp x → IsUntouched s → IfKnown (KeepsRecords s) g →
         StepClean x (on_made (entries_of code.procedures) None below s (does g))
     did_clean x below s (Known (did.Falls deeds t)) u c k = acted_clean x deeds below t (u, kept_clean s t c k)
     did_clean x below s (Known (did.Captures scan land)) u c k = (u, λ bits. kept_clean s (land bits) c (k bits))
@@ -195,19 +195,19 @@ module _ (code : CodeLists) (chosen : List ℕ) where
     did_clean x below s (Faults f) u c k = tt
     did_clean x below s Stuck u c k = tt
 
-    bit_clean : (b : ℕ) (below : List Value) (s : State) (g : Got Value) → IsClean s →
+    bit_clean : (b : ℕ) (below : List Value) (s : State) (g : Got Value) → IsUntouched s →
         StepClean (PushBit b) (on_made (entries_of code.procedures) None below s (puts g))
     bit_clean b below s (Known v) c = (tt, c)
     bit_clean b below s (Faults f) c = tt
     bit_clean b below s Stuck c = tt
 
-    turn_clean : (here piece : ℕ) (below vs : List Value) (s : State) → IsClean s →
+    turn_clean : (here piece : ℕ) (below vs : List Value) (s : State) → IsUntouched s →
         StepClean (Turn piece) (on_made (entries_of code.procedures) (Some here) below s (does (jumped vs s)))
     turn_clean here piece below [] s c = c
     turn_clean here piece below (v ∷ vs) s c = tt
 
     -- an instruction that sets up, or the first Turn
-    made_clean : (here : ℕ) (x : Instr) (vs below : List Value) (s : State) → SetsUp x ⊎ IsTurn x → IsClean s →
+    made_clean : (here : ℕ) (x : Instr) (vs below : List Value) (s : State) → SetsUp x ⊎ IsTurnInstr x → IsUntouched s →
         StepClean x (on_made (entries_of code.procedures) (lands (entries_of code.procedures) here x) below s
         (made (entries_of code.procedures) (constants_of code) here x vs s))
     made_clean here (Turn piece) vs below s h c = turn_clean here piece below vs s c
@@ -216,11 +216,11 @@ module _ (code : CodeLists) (chosen : List ℕ) where
     made_clean here (Store n) vs below s h c = did_clean (Store n) below s _ tt c (assigned_keeps s n vs)
     made_clean here (SetBits n literal) vs below s h c =
         did_clean (SetBits n literal) below s _ tt c
-        (known_then (Keeps s) (known_literal (slice_get code.literals literal)) _ (λ from. copied_keeps s (IntoWhole n) from vs))
+        (known_then (KeepsRecords s) (known_literal (slice_get code.literals literal)) _ (λ from. copied_keeps s (IntoWhole n) from vs))
     made_clean here (SetInts n list) vs below s h c = did_clean (SetInts n list) below s _ tt c (set_keeps s n list vs)
     made_clean here _ vs below s h c = absurd (elim h [ inl a ↦ a | inr b ↦ b ])
 
-    step_clean : (here : ℕ) (x : Instr) (ops : List Value) (s : State) → SetsUp x ⊎ IsTurn x → IsClean s →
+    step_clean : (here : ℕ) (x : Instr) (ops : List Value) (s : State) → SetsUp x ⊎ IsTurnInstr x → IsUntouched s →
         StepClean x (step (entries_of code.procedures) (constants_of code) here x ops s)
     step_clean here x ops s h c = by (taken (length (takes x)) ops)
       where
@@ -231,7 +231,7 @@ module _ (code : CodeLists) (chosen : List ℕ) where
         by (Some both) = made_clean here x both.0 both.1 s h c
 
     abbrev EndsClean : Happened → Type 0
-    EndsClean (Led events place s k) = IsClean s
+    EndsClean (Led events place s k) = IsUntouched s
     EndsClean _ = Unit {0}
 
     with_clean : (events : List Event) (h : Happened) → EndsClean h → EndsClean (with_events events h)
@@ -256,7 +256,7 @@ module _ (code : CodeLists) (chosen : List ℕ) where
     if_clean false h c = tt
 
     continue_clean : (x : Instr) (k : Chain) (st : Step) (go : List Value → State → Chain → Happened) → StepClean x st →
-        ((ops : List Value) (t : State) (l : Chain) → SetsUp x → IsClean t → EndsClean (go ops t l)) → EndsClean (continues k st go)
+        ((ops : List Value) (t : State) (l : Chain) → SetsUp x → IsUntouched t → EndsClean (go ops t l)) → EndsClean (continues k st go)
     continue_clean x k (Falls ops t) go c rest = rest ops t k c.0 c.1
     continue_clean x k (Acts deeds ops t) go c rest =
         let l = deeds_chain k deeds in with_clean (deeds_events k deeds) (go ops t l) (rest ops t l c.0 c.1)
@@ -279,35 +279,35 @@ module _ (code : CodeLists) (chosen : List ℕ) where
         mine : IsOfPrologue code i
         mine = λ entry b. omega (arith, less, all_after code range entry b)
 
-    turn_after : (i : ℕ) (x : Instr) → StandsAt code i x → i ≡ prologue_end code range → IsTurn x
+    turn_after : (i : ℕ) (x : Instr) → StandsAt code i x → i ≡ prologue_end code range → IsTurnInstr x
     turn_after i x at e = elim (part_ends code range code.procedures 0 refl) [
       | inr past ↦ absurd (let within = slice_get_within code.instrs i x at in omega arith)
       | inl begins ↦ first (subst (BeginsAt code) (sym e) begins)
     ]
       where
-        first : BeginsAt code i → IsTurn x
-        first b = let t = turn_at_entry code range valid i b in subst IsTurn (same_instr code i (Turn t.piece) x t.turn at) tt
+        first : BeginsAt code i → IsTurnInstr x
+        first b = let t = turn_at_entry code range valid i b in subst IsTurnInstr (same_instr code i (Turn t.piece) x t.turn at) tt
 
-    both_not : (x : Instr) → IsTurn x → SetsUp x → ⊥
+    both_not : (x : Instr) → IsTurnInstr x → SetsUp x → ⊥
     both_not (Turn piece) t s = s
     both_not _ t s = t
 
     -- up to the first Turn instructions set up
-    front_is : (i : ℕ) (x : Instr) → StandsAt code i x → i ≤ prologue_end code range → (SetsUp x × (i < prologue_end code range)) ⊎ IsTurn x
+    front_is : (i : ℕ) (x : Instr) → StandsAt code i x → i ≤ prologue_end code range → (SetsUp x × (i < prologue_end code range)) ⊎ IsTurnInstr x
     front_is i x at h = elim (cases_lt i (prologue_end code range)) [
       | inl less ↦ inl (sets_up_before i x at less, less)
       | inr most ↦ inr (turn_after i x at (omega arith))
     ]
 
-    one_of_both : (i : ℕ) (x : Instr) → (SetsUp x × (i < prologue_end code range)) ⊎ IsTurn x → SetsUp x ⊎ IsTurn x
+    one_of_both : (i : ℕ) (x : Instr) → (SetsUp x × (i < prologue_end code range)) ⊎ IsTurnInstr x → SetsUp x ⊎ IsTurnInstr x
     one_of_both i x (inl both) = inl both.0
     one_of_both i x (inr turn) = inr turn
 
-    still_before : (i : ℕ) (x : Instr) → (SetsUp x × (i < prologue_end code range)) ⊎ IsTurn x → SetsUp x → i + 1 ≤ prologue_end code range
+    still_before : (i : ℕ) (x : Instr) → (SetsUp x × (i < prologue_end code range)) ⊎ IsTurnInstr x → SetsUp x → i + 1 ≤ prologue_end code range
     still_before i x (inl both) sets = omega (arith, both.1)
     still_before i x (inr turn) sets = absurd (both_not x turn sets)
 
-    prologue_clean : (l : List Instr) (i : ℕ) (ops : List Value) (s : State) (k : Chain) → drop i code.instrs ≡ l → i ≤ prologue_end code range → IsClean s →
+    prologue_clean : (l : List Instr) (i : ℕ) (ops : List Value) (s : State) (k : Chain) → drop i code.instrs ≡ l → i ≤ prologue_end code range → IsUntouched s →
         EndsClean (stretch (entries_of code.procedures) (constants_of code) total l ops s k)
     prologue_clean [] i ops s k d h c = tt
     prologue_clean (x ∷ rest) i ops s k d h c =
@@ -319,14 +319,14 @@ module _ (code : CodeLists) (chosen : List ℕ) where
         (λ o t l sets clean. prologue_clean rest (i + 1) o t l f.2 (still_before i x either sets) clean)
 
     -- the first chosen procedure has begun
-    record Begins (place : ℕ) (s : State) : Type 0 where
+    record HasBegunFirst (place : ℕ) (s : State) : Type 0 where
       procedure : ℕ
       first : slice_get chosen 0 ≡ Some procedure
       entry_is : IsEntryOf code procedure place
-      runs : Runs code chosen place s
+      runs : IsRunning code chosen place s
 
     abbrev HasBegun : Happened → Type 0
-    HasBegun (Led events place s k) = Begins place s
+    HasBegun (Led events place s k) = HasBegunFirst place s
     HasBegun _ = Unit {0}
 
     chosen_begun : (events : List Event) (s : State) (k : Chain) (ps : List ℕ) → s.records ≡ [] → ps ≡ chosen → EachChosen code chosen ps →
@@ -369,7 +369,7 @@ module _ (code : CodeLists) (chosen : List ℕ) where
     first_begins (Broke events f u l) s k place b e = absurd cc
     first_begins (Lacks events) s k place b e = absurd cc
 
-module _ (code : CodeLists) (chosen : List ℕ) (played : IsPlayed code chosen) (variables : List Held) (k : Chain) where
+module _ (code : CodeLists) (chosen : List ℕ) (played : ArePlayable code chosen) (variables : List Held) (k : Chain) where
   abbrev beginning : Happened
   beginning = code_beginning (entries_of code.procedures) (constants_of code) code.instrs chosen variables k
 

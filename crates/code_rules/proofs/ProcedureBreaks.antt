@@ -12,7 +12,7 @@ use Rattle.stapl_code.specs.Machine.{goes_to}
 use Rattle.stapl_code.specs.Kinds.{kinds_behind}
 use Rattle.stapl_code.specs.Valid.{is_turn, is_end, departs, is_last, agree, is_target, leads_to, leads_well, rests_well, stands_well, rest_break}
 use Rattle.code_rules.specs.Places.{StandsAt, BeginsAt, IsOfProcedure, EndsPart}
-use Rattle.code_rules.specs.Instructions.{IsTurn, Departs}
+use Rattle.code_rules.specs.Instructions.{IsTurnInstr, Departs}
 use Rattle.code_rules.specs.KindMoves.{KindsBefore}
 use Rattle.code_rules.specs.Rules.{IsTurnBeside, RuleBreak, foreign_in_prologue, left_by_prologue, begins_without_turn, ends_without_end, end_elsewhere, operands_missing, variable_of_other_kind, left_before_turn, left_after, target_elsewhere, no_turn_follows, unstable_state}
 use Rattle.code_rules.proofs.InstructionTests.{Agrees, denied, one_false, turn_agrees, end_agrees, departs_agrees, names_goes, goes_names, unstable_found, none_unstable}
@@ -117,7 +117,7 @@ module _ (code : CodeLists) (from to : ℕ) (part : IsOnePart code from to) (beg
     ]
 
     -- what stands well and finds its operands breaks no rule
-    turn_is_here : (must : Bool) → not must || is_turn (Some x) ≡ true → must ≡ true → IsTurn x
+    turn_is_here : (must : Bool) → not must || is_turn (Some x) ≡ true → must ≡ true → IsTurnInstr x
     turn_is_here true e m = (turn_agrees x).yes e
     turn_is_here false e m = absurd cc
 

@@ -8,7 +8,7 @@ use Rattle.stapl_code.specs.declared.instr.Instr.TheVariants.{Push, PushBit, Sto
 use Rattle.stapl_code.specs.Kinds.{kinds_behind}
 use Rattle.stapl_code.specs.Valid.{is_last, sets_up, kinds_kept, prologue_break}
 use Rattle.code_rules.specs.Places.{BeginsAt, IsOfPrologue, IsOfProcedure, EndsPart}
-use Rattle.code_rules.specs.Instructions.{IsEndProc, SetsUp, Names, WantsStable}
+use Rattle.code_rules.specs.Instructions.{IsEndProc, SetsUp, HasTarget, WantsStable}
 use Rattle.code_rules.specs.KindMoves.{KindsBefore}
 use Rattle.code_rules.specs.Rules.{RuleBreak, foreign_in_prologue, left_by_prologue, begins_without_turn, ends_without_end, end_elsewhere, operands_missing, variable_of_other_kind, left_before_turn, left_after, target_elsewhere, no_turn_follows, unstable_state}
 use Rattle.code_rules.proofs.InstructionTests.{Agrees, denied, set_up_agrees}
@@ -27,7 +27,7 @@ no_end (SetBits n literal) s e = e
 no_end (SetInts n values) s e = e
 no_end _ s e = absurd s
 
-no_target : (x : Instr) (to : ℕ) → SetsUp x → Names x to → ⊥
+no_target : (x : Instr) (to : ℕ) → SetsUp x → HasTarget x to → ⊥
 no_target (Push z) to s e = e
 no_target (PushBit b) to s e = e
 no_target (Store n) to s e = e

@@ -26,7 +26,7 @@ use Rattle.stapl_code.specs.Safe.{entries_of, constants_of}
 use Rattle.code_rules.specs.Places.{StandsAt, BeginsAt, IsOfProcedure}
 use Rattle.code_rules.specs.Instructions.{IsEndProc}
 use Rattle.code_rules.specs.Leads.{FollowsCall, MayLead, goes_inside, calls, goes_back, begins_next}
-use Rattle.code_rules.proofs.KeptRecords.{IfKnown, known_then, known_if, IsKept, Keeps, assigned_keeps, element_keeps, copied_keeps, set_keeps, printed_keeps, part_keeps, moved_keeps, waited_keeps, tuned_keeps, exited_keeps, scanned_keeps, surrounded_keeps, stopped_keeps}
+use Rattle.code_rules.proofs.KeptRecords.{IfKnown, known_then, known_if, HasSameRecords, KeepsRecords, assigned_keeps, element_keeps, copied_keeps, set_keeps, printed_keeps, part_keeps, moved_keeps, waited_keeps, tuned_keeps, exited_keeps, scanned_keeps, surrounded_keeps, stopped_keeps}
 use Rattle.code_rules.proofs.ValidFacts.{IsTurnIn, turn_follows, turn_at_entry, target_in, entry_at, in_range}
 
 known_next : {A B : Type 0} (P : A → Type 0) (Q : B → Type 0) (g : Got A) (go : A → Got B) → IfKnown P g → ((x : A) → P x → IfKnown Q (go x)) →
@@ -51,7 +51,7 @@ module _ (code : CodeLists) (chosen : List ℕ) where
       FollowsCall code entry place × ((caller : ℕ) × IsTurnIn code caller place × RunsIn caller records)
 
   -- the procedure of this entry runs
-  pub record Runs (entry : ℕ) (s : State) : Type 0 where
+  pub record IsRunning (entry : ℕ) (s : State) : Type 0 where
     pub records_run : RunsIn entry s.records
     pub chosen_are : EachChosen s.chosen
 
@@ -60,7 +60,7 @@ module _ (code : CodeLists) (chosen : List ℕ) where
     pub may : MayLead code chosen from place
     pub entry : ℕ
     pub turn : IsTurnIn code entry place
-    pub runs : Runs entry s
+    pub runs : IsRunning entry s
 
   abbrev pub TurnedLeads : ℕ → Turned → Type 0
   TurnedLeads from (Leads deeds place s) = Arrives from place s
@@ -69,16 +69,16 @@ module _ (code : CodeLists) (chosen : List ℕ) where
 
   -- what one instruction does in the procedure of this entry, in a turn that begins at a place
   abbrev pub StepLeads : ℕ → ℕ → Instr → Step → Type 0
-  StepLeads entry from x (Falls ops t) = (IsEndProc x → ⊥) × Runs entry t
-  StepLeads entry from x (Acts deeds ops t) = (IsEndProc x → ⊥) × Runs entry t
-  StepLeads entry from x (Scanned scan ops lands) = (IsEndProc x → ⊥) × ((bits : List Bool) → Runs entry (lands bits))
+  StepLeads entry from x (Falls ops t) = (IsEndProc x → ⊥) × IsRunning entry t
+  StepLeads entry from x (Acts deeds ops t) = (IsEndProc x → ⊥) × IsRunning entry t
+  StepLeads entry from x (Scanned scan ops lands) = (IsEndProc x → ⊥) × ((bits : List Bool) → IsRunning entry (lands bits))
   StepLeads entry from x (Stops ops t) = TurnedLeads from t
   StepLeads entry from x (Faulted k s) = Unit {0}
   StepLeads entry from x Wrong = Unit {0}
 
   abbrev DidLeads : ℕ → ℕ → ℕ → Instr → Did → Type 0
-  DidLeads entry from here x (did.Falls deeds t) = (IsEndProc x → ⊥) × Runs entry t
-  DidLeads entry from here x (did.Captures scan land) = (IsEndProc x → ⊥) × ((bits : List Bool) → Runs entry (land bits))
+  DidLeads entry from here x (did.Falls deeds t) = (IsEndProc x → ⊥) × IsRunning entry t
+  DidLeads entry from here x (did.Captures scan land) = (IsEndProc x → ⊥) × ((bits : List Bool) → IsRunning entry (land bits))
   DidLeads entry from here x (did.Jumps t) = (to : ℕ) → lands (entries_of code.procedures) here x ≡ Some to → Arrives from to t
   DidLeads entry from here x (did.Resumes place t) = Arrives from place t
   DidLeads entry from here x (did.Returns t) = (t.records ≡ []) × EachChosen t.chosen
@@ -86,11 +86,11 @@ module _ (code : CodeLists) (chosen : List ℕ) where
 
   abbrev MadeLeads : ℕ → ℕ → ℕ → Instr → Made → Type 0
   MadeLeads entry from here x (Puts v) = IsEndProc x → ⊥
-  MadeLeads entry from here x (PutsFrom v t) = (IsEndProc x → ⊥) × Runs entry t
+  MadeLeads entry from here x (PutsFrom v t) = (IsEndProc x → ⊥) × IsRunning entry t
   MadeLeads entry from here x (PutsTwo v w) = IsEndProc x → ⊥
   MadeLeads entry from here x (Does d) = DidLeads entry from here x d
 
-  kept_runs : (entry : ℕ) (s t : State) → Runs entry s → IsKept s t → Runs entry t
+  kept_runs : (entry : ℕ) (s t : State) → IsRunning entry s → HasSameRecords s t → IsRunning entry t
   kept_runs entry s t r k = record {
     records_run = subst (RunsIn entry) (sym k.records_are) r.records_run;
     chosen_are = subst EachChosen (sym k.chosen_are) r.chosen_are;
@@ -114,7 +114,7 @@ module _ (code : CodeLists) (chosen : List ℕ) where
         }
 
     module _ (entry from : ℕ) (own : IsOfProcedure code entry from) where
-      to_turn : (place : ℕ) (s : State) → IsTurnIn code entry place → Runs entry s → Arrives from place s
+      to_turn : (place : ℕ) (s : State) → IsTurnIn code entry place → IsRunning entry s → Arrives from place s
       to_turn place s t r = record {
         may = goes_inside (record { entry = entry; piece = t.piece; here = own; there = t.within; turn = t.turn });
         entry = entry;
@@ -127,13 +127,13 @@ module _ (code : CodeLists) (chosen : List ℕ) where
       jump_leads here x None t e h = tt
       jump_leads here x (Some to) t e h = h to e
 
-      act_leads : (here : ℕ) (x : Instr) (deeds : List Deed) (below : List Value) (t : State) → (IsEndProc x → ⊥) × Runs entry t →
+      act_leads : (here : ℕ) (x : Instr) (deeds : List Deed) (below : List Value) (t : State) → (IsEndProc x → ⊥) × IsRunning entry t →
           StepLeads entry from x (acted deeds below t)
       act_leads here x [] below t h = h
       act_leads here x (d ∷ deeds) below t h = h
 
       made_leads : (here : ℕ) (x : Instr) (to : Option ℕ) (below : List Value) (s : State) (g : Got Made) → lands (entries_of code.procedures) here x ≡ to →
-          Runs entry s → IfKnown (MadeLeads entry from here x) g → StepLeads entry from x (on_made (entries_of code.procedures) to below s g)
+          IsRunning entry s → IfKnown (MadeLeads entry from here x) g → StepLeads entry from x (on_made (entries_of code.procedures) to below s g)
       made_leads here x to below s (Known (Puts v)) e r h = (h, r)
       made_leads here x to below s (Known (PutsFrom v t)) e r h = h
       made_leads here x to below s (Known (PutsTwo v w)) e r h = (h, r)
@@ -152,7 +152,7 @@ module _ (code : CodeLists) (chosen : List ℕ) where
         does_leads (Faults k) h = tt
         does_leads Stuck h = tt
 
-        keeping_leads : (s : State) → Runs entry s → (IsEndProc x → ⊥) → (d : Did) → Keeps s d → DidLeads entry from here x d
+        keeping_leads : (s : State) → IsRunning entry s → (IsEndProc x → ⊥) → (d : Did) → KeepsRecords s d → DidLeads entry from here x d
         keeping_leads s r n (did.Falls deeds t) k = (n, kept_runs entry s t r k)
         keeping_leads s r n (did.Captures scan land) k = (n, λ bits. kept_runs entry s (land bits) r (k bits))
         keeping_leads s r n (did.Jumps t) k = absurd k
@@ -160,7 +160,7 @@ module _ (code : CodeLists) (chosen : List ℕ) where
         keeping_leads s r n (did.Returns t) k = absurd k
         keeping_leads s r n (did.Ends ending t) k = tt
 
-        keeps : (s : State) → Runs entry s → (IsEndProc x → ⊥) → (g : Got Did) → IfKnown (Keeps s) g → IfKnown (MadeLeads entry from here x) (does g)
+        keeps : (s : State) → IsRunning entry s → (IsEndProc x → ⊥) → (g : Got Did) → IfKnown (KeepsRecords s) g → IfKnown (MadeLeads entry from here x) (does g)
         keeps s r n (Known d) k = keeping_leads s r n d k
         keeps s r n (Faults f) k = tt
         keeps s r n Stuck k = tt
@@ -193,7 +193,7 @@ module _ (code : CodeLists) (chosen : List ℕ) where
         kept_puts n (v ∷ w ∷ u ∷ vs) test = tt
 
         -- records
-        push_leads : (s : State) → Runs entry s → (IsEndProc x → ⊥) → (vs : List Value) → IfKnown (DidLeads entry from here x) (pushed vs s)
+        push_leads : (s : State) → IsRunning entry s → (IsEndProc x → ⊥) → (vs : List Value) → IfKnown (DidLeads entry from here x) (pushed vs s)
         push_leads s r n (v ∷ []) =
             known_if (DidLeads entry from here x) (nat_lt (length s.records) record_limit)
             (Known (did.Falls [] (with_records s (Pushed (number_of v) ∷ s.records)))) (Faults RecordsFull)
@@ -205,27 +205,27 @@ module _ (code : CodeLists) (chosen : List ℕ) where
         top_runs kind (Pushed z ∷ records) r = r
         top_runs kind _ r = tt
 
-        pop_leads : (s : State) → Runs entry s → (IsEndProc x → ⊥) → (g : Got (Value × List Record)) →
+        pop_leads : (s : State) → IsRunning entry s → (IsEndProc x → ⊥) → (g : Got (Value × List Record)) →
             IfKnown (λ (both : Value × List Record). RunsIn entry both.1) g → IfKnown (MadeLeads entry from here x) (unrecorded g s)
         pop_leads s r n (Known both) k = (n, record { records_run = k; chosen_are = r.chosen_are })
         pop_leads s r n (Faults f) k = tt
         pop_leads s r n Stuck k = tt
 
         loop_runs : (l : Loop) (records : List Record) (z : ℤ) (s : State) → IsTurnIn code entry l.place → RunsIn entry records →
-            EachChosen s.chosen → IfKnown (Runs entry) (with_loop l records z s)
+            EachChosen s.chosen → IfKnown (IsRunning entry) (with_loop l records z s)
         loop_runs l records z s t r c =
-            known_then (Runs entry) (scalar_written s.store.variables l.variable (slice_get s.store.variables l.variable) (Int z))
+            known_then (IsRunning entry) (scalar_written s.store.variables l.variable (slice_get s.store.variables l.variable) (Int z))
             (λ (variables : List Held). Known (with_variables (with_records s (Looped l ∷ records)) variables))
             (λ variables. record { records_run = (t, r); chosen_are = c })
 
-        for_leads : (n body : ℕ) (s : State) → Runs entry s → (IsEndProc x → ⊥) → IsTurnIn code entry body → (vs : List Value) →
+        for_leads : (n body : ℕ) (s : State) → IsRunning entry s → (IsEndProc x → ⊥) → IsTurnIn code entry body → (vs : List Value) →
             IfKnown (DidLeads entry from here x) (looped n body vs s)
         for_leads n body s r e t (Int first ∷ Int limit ∷ Int step ∷ []) =
             let l : Loop = record { variable = n; limit = limit; step = step; place = body } in
             let run : Got Did = then_get (with_loop l s.records first s) (λ t. Known (did.Falls [] t)) in
             known_if (DidLeads entry from here x) (int_eq step (pos 0)) (Faults ZeroStep) (with_room s run) tt
             (known_if (DidLeads entry from here x) (nat_lt (length s.records) record_limit) run (Faults RecordsFull)
-            (known_next (Runs entry) (DidLeads entry from here x) (with_loop l s.records first s) (λ t. Known (did.Falls [] t))
+            (known_next (IsRunning entry) (DidLeads entry from here x) (with_loop l s.records first s) (λ t. Known (did.Falls [] t))
             (loop_runs l s.records first s t r.records_run r.chosen_are) (λ u runs. (e, runs))) tt)
         for_leads n body s r e t _ = tt
 
@@ -237,17 +237,17 @@ module _ (code : CodeLists) (chosen : List ℕ) where
             known_if IsLoop (l.variable == n) (Known (l, records)) (nearest_loop n records) (r.0, r.1) (nearest_runs n records r.1)
         nearest_runs n _ r = tt
 
-        round_leads : (l : Loop) (records : List Record) (z : ℤ) (s : State) → Runs entry s → (IsEndProc x → ⊥) → IsLoop (l, records) →
+        round_leads : (l : Loop) (records : List Record) (z : ℤ) (s : State) → IsRunning entry s → (IsEndProc x → ⊥) → IsLoop (l, records) →
             IfKnown (DidLeads entry from here x) (went_round l records z s)
         round_leads l records z s r e h =
             let next : ℤ = int_wrap w32 (z +ℤ l.step) in
             known_if (DidLeads entry from here x) (is_over l z) (Known (did.Falls [] (with_records s records)))
             (then_get (with_loop l records next s) (λ t. Known (did.Resumes l.place t)))
             (e, record { records_run = h.1; chosen_are = r.chosen_are })
-            (known_next (Runs entry) (DidLeads entry from here x) (with_loop l records next s) (λ t. Known (did.Resumes l.place t))
+            (known_next (IsRunning entry) (DidLeads entry from here x) (with_loop l records next s) (λ t. Known (did.Resumes l.place t))
             (loop_runs l records next s h.0 h.1 r.chosen_are) (λ u runs. to_turn l.place u h.0 runs))
 
-        next_leads : (n : ℕ) (s : State) → Runs entry s → (IsEndProc x → ⊥) → (vs : List Value) → IfKnown (DidLeads entry from here x) (repeated n vs s)
+        next_leads : (n : ℕ) (s : State) → IsRunning entry s → (IsEndProc x → ⊥) → (vs : List Value) → IfKnown (DidLeads entry from here x) (repeated n vs s)
         next_leads n s r e [] =
             known_next IsLoop (DidLeads entry from here x) (nearest_loop n s.records)
             (λ top. then_get (integer_held (slice_get s.store.variables n)) (λ z. went_round top.0 top.1 z s)) (nearest_runs n s.records r.records_run)
@@ -267,28 +267,28 @@ module _ (code : CodeLists) (chosen : List ℕ) where
           runs = record { records_run = r.1.2; chosen_are = c };
         }
 
-        end_leads : (s : State) → Runs entry s → (vs : List Value) → IfKnown (DidLeads entry from here x) (returned vs s)
+        end_leads : (s : State) → IsRunning entry s → (vs : List Value) → IfKnown (DidLeads entry from here x) (returned vs s)
         end_leads s r [] = return_leads s.records s r.records_run r.chosen_are
         end_leads s r _ = tt
 
         -- jumps to a Turn of the procedure
-        jumped_leads : (s : State) → Runs entry s → ((to : ℕ) → lands (entries_of code.procedures) here x ≡ Some to → IsTurnIn code entry to) →
+        jumped_leads : (s : State) → IsRunning entry s → ((to : ℕ) → lands (entries_of code.procedures) here x ≡ Some to → IsTurnIn code entry to) →
             (vs : List Value) → IfKnown (DidLeads entry from here x) (jumped vs s)
         jumped_leads s r t [] = λ to e. to_turn to s (t to e) r
         jumped_leads s r t _ = tt
 
-        way_leads : (s : State) → Runs entry s → (IsEndProc x → ⊥) →
+        way_leads : (s : State) → IsRunning entry s → (IsEndProc x → ⊥) →
             ((to : ℕ) → lands (entries_of code.procedures) here x ≡ Some to → IsTurnIn code entry to) → (b : Bool) → DidLeads entry from here x (way_of b s)
         way_leads s r n t true = (n, r)
         way_leads s r n t false = λ to e. to_turn to s (t to e) r
 
-        parted_leads : (s : State) → Runs entry s → (IsEndProc x → ⊥) →
+        parted_leads : (s : State) → IsRunning entry s → (IsEndProc x → ⊥) →
             ((to : ℕ) → lands (entries_of code.procedures) here x ≡ Some to → IsTurnIn code entry to) → (vs : List Value) →
             IfKnown (DidLeads entry from here x) (parted vs s)
         parted_leads s r n t (Bit b ∷ []) = way_leads s r n t b
         parted_leads s r n t _ = tt
 
-      call_leads : (here p : ℕ) (s : State) → StandsAt code here (Call p) → IsOfProcedure code entry here → Runs entry s → (vs : List Value) →
+      call_leads : (here p : ℕ) (s : State) → StandsAt code here (Call p) → IsOfProcedure code entry here → IsRunning entry s → (vs : List Value) →
           IfKnown (DidLeads entry from here (Call p)) (called (suc here) vs s)
       call_leads here p s at within r [] =
           let behind : here + 1 ≡ suc here = omega arith in
@@ -310,7 +310,7 @@ module _ (code : CodeLists) (chosen : List ℕ) where
       call_leads here p s at within r _ = tt
 
       -- the table of instructions
-      row_leads : (here : ℕ) (x : Instr) (vs : List Value) (s : State) → StandsAt code here x → IsOfProcedure code entry here → Runs entry s →
+      row_leads : (here : ℕ) (x : Instr) (vs : List Value) (s : State) → StandsAt code here x → IsOfProcedure code entry here → IsRunning entry s →
           IfKnown (MadeLeads entry from here x) (made (entries_of code.procedures) (constants_of code) here x vs s)
       row_leads here (Turn piece) vs s at within r =
           does_leads here (Turn piece) _ (jumped_leads here (Turn piece) s r (λ to e.
@@ -329,10 +329,10 @@ module _ (code : CodeLists) (chosen : List ℕ) where
       row_leads here (ToInt source) vs s at within r = puts_on here (ToInt source) (λ h. h) _
       row_leads here (CopyBits dest source) vs s at within r =
           keeps here (CopyBits dest source) s r (λ h. h) _
-          (known_then (Keeps s) (known_source code.literals source) _ (λ from. copied_keeps s (target_of dest) from vs))
+          (known_then (KeepsRecords s) (known_source code.literals source) _ (λ from. copied_keeps s (target_of dest) from vs))
       row_leads here (SetBits n literal) vs s at within r =
           keeps here (SetBits n literal) s r (λ h. h) _
-          (known_then (Keeps s) (known_literal (slice_get code.literals literal)) _ (λ from. copied_keeps s (IntoWhole n) from vs))
+          (known_then (KeepsRecords s) (known_literal (slice_get code.literals literal)) _ (λ from. copied_keeps s (IntoWhole n) from vs))
       row_leads here (SetInts n list) vs s at within r = keeps here (SetInts n list) s r (λ h. h) _ (set_keeps s n list vs)
       row_leads here (For n body) vs s at within r =
           does_leads here (For n body) _ (for_leads here (For n body) n body s r (λ h. h) (target_in code range valid entry here body (For n body) at within refl) vs)
@@ -350,21 +350,21 @@ module _ (code : CodeLists) (chosen : List ℕ) where
       row_leads here (Print list) vs s at within r = keeps here (Print list) s r (λ h. h) _ (printed_keeps s _)
       row_leads here (Export key part) vs s at within r =
           keeps here (Export key part) s r (λ h. h) _
-          (known_then (Keeps s) (known_text (slice_get code.texts key)) _ (λ bytes. part_keeps s code.literals part bytes vs))
+          (known_then (KeepsRecords s) (known_text (slice_get code.texts key)) _ (λ bytes. part_keeps s code.literals part bytes vs))
       row_leads here CheckChar vs s at within r = one_puts here CheckChar (λ h. h) vs _
       row_leads here Exit vs s at within r = keeps here Exit s r (λ h. h) _ (exited_keeps s vs)
       row_leads here (Scans scan) vs s at within r =
-          keeps here (Scans scan) s r (λ h. h) _ (known_then (Keeps s) (known_scan code.literals scan) _ (λ parts. scanned_keeps s parts vs))
+          keeps here (Scans scan) s r (λ h. h) _ (known_then (KeepsRecords s) (known_scan code.literals scan) _ (λ parts. scanned_keeps s parts vs))
       row_leads here (Stop register tap) vs s at within r = keeps here (Stop register tap) s r (λ h. h) _ (stopped_keeps s register tap vs)
       row_leads here (Pad which source) vs s at within r =
           keeps here (Pad which source) s r (λ h. h) _
-          (known_then (Keeps s) (known_given code.literals source) _ (λ from. surrounded_keeps s which from vs))
+          (known_then (KeepsRecords s) (known_given code.literals source) _ (λ from. surrounded_keeps s which from vs))
       row_leads here (GoThrough states) vs s at within r = keeps here (GoThrough states) s r (λ h. h) _ (moved_keeps s states vs)
       row_leads here (Wait at_state kind last) vs s at within r = keeps here (Wait at_state kind last) s r (λ h. h) _ (waited_keeps s kind at_state last vs)
       row_leads here (Frequency stated) vs s at within r = keeps here (Frequency stated) s r (λ h. h) _ (tuned_keeps s vs)
 
       -- one instruction
-      pub step_leads : (here : ℕ) (x : Instr) (ops : List Value) (s : State) → StandsAt code here x → IsOfProcedure code entry here → Runs entry s →
+      pub step_leads : (here : ℕ) (x : Instr) (ops : List Value) (s : State) → StandsAt code here x → IsOfProcedure code entry here → IsRunning entry s →
           StepLeads entry from x (step (entries_of code.procedures) (constants_of code) here x ops s)
       step_leads here x ops s at within r = by (taken (length (takes x)) ops)
         where

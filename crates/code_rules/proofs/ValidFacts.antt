@@ -15,7 +15,7 @@ use Rattle.stapl_code.specs.Ranges.{IsInRange, IsInstr}
 use Rattle.stapl_code.specs.Valid.{is_turn, IsValid}
 use Rattle.stapl_code.specs.Safe.{entries_of}
 use Rattle.code_rules.specs.Places.{StandsAt, BeginsAt, IsOfProcedure, EndsPart}
-use Rattle.code_rules.specs.Instructions.{IsTurn, IsEndProc, Departs, Names}
+use Rattle.code_rules.specs.Instructions.{IsTurnInstr, IsEndProc, Departs, HasTarget}
 use Rattle.code_rules.specs.Rules.{IsTurnBeside, RuleBreak, begins_without_turn, ends_without_end, target_elsewhere, no_turn_follows, instruction, past_the_end}
 use Rattle.code_rules.proofs.InstructionTests.{denied, decided, turn_agrees}
 use Rattle.code_rules.proofs.KindLemmas.{find_false, holds_in}
@@ -28,7 +28,7 @@ pub record IsTurnIn (code : CodeLists) (entry place : ℕ) : Type 0 where
   pub piece : ℕ
   pub turn : StandsAt code place (Turn piece)
 
-turn_is : (x : Instr) → IsTurn x → (piece : ℕ) × (x ≡ Turn piece)
+turn_is : (x : Instr) → IsTurnInstr x → (piece : ℕ) × (x ≡ Turn piece)
 turn_is (Turn piece) h = (piece, refl)
 turn_is _ h = absurd h
 
@@ -47,7 +47,7 @@ module _ (code : CodeLists) (range : IsInRange code) (valid : IsValid code) wher
       by (x ∷ xs) zero h = (x, refl)
       by (x ∷ xs) (suc k) h = by xs k (omega arith)
 
-  turn_here : (entry i : ℕ) (x : Instr) → StandsAt code i x → IsOfProcedure code entry i → IsTurn x → IsTurnIn code entry i
+  turn_here : (entry i : ℕ) (x : Instr) → StandsAt code i x → IsOfProcedure code entry i → IsTurnInstr x → IsTurnIn code entry i
   turn_here entry i x at p t = let is = turn_is x t in record { within = p; piece = is.0; turn = at ∙ ap Some is.1 }
 
   -- an instruction that is no EndProc is followed by one of the same procedure
@@ -82,7 +82,7 @@ module _ (code : CodeLists) (range : IsInRange code) (valid : IsValid code) wher
   entry_within : (entry : ℕ) → BeginsAt code entry → entry < total
   entry_within entry b = elim (cases_lt entry total) [
     | inl less ↦ less
-    | inr past ↦ absurd ((breaks_none code range).0 valid (total - 1) (past_the_end (record { entry = entry; begins = b; past = past; told = refl })))
+    | inr past ↦ absurd ((breaks_none code range).0 valid (total - 1) (past_the_end (record { entry = entry; begins = b; past = past; last = refl })))
   ]
 
   pub turn_at_entry : (entry : ℕ) → BeginsAt code entry → IsTurnIn code entry entry
@@ -133,7 +133,7 @@ module _ (code : CodeLists) (range : IsInRange code) (valid : IsValid code) wher
           omega (arith, both.1))
 
   -- a target is a Turn of the same procedure
-  pub target_in : (entry i to : ℕ) (x : Instr) → StandsAt code i x → IsOfProcedure code entry i → Names x to → IsTurnIn code entry to
+  pub target_in : (entry i to : ℕ) (x : Instr) → StandsAt code i x → IsOfProcedure code entry i → HasTarget x to → IsTurnIn code entry to
   target_in entry i to x at p names = elim (cases_lt to total) [
     | inr past ↦ absurd (lost (λ t. let within : to < total = slice_get_within code.instrs to (Turn t.piece) t.turn in omega arith))
     | inl within ↦ found (there_is to within)
@@ -147,7 +147,7 @@ module _ (code : CodeLists) (range : IsInRange code) (valid : IsValid code) wher
 
       found : ((y : Instr) × StandsAt code to y) → IsTurnIn code entry to
       found y = elim (decided (is_turn (Some y.0))) [
-        | inr none ↦ absurd (lost (λ t. denied (turn_agrees y.0) none (subst IsTurn (same_instr code to (Turn t.piece) y.0 t.turn y.1) tt)))
+        | inr none ↦ absurd (lost (λ t. denied (turn_agrees y.0) none (subst IsTurnInstr (same_instr code to (Turn t.piece) y.0 t.turn y.1) tt)))
         | inl turns ↦ elim (cases_lt to entry) [
           | inl below ↦ absurd (lost (λ t. omega (arith, same t, t.there.from)))
           | inr above ↦ elim (procedure_decided entry to p.begins above) [

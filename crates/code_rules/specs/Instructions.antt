@@ -4,9 +4,9 @@ use Rattle.tap_states.specs.declared.Tap.{Tap}
 use Rattle.stapl_code.specs.declared.instr.Instr.{Instr}
 use Rattle.stapl_code.specs.declared.instr.Instr.TheVariants.{Turn, Push, PushBit, Store, SetBits, SetInts, For, Next, Call, Jump, JumpIfZero, EndProc, Exit, Stop, State as GoThrough, Wait}
 
-abbrev pub IsTurn : Instr → Type 0
-IsTurn (Turn piece) = Unit {0}
-IsTurn _ = ⊥
+abbrev pub IsTurnInstr : Instr → Type 0
+IsTurnInstr (Turn piece) = Unit {0}
+IsTurnInstr _ = ⊥
 
 abbrev pub IsEndProc : Instr → Type 0
 IsEndProc EndProc = Unit {0}
@@ -42,11 +42,11 @@ Departs Exit = Unit {0}
 Departs _ = ⊥
 
 -- it names this number as its target, or as the place where the body of its loop begins
-abbrev pub Names : Instr → ℕ → Type 0
-Names (Jump to) target = to ≡ target
-Names (JumpIfZero to) target = to ≡ target
-Names (For n body) target = body ≡ target
-Names _ target = ⊥
+abbrev pub HasTarget : Instr → ℕ → Type 0
+HasTarget (Jump to) target = to ≡ target
+HasTarget (JumpIfZero to) target = to ≡ target
+HasTarget (For n body) target = body ≡ target
+HasTarget _ target = ⊥
 
 -- it brings the chain to this state, which has to be stable: the last state of a State, the state of a Stop, and both
 -- states of a Wait

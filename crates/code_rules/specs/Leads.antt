@@ -33,7 +33,7 @@ pub data MayLead (code : CodeLists) (chosen : List ℕ) (from to : ℕ) : Type 0
   begins_next : (p : ℕ) → Contains chosen p → IsEntryOf code p to → MayLead code chosen from to
 
 -- A valid code, of which these procedures are played. They exist.
-pub record IsPlayed (code : CodeLists) (chosen : List ℕ) : Type 0 where
+pub record ArePlayable (code : CodeLists) (chosen : List ℕ) : Type 0 where
   pub range : IsInRange code
   pub valid : IsValid code
   pub exist : AllBelow (length code.procedures) chosen
@@ -46,19 +46,19 @@ outcome_after code chosen variables k n =
 -- The first turn begins where the first chosen procedure does.
 abbrev pub FirstTurnsBegin : Type 0
 FirstTurnsBegin =
-    (code : CodeLists) (chosen : List ℕ) → IsPlayed code chosen → (variables : List Held) (k : Chain) (place : ℕ) →
+    (code : CodeLists) (chosen : List ℕ) → ArePlayable code chosen → (variables : List Held) (k : Chain) (place : ℕ) →
     outcome_after code chosen variables k 0 ≡ Going place →
     (p : ℕ) × (slice_get chosen 0 ≡ Some p) × IsEntryOf code p place
 
 -- Each turn begins at a Turn.
 abbrev pub TurnsBeginAtTurns : Type 0
 TurnsBeginAtTurns =
-    (code : CodeLists) (chosen : List ℕ) → IsPlayed code chosen → (variables : List Held) (k : Chain) (n place : ℕ) →
+    (code : CodeLists) (chosen : List ℕ) → ArePlayable code chosen → (variables : List Held) (k : Chain) (n place : ℕ) →
     outcome_after code chosen variables k n ≡ Going place → (piece : ℕ) × StandsAt code place (Turn piece)
 
 -- Each turn leads where it may.
 abbrev pub TurnsLeadWell : Type 0
 TurnsLeadWell =
-    (code : CodeLists) (chosen : List ℕ) → IsPlayed code chosen → (variables : List Held) (k : Chain) (n from to : ℕ) →
+    (code : CodeLists) (chosen : List ℕ) → ArePlayable code chosen → (variables : List Held) (k : Chain) (n from to : ℕ) →
     outcome_after code chosen variables k n ≡ Going from → outcome_after code chosen variables k (n + 1) ≡ Going to →
     MayLead code chosen from to

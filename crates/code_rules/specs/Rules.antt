@@ -12,7 +12,7 @@ use Rattle.stapl_code.specs.Machine.{Want, wants}
 use Rattle.stapl_code.specs.Ranges.{IsInRange}
 use Rattle.stapl_code.specs.Valid.{IsValid, NamesFirst}
 use Rattle.code_rules.specs.Places.{StandsAt, BeginsAt, IsOfPrologue, IsOfProcedure, EndsPart}
-use Rattle.code_rules.specs.Instructions.{IsTurn, IsEndProc, SetsUp, Empties, Departs, Names, WantsStable}
+use Rattle.code_rules.specs.Instructions.{IsTurnInstr, IsEndProc, SetsUp, Empties, Departs, HasTarget, WantsStable}
 use Rattle.code_rules.specs.KindMoves.{HasWanted, MovesKinds, KindsBefore}
 
 -- a Turn of the procedure of instruction i
@@ -31,7 +31,7 @@ pub data RuleBreak (code : CodeLists) (i : ℕ) (x : Instr) : Type 0 where
   left_by_prologue : (kinds after : List ValueKind) → IsOfPrologue code i → EndsPart code i →
       KindsBefore code i kinds → MovesKinds code.variables x kinds after → after ≢ [] → RuleBreak code i x
   -- A procedure begins with it, and it is no Turn.
-  begins_without_turn : BeginsAt code i → (IsTurn x → ⊥) → RuleBreak code i x
+  begins_without_turn : BeginsAt code i → (IsTurnInstr x → ⊥) → RuleBreak code i x
   -- A procedure ends with it, and it is no EndProc.
   ends_without_end : (entry : ℕ) → IsOfProcedure code entry i → EndsPart code i → (IsEndProc x → ⊥) → RuleBreak code i x
   -- It is an EndProc, and no procedure ends with it.
@@ -43,26 +43,26 @@ pub data RuleBreak (code : CodeLists) (i : ℕ) (x : Instr) : Type 0 where
   variable_of_other_kind : (want : Want) → Contains (wants x) want → (HasWanted code.variables want → ⊥) →
       RuleBreak code i x
   -- It is a Turn, and an operand is left before it.
-  left_before_turn : (kinds : List ValueKind) → IsTurn x → KindsBefore code i kinds → kinds ≢ [] → RuleBreak code i x
+  left_before_turn : (kinds : List ValueKind) → IsTurnInstr x → KindsBefore code i kinds → kinds ≢ [] → RuleBreak code i x
   -- An operand is left after it, and none may be.
   left_after : (kinds after : List ValueKind) → Empties x → KindsBefore code i kinds →
       MovesKinds code.variables x kinds after → after ≢ [] → RuleBreak code i x
   -- Its target is no Turn of the same procedure.
-  target_elsewhere : (to : ℕ) → Names x to → (IsTurnBeside code i to → ⊥) → RuleBreak code i x
+  target_elsewhere : (to : ℕ) → HasTarget x to → (IsTurnBeside code i to → ⊥) → RuleBreak code i x
   -- The instruction before it, in the same procedure, is one that a Turn follows, and it is no Turn.
   no_turn_follows : (entry before : ℕ) (departing : Instr) → before + 1 ≡ i → StandsAt code before departing →
-      Departs departing → IsOfProcedure code entry before → IsOfProcedure code entry i → (IsTurn x → ⊥) →
+      Departs departing → IsOfProcedure code entry before → IsOfProcedure code entry i → (IsTurnInstr x → ⊥) →
       RuleBreak code i x
   -- A state in which it leaves the chain is not stable.
   unstable_state : (t : Tap) → WantsStable x t → is_stable_state t ≡ false → RuleBreak code i x
 
--- A procedure begins at a number that no instruction has. This is told of the last instruction, or of number 0 if there
--- is none.
+-- A procedure begins at a number that no instruction has. The last instruction breaks this rule, or number 0 if there is
+-- no instruction.
 pub record BeginsPastTheEnd (code : CodeLists) (i : ℕ) : Type 0 where
   pub entry : ℕ
   pub begins : BeginsAt code entry
   pub past : length code.instrs ≤ entry
-  pub told : i ≡ length code.instrs - 1
+  pub last : i ≡ length code.instrs - 1
 
 -- Instruction i breaks a rule.
 pub data BreaksRule (code : CodeLists) (i : ℕ) : Type 0 where
