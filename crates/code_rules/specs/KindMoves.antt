@@ -1,4 +1,4 @@
--- What instructions do to the kinds of operands. Operands are a list whose end is its top. The rules are this profile's.
+-- What instructions do to the kinds of operands. The end of a list of kinds is its top. The rules are this profile's.
 use Rattle.std.specs.Prelude.{◌≡◌, ℕ, suc, List, [], ◌∷◌, ◌++◌, ◌⊎◌, Some, slice_get}
 use Rattle.stapl_meaning.specs.declared.values.ValueKind.{ValueKind}
 use Rattle.stapl_meaning.specs.declared.values.ValueKind.TheVariants.{Int, Bit}

@@ -59,6 +59,6 @@ TurnsBeginAtTurns =
 -- Each turn leads where it may.
 abbrev pub TurnsLeadWell : Type 0
 TurnsLeadWell =
-    (code : CodeLists) (chosen : List ℕ) → ArePlayable code chosen → (variables : List Held) (k : Chain) (n from to : ℕ) →
-    outcome_after code chosen variables k n ≡ Going from → outcome_after code chosen variables k (n + 1) ≡ Going to →
-    MayLead code chosen from to
+    (code : CodeLists) (chosen : List ℕ) → ArePlayable code chosen → (variables : List Held) (k : Chain) →
+    (n from to : ℕ) → outcome_after code chosen variables k n ≡ Going from →
+    outcome_after code chosen variables k (n + 1) ≡ Going to → MayLead code chosen from to

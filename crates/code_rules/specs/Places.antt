@@ -1,5 +1,5 @@
--- Where the instructions of a code are: in the prologue, or in a procedure. Instructions are told by their numbers, from
--- 0. The rules are this profile's.
+-- Where the instructions of a code are: in the prologue, or in a procedure. Instructions are told by their numbers,
+-- from 0. The rules are this profile's.
 use Rattle.std.specs.Prelude.{◌≡◌, ℕ, ◌+◌, ◌<◌, ◌≤◌, ◌⊎◌, length, Some, slice_get}
 use Rattle.stapl_code.specs.declared.raw.CodeLists.{CodeLists}
 use Rattle.stapl_code.specs.declared.instr.Instr.{Instr}

@@ -1,5 +1,5 @@
--- Which instructions of a code break a rule, with one case for each rule, and the first one that does. It says without a
--- search which codes are valid. The rules are this profile's.
+-- Which instructions of a code break a rule, with one case for each rule, and the first one that does. It says without
+-- a search which codes are valid. The rules are this profile's.
 use Rattle.std.specs.Prelude.{◌≡◌, ◌≢◌, ℕ, ◌+◌, ◌-◌, ◌<◌, ◌≤◌, ◌↔◌, false, List, [], length, Contains}
 use Rattle.tap_states.specs.declared.Tap.{Tap}
 use Rattle.tap_states.specs.Tap.{is_stable_state}
@@ -43,7 +43,8 @@ pub data RuleBreak (code : CodeLists) (i : ℕ) (x : Instr) : Type 0 where
   variable_of_other_kind : (want : Want) → Contains (wants x) want → (HasWanted code.variables want → ⊥) →
       RuleBreak code i x
   -- It is a Turn, and an operand is left before it.
-  left_before_turn : (kinds : List ValueKind) → IsTurnInstr x → KindsBefore code i kinds → kinds ≢ [] → RuleBreak code i x
+  left_before_turn : (kinds : List ValueKind) → IsTurnInstr x → KindsBefore code i kinds → kinds ≢ [] →
+      RuleBreak code i x
   -- An operand is left after it, and none may be.
   left_after : (kinds after : List ValueKind) → Empties x → KindsBefore code i kinds →
       MovesKinds code.variables x kinds after → after ≢ [] → RuleBreak code i x
@@ -56,8 +57,8 @@ pub data RuleBreak (code : CodeLists) (i : ℕ) (x : Instr) : Type 0 where
   -- A state in which it leaves the chain is not stable.
   unstable_state : (t : Tap) → WantsStable x t → is_stable_state t ≡ false → RuleBreak code i x
 
--- A procedure begins at a number that no instruction has. The last instruction breaks this rule, or number 0 if there is
--- no instruction.
+-- A procedure begins at a number that no instruction has. The last instruction breaks this rule, or number 0 if there
+-- is no instruction.
 pub record BeginsPastTheEnd (code : CodeLists) (i : ℕ) : Type 0 where
   pub entry : ℕ
   pub begins : BeginsAt code entry
