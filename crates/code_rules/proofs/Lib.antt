@@ -1,0 +1,13 @@
+pub mod InstructionTests
+pub mod KindLemmas
+pub mod RangeLemmas
+pub mod PartLemmas
+pub mod KindBreaks
+pub mod SearchSteps
+pub mod ProcedureBreaks
+pub mod PrologueBreaks
+pub mod FirstBreaks
+pub mod ValidFacts
+pub mod KeptRecords
+pub mod StepLeads
+pub mod PlayLeads
