@@ -1,0 +1,110 @@
+-- The faults of a statement without its inner statement, by the table of faults. Source: JESD71, statements. Which
+-- faults there are, their limits and their order are this profile's rules. The effect of a statement breaks only if all
+-- its parts have values, and each case says so by the values of the parts.
+use Rattle.std.specs.Prelude.{◌≡◌, ◌≢◌, ℕ, ℤ, pos, ◌<◌, ◌≤◌, ◌<ℤ◌, true, List, [], ◌∷◌, length, Option, Some, None}
+use Rattle.stapl_lexer.specs.declared.terminal.Padding.{Padding}
+use Rattle.stapl_lexer.specs.declared.terminal.Register.{Register}
+use Rattle.stapl_syntax.specs.Kinds.{expr_kind}
+use Rattle.stapl_syntax.specs.Trees.{ExprTree, scalar, element, ArrayTree, whole, range, CompareTree, BodyTree, assign_array, assign_range, call, for_loop, next, push, pop, scan, pad, wait_cycles, wait_usec, frequency}
+use Rattle.tap_states.specs.Tap.{is_stable_state}
+use Rattle.stapl_meaning.specs.declared.events.RunFault.{RunFault}
+use Rattle.stapl_meaning.specs.declared.events.RunFault.TheVariants.{LengthMismatch, BadLength, BadCount, ZeroStep, NoRecord, RecordsFull}
+use Rattle.stapl_meaning.specs.declared.records.Loop.{Loop}
+use Rattle.stapl_meaning.specs.declared.records.Record.{Record}
+use Rattle.stapl_meaning.specs.declared.records.Record.TheVariants.{Pushed, Called, Looped}
+use Rattle.stapl_meaning.specs.declared.values.Value.{Value}
+use Rattle.stapl_meaning.specs.Values.{Known, value_of}
+use Rattle.stapl_meaning.specs.Operands.{printed_kind, step_or_one}
+use Rattle.stapl_meaning.specs.States.{State}
+use Rattle.stapl_meaning.specs.Scopes.{Scope}
+use Rattle.stapl_meaning.specs.Turns.{tap_or_idle}
+use Rattle.fault_laws.specs.Limits.{IsOutside}
+use Rattle.fault_laws.specs.ExprFaults.{IsInteger}
+use Rattle.fault_laws.specs.PartFaults.{an_index, scan_arrays, padding_arrays, result_parts, written_parts, PartsAre, PartsBreak, HasBits, IsShort, AreThere, OneIsShort}
+
+-- the topmost record is no value, or there is none
+pub data HasNoValue : List Record → Type 0 where
+  nothing_there : HasNoValue []
+  call_on_top : {place : ℕ} {records : List Record} → HasNoValue (Called place ∷ records)
+  loop_on_top : {l : Loop} {records : List Record} → HasNoValue (Looped l ∷ records)
+
+-- from the top down only loops of other variables, and then a value, a CALL or nothing
+pub data HasNoLoop (variable : ℕ) : List Record → Type 0 where
+  nothing_left : HasNoLoop variable []
+  value_above : {z : ℤ} {records : List Record} → HasNoLoop variable (Pushed z ∷ records)
+  call_above : {place : ℕ} {records : List Record} → HasNoLoop variable (Called place ∷ records)
+  other_loop : {l : Loop} {records : List Record} → l.variable ≢ variable → HasNoLoop variable records →
+      HasNoLoop variable (Looped l ∷ records)
+
+module _ (scope : Scope) (s : State) where
+  -- the value of an expression of this statement is this integer
+  abbrev pub Is : ExprTree → ℤ → Type 0
+  Is e z = IsInteger scope.look s.store.variables e z
+
+  -- an expression that is left out, or has an integer
+  pub data IsGiven : Option ExprTree → Type 0 where
+    left_out : IsGiven None
+    written_down : {e : ExprTree} (z : ℤ) → Is e z → IsGiven (Some e)
+
+  -- the state of a WAIT is one in which a chain may stay, as it is in each program
+  abbrev pub StaysIn : Option ℕ → Type 0
+  StaysIn state = is_stable_state (tap_or_idle state) ≡ true
+
+  -- the stack holds as many records as it may
+  abbrev pub IsFull : Type 0
+  IsFull = 16384 ≤ length s.records
+
+  pub data RowBreaks : BodyTree → RunFault → Type 0 where
+    -- a part breaks: an expression, an index, a range or the number of a character
+    of_parts : {b : BodyTree} {k : RunFault} → PartsBreak scope.look s.store.variables (written_parts scope.look b) k → RowBreaks b k
+
+    -- LengthMismatch: what is assigned to an array or to a range has fewer bits
+    array_short : {name : List ℕ} {a : ArrayTree} (n : ℕ) → HasBits scope.look s.store.variables (whole name) n →
+        IsShort scope.look s.store.variables a n → RowBreaks (assign_array name a) LengthMismatch
+    range_short : {name : List ℕ} {high low : ExprTree} {a : ArrayTree} (n : ℕ) →
+        HasBits scope.look s.store.variables (range name high low) n → IsShort scope.look s.store.variables a n →
+        RowBreaks (assign_range name high low a) LengthMismatch
+
+    -- ZeroStep, and then RecordsFull
+    zero_step : {name : List ℕ} {from to : ExprTree} {step : Option ExprTree} (first limit : ℤ) → Is from first → Is to limit →
+        Is (step_or_one step) (pos 0) → RowBreaks (for_loop name from to step) ZeroStep
+    full_for : {name : List ℕ} {from to : ExprTree} {step : Option ExprTree} (first limit z : ℤ) → Is from first →
+        Is to limit → Is (step_or_one step) z → z ≢ pos 0 → IsFull → RowBreaks (for_loop name from to step) RecordsFull
+    full_push : {e : ExprTree} (v : Value) →
+        value_of scope.look s.store.variables (printed_kind (expr_kind scope.look.kind e)) e ≡ Known v → IsFull →
+        RowBreaks (push e) RecordsFull
+    full_call : {name : List ℕ} → IsFull → RowBreaks (call name) RecordsFull
+
+    -- NoRecord
+    no_loop : {name : List ℕ} → HasNoLoop (scope.look.variable name) s.records → RowBreaks (next name) NoRecord
+    no_value : {name : List ℕ} → HasNoValue s.records → RowBreaks (pop (scalar name)) NoRecord
+    no_value_for_element : {name : List ℕ} {index : ExprTree} (values : List Value) →
+        PartsAre scope.look s.store.variables (an_index name index ∷ []) values → HasNoValue s.records →
+        RowBreaks (pop (element name index)) NoRecord
+
+    -- BadCount: of clocks, then of microseconds, and of hertz
+    bad_cycles : {state last : Option ℕ} {cycles : ExprTree} {usec : Option ExprTree} (n : ℤ) → StaysIn state → Is cycles n →
+        IsGiven usec → IsOutside (pos 0) (pos 16777216) n → RowBreaks (wait_cycles state cycles usec last) BadCount
+    bad_usec : {state last : Option ℕ} {cycles usec : ExprTree} (n : ℕ) (m : ℤ) → StaysIn state → Is cycles (pos n) →
+        n ≤ 16777216 → Is usec m → m <ℤ pos 0 → RowBreaks (wait_cycles state cycles (Some usec) last) BadCount
+    bad_usec_alone : {state last : Option ℕ} {usec : ExprTree} (m : ℤ) → StaysIn state → Is usec m → m <ℤ pos 0 →
+        RowBreaks (wait_usec state usec last) BadCount
+    bad_hertz : {hertz : ExprTree} (n : ℤ) → Is hertz n → n <ℤ pos 1 → RowBreaks (frequency (Some hertz)) BadCount
+
+    -- BadLength, and then LengthMismatch: of a scan
+    bad_scan : {register : Register} {count : ExprTree} {source : ArrayTree} {target : Option ArrayTree} {compare : Option CompareTree}
+        (z : ℤ) (values : List Value) → Is count z → AreThere scope.look s.store.variables (scan_arrays source target compare) →
+        PartsAre scope.look s.store.variables (result_parts compare) values → IsOutside (pos 1) (pos 4194304) z →
+        RowBreaks (scan register count source target compare) BadLength
+    scan_short : {register : Register} {count : ExprTree} {source : ArrayTree} {target : Option ArrayTree} {compare : Option CompareTree}
+        (n : ℕ) (values : List Value) → Is count (pos n) → AreThere scope.look s.store.variables (scan_arrays source target compare) →
+        PartsAre scope.look s.store.variables (result_parts compare) values → 1 ≤ n → n ≤ 4194304 →
+        OneIsShort scope.look s.store.variables n (scan_arrays source target compare) →
+        RowBreaks (scan register count source target compare) LengthMismatch
+
+    -- the same of a padding
+    bad_padding : {which : Padding} {count : ExprTree} {bits : Option ArrayTree} (z : ℤ) → Is count z →
+        AreThere scope.look s.store.variables (padding_arrays bits) → IsOutside (pos 0) (pos 65536) z →
+        RowBreaks (pad which count bits) BadLength
+    padding_short : {which : Padding} {count : ExprTree} {a : ArrayTree} (n : ℕ) → Is count (pos n) → n ≤ 65536 →
+        IsShort scope.look s.store.variables a n → RowBreaks (pad which count (Some a)) LengthMismatch
