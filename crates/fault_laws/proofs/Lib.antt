@@ -1,0 +1,4 @@
+pub mod Gets
+pub mod LimitLemmas
+pub mod ExprLemmas
+pub mod PartLemmas

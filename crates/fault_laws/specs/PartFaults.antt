@@ -19,21 +19,21 @@ use Rattle.fault_laws.specs.ExprFaults.{size_of, bit_count, held_by, IsInteger, 
 -- An expression of which a value of a kind is wanted; the number of a character in CHR$; an index of the array of a
 -- name; or an array, of which a range has two indexes.
 pub data Part : Type 0 where
-  a_value : ValueKind → ExprTree → Part
-  a_character : ExprTree → Part
-  an_index : (name : List ℕ) → ExprTree → Part
-  an_array : ArrayTree → Part
+  value_part : ValueKind → ExprTree → Part
+  character_part : ExprTree → Part
+  index_part : (name : List ℕ) → ExprTree → Part
+  array_part : ArrayTree → Part
 
 -- an expression that may be left out
 abbrev pub given_part : Option ExprTree → List Part
 given_part None = []
-given_part (Some e) = a_value kinds.Int e ∷ []
+given_part (Some e) = value_part kinds.Int e ∷ []
 
 abbrev pub printed_parts : Lookup → List PartTree → List Part
 printed_parts look [] = []
 printed_parts look (string bytes ∷ parts) = printed_parts look parts
-printed_parts look (value e ∷ parts) = a_value (printed_kind (expr_kind look.kind e)) e ∷ printed_parts look parts
-printed_parts look (character e ∷ parts) = a_character e ∷ printed_parts look parts
+printed_parts look (value e ∷ parts) = value_part (printed_kind (expr_kind look.kind e)) e ∷ printed_parts look parts
+printed_parts look (character e ∷ parts) = character_part e ∷ printed_parts look parts
 
 -- The arrays of a scan: its data, where captured bits go, and the expected bits and the mask of a comparison. Other
 -- trees stand there in no program.
@@ -52,7 +52,7 @@ scan_arrays source target compare = source ∷ (target_arrays target ++ compared
 
 -- the index of the element that takes the result of a comparison
 abbrev pub result_parts : Option CompareTree → List Part
-result_parts (Some (expected, (mask, element name index))) = an_index name index ∷ []
+result_parts (Some (expected, (mask, element name index))) = index_part name index ∷ []
 result_parts _ = []
 
 -- the array of a padding, which may be left out
@@ -62,26 +62,26 @@ padding_arrays (Some a) = a ∷ []
 
 -- the parts of a statement, in the written order
 abbrev pub written_parts : Lookup → BodyTree → List Part
-written_parts look (boolean name (Some b)) = a_value kinds.Bit (number (bit_number b)) ∷ []
-written_parts look (integer name (Some z)) = a_value kinds.Int (number z) ∷ []
-written_parts look (assign name e) = a_value (given_kind (look.kind name)) e ∷ []
-written_parts look (assign_element name index e) = an_index name index ∷ a_value (given_kind (look.kind name)) e ∷ []
-written_parts look (assign_array name a) = an_array a ∷ []
-written_parts look (assign_range name high low a) = an_array (range name high low) ∷ an_array a ∷ []
-written_parts look (if_then e body) = a_value kinds.Bit e ∷ []
+written_parts look (boolean name (Some b)) = value_part kinds.Bit (number (bit_number b)) ∷ []
+written_parts look (integer name (Some z)) = value_part kinds.Int (number z) ∷ []
+written_parts look (assign name e) = value_part (given_kind (look.kind name)) e ∷ []
+written_parts look (assign_element name index e) = index_part name index ∷ value_part (given_kind (look.kind name)) e ∷ []
+written_parts look (assign_array name a) = array_part a ∷ []
+written_parts look (assign_range name high low a) = array_part (range name high low) ∷ array_part a ∷ []
+written_parts look (if_then e body) = value_part kinds.Bit e ∷ []
 written_parts look (for_loop name from to step) =
-    a_value kinds.Int from ∷ a_value kinds.Int to ∷ a_value kinds.Int (step_or_one step) ∷ []
-written_parts look (push e) = a_value (printed_kind (expr_kind look.kind e)) e ∷ []
-written_parts look (pop (element name index)) = an_index name index ∷ []
+    value_part kinds.Int from ∷ value_part kinds.Int to ∷ value_part kinds.Int (step_or_one step) ∷ []
+written_parts look (push e) = value_part (printed_kind (expr_kind look.kind e)) e ∷ []
+written_parts look (pop (element name index)) = index_part name index ∷ []
 written_parts look (print parts) = printed_parts look parts
-written_parts look (export key (exported_value e)) = a_value (printed_kind (expr_kind look.kind e)) e ∷ []
-written_parts look (export key (exported_array a)) = an_array a ∷ []
-written_parts look (exit e) = a_value kinds.Int e ∷ []
+written_parts look (export key (exported_value e)) = value_part (printed_kind (expr_kind look.kind e)) e ∷ []
+written_parts look (export key (exported_array a)) = array_part a ∷ []
+written_parts look (exit e) = value_part kinds.Int e ∷ []
 written_parts look (scan register count source target compare) =
-    a_value kinds.Int count ∷ (map an_array (scan_arrays source target compare) ++ result_parts compare)
-written_parts look (pad which count bits) = a_value kinds.Int count ∷ map an_array (padding_arrays bits)
-written_parts look (wait_cycles state cycles usec last) = a_value kinds.Int cycles ∷ given_part usec
-written_parts look (wait_usec state usec last) = a_value kinds.Int usec ∷ []
+    value_part kinds.Int count ∷ (map array_part (scan_arrays source target compare) ++ result_parts compare)
+written_parts look (pad which count bits) = value_part kinds.Int count ∷ map array_part (padding_arrays bits)
+written_parts look (wait_cycles state cycles usec last) = value_part kinds.Int cycles ∷ given_part usec
+written_parts look (wait_usec state usec last) = value_part kinds.Int usec ∷ []
 written_parts look (frequency hertz) = given_part hertz
 written_parts look _ = []
 
@@ -98,12 +98,12 @@ module _ (look : Lookup) (variables : List Held) where
   -- a part that breaks nothing, and its values
   pub data PartIs : Part → List Value → Type 0 where
     value_is : {kind : ValueKind} {e : ExprTree} (v : Value) → value_of look variables kind e ≡ Known v →
-        PartIs (a_value kind e) (v ∷ [])
+        PartIs (value_part kind e) (v ∷ [])
     character_is : {e : ExprTree} (n : ℕ) → IsInteger look variables e (pos n) → n ≤ 255 →
-        PartIs (a_character e) (Int (pos n) ∷ [])
+        PartIs (character_part e) (Int (pos n) ∷ [])
     index_is : {name : List ℕ} {e : ExprTree} (i size : ℕ) → IsInteger look variables e (pos i) →
-        size_of (held_by look variables name) ≡ Some size → i < size → PartIs (an_index name e) (Int (pos i) ∷ [])
-    array_is : {a : ArrayTree} {vs : List Value} → ArrayIs a vs → PartIs (an_array a) vs
+        size_of (held_by look variables name) ≡ Some size → i < size → PartIs (index_part name e) (Int (pos i) ∷ [])
+    array_is : {a : ArrayTree} {vs : List Value} → ArrayIs a vs → PartIs (array_part a) vs
 
   -- parts that break nothing, and their values
   pub data PartsAre : List Part → List Value → Type 0 where
@@ -112,15 +112,15 @@ module _ (look : Lookup) (variables : List Held) where
 
   -- the fault of a part: that of its expression, and then its own
   pub data PartBreaks : Part → RunFault → Type 0 where
-    of_value : {kind : ValueKind} {e : ExprTree} {k : RunFault} → ExprBreaks look variables kind e k → PartBreaks (a_value kind e) k
-    of_character : {e : ExprTree} {k : RunFault} → ExprBreaks look variables kinds.Int e k → PartBreaks (a_character e) k
+    of_value : {kind : ValueKind} {e : ExprTree} {k : RunFault} → ExprBreaks look variables kind e k → PartBreaks (value_part kind e) k
+    of_character : {e : ExprTree} {k : RunFault} → ExprBreaks look variables kinds.Int e k → PartBreaks (character_part e) k
     no_character : {e : ExprTree} (z : ℤ) → IsInteger look variables e z → IsOutside (pos 0) (pos 255) z →
-        PartBreaks (a_character e) BadChar
+        PartBreaks (character_part e) BadChar
     of_target_index : {name : List ℕ} {e : ExprTree} {k : RunFault} → ExprBreaks look variables kinds.Int e k →
-        PartBreaks (an_index name e) k
+        PartBreaks (index_part name e) k
     target_outside : {name : List ℕ} {e : ExprTree} (z : ℤ) (size : ℕ) → IsInteger look variables e z →
-        size_of (held_by look variables name) ≡ Some size → IsNoIndex size z → PartBreaks (an_index name e) IndexOutOfRange
-    of_part_array : {a : ArrayTree} {k : RunFault} → ArrayBreaks look variables a k → PartBreaks (an_array a) k
+        size_of (held_by look variables name) ≡ Some size → IsNoIndex size z → PartBreaks (index_part name e) IndexOutOfRange
+    of_part_array : {a : ArrayTree} {k : RunFault} → ArrayBreaks look variables a k → PartBreaks (array_part a) k
 
   -- the fault of the first part that has one, if all parts before it break nothing
   pub data PartsBreak : List Part → RunFault → Type 0 where
@@ -146,11 +146,12 @@ module _ (look : Lookup) (variables : List Held) where
     pub has : HasBits a bits
     pub fewer : bits < asked
 
-  -- the same of all arrays, and of one of them
+  -- all arrays have bits
   pub data AreThere : List ArrayTree → Type 0 where
     no_array : AreThere []
     more_arrays : {a : ArrayTree} {rest : List ArrayTree} → IsThere a → AreThere rest → AreThere (a ∷ rest)
 
+  -- one of these arrays has fewer bits than are asked of it, and all others have bits
   pub data OneIsShort (asked : ℕ) : List ArrayTree → Type 0 where
-    this_short : {a : ArrayTree} {rest : List ArrayTree} → IsShort a asked → OneIsShort asked (a ∷ rest)
-    later_short : {a : ArrayTree} {rest : List ArrayTree} → OneIsShort asked rest → OneIsShort asked (a ∷ rest)
+    this_short : {a : ArrayTree} {rest : List ArrayTree} → IsShort a asked → AreThere rest → OneIsShort asked (a ∷ rest)
+    later_short : {a : ArrayTree} {rest : List ArrayTree} → IsThere a → OneIsShort asked rest → OneIsShort asked (a ∷ rest)

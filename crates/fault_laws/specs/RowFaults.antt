@@ -20,7 +20,7 @@ use Rattle.stapl_meaning.specs.Scopes.{Scope}
 use Rattle.stapl_meaning.specs.Turns.{tap_or_idle}
 use Rattle.fault_laws.specs.Limits.{IsOutside}
 use Rattle.fault_laws.specs.ExprFaults.{IsInteger}
-use Rattle.fault_laws.specs.PartFaults.{an_index, scan_arrays, padding_arrays, result_parts, written_parts, PartsAre, PartsBreak, HasBits, IsShort, AreThere, OneIsShort}
+use Rattle.fault_laws.specs.PartFaults.{index_part, scan_arrays, padding_arrays, result_parts, written_parts, PartsAre, PartsBreak, HasBits, IsShort, AreThere, OneIsShort}
 
 -- the topmost record is no value, or there is none
 pub data HasNoValue : List Record → Type 0 where
@@ -79,7 +79,7 @@ module _ (scope : Scope) (s : State) where
     no_loop : {name : List ℕ} → HasNoLoop (scope.look.variable name) s.records → RowBreaks (next name) NoRecord
     no_value : {name : List ℕ} → HasNoValue s.records → RowBreaks (pop (scalar name)) NoRecord
     no_value_for_element : {name : List ℕ} {index : ExprTree} (values : List Value) →
-        PartsAre scope.look s.store.variables (an_index name index ∷ []) values → HasNoValue s.records →
+        PartsAre scope.look s.store.variables (index_part name index ∷ []) values → HasNoValue s.records →
         RowBreaks (pop (element name index)) NoRecord
 
     -- BadCount: of clocks, then of microseconds, and of hertz
@@ -97,7 +97,7 @@ module _ (scope : Scope) (s : State) where
         PartsAre scope.look s.store.variables (result_parts compare) values → IsOutside (pos 1) (pos 4194304) z →
         RowBreaks (scan register count source target compare) BadLength
     scan_short : {register : Register} {count : ExprTree} {source : ArrayTree} {target : Option ArrayTree} {compare : Option CompareTree}
-        (n : ℕ) (values : List Value) → Is count (pos n) → AreThere scope.look s.store.variables (scan_arrays source target compare) →
+        (n : ℕ) (values : List Value) → Is count (pos n) →
         PartsAre scope.look s.store.variables (result_parts compare) values → 1 ≤ n → n ≤ 4194304 →
         OneIsShort scope.look s.store.variables n (scan_arrays source target compare) →
         RowBreaks (scan register count source target compare) LengthMismatch

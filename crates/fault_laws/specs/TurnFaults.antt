@@ -4,7 +4,7 @@ use Rattle.std.specs.Prelude.{◌≡◌, ◌+◌, ℕ, Bool, true, List, [], Som
 use Rattle.stapl_syntax.specs.Trees.{ExprTree, BodyTree, if_then, StmtTree}
 use Rattle.stapl_meaning.specs.Deeds.{Deed}
 use Rattle.stapl_meaning.specs.declared.events.RunFault.{RunFault}
-use Rattle.stapl_meaning.specs.declared.events.Ending.TheVariants.{Exit, Fault}
+use Rattle.stapl_meaning.specs.declared.events.Ending.TheVariants.{Exit, Fault, Spent}
 use Rattle.stapl_meaning.specs.declared.values.ValueKind.TheVariants as kinds
 use Rattle.stapl_meaning.specs.declared.values.Value.TheVariants.{Bit}
 use Rattle.stapl_meaning.specs.Values.{Known, value_of}
@@ -37,6 +37,7 @@ pub record EndsByTable (program : Played) (i : ℕ) (s : State) (deeds : List De
 abbrev pub NeverFaults : Turned → Type 0
 NeverFaults (Leads deeds place s) = Unit {0}
 NeverFaults (Over deeds (Exit z) s) = Unit {0}
+NeverFaults (Over deeds Spent s) = Unit {0}
 NeverFaults (Over deeds (Fault k piece) s) = ⊥
 NeverFaults (Broken deeds k s) = ⊥
 NeverFaults (Scanning deeds scan rest) = (bits : List Bool) → NeverFaults (rest bits)

@@ -1,0 +1,8 @@
+use Rattle.fault_laws.proofs.PartLemmas.{parts_give, operands_are, parts_known, parts_fault}
+use Rattle.fault_laws.proofs.laws.turns_break_by_the_table.Goals as goal
+
+pub returns-clause-breaks : goal.returns-clause-breaks
+returns-clause-breaks c = ?
+
+pub returns-clause-only : goal.returns-clause-only
+returns-clause-only c = ?
