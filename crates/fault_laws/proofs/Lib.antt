@@ -3,3 +3,5 @@ pub mod LimitLemmas
 pub mod ExprLemmas
 pub mod PartLemmas
 pub mod ArrayLemmas
+pub mod EffectLemmas
+pub mod ScanLemmas

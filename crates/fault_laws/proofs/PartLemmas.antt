@@ -293,7 +293,7 @@ module _ (look : Lookup) (variables : List Held) where
   character_faults : (z : ℤ) → IsOutside (pos 0) (pos 255) z → character_of (Int z) ≡ Faults BadChar
   character_faults z out = let e : is_index z 256 ≡ false = not_outside 255 z out in ap (λ t. passed t BadChar (Int z)) e
 
-  index_known : (o : Option Held) (i size : ℕ) → size_of o ≡ Some size → i < size → index_held o (Int (pos i)) ≡ Known (Int (pos i))
+  pub index_known : (o : Option Held) (i size : ℕ) → size_of o ≡ Some size → i < size → index_held o (Int (pos i)) ≡ Known (Int (pos i))
   index_known None i size sized inside = absurd cc
   index_known (Some (held.Int z)) i size sized inside = absurd cc
   index_known (Some (held.Bit b)) i size sized inside = absurd cc
