@@ -5,3 +5,4 @@ pub mod PartLemmas
 pub mod ArrayLemmas
 pub mod EffectLemmas
 pub mod ScanLemmas
+pub mod ScanFaultLemmas

@@ -36,10 +36,10 @@ length_gives P least most (pos n) p = by (int_le (pos least) (pos n) && int_le (
     by true e = let t = both least most n e in (refl, t.0, t.1)
     by false e = p (outside_both least most (pos n) e)
 
-length_faults : (least most : ℕ) (z : ℤ) → IsOutside (pos least) (pos most) z → length_between least most z ≡ Faults BadLength
+pub length_faults : (least most : ℕ) (z : ℤ) → IsOutside (pos least) (pos most) z → length_between least most z ≡ Faults BadLength
 length_faults least most z out = ap (λ t. passed t BadLength (nat_abs z)) (not_both least most z out)
 
-length_known : (least most n : ℕ) → least ≤ n → n ≤ most → length_between least most (pos n) ≡ Known n
+pub length_known : (least most n : ℕ) → least ≤ n → n ≤ most → length_between least most (pos n) ≡ Known n
 length_known least most n a b = ap (λ t. passed t BadLength n) (is_between least most n a b)
 
 -- ---- lists of arrays
@@ -134,11 +134,11 @@ module _ (look : Lookup) (variables : List Held) where
     pub there : AreThere look variables (target_arrays target)
     pub shorts : (n : ℕ) → Breaks (Shorts n (target_arrays target)) (target_asked n place)
 
-  abbrev width_of : Option ArrayTree → ℕ
+  abbrev pub width_of : Option ArrayTree → ℕ
   width_of target = target_width (given_target look target)
 
   -- a part of an array as a target
-  abbrev in_array : List ℕ → Span → Option Place
+  abbrev pub in_array : List ℕ → Span → Option Place
   in_array name span = Some (record { array = look.variable name; span = span })
 
   target_gives : (P : RunFault → Type 0) (target : Option ArrayTree) (compared : List ArrayTree) (result : List Part) (ws : List Value) →
@@ -183,17 +183,17 @@ module _ (look : Lookup) (variables : List Held) where
 
   -- ---- what a scan compares with
 
-  abbrev parts_of : ArrayTree → ArrayTree → CellPart → CompareParts
+  abbrev pub parts_of : ArrayTree → ArrayTree → CellPart → CompareParts
   parts_of expected mask cell = record { expected = source_of look expected; mask = source_of look mask; cell = cell }
 
   -- a comparison, by the values of its three parts
-  abbrev compared_by : ArrayTree → ArrayTree → CellPart → (xs ys zs : List Value) → Got Comparison
+  abbrev pub compared_by : ArrayTree → ArrayTree → CellPart → (xs ys zs : List Value) → Got Comparison
   compared_by expected mask cell xs ys zs =
       then_get (source_bits variables (source_of look expected) xs) (λ e.
       then_get (source_bits variables (source_of look mask) ys) (λ m.
       then_get (cell_found variables cell zs) (λ c. Known (record { expected = e; mask = m; cell = c }))))
 
-  comparison_is : {expected mask : ArrayTree} {us vs : List Value} (cell : CellPart) → ArrayIs look variables expected us →
+  pub comparison_is : {expected mask : ArrayTree} {us vs : List Value} (cell : CellPart) → ArrayIs look variables expected us →
       ArrayIs look variables mask vs → (cs : List Value) →
       comparison_found variables (parts_of expected mask cell) (us ++ (vs ++ cs)) ≡ compared_by expected mask cell us vs cs
   comparison_is {expected = expected} {mask = mask} {us = us} {vs = vs} cell is_e is_m cs =
@@ -280,20 +280,20 @@ module _ (look : Lookup) (variables : List Held) where
   -- ---- whole scans
 
   module _ (register : Register) (source : ArrayTree) (target : Option ArrayTree) (compare : Option CompareTree) where
-    abbrev parts : ScanParts
+    abbrev pub parts : ScanParts
     parts = scan_parts look register source target compare
 
-    abbrev after_source : List Bool → (xs ys : List Value) → Got Found
+    abbrev pub after_source : List Bool → (xs ys : List Value) → Got Found
     after_source data_bits xs ys =
         then_get (target_found variables (given_target look target) xs) (λ place.
         then_get (compare_found variables (compare_parts look compare) ys) (λ found.
         Known (record { data_bits = data_bits; target = place; compare = found })))
 
-    abbrev found_by : (us ws : List Value) → Got Found
+    abbrev pub found_by : (us ws : List Value) → Got Found
     found_by us ws =
         then_get (source_bits variables (source_of look source) us) (λ data_bits. after_source data_bits (take (width_of target) ws) (drop (width_of target) ws))
 
-    found_is : {us : List Value} → ArrayIs look variables source us → (ws : List Value) → scan_found variables parts (us ++ ws) ≡ found_by us ws
+    pub found_is : {us : List Value} → ArrayIs look variables source us → (ws : List Value) → scan_found variables parts (us ++ ws) ≡ found_by us ws
     found_is {us = us} is ws = ap₂ found_by (array_front look variables is ws) (array_back look variables is ws)
 
     pub record FoundFits (found : Found) : Type 0 where
@@ -302,7 +302,7 @@ module _ (look : Lookup) (variables : List Held) where
       pub target_fits : TargetFits target found.target
       pub compare_fits : CompareFits compare found.compare
 
-    found_gives : (P : RunFault → Type 0) (vs : List Value) →
+    pub found_gives : (P : RunFault → Type 0) (vs : List Value) →
         PartsAre look variables (map array_part (scan_arrays source target compare) ++ result_parts compare) vs →
         Gives FoundFits P (scan_found variables parts vs)
     found_gives P _ (more_parts {us = us} {vs = ws} (array_is is) rest) =
@@ -325,7 +325,7 @@ module _ (look : Lookup) (variables : List Held) where
                 compare_fits = compare_fits;
               }))))
 
-    all_there : (found : Found) → FoundFits found → AreThere look variables (scan_arrays source target compare)
+    pub all_there : (found : Found) → FoundFits found → AreThere look variables (scan_arrays source target compare)
     all_there found f = more_arrays f.there (both_there f.target_fits.there f.compare_fits.there)
 
     pub asked_does : (P : RunFault → Type 0) (found : Found) (s : State) (n : ℕ) → FoundFits found →
