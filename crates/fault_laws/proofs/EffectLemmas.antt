@@ -352,6 +352,16 @@ module _ (P : RunFault → Type 0) where
       by true e = tt
       by false e = p (outside 16777216 z e)
 
+  -- the same, with the number of clocks
+  pub cycles_give : (z : ℤ) → (IsOutside (pos 0) (pos 16777216) z → P BadCount) →
+      Gives (λ c. (x : ℕ) × (z ≡ pos x) × (x ≤ 16777216)) P (cycles_of z)
+  cycles_give (negsuc n) p = p (outside 16777216 (negsuc n) refl)
+  cycles_give (pos n) p = by (nat_lt n 16777217) refl
+    where
+      by : (t : Bool) → nat_lt n 16777217 ≡ t → Gives (λ c. (x : ℕ) × (pos n ≡ pos x) × (x ≤ 16777216)) P (passed t BadCount n)
+      by true e = let few : n < 16777217 = ltb-true n 16777217 e in (n, refl, omega (arith, few))
+      by false e = p (outside 16777216 (pos n) e)
+
   pub usec_breaks : (z : ℤ) → (z <ℤ pos 0 → P BadCount) → Breaks P (usec_of z)
   usec_breaks (pos n) p = by (nat_le 0 n) refl
     where

@@ -6,3 +6,4 @@ pub mod ArrayLemmas
 pub mod EffectLemmas
 pub mod ScanLemmas
 pub mod ScanFaultLemmas
+pub mod RowLemmas
