@@ -7,3 +7,4 @@ pub mod EffectLemmas
 pub mod ScanLemmas
 pub mod ScanFaultLemmas
 pub mod RowLemmas
+pub mod RowFaultLemmas

@@ -67,7 +67,7 @@ module _ (look : Lookup) (variables : List Held) where
       (k : RunFault) → Shorts n arrays k → P k
   shorts_as P n arrays p k h = subst P (sym h.0) (p h.1)
 
-  alone : {a : ArrayTree} {vs : List Value} → ArrayIs look variables a vs → PartsAre look variables (array_part a ∷ []) vs
+  pub alone : {a : ArrayTree} {vs : List Value} → ArrayIs look variables a vs → PartsAre look variables (array_part a ∷ []) vs
   alone {a = a} {vs = vs} is = subst (PartsAre look variables (array_part a ∷ [])) (append-nil vs) (more_parts (array_is is) no_parts)
 
   -- ---- paddings

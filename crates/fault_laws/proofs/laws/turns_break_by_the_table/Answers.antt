@@ -1,3 +1,4 @@
+use Rattle.fault_laws.proofs.RowFaultLemmas.{row_faults}
 use Rattle.fault_laws.proofs.RowLemmas.{row_does}
 use Rattle.fault_laws.proofs.ScanFaultLemmas.{scanned_does, bad_scan_faults, short_scan_faults}
 use Rattle.fault_laws.proofs.ScanLemmas.{asked_does, padding_breaks, short_padding_faults}
