@@ -8,3 +8,4 @@ pub mod ScanLemmas
 pub mod ScanFaultLemmas
 pub mod RowLemmas
 pub mod RowFaultLemmas
+pub mod TurnLemmas
