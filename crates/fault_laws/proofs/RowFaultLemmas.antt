@@ -32,7 +32,7 @@ use Rattle.stapl_meaning.specs.Turns.{operands, effect, tap_or_idle, kind_of_wai
 use Rattle.fault_laws.specs.Limits.{IsOutside}
 use Rattle.fault_laws.specs.ExprFaults.{bit_count, held_by}
 use Rattle.fault_laws.specs.PartFaults.{Part, array_part, padding_arrays, written_parts, ArrayIs, range_is, PartsAre, no_parts, more_parts, value_is, index_is, array_is, HasBits, whole_has, range_has, IsShort}
-use Rattle.fault_laws.specs.RowFaults.{HasNoValue, nothing_there, call_on_top, loop_on_top, HasNoLoop, nothing_left, value_above, call_above, other_loop, RowBreaks, of_parts, array_short, range_short, zero_step, full_for, full_push, full_call, no_loop, no_value, no_value_for_element, IsGiven, left_out, written_down, bad_cycles, bad_usec, bad_usec_alone, bad_hertz, bad_scan, scan_short, bad_padding, padding_short}
+use Rattle.fault_laws.specs.RowFaults.{HasNoValue, nothing_there, call_on_top, loop_on_top, HasNoLoop, nothing_left, value_above, call_above, other_loop, RowBreaks, of_parts, length_mismatch, bad_length, bad_count, step_zero, no_record, records_full, assigned_short, range_short, zero_step, full_for, full_push, full_call, no_loop, no_value, no_value_for_element, IsGiven, left_out, written_down, bad_cycles, bad_usec, bad_usec_alone, bad_hertz, bad_scan, scan_short, bad_padding, padding_short}
 use Rattle.fault_laws.proofs.Gets.{then_known, then_faults}
 use Rattle.fault_laws.proofs.LimitLemmas.{not_outside, part_of, part_known}
 use Rattle.fault_laws.proofs.PartLemmas.{operands_of, operands_are, parts_known, parts_fault, HoldsBits, holds_bits, some_same}
@@ -145,69 +145,69 @@ module _ (scope : Scope) (s : State) where
   row_faults (of_parts {b = b} h) =
       then_faults (λ values. effect scope b values s)
       (ap (values_of scope.look s.store.variables) (operands_are scope b) ∙ parts_fault scope.look s.store.variables None h)
-  row_faults (array_short {name = name} {a = a} n has short) =
+  row_faults (length_mismatch (assigned_short {name = name} {a = a} n has short)) =
       let r : ReadShort scope.look s.store.variables a n = short_read scope.look s.store.variables short in
       from_values (assign_array name a) r.read.values LengthMismatch (alone scope.look s.store.variables r.read.are) (whole_faults name n a has r)
-  row_faults (range_short {name = name} {high = high} {low = low} {a = a} n has short) = range_row name high low a n has short
-  row_faults (zero_step {name = name} {from = from} {to = to} {step = step} a b is_a is_b is_zero) =
+  row_faults (length_mismatch (range_short {name = name} {high = high} {low = low} {a = a} n has short)) = range_row name high low a n has short
+  row_faults (step_zero (zero_step {name = name} {from = from} {to = to} {step = step} a b is_a is_b is_zero)) =
       from_values (for_loop name from to step) (Int a ∷ Int b ∷ Int (pos 0) ∷ []) ZeroStep
       (more_parts (value_is (Int a) is_a) (more_parts (value_is (Int b) is_b) (more_parts (value_is (Int (pos 0)) is_zero) no_parts))) refl
-  row_faults (full_for {name = name} {from = from} {to = to} {step = step} a b z is_a is_b is_z other full) =
+  row_faults (records_full (full_for {name = name} {from = from} {to = to} {step = step} a b z is_a is_b is_z other full)) =
       let begins : Got Did = then_get (with_loop (record { variable = scope.look.variable name; limit = b; step = z; place = scope.follow }) s.records a s)
         (λ t. Known (Falls [] t)) in
       from_values (for_loop name from to step) (Int a ∷ Int b ∷ Int z ∷ []) RecordsFull
       (more_parts (value_is (Int a) is_a) (more_parts (value_is (Int b) is_b) (more_parts (value_is (Int z) is_z) no_parts)))
       (ap (λ t. if t then Faults ZeroStep else with_room s begins) (no_zero z other) ∙ room_faults s begins full)
-  row_faults (full_push {e = e} v known full) =
+  row_faults (records_full (full_push {e = e} v known full)) =
       from_values (push e) (v ∷ []) RecordsFull (more_parts (value_is v known) no_parts) (room_faults s _ full)
-  row_faults (full_call {name = name} full) = from_values (call name) [] RecordsFull no_parts (room_faults s _ full)
-  row_faults (no_loop {name = name} none) =
+  row_faults (records_full (full_call {name = name} full)) = from_values (call name) [] RecordsFull no_parts (room_faults s _ full)
+  row_faults (no_record (no_loop {name = name} none)) =
       from_values (next name) [] NoRecord no_parts
       (then_faults (λ top. then_get (integer_held (slice_get s.store.variables (scope.look.variable name))) (λ z. went_round top.0 top.1 z s)) (nearest_faults none))
-  row_faults (no_value {name = name} none) =
+  row_faults (no_record (no_value {name = name} none)) =
       from_values (pop (scalar name)) [] NoRecord no_parts
       (then_faults (λ top. assigned (scope.look.variable name) (top.0 ∷ []) (with_records s top.1)) (topmost_faults (given_kind (scope.look.kind name)) none))
-  row_faults (no_value_for_element {name = name} {index = index} values are none) =
+  row_faults (no_record (no_value_for_element {name = name} {index = index} values are none)) =
       from_values (pop (element name index)) values NoRecord are
       (then_faults (λ top. element_assigned (scope.look.variable name) (values ++ top.0 ∷ []) (with_records s top.1))
         (topmost_faults (given_kind (scope.look.kind name)) none))
-  row_faults (bad_cycles {state = state} {last = last} {cycles = cycles} n stays known left_out out) =
+  row_faults (bad_count (bad_cycles {state = state} {last = last} {cycles = cycles} n stays known left_out out)) =
       from_values (wait_cycles state cycles None last) (Int n ∷ []) BadCount (more_parts (value_is (Int n) known) no_parts)
       (stays_faults (tap_or_idle state) (waited_for waits.Cycles (tap_or_idle state) (tap_or_idle last) (Int n ∷ [])) BadCount stays
         (then_faults (λ c. Known (Goes (tap_or_idle state) ∷ Stays c ∷ Goes (tap_or_idle last) ∷ [])) (cycles_faults n out)))
-  row_faults (bad_cycles {state = state} {last = last} {cycles = cycles} n stays known (written_down {e = e} m known2) out) =
+  row_faults (bad_count (bad_cycles {state = state} {last = last} {cycles = cycles} n stays known (written_down {e = e} m known2) out)) =
       from_values (wait_cycles state cycles (Some e) last) (Int n ∷ Int m ∷ []) BadCount
       (more_parts (value_is (Int n) known) (more_parts (value_is (Int m) known2) no_parts))
       (stays_faults (tap_or_idle state) (waited_for waits.Both (tap_or_idle state) (tap_or_idle last) (Int n ∷ Int m ∷ [])) BadCount stays
         (then_faults (λ c. then_get (usec_of m) (λ u. Known (Goes (tap_or_idle state) ∷ Stays c ∷ Says (Usec u) ∷ Goes (tap_or_idle last) ∷ [])))
           (cycles_faults n out)))
-  row_faults (bad_usec {state = state} {last = last} {cycles = cycles} {usec = usec} n m stays known few known2 below) =
+  row_faults (bad_count (bad_usec {state = state} {last = last} {cycles = cycles} {usec = usec} n m stays known few known2 below)) =
       from_values (wait_cycles state cycles (Some usec) last) (Int (pos n) ∷ Int m ∷ []) BadCount
       (more_parts (value_is (Int (pos n)) known) (more_parts (value_is (Int m) known2) no_parts))
       (stays_faults (tap_or_idle state) (waited_for waits.Both (tap_or_idle state) (tap_or_idle last) (Int (pos n) ∷ Int m ∷ [])) BadCount stays
         (then_known (λ c. then_get (usec_of m) (λ u. Known (Goes (tap_or_idle state) ∷ Stays c ∷ Says (Usec u) ∷ Goes (tap_or_idle last) ∷ [])))
           (cycles_known n few)
         ∙ then_faults (λ u. Known (Goes (tap_or_idle state) ∷ Stays n ∷ Says (Usec u) ∷ Goes (tap_or_idle last) ∷ [])) (usec_faults m below)))
-  row_faults (bad_usec_alone {state = state} {last = last} {usec = usec} m stays known below) =
+  row_faults (bad_count (bad_usec_alone {state = state} {last = last} {usec = usec} m stays known below)) =
       from_values (wait_usec state usec last) (Int m ∷ []) BadCount (more_parts (value_is (Int m) known) no_parts)
       (stays_faults (tap_or_idle state) (waited_for waits.Usec (tap_or_idle state) (tap_or_idle last) (Int m ∷ [])) BadCount stays
         (then_faults (λ u. Known (Goes (tap_or_idle state) ∷ Says (Usec u) ∷ Goes (tap_or_idle last) ∷ [])) (usec_faults m below)))
-  row_faults (bad_hertz {hertz = hertz} n known below) =
+  row_faults (bad_count (bad_hertz {hertz = hertz} n known below)) =
       from_values (frequency (Some hertz)) (Int n ∷ []) BadCount (more_parts (value_is (Int n) known) no_parts)
       (then_faults (λ h. Known (Falls (Says (Hertz h) ∷ []) s)) (hertz_faults n below))
-  row_faults (bad_scan {register = register} {count = count} {source = source} {target = target} {compare = compare} z values known there result out) =
+  row_faults (bad_length (bad_scan {register = register} {count = count} {source = source} {target = target} {compare = compare} z values known there result out)) =
       let f : ScanFaults scope.look register source target compare s z BadLength =
         bad_scan_faults scope.look register source target compare s z there result out in
       from_values (scan register count source target compare) (Int z ∷ f.values) BadLength (more_parts (value_is (Int z) known) f.are) f.faults
-  row_faults (scan_short {register = register} {count = count} {source = source} {target = target} {compare = compare} n values known result some few short) =
+  row_faults (length_mismatch (scan_short {register = register} {count = count} {source = source} {target = target} {compare = compare} n values known result some few short)) =
       let f : ScanFaults scope.look register source target compare s (pos n) LengthMismatch =
         short_scan_faults scope.look register source target compare s n short result some few in
       from_values (scan register count source target compare) (Int (pos n) ∷ f.values) LengthMismatch (more_parts (value_is (Int (pos n)) known) f.are) f.faults
-  row_faults (bad_padding {which = which} {count = count} {bits = bits} z known there out) =
+  row_faults (bad_length (bad_padding {which = which} {count = count} {bits = bits} z known there out)) =
       let f : PaddingFaults scope.look s.store.variables bits z BadLength = bad_padding_faults scope.look s.store.variables bits z there out in
       from_values (pad which count bits) (Int z ∷ f.values) BadLength (more_parts (value_is (Int z) known) f.are)
       (then_faults (λ bits. Known (Falls [] (with_padding which bits s))) f.faults)
-  row_faults (padding_short {which = which} {count = count} {a = a} n known few short) =
+  row_faults (length_mismatch (padding_short {which = which} {count = count} {a = a} n known few short)) =
       let f : PaddingFaults scope.look s.store.variables (Some a) (pos n) LengthMismatch = short_padding_faults scope.look s.store.variables a n few short in
       from_values (pad which count (Some a)) (Int (pos n) ∷ f.values) LengthMismatch (more_parts (value_is (Int (pos n)) known) f.are)
       (then_faults (λ bits. Known (Falls [] (with_padding which bits s))) f.faults)

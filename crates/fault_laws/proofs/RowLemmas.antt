@@ -25,7 +25,7 @@ use Rattle.stapl_meaning.specs.Turns.{operands, effect, tap_of, tap_or_idle, kin
 use Rattle.fault_laws.specs.Limits.{IsOutside}
 use Rattle.fault_laws.specs.ExprFaults.{IsInteger}
 use Rattle.fault_laws.specs.PartFaults.{Part, padding_arrays, value_part, written_parts, literal_is, range_is, PartsAre, no_parts, more_parts, value_is, index_is, array_is, PartsBreak, HasBits, range_has, IsShort, OneIsShort, this_short, later_short}
-use Rattle.fault_laws.specs.RowFaults.{RowBreaks, of_parts, array_short, range_short, zero_step, full_for, full_push, full_call, no_loop, no_value, no_value_for_element, IsGiven, left_out, written_down, bad_cycles, bad_usec, bad_usec_alone, bad_hertz, bad_scan, scan_short, bad_padding, padding_short}
+use Rattle.fault_laws.specs.RowFaults.{RowBreaks, of_parts, length_mismatch, bad_length, bad_count, step_zero, no_record, records_full, assigned_short, range_short, zero_step, full_for, full_push, full_call, no_loop, no_value, no_value_for_element, IsGiven, left_out, written_down, bad_cycles, bad_usec, bad_usec_alone, bad_hertz, bad_scan, scan_short, bad_padding, padding_short}
 use Rattle.fault_laws.proofs.Gets.{Gives, Breaks, then_gives, then_breaks, gives_more}
 use Rattle.fault_laws.proofs.LimitLemmas.{outside}
 use Rattle.fault_laws.proofs.PartLemmas.{operands_of, operands_are, parts_give}
@@ -74,27 +74,27 @@ module _ (scope : Scope) (s : State) where
   assign_range_does name high low a _ (more_parts (array_is (range_is h l size is_h is_l sized inside below)) rest) =
       range_does (RowBreaks scope s (assign_range name high low a)) scope.look name s h l size sized inside below
       (array_alone scope.look s.store.variables rest)
-      (λ short. range_short (h + 1 - l) (range_has h l size is_h is_l sized inside below (omega (arith, below))) short)
+      (λ short. length_mismatch (range_short (h + 1 - l) (range_has h l size is_h is_l sized inside below (omega (arith, below))) short))
 
   for_does : (name : List ℕ) (from to : ExprTree) (step : Option ExprTree) (vs : List Value) → WrittenParts (for_loop name from to step) vs →
       EffectDoes (for_loop name from to step) vs
   for_does name from to step _ (more_parts (value_is x is_x) (more_parts (value_is y is_y) (more_parts (value_is z is_z) no_parts))) =
       looped_does (RowBreaks scope s (for_loop name from to step)) (scope.look.variable name) scope.follow x y z s
-      (λ a b e f g. zero_step a b (is_x ∙ ap Known e) (is_y ∙ ap Known f) (is_z ∙ ap Known g))
-      (λ a b c e f g other full. full_for a b c (is_x ∙ ap Known e) (is_y ∙ ap Known f) (is_z ∙ ap Known g) other full)
+      (λ a b e f g. step_zero (zero_step a b (is_x ∙ ap Known e) (is_y ∙ ap Known f) (is_z ∙ ap Known g)))
+      (λ a b c e f g other full. records_full (full_for a b c (is_x ∙ ap Known e) (is_y ∙ ap Known f) (is_z ∙ ap Known g) other full))
 
   push_does : (e : ExprTree) (vs : List Value) → WrittenParts (push e) vs → EffectDoes (push e) vs
-  push_does e _ (more_parts (value_is v known) no_parts) = pushed_does (RowBreaks scope s (push e)) v s (full_push v known)
+  push_does e _ (more_parts (value_is v known) no_parts) = pushed_does (RowBreaks scope s (push e)) v s (λ full. records_full (full_push v known full))
 
   pop_scalar_does : (name : List ℕ) (vs : List Value) → EffectDoes (pop (scalar name)) vs
   pop_scalar_does name vs =
-      popped_does (RowBreaks scope s (pop (scalar name))) (given_kind (scope.look.kind name)) (assigned (scope.look.variable name)) vs s no_value
+      popped_does (RowBreaks scope s (pop (scalar name))) (given_kind (scope.look.kind name)) (assigned (scope.look.variable name)) vs s (λ none. no_record (no_value none))
       (λ v records. assigned_does (RowBreaks scope s (pop (scalar name))) (scope.look.variable name) (vs ++ v ∷ []) (with_records s records))
 
   pop_element_does : (name : List ℕ) (index : ExprTree) (vs : List Value) → WrittenParts (pop (element name index)) vs → EffectDoes (pop (element name index)) vs
   pop_element_does name index _ (more_parts (index_is i size known sized inside) no_parts) =
       popped_does (RowBreaks scope s (pop (element name index))) (given_kind (scope.look.kind name)) (element_assigned (scope.look.variable name))
-      (Int (pos i) ∷ []) s (no_value_for_element (Int (pos i) ∷ []) (more_parts (index_is i size known sized inside) no_parts))
+      (Int (pos i) ∷ []) s (λ none. no_record (no_value_for_element (Int (pos i) ∷ []) (more_parts (index_is i size known sized inside) no_parts) none))
       (λ v records. element_does (RowBreaks scope s (pop (element name index))) (scope.look.variable name) i size v (with_records s records) sized inside)
 
   -- ---- waits
@@ -115,7 +115,7 @@ module _ (scope : Scope) (s : State) where
       let P : RunFault → Type 0 = RowBreaks scope s (wait_cycles state cycles None last) in
       let ends : ℕ → Got (List Deed) = λ c. Known (Goes (tap_or_idle state) ∷ Stays c ∷ Goes (tap_or_idle last) ∷ []) in
       wait_does P (tap_or_idle state) (then_get (cycles_of n) ends)
-      (λ stays. then_breaks P (cycles_of n) ends (cycles_break P n (bad_cycles n stays known left_out)) (λ c e. tt))
+      (λ stays. then_breaks P (cycles_of n) ends (cycles_break P n (λ out. bad_count (bad_cycles n stays known left_out out))) (λ c e. tt))
 
   both_does : (state : Option ℕ) (cycles usec : ExprTree) (last : Option ℕ) (vs : List Value) → WrittenParts (wait_cycles state cycles (Some usec) last) vs →
       EffectDoes (wait_cycles state cycles (Some usec) last) vs
@@ -129,9 +129,9 @@ module _ (scope : Scope) (s : State) where
       wait_does P (tap_or_idle state) (then_get (cycles_of n) (λ c. then_get (usec_of m) (ends c)))
       (λ stays.
         then_gives (λ c. (x : ℕ) × (n ≡ pos x) × (x ≤ 16777216)) (λ _. Unit {0}) P (cycles_of n) (λ c. then_get (usec_of m) (ends c))
-        (cycles_give P n (bad_cycles n stays known (written_down m known2)))
+        (cycles_give P n (λ out. bad_count (bad_cycles n stays known (written_down m known2) out)))
         (λ c e t. then_breaks P (usec_of m) (ends c)
-          (usec_breaks P m (bad_usec t.0 m stays (known ∙ ap (λ z. Known (Int z)) t.1) t.2 known2)) (λ u e. tt)))
+          (usec_breaks P m (λ below. bad_count (bad_usec t.0 m stays (known ∙ ap (λ z. Known (Int z)) t.1) t.2 known2 below))) (λ u e. tt)))
 
   usec_does : (state : Option ℕ) (usec : ExprTree) (last : Option ℕ) (vs : List Value) → WrittenParts (wait_usec state usec last) vs →
       EffectDoes (wait_usec state usec last) vs
@@ -141,13 +141,13 @@ module _ (scope : Scope) (s : State) where
       let P : RunFault → Type 0 = RowBreaks scope s (wait_usec state usec last) in
       let ends : ℕ → Got (List Deed) = λ u. Known (Goes (tap_or_idle state) ∷ Says (Usec u) ∷ Goes (tap_or_idle last) ∷ []) in
       wait_does P (tap_or_idle state) (then_get (usec_of m) ends)
-      (λ stays. then_breaks P (usec_of m) ends (usec_breaks P m (bad_usec_alone m stays known)) (λ u e. tt))
+      (λ stays. then_breaks P (usec_of m) ends (usec_breaks P m (λ below. bad_count (bad_usec_alone m stays known below))) (λ u e. tt))
 
   hertz_does : (hertz : ExprTree) (vs : List Value) → WrittenParts (frequency (Some hertz)) vs → EffectDoes (frequency (Some hertz)) vs
   hertz_does hertz _ (more_parts (value_is (Bit b) known) no_parts) = tt
   hertz_does hertz _ (more_parts (value_is (Int n) known) no_parts) =
       let P : RunFault → Type 0 = RowBreaks scope s (frequency (Some hertz)) in
-      then_does P (hertz_of n) (λ h. Known (Falls (Says (Hertz h) ∷ []) s)) (hertz_breaks P n (bad_hertz n known)) (λ h e. tt)
+      then_does P (hertz_of n) (λ h. Known (Falls (Says (Hertz h) ∷ []) s)) (hertz_breaks P n (λ below. bad_count (bad_hertz n known below))) (λ h e. tt)
 
   no_hertz_does : (vs : List Value) → Parts [] vs → EffectDoes (frequency None) vs
   no_hertz_does _ no_parts = tt
@@ -157,7 +157,7 @@ module _ (scope : Scope) (s : State) where
   short_padding : (which : Padding) (count : ExprTree) (bits : Option ArrayTree) (n : ℕ) → IsInteger scope.look s.store.variables count (pos n) →
       n ≤ 65536 → OneIsShort scope.look s.store.variables n (padding_arrays bits) → RowBreaks scope s (pad which count bits) LengthMismatch
   short_padding which count None n known few short = elim short [ ]
-  short_padding which count (Some a) n known few (this_short short rest) = padding_short n known few short
+  short_padding which count (Some a) n known few (this_short short rest) = length_mismatch (padding_short n known few short)
   short_padding which count (Some a) n known few (later_short this short) = elim short [ ]
 
   pad_does : (which : Padding) (count : ExprTree) (bits : Option ArrayTree) (vs : List Value) → WrittenParts (pad which count bits) vs →
@@ -166,7 +166,7 @@ module _ (scope : Scope) (s : State) where
   pad_does which count bits _ (more_parts {vs = vs} (value_is (Int z) known) rest) =
       let P : RunFault → Type 0 = RowBreaks scope s (pad which count bits) in
       then_does P (padding_bits s.store.variables (given_source scope.look bits) vs z) (λ bits. Known (Falls [] (with_padding which bits s)))
-      (padding_breaks scope.look s.store.variables P bits vs z rest (bad_padding z known)
+      (padding_breaks scope.look s.store.variables P bits vs z rest (λ there out. bad_length (bad_padding z known there out))
         (λ n is few short. short_padding which count bits n (known ∙ ap (λ z. Known (Int z)) is) few short))
       (λ bits e. tt)
 
@@ -192,13 +192,13 @@ module _ (scope : Scope) (s : State) where
   effect_does (assign name e) vs are = assigned_does (RowBreaks scope s (assign name e)) (scope.look.variable name) vs s
   effect_does (assign_element name index e) vs are = assign_element_does name index e vs are
   effect_does (assign_array name a) vs are =
-      copied_does (RowBreaks scope s (assign_array name a)) scope.look name s (array_alone scope.look s.store.variables are) (λ n. array_short n)
+      copied_does (RowBreaks scope s (assign_array name a)) scope.look name s (array_alone scope.look s.store.variables are) (λ n has short. length_mismatch (assigned_short n has short))
   effect_does (assign_range name high low a) vs are = assign_range_does name high low a vs are
-  effect_does (call name) vs are = called_does (RowBreaks scope s (call name)) scope.follow vs s full_call
+  effect_does (call name) vs are = called_does (RowBreaks scope s (call name)) scope.follow vs s (λ full. records_full (full_call full))
   effect_does (goto name) vs are = jumped_does (RowBreaks scope s (goto name)) vs s
   effect_does (if_then e body) vs are = parted_does (RowBreaks scope s (if_then e body)) vs s
   effect_does (for_loop name from to step) vs are = for_does name from to step vs are
-  effect_does (next name) vs are = repeated_does (RowBreaks scope s (next name)) (scope.look.variable name) vs s no_loop
+  effect_does (next name) vs are = repeated_does (RowBreaks scope s (next name)) (scope.look.variable name) vs s (λ none. no_record (no_loop none))
   effect_does (push e) vs are = push_does e vs are
   effect_does (pop (number z)) vs are = tt
   effect_does (pop (scalar name)) vs are = pop_scalar_does name vs
@@ -214,8 +214,8 @@ module _ (scope : Scope) (s : State) where
   effect_does (exit e) vs are = exited_does (RowBreaks scope s (exit e)) vs s
   effect_does (scan register count source target compare) vs are =
       scanned_does (RowBreaks scope s (scan register count source target compare)) scope.look register count source target compare vs s are
-      (λ z values known there result out. bad_scan z values known there result out)
-      (λ n values known result some few short. scan_short n values known result some few short)
+      (λ z values known there result out. bad_length (bad_scan z values known there result out))
+      (λ n values known result some few short. length_mismatch (scan_short n values known result some few short))
   effect_does (stop register state) vs are = stopped_does (RowBreaks scope s (stop register state)) register (tap_of state) vs s
   effect_does (pad which count bits) vs are = pad_does which count bits vs are
   effect_does (state_list states) vs are = moved_does (RowBreaks scope s (state_list states)) (map tap_of states) vs s

@@ -54,57 +54,74 @@ module _ (scope : Scope) (s : State) where
   abbrev pub IsFull : Type 0
   IsFull = 16384 ≤ length s.records
 
-  pub data RowBreaks : BodyTree → RunFault → Type 0 where
-    -- a part breaks: an expression, an index, a range or the number of a character
-    of_parts : {b : BodyTree} {k : RunFault} → PartsBreak scope.look s.store.variables (written_parts scope.look b) k → RowBreaks b k
-
-    -- LengthMismatch: what is assigned to an array or to a range has fewer bits
-    array_short : {name : List ℕ} {a : ArrayTree} (n : ℕ) → HasBits scope.look s.store.variables (whole name) n →
-        IsShort scope.look s.store.variables a n → RowBreaks (assign_array name a) LengthMismatch
+  -- LengthMismatch: an array that is no literal has fewer bits than are asked of it. An assignment asks for those of its
+  -- target, a scan for its length, of each of its arrays, and a padding for its length. That length is in its limits.
+  pub data HasShortArray : BodyTree → Type 0 where
+    assigned_short : {name : List ℕ} {a : ArrayTree} (n : ℕ) → HasBits scope.look s.store.variables (whole name) n →
+        IsShort scope.look s.store.variables a n → HasShortArray (assign_array name a)
     range_short : {name : List ℕ} {high low : ExprTree} {a : ArrayTree} (n : ℕ) →
         HasBits scope.look s.store.variables (range name high low) n → IsShort scope.look s.store.variables a n →
-        RowBreaks (assign_range name high low a) LengthMismatch
+        HasShortArray (assign_range name high low a)
+    scan_short : {register : Register} {count : ExprTree} {source : ArrayTree} {target : Option ArrayTree} {compare : Option CompareTree}
+        (n : ℕ) (values : List Value) → Is count (pos n) → PartsAre scope.look s.store.variables (result_parts compare) values →
+        1 ≤ n → n ≤ 4194304 → OneIsShort scope.look s.store.variables n (scan_arrays source target compare) →
+        HasShortArray (scan register count source target compare)
+    padding_short : {which : Padding} {count : ExprTree} {a : ArrayTree} (n : ℕ) → Is count (pos n) → n ≤ 65536 →
+        IsShort scope.look s.store.variables a n → HasShortArray (pad which count (Some a))
 
-    -- ZeroStep, and then RecordsFull
-    zero_step : {name : List ℕ} {from to : ExprTree} {step : Option ExprTree} (first limit : ℤ) → Is from first → Is to limit →
-        Is (step_or_one step) (pos 0) → RowBreaks (for_loop name from to step) ZeroStep
-    full_for : {name : List ℕ} {from to : ExprTree} {step : Option ExprTree} (first limit z : ℤ) → Is from first →
-        Is to limit → Is (step_or_one step) z → z ≢ pos 0 → IsFull → RowBreaks (for_loop name from to step) RecordsFull
-    full_push : {e : ExprTree} (v : Value) →
-        value_of scope.look s.store.variables (printed_kind (expr_kind scope.look.kind e)) e ≡ Known v → IsFull →
-        RowBreaks (push e) RecordsFull
-    full_call : {name : List ℕ} → IsFull → RowBreaks (call name) RecordsFull
-
-    -- NoRecord
-    no_loop : {name : List ℕ} → HasNoLoop (scope.look.variable name) s.records → RowBreaks (next name) NoRecord
-    no_value : {name : List ℕ} → HasNoValue s.records → RowBreaks (pop (scalar name)) NoRecord
-    no_value_for_element : {name : List ℕ} {index : ExprTree} (values : List Value) →
-        PartsAre scope.look s.store.variables (index_part name index ∷ []) values → HasNoValue s.records →
-        RowBreaks (pop (element name index)) NoRecord
-
-    -- BadCount: of clocks, then of microseconds, and of hertz
-    bad_cycles : {state last : Option ℕ} {cycles : ExprTree} {usec : Option ExprTree} (n : ℤ) → StaysIn state → Is cycles n →
-        IsGiven usec → IsOutside (pos 0) (pos 16777216) n → RowBreaks (wait_cycles state cycles usec last) BadCount
-    bad_usec : {state last : Option ℕ} {cycles usec : ExprTree} (n : ℕ) (m : ℤ) → StaysIn state → Is cycles (pos n) →
-        n ≤ 16777216 → Is usec m → m <ℤ pos 0 → RowBreaks (wait_cycles state cycles (Some usec) last) BadCount
-    bad_usec_alone : {state last : Option ℕ} {usec : ExprTree} (m : ℤ) → StaysIn state → Is usec m → m <ℤ pos 0 →
-        RowBreaks (wait_usec state usec last) BadCount
-    bad_hertz : {hertz : ExprTree} (n : ℤ) → Is hertz n → n <ℤ pos 1 → RowBreaks (frequency (Some hertz)) BadCount
-
-    -- BadLength, and then LengthMismatch: of a scan
+  -- BadLength: a length is outside its limits, and all arrays are there. So it comes before LengthMismatch.
+  pub data HasBadLength : BodyTree → Type 0 where
     bad_scan : {register : Register} {count : ExprTree} {source : ArrayTree} {target : Option ArrayTree} {compare : Option CompareTree}
         (z : ℤ) (values : List Value) → Is count z → AreThere scope.look s.store.variables (scan_arrays source target compare) →
         PartsAre scope.look s.store.variables (result_parts compare) values → IsOutside (pos 1) (pos 4194304) z →
-        RowBreaks (scan register count source target compare) BadLength
-    scan_short : {register : Register} {count : ExprTree} {source : ArrayTree} {target : Option ArrayTree} {compare : Option CompareTree}
-        (n : ℕ) (values : List Value) → Is count (pos n) →
-        PartsAre scope.look s.store.variables (result_parts compare) values → 1 ≤ n → n ≤ 4194304 →
-        OneIsShort scope.look s.store.variables n (scan_arrays source target compare) →
-        RowBreaks (scan register count source target compare) LengthMismatch
-
-    -- the same of a padding
+        HasBadLength (scan register count source target compare)
     bad_padding : {which : Padding} {count : ExprTree} {bits : Option ArrayTree} (z : ℤ) → Is count z →
         AreThere scope.look s.store.variables (padding_arrays bits) → IsOutside (pos 0) (pos 65536) z →
-        RowBreaks (pad which count bits) BadLength
-    padding_short : {which : Padding} {count : ExprTree} {a : ArrayTree} (n : ℕ) → Is count (pos n) → n ≤ 65536 →
-        IsShort scope.look s.store.variables a n → RowBreaks (pad which count (Some a)) LengthMismatch
+        HasBadLength (pad which count bits)
+
+  -- BadCount: a count of clocks is outside its limits, then one of microseconds; or a frequency is below 1
+  pub data HasBadCount : BodyTree → Type 0 where
+    bad_cycles : {state last : Option ℕ} {cycles : ExprTree} {usec : Option ExprTree} (n : ℤ) → StaysIn state → Is cycles n →
+        IsGiven usec → IsOutside (pos 0) (pos 16777216) n → HasBadCount (wait_cycles state cycles usec last)
+    bad_usec : {state last : Option ℕ} {cycles usec : ExprTree} (n : ℕ) (m : ℤ) → StaysIn state → Is cycles (pos n) →
+        n ≤ 16777216 → Is usec m → m <ℤ pos 0 → HasBadCount (wait_cycles state cycles (Some usec) last)
+    bad_usec_alone : {state last : Option ℕ} {usec : ExprTree} (m : ℤ) → StaysIn state → Is usec m → m <ℤ pos 0 →
+        HasBadCount (wait_usec state usec last)
+    bad_hertz : {hertz : ExprTree} (n : ℤ) → Is hertz n → n <ℤ pos 1 → HasBadCount (frequency (Some hertz))
+
+  -- ZeroStep: the step of a FOR is 0
+  pub data HasZeroStep : BodyTree → Type 0 where
+    zero_step : {name : List ℕ} {from to : ExprTree} {step : Option ExprTree} (first limit : ℤ) → Is from first → Is to limit →
+        Is (step_or_one step) (pos 0) → HasZeroStep (for_loop name from to step)
+
+  -- NoRecord: NEXT meets no loop of its variable, or POP no value
+  pub data LacksRecord : BodyTree → Type 0 where
+    no_loop : {name : List ℕ} → HasNoLoop (scope.look.variable name) s.records → LacksRecord (next name)
+    no_value : {name : List ℕ} → HasNoValue s.records → LacksRecord (pop (scalar name))
+    no_value_for_element : {name : List ℕ} {index : ExprTree} (values : List Value) →
+        PartsAre scope.look s.store.variables (index_part name index ∷ []) values → HasNoValue s.records →
+        LacksRecord (pop (element name index))
+
+  -- RecordsFull: a record is to be put on the stack, which holds as many as it may. The step of a FOR is not 0, so
+  -- ZeroStep comes before RecordsFull.
+  pub data LacksRoom : BodyTree → Type 0 where
+    full_for : {name : List ℕ} {from to : ExprTree} {step : Option ExprTree} (first limit z : ℤ) → Is from first →
+        Is to limit → Is (step_or_one step) z → z ≢ pos 0 → IsFull → LacksRoom (for_loop name from to step)
+    full_push : {e : ExprTree} (v : Value) →
+        value_of scope.look s.store.variables (printed_kind (expr_kind scope.look.kind e)) e ≡ Known v → IsFull →
+        LacksRoom (push e)
+    full_call : {name : List ℕ} → IsFull → LacksRoom (call name)
+
+  -- a part of a statement breaks: an expression, an index, a range or the number of a character
+  abbrev pub HasBrokenPart : RunFault → BodyTree → Type 0
+  HasBrokenPart k b = PartsBreak scope.look s.store.variables (written_parts scope.look b) k
+
+  -- The table: the faults of parts are DivideByZero, IndexOutOfRange, RangeReversed, ShiftCount and BadChar.
+  pub data RowBreaks : BodyTree → RunFault → Type 0 where
+    of_parts : {b : BodyTree} {k : RunFault} → HasBrokenPart k b → RowBreaks b k
+    length_mismatch : {b : BodyTree} → HasShortArray b → RowBreaks b LengthMismatch
+    bad_length : {b : BodyTree} → HasBadLength b → RowBreaks b BadLength
+    bad_count : {b : BodyTree} → HasBadCount b → RowBreaks b BadCount
+    step_zero : {b : BodyTree} → HasZeroStep b → RowBreaks b ZeroStep
+    no_record : {b : BodyTree} → LacksRecord b → RowBreaks b NoRecord
+    records_full : {b : BodyTree} → LacksRoom b → RowBreaks b RecordsFull
