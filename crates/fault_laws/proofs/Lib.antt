@@ -9,3 +9,4 @@ pub mod ScanFaultLemmas
 pub mod RowLemmas
 pub mod RowFaultLemmas
 pub mod TurnLemmas
+pub mod NamedFaults

@@ -16,12 +16,16 @@ use Rattle.stapl_meaning.specs.Turns.{effect, target, rows, carried, rows_done, 
 use Rattle.fault_laws.specs.ExprFaults.{ExprBreaks}
 use Rattle.fault_laws.specs.PartFaults.{of_value, first_part}
 use Rattle.fault_laws.specs.RowFaults.{RowBreaks, of_parts}
-use Rattle.fault_laws.specs.TurnFaults.{StatementBreaks, of_row, of_inner, TurnBreaks, EndsByTable, NeverFaults}
+use Rattle.fault_laws.specs.TurnFaults.{IsReached, itself, inner, Reaches, TurnBreaks, EndsByTable, NeverFaults}
 use Rattle.fault_laws.proofs.Gets.{Gives, Breaks}
 use Rattle.fault_laws.proofs.ExprLemmas.{expr_breaks}
 use Rattle.fault_laws.proofs.EffectLemmas.{EndsWell, Does}
 use Rattle.fault_laws.proofs.RowLemmas.{row_got, row_does}
 use Rattle.fault_laws.proofs.RowFaultLemmas.{row_faults}
+
+-- what breaks a statement: itself, or an inner one that is reached
+abbrev StatementBreaks : Scope → State → BodyTree → RunFault → Type 0
+StatementBreaks scope s b k = (row : BodyTree) × IsReached scope s b row × RowBreaks scope s row k
 
 -- two tests in a row are one
 both_got : {A B : Type 0} (g : Got A) (f : A → Got B) (s : State) (go : B → Turned) →
@@ -78,7 +82,7 @@ module _ (scope : Scope) (s : State) where
   row_only b =
       subst (BreaksOnly (StatementBreaks scope s b) s)
       (sym (both_got _ (λ values. effect scope b values s) s (λ did. led scope.entry (target scope b) did (rows_done scope []))))
-      (last_only (RowBreaks scope s b) (StatementBreaks scope s b) (target scope b) (row_got scope s b) (λ k h. of_row h) (row_does scope s b))
+      (last_only (RowBreaks scope s b) (StatementBreaks scope s b) (target scope b) (row_got scope s b) (λ k h. (b, itself, h)) (row_does scope s b))
 
   -- an IF, by the value of its condition
   abbrev if_done : ExprTree → BodyTree → Got Value → Turned
@@ -89,12 +93,12 @@ module _ (scope : Scope) (s : State) where
   if_only : (e : ExprTree) (body : BodyTree) (g : Got Value) → value_of scope.look s.store.variables kinds.Bit e ≡ g →
       Breaks (ExprBreaks scope.look s.store.variables kinds.Bit e) g → BreaksOnly (StatementBreaks scope s body) s (done scope s body) →
       BreaksOnly (StatementBreaks scope s (if_then e body)) s (if_done e body g)
-  if_only e body (Known (Bit true)) is h inner =
-      behind_nothing (StatementBreaks scope s body) (StatementBreaks scope s (if_then e body)) s (done scope s body) (λ k b. of_inner is b) inner
-  if_only e body (Known (Bit false)) is h inner = tt
-  if_only e body (Known (Int z)) is h inner = tt
-  if_only e body (Faults k) is h inner = (refl, refl, of_row (of_parts (first_part (of_value h))))
-  if_only e body Stuck is h inner = tt
+  if_only e body (Known (Bit true)) is h of_body =
+      behind_nothing (StatementBreaks scope s body) (StatementBreaks scope s (if_then e body)) s (done scope s body) (λ k h. (h.0, inner is h.1, h.2)) of_body
+  if_only e body (Known (Bit false)) is h of_body = tt
+  if_only e body (Known (Int z)) is h of_body = tt
+  if_only e body (Faults k) is h of_body = (refl, refl, (if_then e body, itself, of_parts (first_part (of_value h))))
+  if_only e body Stuck is h of_body = tt
 
   statement_only : (b : BodyTree) → BreaksOnly (StatementBreaks scope s b) s (done scope s b)
   statement_only (if_then e body) =
@@ -128,15 +132,15 @@ module _ (scope : Scope) (s : State) where
   row_breaks (integer_array name size (Some zs)) k h = carried_breaks (integer_array name size (Some zs)) k (rows_done scope []) h
   row_breaks b k h = carried_breaks b k (rows_done scope []) h
 
-  statement_breaks : {b : BodyTree} {k : RunFault} → StatementBreaks scope s b k → done scope s b ≡ Broken [] k s
-  statement_breaks (of_row {b = b} {k = k} h) = row_breaks b k (row_faults scope s h)
-  statement_breaks (of_inner {e = e} {b = b} is h) = ap (if_done e b) is ∙ ap (preceded []) (statement_breaks h)
+  reached_breaks : {b row : BodyTree} {k : RunFault} → IsReached scope s b row → RowBreaks scope s row k → done scope s b ≡ Broken [] k s
+  reached_breaks {row = row} {k = k} itself h = row_breaks row k (row_faults scope s h)
+  reached_breaks (inner {e = e} {b = b} is reached) h = ap (if_done e b) is ∙ ap (preceded []) (reached_breaks reached h)
 
 -- ---- turns
 
 pub turn_breaks : (program : Played) (i : ℕ) (s : State) (k : RunFault) → TurnBreaks program i s k → turn program i s ≡ Over [] (Fault k (i + 1)) s
 turn_breaks program i s k at =
-    ap (turn_of (scope_at program i) (i + 1) s) at.stands ∙ ap (turn_of_piece (i + 1)) (statement_breaks (scope_at program i) s at.breaks)
+    ap (turn_of (scope_at program i) (i + 1) s) at.stands ∙ ap (turn_of_piece (i + 1)) (reached_breaks (scope_at program i) s at.reached at.holds)
 
 -- what a turn of a piece ends with, if it ends with a fault
 record EndsSo (P : RunFault → Type 0) (s : State) (own : ℕ) (deeds : List Deed) (k : RunFault) (piece : ℕ) (t : State) : Type 0 where
@@ -172,7 +176,7 @@ turn_only program i s t deeds k piece = by (slice_get program.pieces i) refl
         let so : EndsSo (StatementBreaks scope s st.body) s (i + 1) deeds k piece t =
           piece_only (StatementBreaks scope s st.body) s (i + 1) (done scope s st.body) deeds k piece t (statement_only scope s st.body) e in
         record {
-          breaks = record { statement = st; stands = stands; breaks = so.breaks };
+          breaks = record { statement = st; stands = stands; row = so.breaks.0; reached = so.breaks.1; holds = so.breaks.2 };
           nothing_done = so.nothing_done;
           its_piece = so.its_piece;
           as_it_was = so.as_it_was;

@@ -5,7 +5,7 @@ use Rattle.std.specs.Prelude.{◌≡◌, ℕ, ℤ, pos, ◌<◌, ◌≤◌, ◌+
 use Rattle.stapl_syntax.specs.Kinds.{expr_kind}
 use Rattle.stapl_syntax.specs.Trees.{ExprTree, number, scalar, element, ArrayTree, literal as bit_literal, whole, range, of_int, CompareTree, PartTree, string, value, character, BodyTree, boolean, integer, assign, assign_element, assign_array, assign_range, if_then, for_loop, push, pop, print, exported_value, exported_array, export, exit, scan, pad, wait_cycles, wait_usec, frequency}
 use Rattle.stapl_meaning.specs.declared.events.RunFault.{RunFault}
-use Rattle.stapl_meaning.specs.declared.events.RunFault.TheVariants.{IndexOutOfRange, BadChar}
+use Rattle.stapl_meaning.specs.declared.events.RunFault.TheVariants.{DivideByZero, IndexOutOfRange, RangeReversed, ShiftCount, BadChar}
 use Rattle.stapl_meaning.specs.declared.values.ValueKind.{ValueKind}
 use Rattle.stapl_meaning.specs.declared.values.ValueKind.TheVariants as kinds
 use Rattle.stapl_meaning.specs.declared.values.Value.{Value}
@@ -23,6 +23,15 @@ pub data Part : Type 0 where
   character_part : ExprTree → Part
   index_part : (name : List ℕ) → ExprTree → Part
   array_part : ArrayTree → Part
+
+-- the faults of parts: they come before anything is done
+abbrev pub IsPartFault : RunFault → Type 0
+IsPartFault DivideByZero = Unit {0}
+IsPartFault IndexOutOfRange = Unit {0}
+IsPartFault RangeReversed = Unit {0}
+IsPartFault ShiftCount = Unit {0}
+IsPartFault BadChar = Unit {0}
+IsPartFault _ = ⊥
 
 -- an expression that may be left out
 abbrev pub given_part : Option ExprTree → List Part
