@@ -1,25 +1,23 @@
 -- The bits of arrays: where they are, how many there are, and that a scan or a statement that asks for too many breaks
-use Rattle.std.proofs.Common.{◌≡◌, ℕ, ◌+◌, ◌-◌, ◌<◌, ◌≤◌, Bool, true, false, List, [], ◌∷◌, ◌++◌, map, length, take, drop, Option, Some, None, ℤ, pos, refl, sym, ap, ◌∙◌, subst, arith, nat_le}
+use Rattle.std.proofs.Common.{◌≡◌, ℕ, ◌+◌, ◌-◌, ◌<◌, ◌≤◌, Bool, true, false, List, [], ◌∷◌, ◌++◌, length, take, drop, Option, Some, None, pos, refl, sym, ap, ◌∙◌, subst, arith, nat_le}
 use Rattle.std.proofs.lemmas.Bool.{leb-false, lt-leb}
 use Rattle.std.proofs.lemmas.List.{length-take-le, length-drop}
 use Rattle.base.proofs.NumberBits.{length-low_bits}
 use Rattle.std.specs.Int.{w32, cast_unsigned}
 use Rattle.bit_list.specs.Integers.{bits_of_int}
 use Rattle.bit_list.specs.Ranges.{taken}
-use Rattle.stapl_syntax.specs.Trees.{ExprTree, ArrayTree, literal as bit_literal, whole, range, of_int}
+use Rattle.stapl_syntax.specs.Trees.{ArrayTree, literal as bit_literal, whole, range, of_int}
 use Rattle.stapl_meaning.specs.declared.events.RunFault.{RunFault}
 use Rattle.stapl_meaning.specs.declared.events.RunFault.TheVariants.{LengthMismatch}
-use Rattle.stapl_meaning.specs.declared.values.ValueKind.TheVariants as kinds
 use Rattle.stapl_meaning.specs.declared.values.Value.{Value}
 use Rattle.stapl_meaning.specs.declared.values.Value.TheVariants.{Int, Bit}
 use Rattle.stapl_meaning.specs.declared.values.Held.{Held}
 use Rattle.stapl_meaning.specs.declared.values.Held.TheVariants as held
-use Rattle.stapl_meaning.specs.Values.{Got, Known, Faults, Stuck, then_get, passed, bits_held, Span, span_of, bits_between, Source, These, Whole, Range, OfInt, source_bits, asked, source_of, Lookup, value_of}
+use Rattle.stapl_meaning.specs.Values.{Got, Known, Faults, Stuck, then_get, passed, bits_held, Source, These, Whole, Range, OfInt, source_bits, asked, source_of, Lookup}
 use Rattle.stapl_meaning.specs.Scans.{source_width}
-use Rattle.fault_laws.specs.ExprFaults.{bit_count, held_by, IsInteger}
-use Rattle.fault_laws.specs.PartFaults.{Part, array_part, ArrayIs, literal_is, whole_is, range_is, integer_is, PartsAre, no_parts, more_parts, array_is, HasBits, whole_has, range_has, integer_has, IsThere, literal_there, other_there, IsShort, AreThere, OneIsShort}
-use Rattle.fault_laws.proofs.Gets.{Gives, Breaks, then_gives, then_known}
-use Rattle.fault_laws.proofs.LimitLemmas.{part_of, part_known}
+use Rattle.fault_laws.specs.ExprFaults.{bit_count, held_by}
+use Rattle.fault_laws.specs.PartFaults.{array_part, ArrayIs, literal_is, whole_is, range_is, integer_is, PartsAre, no_parts, more_parts, array_is, HasBits, whole_has, range_has, integer_has, IsThere, literal_there, other_there, IsShort}
+use Rattle.fault_laws.proofs.Gets.{Gives, Breaks}
 use Rattle.fault_laws.proofs.PartLemmas.{HoldsBits, holds_bits, some_same, span_known}
 
 -- a part of a list has as many bits as its indexes say

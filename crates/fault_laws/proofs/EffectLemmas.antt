@@ -1,14 +1,14 @@
 -- What the values of parts do breaks by the table alone
-use Rattle.std.proofs.Common.{◌≡◌, ◌≢◌, ℕ, ◌+◌, ◌-◌, ◌<◌, ◌≤◌, Bool, true, false, List, [], ◌∷◌, ◌++◌, map, length, Option, Some, None, ℤ, pos, negsuc, refl, sym, ap, ◌∙◌, subst, arith, nat_lt, nat_le, ◌==◌, int_lt, int_le, ◌<ℤ◌, ◌+ℤ◌, slice_get, if◌then◌else◌, nat_abs}
+use Rattle.std.proofs.Common.{◌≡◌, ◌≢◌, ℕ, ◌+◌, ◌-◌, ◌<◌, ◌≤◌, Bool, true, false, List, [], ◌∷◌, ◌++◌, length, Option, Some, None, ℤ, pos, negsuc, refl, sym, ap, subst, arith, nat_lt, nat_le, ◌==◌, ◌<ℤ◌, ◌+ℤ◌, slice_get, if◌then◌else◌, nat_abs}
 use Rattle.std.specs.Prelude.{slice_set}
 use Rattle.std.specs.Int.{int_wrap, w32}
 use Rattle.std.specs.Ordering.{int_eq}
 use Rattle.std.specs.Int.Signed.{lt_z_yes}
-use Rattle.std.proofs.lemmas.Bool.{ltb-true, ltb-false, lt-ltb, leb-false, eqb-false}
+use Rattle.std.proofs.lemmas.Bool.{ltb-true, ltb-false, leb-false, eqb-false}
 use Rattle.std.proofs.Math.Facts.{yes_ltb}
 use Rattle.bit_list.specs.Ranges.{spliced}
 use Rattle.std.proofs.lemmas.Bool.Decides.{Decides-int_eq}
-use Rattle.stapl_syntax.specs.Trees.{ArrayTree, literal as bit_literal, whole, range, PartTree, string, value, character}
+use Rattle.stapl_syntax.specs.Trees.{ArrayTree, whole, PartTree, string, value, character}
 use Rattle.tap_states.specs.declared.Tap.{Tap}
 use Rattle.tap_states.specs.Tap.{is_stable_state}
 use Rattle.stapl_lexer.specs.declared.terminal.Register.{Register}
@@ -19,7 +19,6 @@ use Rattle.stapl_meaning.specs.declared.records.Loop.{Loop}
 use Rattle.stapl_meaning.specs.declared.records.Record.{Record}
 use Rattle.stapl_meaning.specs.declared.records.Record.TheVariants.{Pushed, Called, Looped}
 use Rattle.stapl_meaning.specs.declared.values.ValueKind.{ValueKind}
-use Rattle.stapl_meaning.specs.declared.values.ValueKind.TheVariants as kinds
 use Rattle.stapl_meaning.specs.declared.values.Value.{Value}
 use Rattle.stapl_meaning.specs.declared.values.Value.TheVariants.{Int, Bit}
 use Rattle.stapl_meaning.specs.declared.values.Held.{Held}
@@ -27,20 +26,19 @@ use Rattle.stapl_meaning.specs.declared.values.Held.TheVariants as held
 use Rattle.stapl_meaning.specs.Values.{Got, Known, Faults, Stuck, then_get, is_index, passed, bits_held, Span, span_of, source_bits, asked, source_of, integer_of, Lookup}
 use Rattle.stapl_meaning.specs.Operands.{character_of}
 use Rattle.stapl_meaning.specs.States.{State, Did, Falls, Captures, Jumps, Resumes, Returns, Ends}
-use Rattle.stapl_meaning.specs.Effects.{with_scalar, replaced, scalar_written, with_variables, written, assigned, with_element, element_written, element_assigned, IntoWhole, IntoRange, span_written, copied, with_integers, integers_set, jumped, parted, with_records, with_room, topmost, popped, pushed, called, returned_from, returned, with_loop, looped, nearest_loop, is_over, integer_held, went_round, repeated, exited, joined, shown, after_value, after_character, printed, exported, bits_exported, moved_through, cycles_of, usec_of, hertz_of}
+use Rattle.stapl_meaning.specs.Effects.{replaced, scalar_written, with_variables, written, assigned, element_written, element_assigned, IntoWhole, IntoRange, span_written, copied, with_integers, integers_set, jumped, with_records, with_room, topmost, popped, pushed, called, returned_from, returned, with_loop, looped, nearest_loop, is_over, integer_held, went_round, repeated, exited, joined, shown, after_value, after_character, printed, exported, bits_exported, moved_through, cycles_of, usec_of, hertz_of}
 use Rattle.stapl_meaning.specs.Scans.{stopped, with_stop}
 use Rattle.stapl_meaning.specs.Deeds.{Says}
 use Rattle.stapl_meaning.specs.declared.events.Event.TheVariants.{Print, Export}
 use Rattle.stapl_meaning.specs.declared.events.ExportValue.TheVariants as exports
 use Rattle.fault_laws.specs.Limits.{IsOutside}
-use Rattle.fault_laws.specs.ExprFaults.{size_of, bit_count, held_by, IsInteger}
-use Rattle.fault_laws.specs.PartFaults.{printed_parts, value_part, index_part, array_part, ArrayIs, range_is, PartsAre, no_parts, more_parts, value_is, character_is, index_is, array_is, HasBits, whole_has, range_has, IsShort}
+use Rattle.fault_laws.specs.ExprFaults.{size_of, bit_count, held_by}
+use Rattle.fault_laws.specs.PartFaults.{printed_parts, ArrayIs, PartsAre, no_parts, more_parts, value_is, character_is, HasBits, whole_has, IsShort}
 use Rattle.fault_laws.specs.RowFaults.{HasNoValue, nothing_there, call_on_top, loop_on_top, HasNoLoop, nothing_left, value_above, call_above, other_loop}
 use Rattle.fault_laws.proofs.Gets.{Gives, Breaks, then_gives, then_breaks, then_known}
 use Rattle.fault_laws.proofs.LimitLemmas.{outside, part_of, part_known}
-use Rattle.fault_laws.proofs.ExprLemmas.{whole_breaks}
 use Rattle.fault_laws.proofs.PartLemmas.{some_same}
-use Rattle.fault_laws.proofs.ArrayLemmas.{IsSized, source_gives, asked_breaks, array_alone}
+use Rattle.fault_laws.proofs.ArrayLemmas.{IsSized, source_gives, asked_breaks}
 
 -- what was done ends with no fault
 abbrev pub EndsWell : Did → Type 0
@@ -210,8 +208,8 @@ module _ (P : RunFault → Type 0) where
       (λ bits. then_get (asked (source_of look a) span.count bits) (λ new. Known (Falls [] (with_variables s (slice_set s.store.variables n (held.Bits (spliced span.low new old)))))))
       (source_gives look s.store.variables P is)
       (λ bits e h. then_does P (asked (source_of look a) span.count bits)
-        (λ new. Known (Falls [] (with_variables s (slice_set s.store.variables n (held.Bits (spliced span.low new old))))))
-        (asked_breaks look s.store.variables P a span.count bits h p) (λ new e. tt))
+      (λ new. Known (Falls [] (with_variables s (slice_set s.store.variables n (held.Bits (spliced span.low new old))))))
+      (asked_breaks look s.store.variables P a span.count bits h p) (λ new e. tt))
 
   -- all of an array
   pub copied_does : (look : Lookup) (name : List ℕ) (s : State) {a : ArrayTree} {vs : List Value} → ArrayIs look s.store.variables a vs →
@@ -248,7 +246,7 @@ module _ (P : RunFault → Type 0) where
       by (Some (held.Bits old)) e =
           let same : size ≡ length old = some_same (sym e) in
           subst (Does P) (sym (then_known (span_written (look.variable name) old (source_of look a) vs s)
-            (part_known (length old) h l (subst (λ n. h < n) same inside) below)))
+          (part_known (length old) h l (subst (λ n. h < n) same inside) below)))
           (span_does look (look.variable name) old s (part_of h l) is p)
 
   -- ---- records
@@ -290,7 +288,7 @@ module _ (P : RunFault → Type 0) where
       by false e =
           room_does s begins
           (then_does P (with_loop (record { variable = n; limit = b; step = z; place = behind }) s.records a s) (λ t. Known (Falls [] t))
-            (loop_breaks (record { variable = n; limit = b; step = z; place = behind }) s.records a s) (λ t e. tt))
+          (loop_breaks (record { variable = n; limit = b; step = z; place = behind }) s.records a s) (λ t e. tt))
           (full_case a b z refl refl refl (λ is. let also : int_eq z (pos 0) ≡ true = (Decides-int_eq z (pos 0)).1 is in absurd cc))
 
   nearest_breaks : (n : ℕ) (records : List Record) → (HasNoLoop n records → P NoRecord) → Breaks P (nearest_loop n records)
@@ -328,7 +326,7 @@ module _ (P : RunFault → Type 0) where
       then_does P (nearest_loop n s.records) (λ top. then_get (integer_held (slice_get s.store.variables n)) (λ z. went_round top.0 top.1 z s))
       (nearest_breaks n s.records p)
       (λ top e. then_does P (integer_held (slice_get s.store.variables n)) (λ z. went_round top.0 top.1 z s)
-        (held_breaks (slice_get s.store.variables n)) (λ z e. round_does top.0 top.1 z s))
+      (held_breaks (slice_get s.store.variables n)) (λ z e. round_does top.0 top.1 z s))
 
   topmost_breaks : (kind : ValueKind) (records : List Record) → (HasNoValue records → P NoRecord) → Breaks P (topmost kind records)
   topmost_breaks kind [] p = p nothing_there

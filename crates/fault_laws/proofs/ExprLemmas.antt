@@ -1,7 +1,7 @@
 -- Expressions break by the table exactly if their values are faults
-use Rattle.std.proofs.Common.{◌≡◌, ℕ, zero, suc, ◌+◌, ◌-◌, ◌<◌, ◌≤◌, Bool, true, false, List, [], ◌∷◌, length, Option, Some, None, ℤ, pos, negsuc, refl, sym, ap, ◌∙◌, subst, arith, nat_lt, slice_get, get_or, if◌then◌else◌}
+use Rattle.std.proofs.Common.{◌≡◌, ℕ, zero, suc, ◌+◌, ◌-◌, ◌<◌, ◌≤◌, Bool, true, false, List, [], ◌∷◌, length, Option, Some, None, ℤ, pos, negsuc, refl, ap, ◌∙◌, subst, arith, nat_lt, slice_get, get_or, if◌then◌else◌}
 use Rattle.std.proofs.lemmas.Option.{slice_get_past, slice_get-get_or}
-use Rattle.std.proofs.lemmas.Bool.{ltb-true, ltb-false, le-ltb}
+use Rattle.std.proofs.lemmas.Bool.{ltb-true, ltb-false}
 use Rattle.bit_list.specs.Ranges.{taken}
 use Rattle.stapl_lexer.specs.declared.terminal.BinOp.{BinOp}
 use Rattle.stapl_lexer.specs.declared.terminal.BinOp.TheVariants.{Multiply, Divide, Remainder, Add, Subtract}
@@ -18,9 +18,9 @@ use Rattle.stapl_meaning.specs.declared.values.Value.{Value}
 use Rattle.stapl_meaning.specs.declared.values.Value.TheVariants.{Int, Bit}
 use Rattle.stapl_meaning.specs.declared.values.Held.{Held}
 use Rattle.stapl_meaning.specs.declared.values.Held.TheVariants as held
-use Rattle.stapl_meaning.specs.Values.{Got, Known, Faults, Stuck, then_get, divided_by, shifted_by, combined, combined_integers, combined_booleans, signed, absolute, scalar_of, item_of, item_at, element_of, bits_held, Span, span_of, span_between, bits_between, Whole, Range, OfInt, These, source_bits, integer_from, source_integer, literal, unary_side, sides, source_of, Lookup, value_of, source_values}
+use Rattle.stapl_meaning.specs.Values.{Got, Known, Faults, Stuck, then_get, divided_by, shifted_by, combined, combined_integers, combined_booleans, signed, absolute, scalar_of, item_of, item_at, element_of, bits_held, Span, span_of, span_between, bits_between, Range, OfInt, integer_from, source_integer, literal, unary_side, sides, source_of, Lookup, value_of, source_values}
 use Rattle.fault_laws.specs.Limits.{IsOutside, IsNoIndex}
-use Rattle.fault_laws.specs.ExprFaults.{size_of, bit_count, IsDivision, quotient, remainder, IsShift, to_left, to_right, RangeBreaks, held_by, IsInteger, ExprBreaks, of_index, index_outside, of_operand, of_absolute, of_array, of_left, of_right, divides_by_zero, shifts_too_far, ArrayBreaks, of_high, of_low, of_range, of_integer}
+use Rattle.fault_laws.specs.ExprFaults.{size_of, bit_count, IsDivision, quotient, remainder, IsShift, to_left, to_right, RangeBreaks, held_by, ExprBreaks, of_index, index_outside, of_operand, of_absolute, of_array, of_left, of_right, divides_by_zero, shifts_too_far, ArrayBreaks, of_high, of_low, of_range, of_integer}
 use Rattle.fault_laws.proofs.Gets.{Gives, Breaks, then_gives, then_breaks, breaks_more, then_known, then_faults}
 use Rattle.fault_laws.proofs.LimitLemmas.{no_index, not_index, outside, not_outside, range_faults, range_gives}
 
@@ -155,7 +155,7 @@ module _ (P : RunFault → Type 0) where
   pub span_breaks : {A : Type 0} (Q : A → Type 0) (o : Option Held) (x y : Value) (make : List Bool → Span → A) →
       ((h l : ℤ) (size : ℕ) → x ≡ Int h → y ≡ Int l → bit_count o ≡ Some size → (k : RunFault) → RangeBreaks size h l k → P k) →
       ((bs : List Bool) (h l : ℕ) → o ≡ Some (held.Bits bs) → x ≡ Int (pos h) → y ≡ Int (pos l) → h < length bs → l ≤ h →
-        Q (make bs (record { low = l; count = h + 1 - l }))) →
+      Q (make bs (record { low = l; count = h + 1 - l }))) →
       Gives Q P (then_get (bits_held o) (λ bits. then_get (span_of (length bits) x y) (λ span. Known (make bits span))))
   span_breaks Q None x y make p q = tt
   span_breaks Q (Some (held.Int z)) x y make p q = tt
@@ -166,7 +166,7 @@ module _ (P : RunFault → Type 0) where
   span_breaks Q (Some (held.Bits bs)) (Int h) (Int l) make p q =
       then_gives (λ span. Q (make bs span)) Q P (span_between (length bs) h l) (λ span. Known (make bs span))
       (range_gives (λ span. Q (make bs span)) P (length bs) h l (p h l (length bs) refl refl refl)
-        (λ m n e f inside below. q bs m n refl (ap Int e) (ap Int f) inside below))
+      (λ m n e f inside below. q bs m n refl (ap Int e) (ap Int f) inside below))
       (λ span _ h. h)
 
 -- ---- the other way round
@@ -243,14 +243,14 @@ module _ (look : Lookup) (variables : List Held) where
         then_breaks P v (λ x. then_get w (λ y. combined op x y))
         (breaks_more (ExprBreaks look variables side a) P v (λ k h. of_left h) (expr_breaks side a))
         (λ x known. then_breaks P w (combined op x)
-          (breaks_more (ExprBreaks look variables side b) P w (λ k h. of_right x known h) (expr_breaks side b))
-          (λ y known2. combined_breaks P op x y
-            (λ z is division by_zero. divides_by_zero z division
-              (subst (λ s. IsIntegerOf s a z) (division_sides look op a b division) (known ∙ ap Known is))
-              (subst (λ s. IsIntegerOf s b (pos 0)) (division_sides look op a b division) (known2 ∙ ap Known by_zero)))
-            (λ z n is count shift out. shifts_too_far z n shift
-              (subst (λ s. IsIntegerOf s a z) (shift_sides look op a b shift) (known ∙ ap Known is))
-              (subst (λ s. IsIntegerOf s b n) (shift_sides look op a b shift) (known2 ∙ ap Known count)) out)))
+        (breaks_more (ExprBreaks look variables side b) P w (λ k h. of_right x known h) (expr_breaks side b))
+        (λ y known2. combined_breaks P op x y
+        (λ z is division by_zero. divides_by_zero z division
+        (subst (λ s. IsIntegerOf s a z) (division_sides look op a b division) (known ∙ ap Known is))
+        (subst (λ s. IsIntegerOf s b (pos 0)) (division_sides look op a b division) (known2 ∙ ap Known by_zero)))
+        (λ z n is count shift out. shifts_too_far z n shift
+        (subst (λ s. IsIntegerOf s a z) (shift_sides look op a b shift) (known ∙ ap Known is))
+        (subst (λ s. IsIntegerOf s b n) (shift_sides look op a b shift) (known2 ∙ ap Known count)) out)))
     expr_breaks kind (abs e) =
         let P : RunFault → Type 0 = ExprBreaks look variables kind (abs e) in
         let v : Got Value = value_of look variables kinds.Int e in
@@ -280,8 +280,8 @@ module _ (look : Lookup) (variables : List Held) where
         by (Known x) e p (Known y) f q =
             then_breaks (ArrayBreaks look variables (range name high low)) (bits_between (held_by look variables name) x y) (λ bits. Known (integer_from bits))
             (span_breaks (ArrayBreaks look variables (range name high low)) (λ _. Unit {0}) (held_by look variables name) x y whole_bits
-              (λ h l size is_h is_l sized k out. of_range h l size (e ∙ ap Known is_h) (f ∙ ap Known is_l) sized out)
-              (λ bs h l _ _ _ _ _. tt))
+            (λ h l size is_h is_l sized k out. of_range h l size (e ∙ ap Known is_h) (f ∙ ap Known is_l) sized out)
+            (λ bs h l _ _ _ _ _. tt))
             (λ bits _. tt)
     integer_breaks (of_int e) = by (value_of look variables kinds.Int e) (expr_breaks kinds.Int e)
       where

@@ -1,11 +1,11 @@
 -- The tests of limits and of ranges, against the words of the table
-use Rattle.std.proofs.Common.{◌≡◌, ℕ, zero, suc, ◌+◌, ◌-◌, ◌<◌, ◌≤◌, Bool, true, false, not, ◌&&◌, ℤ, pos, negsuc, ◌<ℤ◌, ◌≤ℤ◌, inl, inr, refl, sym, ap, ◌∙◌, arith, nat_lt, nat_le, int_lt, int_le, nat_abs, if◌then◌else◌, T}
+use Rattle.std.proofs.Common.{◌≡◌, ℕ, ◌+◌, ◌-◌, ◌<◌, ◌≤◌, Bool, true, false, not, ◌&&◌, ℤ, pos, negsuc, inl, inr, refl, ap, ◌∙◌, arith, nat_lt, nat_le, int_le, nat_abs, if◌then◌else◌}
 use Rattle.std.proofs.Math.Facts.{ltb_yes, yes_ltb, leb_yes, yes_leb}
 use Rattle.std.proofs.lemmas.Bool.{lt-ltb, le-ltb, ltb-true, ltb-false, leb-true, leb-false, le-leb, lt-leb}
 use Rattle.std.specs.Int.Signed.{lt_z_yes, le_z_yes}
 use Rattle.stapl_meaning.specs.declared.events.RunFault.{RunFault}
 use Rattle.stapl_meaning.specs.declared.events.RunFault.TheVariants.{IndexOutOfRange, RangeReversed}
-use Rattle.stapl_meaning.specs.Values.{Got, Known, Faults, is_index, passed, Span, span_between}
+use Rattle.stapl_meaning.specs.Values.{Known, Faults, is_index, passed, Span, span_between}
 use Rattle.fault_laws.specs.Limits.{IsOutside, IsNoIndex}
 use Rattle.fault_laws.specs.ExprFaults.{RangeBreaks, high_outside, low_outside, reversed}
 use Rattle.fault_laws.proofs.Gets.{Gives}

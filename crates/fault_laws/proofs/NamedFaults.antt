@@ -1,25 +1,25 @@
 -- Each fault of the table comes from its own relation
-use Rattle.std.proofs.Common.{◌≡◌, ◌↔◌, ℕ, ◌+◌, ℤ, List, [], Option, Some, None, refl, sym, ap, ◌∙◌, subst}
+use Rattle.std.proofs.Common.{◌≡◌, ◌↔◌, ℕ, ◌+◌, ℤ, List, [], None, sym, ap, ◌∙◌, subst}
 use Rattle.stapl_syntax.specs.Trees.{ExprTree, ArrayTree, BodyTree}
 use Rattle.stapl_meaning.specs.declared.events.RunFault.{RunFault}
 use Rattle.stapl_meaning.specs.declared.events.RunFault.TheVariants as faults
 use Rattle.stapl_meaning.specs.declared.values.ValueKind.{ValueKind}
 use Rattle.stapl_meaning.specs.declared.values.Value.{Value}
 use Rattle.stapl_meaning.specs.declared.values.Held.{Held}
-use Rattle.stapl_meaning.specs.Values.{Got, Known, Faults, then_get, Lookup, value_of}
+use Rattle.stapl_meaning.specs.Values.{Known, Faults, then_get, Lookup, value_of}
 use Rattle.stapl_meaning.specs.Operands.{values_of}
-use Rattle.stapl_meaning.specs.States.{State, Did}
+use Rattle.stapl_meaning.specs.States.{State}
 use Rattle.stapl_meaning.specs.Scopes.{Scope, Played, scope_at}
 use Rattle.stapl_meaning.specs.Turns.{operands, effect}
 use Rattle.fault_laws.specs.ExprFaults.{RangeBreaks, high_outside, low_outside, reversed, ExprBreaks, of_index, index_outside, of_operand, of_absolute, of_array, of_left, of_right, divides_by_zero, shifts_too_far, ArrayBreaks, of_high, of_low, of_range, of_integer}
-use Rattle.fault_laws.specs.PartFaults.{Part, written_parts, IsPartFault, PartBreaks, of_value, of_character, no_character, of_target_index, target_outside, of_part_array, PartsBreak, first_part, later_part}
+use Rattle.fault_laws.specs.PartFaults.{Part, IsPartFault, PartBreaks, of_value, of_character, no_character, of_target_index, target_outside, of_part_array, PartsBreak, first_part, later_part}
 use Rattle.fault_laws.specs.RowFaults.{HasShortArray, HasBadLength, HasBadCount, HasZeroStep, LacksRecord, LacksRoom, HasBrokenPart, RowBreaks, of_parts, length_mismatch, bad_length, bad_count, step_zero, no_record, records_full}
-use Rattle.fault_laws.specs.TurnFaults.{IsReached, Reaches, TurnBreaks, EndsWith, EndsByTable}
+use Rattle.fault_laws.specs.TurnFaults.{Reaches, TurnBreaks, EndsWith}
 use Rattle.fault_laws.proofs.Gets.{Breaks}
 use Rattle.fault_laws.proofs.ExprLemmas.{expr_breaks, expr_faults}
 use Rattle.fault_laws.proofs.PartLemmas.{operands_are, parts_fault}
 use Rattle.fault_laws.proofs.EffectLemmas.{Does}
-use Rattle.fault_laws.proofs.RowLemmas.{row_got, row_does}
+use Rattle.fault_laws.proofs.RowLemmas.{row_does}
 use Rattle.fault_laws.proofs.TurnLemmas.{turn_breaks, turn_only}
 
 pub expr_table : (look : Lookup) (variables : List Held) (kind : ValueKind) (e : ExprTree) (k : RunFault) →
@@ -112,7 +112,7 @@ module _ (scope : Scope) (s : State) where
   other_fault b values known (records_full h) = λ p. p
   other_fault b values {k = k} known (of_parts h) =
       let breaks : values_of scope.look s.store.variables (operands scope b) ≡ Faults k =
-        ap (values_of scope.look s.store.variables) (operands_are scope b) ∙ parts_fault scope.look s.store.variables None h in
+      ap (values_of scope.look s.store.variables) (operands_are scope b) ∙ parts_fault scope.look s.store.variables None h in
       let both : Known values ≡ Faults k = sym known ∙ breaks in
       absurd cc
 

@@ -1,5 +1,5 @@
 -- The operands of a statement are its written parts, and they break by the table exactly if their values are faults
-use Rattle.std.proofs.Common.{◌≡◌, ℕ, zero, suc, ◌+◌, ◌-◌, ◌<◌, ◌≤◌, Bool, true, false, List, [], ◌∷◌, ◌++◌, map, length, take, drop, Option, Some, None, ℤ, pos, negsuc, refl, sym, ap, ◌∙◌, subst, subst₂, arith, nat_lt, nat_le, slice_get, append-nil, append_assoc}
+use Rattle.std.proofs.Common.{◌≡◌, ℕ, ◌<◌, ◌≤◌, Bool, true, false, List, [], ◌∷◌, ◌++◌, map, length, Option, Some, None, ℤ, pos, negsuc, refl, sym, ap, ◌∙◌, subst, subst₂, arith, nat_lt, append-nil}
 use Rattle.std.proofs.lemmas.Bool.{ltb-true, lt-ltb}
 use Rattle.stapl_syntax.specs.Kinds.{expr_kind}
 use Rattle.stapl_syntax.specs.Trees.{ExprTree, number, scalar, element, unary, binary, abs, int, ArrayTree, literal as bit_literal, whole, range, of_int, CompareTree, PartTree, string, value, character, BodyTree, note, action, procedure, data_block, end_data, crc, end_procedure, boolean, boolean_array, integer, integer_array, assign, assign_element, assign_array, assign_range, call, goto, if_then, for_loop, next, push, pop, print, exported_value, exported_array, export, exit, scan, stop, pad, state_list, wait_cycles, wait_usec, frequency}
@@ -11,14 +11,14 @@ use Rattle.stapl_meaning.specs.declared.values.Value.{Value}
 use Rattle.stapl_meaning.specs.declared.values.Value.TheVariants.{Int, Bit}
 use Rattle.stapl_meaning.specs.declared.values.Held.{Held}
 use Rattle.stapl_meaning.specs.declared.values.Held.TheVariants as held
-use Rattle.stapl_meaning.specs.Values.{Got, Known, Faults, Stuck, then_get, is_index, passed, index_held, bits_held, Span, span_of, span_between, range_held, Lookup, value_of}
-use Rattle.stapl_meaning.specs.Operands.{Test, Plain, Character, Index, Range, Operand, plain, an_integer, a_character, an_index, array_operands, given_operands, target_operands, compare_operands, part_operands, character_of, tested, operand_value, values_behind, printed_kind}
+use Rattle.stapl_meaning.specs.Values.{Got, Known, Faults, Stuck, then_get, is_index, passed, index_held, bits_held, Span, span_of, range_held, Lookup, value_of}
+use Rattle.stapl_meaning.specs.Operands.{Plain, Character, Index, Range, Operand, plain, an_integer, a_character, an_index, array_operands, target_operands, compare_operands, part_operands, character_of, tested, operand_value, values_behind, printed_kind}
 use Rattle.stapl_meaning.specs.Turns.{operands}
 use Rattle.stapl_meaning.specs.Scopes.{Scope}
 use Rattle.fault_laws.specs.Limits.{IsOutside, IsNoIndex}
-use Rattle.fault_laws.specs.ExprFaults.{size_of, bit_count, RangeBreaks, held_by, IsInteger, ExprBreaks, ArrayBreaks, of_high, of_low, of_range, of_integer}
-use Rattle.fault_laws.specs.PartFaults.{Part, value_part, character_part, index_part, array_part, given_part, printed_parts, target_arrays, compared_arrays, scan_arrays, result_parts, padding_arrays, written_parts, ArrayIs, literal_is, whole_is, range_is, integer_is, PartIs, value_is, character_is, index_is, array_is, PartsAre, no_parts, more_parts, PartBreaks, of_value, of_character, no_character, of_target_index, target_outside, of_part_array, PartsBreak, first_part, later_part}
-use Rattle.fault_laws.proofs.Gets.{Gives, Breaks, then_gives, then_breaks, gives_more, then_known, then_faults}
+use Rattle.fault_laws.specs.ExprFaults.{size_of, bit_count, held_by, IsInteger, ExprBreaks, ArrayBreaks, of_high, of_low, of_range, of_integer}
+use Rattle.fault_laws.specs.PartFaults.{Part, value_part, character_part, index_part, array_part, printed_parts, target_arrays, compared_arrays, result_parts, written_parts, ArrayIs, literal_is, whole_is, range_is, integer_is, PartIs, value_is, character_is, index_is, array_is, PartsAre, no_parts, more_parts, PartBreaks, of_value, of_character, no_character, of_target_index, target_outside, of_part_array, PartsBreak, first_part, later_part}
+use Rattle.fault_laws.proofs.Gets.{Gives, then_gives, gives_more, then_known, then_faults}
 use Rattle.fault_laws.proofs.LimitLemmas.{no_index, not_index, outside, not_outside, part_of, part_known}
 use Rattle.fault_laws.proofs.ExprLemmas.{span_breaks, span_faults, expr_breaks, expr_faults}
 
@@ -96,7 +96,7 @@ operands_are scope (exit e) = refl
 operands_are scope (scan register count source target compare) =
     ap (λ os. an_integer count ∷ (array_operands scope.look source ++ os))
     (after_target scope.look target (compared_arrays compare) (result_parts compare) (compare_operands scope.look compare)
-      (compared_operands scope.look compare))
+    (compared_operands scope.look compare))
 operands_are scope (stop register state) = refl
 operands_are scope (pad which count None) = refl
 operands_are scope (pad which count (Some a)) = ap (λ os. an_integer count ∷ os) (sym (append-nil (array_operands scope.look a)))
@@ -157,10 +157,10 @@ module _ (look : Lookup) (variables : List Held) where
       then_gives here Q P g (λ v. then_get (values_behind look variables (Some v) (operands_of look ps)) (λ vs. Known (v ∷ vs)))
       (gives_more here (PartBreaks look variables p) P g (λ k b. first_part b) h)
       (λ v _ is.
-        let rest : Got (List Value) = values_behind look variables (Some v) (operands_of look ps) in
-        then_gives (PartsAre look variables ps) Q P rest (λ vs. Known (v ∷ vs))
-        (gives_more (PartsAre look variables ps) (PartsBreak look variables ps) P rest (λ k b. later_part is b) (others v))
-        (λ vs _ are. more_parts is are))
+      let rest : Got (List Value) = values_behind look variables (Some v) (operands_of look ps) in
+      then_gives (PartsAre look variables ps) Q P rest (λ vs. Known (v ∷ vs))
+      (gives_more (PartsAre look variables ps) (PartsBreak look variables ps) P rest (λ k b. later_part is b) (others v))
+      (λ vs _ are. more_parts is are))
 
   -- the value of an expression, and then a test of it
   test_gives : (Q : Value → Type 0) (P : RunFault → Type 0) (kind : ValueKind) (e : ExprTree) (test : Value → Got Value) →
@@ -209,8 +209,8 @@ module _ (look : Lookup) (variables : List Held) where
       (held_by look variables name) x y (λ bits span. y)
       (λ h l size is_h is_l sized k out. of_range h l size (e ∙ ap Known is_h) (f ∙ ap Known is_l) sized out)
       (λ bs h l o is_h is_l inside below.
-        subst₂ (λ x y. ArrayIs look variables (range name high low) (x ∷ y ∷ [])) (sym is_h) (sym is_l)
-        (range_is h l (length bs) (e ∙ ap Known is_h) (f ∙ ap Known is_l) (ap bit_count o) inside below))
+      subst₂ (λ x y. ArrayIs look variables (range name high low) (x ∷ y ∷ [])) (sym is_h) (sym is_l)
+      (range_is h l (length bs) (e ∙ ap Known is_h) (f ∙ ap Known is_l) (ap bit_count o) inside below))
 
   -- an array without indexes has no values
   same_behind : (before : Option Value) (a : ArrayTree) (ps : List Part) → ArrayIs look variables a [] →
@@ -239,22 +239,22 @@ module _ (look : Lookup) (variables : List Held) where
       then_gives (λ x. value_of look variables kinds.Int high ≡ Known x) Q P (operand_value look variables before (an_integer high))
       (λ x. then_get (values_behind look variables (Some x) (low_operand ∷ os)) (λ vs. Known (x ∷ vs)))
       (test_gives (λ x. value_of look variables kinds.Int high ≡ Known x) P kinds.Int high (tested look variables Plain before)
-        (λ k h. first_part (of_part_array (of_high h))) (λ x known. known))
+      (λ k h. first_part (of_part_array (of_high h))) (λ x known. known))
       (λ x _ known.
-        then_gives (ends x) Q P (values_behind look variables (Some x) (low_operand ∷ os)) (λ vs. Known (x ∷ vs))
-        (let is_range : Value → Type 0 = λ y. ArrayIs look variables (range name high low) (x ∷ y ∷ []) in
-        then_gives is_range (ends x) P (operand_value look variables (Some x) low_operand)
-        (λ y. then_get (values_behind look variables (Some y) os) (λ vs. Known (y ∷ vs)))
-        (test_gives is_range P kinds.Int low (tested look variables (Range (look.variable name)) (Some x))
-          (λ k h. first_part (of_part_array (of_low x known h)))
-          (λ y known2. gives_more is_range (ArrayBreaks look variables (range name high low)) P (range_held (held_by look variables name) x y)
-            (λ k h. first_part (of_part_array h)) (range_gives name high low x y known known2)))
-        (λ y _ is.
-          then_gives (PartsAre look variables ps) (ends x) P (values_behind look variables (Some y) os) (λ vs. Known (y ∷ vs))
-          (gives_more (PartsAre look variables ps) (PartsBreak look variables ps) P (values_behind look variables (Some y) os)
-            (λ k b. later_part (array_is is) b) (others y))
-          (λ vs _ are. more_parts (array_is is) are)))
-        (λ vs _ h. h))
+      then_gives (ends x) Q P (values_behind look variables (Some x) (low_operand ∷ os)) (λ vs. Known (x ∷ vs))
+      (let is_range : Value → Type 0 = λ y. ArrayIs look variables (range name high low) (x ∷ y ∷ []) in
+      then_gives is_range (ends x) P (operand_value look variables (Some x) low_operand)
+      (λ y. then_get (values_behind look variables (Some y) os) (λ vs. Known (y ∷ vs)))
+      (test_gives is_range P kinds.Int low (tested look variables (Range (look.variable name)) (Some x))
+      (λ k h. first_part (of_part_array (of_low x known h)))
+      (λ y known2. gives_more is_range (ArrayBreaks look variables (range name high low)) P (range_held (held_by look variables name) x y)
+      (λ k h. first_part (of_part_array h)) (range_gives name high low x y known known2)))
+      (λ y _ is.
+      then_gives (PartsAre look variables ps) (ends x) P (values_behind look variables (Some y) os) (λ vs. Known (y ∷ vs))
+      (gives_more (PartsAre look variables ps) (PartsBreak look variables ps) P (values_behind look variables (Some y) os)
+      (λ k b. later_part (array_is is) b) (others y))
+      (λ vs _ are. more_parts (array_is is) are)))
+      (λ vs _ h. h))
 
   pub parts_give : (before : Option Value) (ps : List Part) →
       Gives (PartsAre look variables ps) (PartsBreak look variables ps) (values_behind look variables before (operands_of look ps))
@@ -262,25 +262,25 @@ module _ (look : Lookup) (variables : List Held) where
   parts_give before (value_part kind e ∷ ps) =
       one_gives (value_part kind e) ps (operand_value look variables before (plain kind e))
       (test_gives (λ v. PartIs look variables (value_part kind e) (v ∷ [])) (PartBreaks look variables (value_part kind e)) kind e
-        (tested look variables Plain before) (λ k h. of_value h) (λ v known. value_is v known))
+      (tested look variables Plain before) (λ k h. of_value h) (λ v known. value_is v known))
       (λ v. parts_give (Some v) ps)
   parts_give before (character_part e ∷ ps) =
       one_gives (character_part e) ps (operand_value look variables before (a_character e))
       (test_gives (λ v. PartIs look variables (character_part e) (v ∷ [])) (PartBreaks look variables (character_part e)) kinds.Int e
-        (tested look variables Character before) (λ k h. of_character h) (λ v known. character_gives e v known))
+      (tested look variables Character before) (λ k h. of_character h) (λ v known. character_gives e v known))
       (λ v. parts_give (Some v) ps)
   parts_give before (index_part name e ∷ ps) =
       one_gives (index_part name e) ps (operand_value look variables before (an_index (look.variable name) e))
       (test_gives (λ v. PartIs look variables (index_part name e) (v ∷ [])) (PartBreaks look variables (index_part name e)) kinds.Int e
-        (tested look variables (Index (look.variable name)) before) (λ k h. of_target_index h)
-        (λ v known. index_gives name e v known (held_by look variables name) refl))
+      (tested look variables (Index (look.variable name)) before) (λ k h. of_target_index h)
+      (λ v known. index_gives name e v known (held_by look variables name) refl))
       (λ v. parts_give (Some v) ps)
   parts_give before (array_part (bit_literal bits) ∷ ps) = same_behind before (bit_literal bits) ps literal_is (parts_give before ps)
   parts_give before (array_part (whole name) ∷ ps) = same_behind before (whole name) ps whole_is (parts_give before ps)
   parts_give before (array_part (of_int e) ∷ ps) =
       one_gives (array_part (of_int e)) ps (operand_value look variables before (an_integer e))
       (test_gives (λ v. PartIs look variables (array_part (of_int e)) (v ∷ [])) (PartBreaks look variables (array_part (of_int e))) kinds.Int e
-        (tested look variables Plain before) (λ k h. of_part_array (of_integer h)) (λ v known. array_is (integer_is v known)))
+      (tested look variables Plain before) (λ k h. of_part_array (of_integer h)) (λ v known. array_is (integer_is v known)))
       (λ v. parts_give (Some v) ps)
   parts_give before (array_part (range name high low) ∷ ps) =
       range_then_gives before name high low ps (λ v. parts_give (Some v) ps)
@@ -348,7 +348,7 @@ module _ (look : Lookup) (variables : List Held) where
       let os : List Operand = operands_of look ps in
       let low_operand : Operand = record { expr = low; kind = kinds.Int; test = Range (look.variable name) } in
       let second : then_get (value_of look variables kinds.Int low) (range_held o (Int (pos h))) ≡ Known (Int (pos l)) =
-        then_known (range_held o (Int (pos h))) is_l ∙ range_known o h l size sized inside below in
+      then_known (range_held o (Int (pos h))) is_l ∙ range_known o h l size sized inside below in
       ap (λ g. one_then (then_get g (tested look variables Plain before)) (low_operand ∷ os)) is_h
       ∙ ap (λ g. then_get (one_then g os) (λ vs. Known (Int (pos h) ∷ vs))) second
       ∙ two_behind (Int (pos h)) (Int (pos l)) (values_behind look variables (Some (Int (pos l))) os)
@@ -386,7 +386,7 @@ module _ (look : Lookup) (variables : List Held) where
       let o : Option Held = held_by look variables name in
       let os : List Operand = operands_of look ps in
       let second : then_get (value_of look variables kinds.Int low) (range_held o (Int h)) ≡ Faults k =
-        then_known (range_held o (Int h)) is_l ∙ span_faults o h l size k (λ bits span. Int l) sized out in
+      then_known (range_held o (Int h)) is_l ∙ span_faults o h l size k (λ bits span. Int l) sized out in
       ap (λ g. one_then (then_get g (tested look variables Plain before)) (low_operand ∷ os)) is_h
       ∙ ap (λ g. then_get (one_then g os) (λ vs. Known (Int h ∷ vs))) second
   part_faults before (of_part_array (of_integer h)) ps =

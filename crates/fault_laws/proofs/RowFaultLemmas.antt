@@ -1,5 +1,5 @@
 -- A statement without its inner statement breaks if the table says so
-use Rattle.std.proofs.Common.{◌≡◌, ◌≢◌, ℕ, ◌+◌, ◌-◌, ◌<◌, ◌≤◌, Bool, true, false, List, [], ◌∷◌, ◌++◌, map, length, Option, Some, None, ℤ, pos, negsuc, refl, sym, ap, ◌∙◌, subst, arith, nat_lt, nat_le, nat_abs, int_le, int_lt, ◌<ℤ◌, ◌==◌, append-nil, if◌then◌else◌}
+use Rattle.std.proofs.Common.{◌≡◌, ◌≢◌, ℕ, ◌+◌, ◌<◌, ◌≤◌, Bool, true, false, List, [], ◌∷◌, ◌++◌, length, Option, Some, None, ℤ, pos, negsuc, refl, sym, ap, ◌∙◌, subst, arith, nat_lt, nat_abs, ◌<ℤ◌, if◌then◌else◌}
 use Rattle.std.specs.Ordering.{int_eq}
 use Rattle.std.specs.Prelude.{slice_get, slice_set}
 use Rattle.bit_list.specs.Ranges.{spliced}
@@ -14,29 +14,28 @@ use Rattle.stapl_meaning.specs.declared.events.RunFault.TheVariants.{LengthMisma
 use Rattle.stapl_meaning.specs.declared.events.Event.TheVariants.{Usec, Hertz}
 use Rattle.stapl_meaning.specs.declared.records.Record.{Record}
 use Rattle.stapl_meaning.specs.declared.values.ValueKind.{ValueKind}
-use Rattle.stapl_meaning.specs.declared.values.ValueKind.TheVariants as kinds
 use Rattle.stapl_meaning.specs.declared.values.Value.{Value}
-use Rattle.stapl_meaning.specs.declared.values.Value.TheVariants.{Int, Bit}
+use Rattle.stapl_meaning.specs.declared.values.Value.TheVariants.{Int}
 use Rattle.stapl_meaning.specs.declared.values.Held.{Held}
 use Rattle.stapl_meaning.specs.declared.values.Held.TheVariants as held
 use Rattle.stapl_meaning.specs.declared.waits.WaitKind.TheVariants as waits
 use Rattle.stapl_meaning.specs.Deeds.{Deed, Says, Goes, Stays}
-use Rattle.stapl_meaning.specs.Values.{Got, Known, Faults, Stuck, then_get, is_index, passed, bits_held, Span, span_of, asked, source_of, Lookup, value_of}
-use Rattle.stapl_meaning.specs.Operands.{values_of, given_kind, step_or_one}
+use Rattle.stapl_meaning.specs.Values.{Got, Known, Faults, Stuck, then_get, is_index, passed, bits_held, Span, span_of, asked, source_of}
+use Rattle.stapl_meaning.specs.Operands.{values_of, given_kind}
 use Rattle.stapl_meaning.specs.States.{State, Did, Falls}
-use Rattle.stapl_meaning.specs.Effects.{with_records, with_variables, assigned, element_assigned, span_written, with_room, with_loop, topmost, popped, nearest_loop, integer_held, went_round, cycles_of, usec_of, hertz_of, waited_for, waited}
+use Rattle.stapl_meaning.specs.Effects.{with_records, with_variables, assigned, element_assigned, span_written, with_room, with_loop, topmost, nearest_loop, integer_held, went_round, cycles_of, usec_of, hertz_of, waited_for}
 use Rattle.stapl_meaning.specs.Effects.{IntoWhole, IntoRange, copied}
 use Rattle.stapl_meaning.specs.Scans.{with_padding}
 use Rattle.stapl_meaning.specs.Scopes.{Scope}
-use Rattle.stapl_meaning.specs.Turns.{operands, effect, tap_or_idle, kind_of_wait}
+use Rattle.stapl_meaning.specs.Turns.{effect, tap_or_idle}
 use Rattle.fault_laws.specs.Limits.{IsOutside}
 use Rattle.fault_laws.specs.ExprFaults.{bit_count, held_by}
-use Rattle.fault_laws.specs.PartFaults.{Part, array_part, padding_arrays, written_parts, ArrayIs, range_is, PartsAre, no_parts, more_parts, value_is, index_is, array_is, HasBits, whole_has, range_has, IsShort}
-use Rattle.fault_laws.specs.RowFaults.{HasNoValue, nothing_there, call_on_top, loop_on_top, HasNoLoop, nothing_left, value_above, call_above, other_loop, RowBreaks, of_parts, length_mismatch, bad_length, bad_count, step_zero, no_record, records_full, assigned_short, range_short, zero_step, full_for, full_push, full_call, no_loop, no_value, no_value_for_element, IsGiven, left_out, written_down, bad_cycles, bad_usec, bad_usec_alone, bad_hertz, bad_scan, scan_short, bad_padding, padding_short}
+use Rattle.fault_laws.specs.PartFaults.{written_parts, range_is, PartsAre, no_parts, more_parts, value_is, array_is, HasBits, whole_has, range_has, IsShort}
+use Rattle.fault_laws.specs.RowFaults.{HasNoValue, nothing_there, call_on_top, loop_on_top, HasNoLoop, nothing_left, value_above, call_above, other_loop, RowBreaks, of_parts, length_mismatch, bad_length, bad_count, step_zero, no_record, records_full, assigned_short, range_short, zero_step, full_for, full_push, full_call, no_loop, no_value, no_value_for_element, left_out, written_down, bad_cycles, bad_usec, bad_usec_alone, bad_hertz, bad_scan, scan_short, bad_padding, padding_short}
 use Rattle.fault_laws.proofs.Gets.{then_known, then_faults}
 use Rattle.fault_laws.proofs.LimitLemmas.{not_outside, part_of, part_known}
-use Rattle.fault_laws.proofs.PartLemmas.{operands_of, operands_are, parts_known, parts_fault, HoldsBits, holds_bits, some_same}
-use Rattle.fault_laws.proofs.ArrayLemmas.{Read, ReadShort, short_read}
+use Rattle.fault_laws.proofs.PartLemmas.{operands_are, parts_known, parts_fault, HoldsBits, holds_bits, some_same}
+use Rattle.fault_laws.proofs.ArrayLemmas.{ReadShort, short_read}
 use Rattle.fault_laws.proofs.ScanLemmas.{alone, PaddingFaults, bad_padding_faults, short_padding_faults}
 use Rattle.fault_laws.proofs.ScanFaultLemmas.{ScanFaults, bad_scan_faults, short_scan_faults}
 use Rattle.fault_laws.proofs.RowLemmas.{row_got}
@@ -154,7 +153,7 @@ module _ (scope : Scope) (s : State) where
       (more_parts (value_is (Int a) is_a) (more_parts (value_is (Int b) is_b) (more_parts (value_is (Int (pos 0)) is_zero) no_parts))) refl
   row_faults (records_full (full_for {name = name} {from = from} {to = to} {step = step} a b z is_a is_b is_z other full)) =
       let begins : Got Did = then_get (with_loop (record { variable = scope.look.variable name; limit = b; step = z; place = scope.follow }) s.records a s)
-        (λ t. Known (Falls [] t)) in
+      (λ t. Known (Falls [] t)) in
       from_values (for_loop name from to step) (Int a ∷ Int b ∷ Int z ∷ []) RecordsFull
       (more_parts (value_is (Int a) is_a) (more_parts (value_is (Int b) is_b) (more_parts (value_is (Int z) is_z) no_parts)))
       (ap (λ t. if t then Faults ZeroStep else with_room s begins) (no_zero z other) ∙ room_faults s begins full)
@@ -170,38 +169,38 @@ module _ (scope : Scope) (s : State) where
   row_faults (no_record (no_value_for_element {name = name} {index = index} values are none)) =
       from_values (pop (element name index)) values NoRecord are
       (then_faults (λ top. element_assigned (scope.look.variable name) (values ++ top.0 ∷ []) (with_records s top.1))
-        (topmost_faults (given_kind (scope.look.kind name)) none))
+      (topmost_faults (given_kind (scope.look.kind name)) none))
   row_faults (bad_count (bad_cycles {state = state} {last = last} {cycles = cycles} n stays known left_out out)) =
       from_values (wait_cycles state cycles None last) (Int n ∷ []) BadCount (more_parts (value_is (Int n) known) no_parts)
       (stays_faults (tap_or_idle state) (waited_for waits.Cycles (tap_or_idle state) (tap_or_idle last) (Int n ∷ [])) BadCount stays
-        (then_faults (λ c. Known (Goes (tap_or_idle state) ∷ Stays c ∷ Goes (tap_or_idle last) ∷ [])) (cycles_faults n out)))
+      (then_faults (λ c. Known (Goes (tap_or_idle state) ∷ Stays c ∷ Goes (tap_or_idle last) ∷ [])) (cycles_faults n out)))
   row_faults (bad_count (bad_cycles {state = state} {last = last} {cycles = cycles} n stays known (written_down {e = e} m known2) out)) =
       from_values (wait_cycles state cycles (Some e) last) (Int n ∷ Int m ∷ []) BadCount
       (more_parts (value_is (Int n) known) (more_parts (value_is (Int m) known2) no_parts))
       (stays_faults (tap_or_idle state) (waited_for waits.Both (tap_or_idle state) (tap_or_idle last) (Int n ∷ Int m ∷ [])) BadCount stays
-        (then_faults (λ c. then_get (usec_of m) (λ u. Known (Goes (tap_or_idle state) ∷ Stays c ∷ Says (Usec u) ∷ Goes (tap_or_idle last) ∷ [])))
-          (cycles_faults n out)))
+      (then_faults (λ c. then_get (usec_of m) (λ u. Known (Goes (tap_or_idle state) ∷ Stays c ∷ Says (Usec u) ∷ Goes (tap_or_idle last) ∷ [])))
+      (cycles_faults n out)))
   row_faults (bad_count (bad_usec {state = state} {last = last} {cycles = cycles} {usec = usec} n m stays known few known2 below)) =
       from_values (wait_cycles state cycles (Some usec) last) (Int (pos n) ∷ Int m ∷ []) BadCount
       (more_parts (value_is (Int (pos n)) known) (more_parts (value_is (Int m) known2) no_parts))
       (stays_faults (tap_or_idle state) (waited_for waits.Both (tap_or_idle state) (tap_or_idle last) (Int (pos n) ∷ Int m ∷ [])) BadCount stays
-        (then_known (λ c. then_get (usec_of m) (λ u. Known (Goes (tap_or_idle state) ∷ Stays c ∷ Says (Usec u) ∷ Goes (tap_or_idle last) ∷ [])))
-          (cycles_known n few)
-        ∙ then_faults (λ u. Known (Goes (tap_or_idle state) ∷ Stays n ∷ Says (Usec u) ∷ Goes (tap_or_idle last) ∷ [])) (usec_faults m below)))
+      (then_known (λ c. then_get (usec_of m) (λ u. Known (Goes (tap_or_idle state) ∷ Stays c ∷ Says (Usec u) ∷ Goes (tap_or_idle last) ∷ [])))
+      (cycles_known n few)
+      ∙ then_faults (λ u. Known (Goes (tap_or_idle state) ∷ Stays n ∷ Says (Usec u) ∷ Goes (tap_or_idle last) ∷ [])) (usec_faults m below)))
   row_faults (bad_count (bad_usec_alone {state = state} {last = last} {usec = usec} m stays known below)) =
       from_values (wait_usec state usec last) (Int m ∷ []) BadCount (more_parts (value_is (Int m) known) no_parts)
       (stays_faults (tap_or_idle state) (waited_for waits.Usec (tap_or_idle state) (tap_or_idle last) (Int m ∷ [])) BadCount stays
-        (then_faults (λ u. Known (Goes (tap_or_idle state) ∷ Says (Usec u) ∷ Goes (tap_or_idle last) ∷ [])) (usec_faults m below)))
+      (then_faults (λ u. Known (Goes (tap_or_idle state) ∷ Says (Usec u) ∷ Goes (tap_or_idle last) ∷ [])) (usec_faults m below)))
   row_faults (bad_count (bad_hertz {hertz = hertz} n known below)) =
       from_values (frequency (Some hertz)) (Int n ∷ []) BadCount (more_parts (value_is (Int n) known) no_parts)
       (then_faults (λ h. Known (Falls (Says (Hertz h) ∷ []) s)) (hertz_faults n below))
   row_faults (bad_length (bad_scan {register = register} {count = count} {source = source} {target = target} {compare = compare} z values known there result out)) =
       let f : ScanFaults scope.look register source target compare s z BadLength =
-        bad_scan_faults scope.look register source target compare s z there result out in
+      bad_scan_faults scope.look register source target compare s z there result out in
       from_values (scan register count source target compare) (Int z ∷ f.values) BadLength (more_parts (value_is (Int z) known) f.are) f.faults
   row_faults (length_mismatch (scan_short {register = register} {count = count} {source = source} {target = target} {compare = compare} n values known result some few short)) =
       let f : ScanFaults scope.look register source target compare s (pos n) LengthMismatch =
-        short_scan_faults scope.look register source target compare s n short result some few in
+      short_scan_faults scope.look register source target compare s n short result some few in
       from_values (scan register count source target compare) (Int (pos n) ∷ f.values) LengthMismatch (more_parts (value_is (Int (pos n)) known) f.are) f.faults
   row_faults (bad_length (bad_padding {which = which} {count = count} {bits = bits} z known there out)) =
       let f : PaddingFaults scope.look s.store.variables bits z BadLength = bad_padding_faults scope.look s.store.variables bits z there out in

@@ -1,34 +1,29 @@
 -- A statement without its inner statement breaks by the table alone
-use Rattle.std.proofs.Common.{◌≡◌, ℕ, ◌+◌, ◌-◌, ◌<◌, ◌≤◌, Bool, true, false, List, [], ◌∷◌, ◌++◌, map, Option, Some, None, ℤ, pos, negsuc, refl, sym, ap, ◌∙◌, subst, arith, ◌<ℤ◌, if◌then◌else◌}
-use Rattle.stapl_syntax.specs.Trees.{ExprTree, number, scalar, element, unary, binary, abs, int, ArrayTree, literal as bit_literal, whole, range, BodyTree, note, action, procedure, data_block, end_data, crc, end_procedure, boolean, boolean_array, integer, integer_array, assign, assign_element, assign_array, assign_range, call, goto, if_then, for_loop, next, push, pop, print, exported_value, exported_array, export, exit, scan, stop, pad, state_list, wait_cycles, wait_usec, frequency}
+use Rattle.std.proofs.Common.{◌≡◌, ℕ, ◌+◌, ◌-◌, ◌≤◌, Bool, true, false, List, [], ◌∷◌, ◌++◌, map, Option, Some, None, ℤ, pos, refl, sym, ap, ◌∙◌, subst, arith, if◌then◌else◌}
+use Rattle.stapl_syntax.specs.Trees.{ExprTree, number, scalar, element, unary, binary, abs, int, ArrayTree, literal as bit_literal, BodyTree, note, action, procedure, data_block, end_data, crc, end_procedure, boolean, boolean_array, integer, integer_array, assign, assign_element, assign_array, assign_range, call, goto, if_then, for_loop, next, push, pop, print, exported_value, exported_array, export, exit, scan, stop, pad, state_list, wait_cycles, wait_usec, frequency}
 use Rattle.stapl_lexer.specs.declared.terminal.Padding.{Padding}
 use Rattle.stapl_meaning.specs.declared.values.Held.{Held}
 use Rattle.tap_states.specs.declared.Tap.{Tap}
 use Rattle.tap_states.specs.Tap.{is_stable_state}
 use Rattle.stapl_meaning.specs.declared.events.RunFault.{RunFault}
-use Rattle.stapl_meaning.specs.declared.events.RunFault.TheVariants.{BadCount, LengthMismatch}
+use Rattle.stapl_meaning.specs.declared.events.RunFault.TheVariants.{LengthMismatch}
 use Rattle.stapl_meaning.specs.declared.events.Event.TheVariants.{Usec, Hertz}
-use Rattle.stapl_meaning.specs.declared.values.ValueKind.{ValueKind}
-use Rattle.stapl_meaning.specs.declared.values.ValueKind.TheVariants as kinds
 use Rattle.stapl_meaning.specs.declared.values.Value.{Value}
 use Rattle.stapl_meaning.specs.declared.values.Value.TheVariants.{Int, Bit}
-use Rattle.stapl_meaning.specs.declared.waits.WaitKind.TheVariants as waits
 use Rattle.stapl_meaning.specs.Deeds.{Deed, Says, Goes, Stays}
-use Rattle.stapl_meaning.specs.Values.{Got, Known, Faults, Stuck, then_get, source_of, Lookup, value_of}
-use Rattle.stapl_meaning.specs.Operands.{values_of, given_kind, step_or_one}
+use Rattle.stapl_meaning.specs.Values.{Got, Known, Stuck, then_get, Lookup}
+use Rattle.stapl_meaning.specs.Operands.{values_of, given_kind}
 use Rattle.stapl_meaning.specs.States.{State, Did, Falls}
-use Rattle.stapl_meaning.specs.Effects.{parted, way_of, with_records, assigned, element_assigned, cycles_of, usec_of, hertz_of, waited_for, waited, tuned}
-use Rattle.stapl_meaning.specs.Scans.{with_padding, padding_bits, surrounded}
+use Rattle.stapl_meaning.specs.Effects.{parted, with_records, assigned, element_assigned, cycles_of, usec_of, hertz_of}
+use Rattle.stapl_meaning.specs.Scans.{with_padding, padding_bits}
 use Rattle.stapl_meaning.specs.ScanTrees.{given_source}
 use Rattle.stapl_meaning.specs.Scopes.{Scope}
-use Rattle.stapl_meaning.specs.Turns.{operands, effect, tap_of, tap_or_idle, kind_of_wait}
-use Rattle.fault_laws.specs.Limits.{IsOutside}
+use Rattle.stapl_meaning.specs.Turns.{operands, effect, tap_of, tap_or_idle}
 use Rattle.fault_laws.specs.ExprFaults.{IsInteger}
-use Rattle.fault_laws.specs.PartFaults.{Part, padding_arrays, value_part, written_parts, literal_is, range_is, PartsAre, no_parts, more_parts, value_is, index_is, array_is, PartsBreak, HasBits, range_has, IsShort, OneIsShort, this_short, later_short}
-use Rattle.fault_laws.specs.RowFaults.{RowBreaks, of_parts, length_mismatch, bad_length, bad_count, step_zero, no_record, records_full, assigned_short, range_short, zero_step, full_for, full_push, full_call, no_loop, no_value, no_value_for_element, IsGiven, left_out, written_down, bad_cycles, bad_usec, bad_usec_alone, bad_hertz, bad_scan, scan_short, bad_padding, padding_short}
+use Rattle.fault_laws.specs.PartFaults.{Part, padding_arrays, written_parts, literal_is, range_is, PartsAre, no_parts, more_parts, value_is, index_is, array_is, PartsBreak, HasBits, range_has, OneIsShort, this_short, later_short}
+use Rattle.fault_laws.specs.RowFaults.{RowBreaks, of_parts, length_mismatch, bad_length, bad_count, step_zero, no_record, records_full, assigned_short, range_short, zero_step, full_for, full_push, full_call, no_loop, no_value, no_value_for_element, left_out, written_down, bad_cycles, bad_usec, bad_usec_alone, bad_hertz, bad_scan, scan_short, bad_padding, padding_short}
 use Rattle.fault_laws.proofs.Gets.{Gives, Breaks, then_gives, then_breaks, gives_more}
-use Rattle.fault_laws.proofs.LimitLemmas.{outside}
-use Rattle.fault_laws.proofs.PartLemmas.{operands_of, operands_are, parts_give}
+use Rattle.fault_laws.proofs.PartLemmas.{operands_are, parts_give}
 use Rattle.fault_laws.proofs.ArrayLemmas.{array_alone}
 use Rattle.fault_laws.proofs.EffectLemmas.{EndsWell, Does, then_does, assigned_does, element_does, integers_does, jumped_does, returned_does, exited_does, exported_does, moved_does, stopped_does, printed_does, export_bits_does, copied_does, range_does, pushed_does, called_does, looped_does, repeated_does, popped_does, cycles_break, cycles_give, usec_breaks, hertz_breaks}
 use Rattle.fault_laws.proofs.ScanLemmas.{padding_breaks}
@@ -128,10 +123,10 @@ module _ (scope : Scope) (s : State) where
       let ends : ℕ → ℕ → Got (List Deed) = λ c u. Known (Goes (tap_or_idle state) ∷ Stays c ∷ Says (Usec u) ∷ Goes (tap_or_idle last) ∷ []) in
       wait_does P (tap_or_idle state) (then_get (cycles_of n) (λ c. then_get (usec_of m) (ends c)))
       (λ stays.
-        then_gives (λ c. (x : ℕ) × (n ≡ pos x) × (x ≤ 16777216)) (λ _. Unit {0}) P (cycles_of n) (λ c. then_get (usec_of m) (ends c))
-        (cycles_give P n (λ out. bad_count (bad_cycles n stays known (written_down m known2) out)))
-        (λ c e t. then_breaks P (usec_of m) (ends c)
-          (usec_breaks P m (λ below. bad_count (bad_usec t.0 m stays (known ∙ ap (λ z. Known (Int z)) t.1) t.2 known2 below))) (λ u e. tt)))
+      then_gives (λ c. (x : ℕ) × (n ≡ pos x) × (x ≤ 16777216)) (λ _. Unit {0}) P (cycles_of n) (λ c. then_get (usec_of m) (ends c))
+      (cycles_give P n (λ out. bad_count (bad_cycles n stays known (written_down m known2) out)))
+      (λ c e t. then_breaks P (usec_of m) (ends c)
+      (usec_breaks P m (λ below. bad_count (bad_usec t.0 m stays (known ∙ ap (λ z. Known (Int z)) t.1) t.2 known2 below))) (λ u e. tt)))
 
   usec_does : (state : Option ℕ) (usec : ExprTree) (last : Option ℕ) (vs : List Value) → WrittenParts (wait_usec state usec last) vs →
       EffectDoes (wait_usec state usec last) vs
@@ -167,7 +162,7 @@ module _ (scope : Scope) (s : State) where
       let P : RunFault → Type 0 = RowBreaks scope s (pad which count bits) in
       then_does P (padding_bits s.store.variables (given_source scope.look bits) vs z) (λ bits. Known (Falls [] (with_padding which bits s)))
       (padding_breaks scope.look s.store.variables P bits vs z rest (λ there out. bad_length (bad_padding z known there out))
-        (λ n is few short. short_padding which count bits n (known ∙ ap (λ z. Known (Int z)) is) few short))
+      (λ n is few short. short_padding which count bits n (known ∙ ap (λ z. Known (Int z)) is) few short))
       (λ bits e. tt)
 
   -- ---- the table
@@ -232,6 +227,6 @@ module _ (scope : Scope) (s : State) where
       let g : Got (List Value) = values_of scope.look s.store.variables (operands scope b) in
       then_gives (Parts ps) EndsWell P g (λ values. effect scope b values s)
       (gives_more (Parts ps) (PartsBreak scope.look s.store.variables ps) P g (λ k h. of_parts h)
-        (subst (λ os. Gives (Parts ps) (PartsBreak scope.look s.store.variables ps) (values_of scope.look s.store.variables os)) (sym (operands_are scope b))
-          (parts_give scope.look s.store.variables None ps)))
+      (subst (λ os. Gives (Parts ps) (PartsBreak scope.look s.store.variables ps) (values_of scope.look s.store.variables os)) (sym (operands_are scope b))
+      (parts_give scope.look s.store.variables None ps)))
       (λ values e are. effect_does b values are)

@@ -1,6 +1,6 @@
 -- A scan breaks if the table says so: its arrays are found, its length is tested, and then whether each array has as
 -- many bits
-use Rattle.std.proofs.Common.{◌≡◌, ℕ, ◌+◌, ◌-◌, ◌<◌, ◌≤◌, Bool, true, false, List, [], ◌∷◌, ◌++◌, map, length, take, drop, Option, Some, None, ℤ, pos, refl, sym, ap, ◌∙◌, ap₂, subst, arith, nat_le, ◌⊎◌, inl, inr}
+use Rattle.std.proofs.Common.{◌≡◌, ℕ, ◌+◌, ◌<◌, ◌≤◌, Bool, List, [], ◌∷◌, ◌++◌, map, length, take, drop, Option, Some, None, ℤ, pos, refl, sym, ap, ◌∙◌, ap₂, subst, arith, nat_le, ◌⊎◌, inl, inr}
 use Rattle.std.proofs.lemmas.Bool.{lt-leb}
 use Rattle.stapl_lexer.specs.declared.terminal.Register.{Register}
 use Rattle.stapl_syntax.specs.Trees.{ExprTree, number, scalar, element, unary, binary, abs, int, ArrayTree, literal as bit_literal, whole, range, of_int, CompareTree}
@@ -16,13 +16,13 @@ use Rattle.stapl_meaning.specs.Scans.{CellPart, target_width, settings_of, lengt
 use Rattle.stapl_meaning.specs.ScanTrees.{given_target, compare_parts, scan_parts}
 use Rattle.fault_laws.specs.Limits.{IsOutside}
 use Rattle.fault_laws.specs.ExprFaults.{size_of, bit_count, held_by, IsInteger}
-use Rattle.fault_laws.specs.PartFaults.{Part, value_part, index_part, array_part, target_arrays, compared_arrays, scan_arrays, result_parts, ArrayIs, whole_is, range_is, PartsAre, no_parts, more_parts, value_is, index_is, array_is, HasBits, whole_has, range_has, IsThere, other_there, IsShort, AreThere, no_array, more_arrays, OneIsShort, this_short, later_short}
-use Rattle.fault_laws.proofs.Gets.{Gives, then_gives, then_known, then_faults}
+use Rattle.fault_laws.specs.PartFaults.{Part, value_part, array_part, target_arrays, compared_arrays, scan_arrays, result_parts, whole_is, range_is, PartsAre, no_parts, more_parts, value_is, index_is, array_is, HasBits, whole_has, range_has, other_there, AreThere, no_array, more_arrays, OneIsShort, this_short, later_short}
+use Rattle.fault_laws.proofs.Gets.{then_gives, then_known, then_faults}
 use Rattle.fault_laws.proofs.LimitLemmas.{part_of}
 use Rattle.fault_laws.proofs.PartLemmas.{HoldsBits, holds_bits, some_same, span_known, index_known}
 use Rattle.fault_laws.proofs.ArrayLemmas.{May, passed_may, asked_may, then_may, Read, array_read, ReadShort, short_read}
 use Rattle.fault_laws.proofs.EffectLemmas.{EndsWell, Does}
-use Rattle.fault_laws.proofs.ScanLemmas.{length_gives, length_faults, length_known, width_of, in_array, parts_of, compared_by, comparison_is, parts, after_source, found_by, found_is, FoundFits, found_gives, all_there, asked_does}
+use Rattle.fault_laws.proofs.ScanLemmas.{length_gives, length_faults, length_known, width_of, in_array, parts_of, comparison_is, after_source, found_is, FoundFits, found_gives, all_there, asked_does}
 
 -- ---- the whole effect breaks by the table alone
 
@@ -30,10 +30,10 @@ pub scanned_does : (P : RunFault → Type 0) (look : Lookup) (register : Registe
     (compare : Option CompareTree) (vs : List Value) (s : State) →
     PartsAre look s.store.variables (value_part kinds.Int count ∷ (map array_part (scan_arrays source target compare) ++ result_parts compare)) vs →
     ((z : ℤ) (values : List Value) → IsInteger look s.store.variables count z → AreThere look s.store.variables (scan_arrays source target compare) →
-      PartsAre look s.store.variables (result_parts compare) values → IsOutside (pos 1) (pos 4194304) z → P BadLength) →
+    PartsAre look s.store.variables (result_parts compare) values → IsOutside (pos 1) (pos 4194304) z → P BadLength) →
     ((n : ℕ) (values : List Value) → IsInteger look s.store.variables count (pos n) →
-      PartsAre look s.store.variables (result_parts compare) values → 1 ≤ n → n ≤ 4194304 →
-      OneIsShort look s.store.variables n (scan_arrays source target compare) → P LengthMismatch) →
+    PartsAre look s.store.variables (result_parts compare) values → 1 ≤ n → n ≤ 4194304 →
+    OneIsShort look s.store.variables n (scan_arrays source target compare) → P LengthMismatch) →
     Does P (scanned (scan_parts look register source target compare) vs s)
 scanned_does P look register count source target compare _ s (more_parts (value_is (Bit b) known) are) p q = tt
 scanned_does P look register count source target compare _ s (more_parts {vs = vs} (value_is (Int z) known) are) p q =
@@ -42,12 +42,12 @@ scanned_does P look register count source target compare _ s (more_parts {vs = v
     (λ found. then_get (length_between 1 4194304 z) (scan_asked (scan_parts look register source target compare) found s))
     (found_gives look s.store.variables register source target compare P vs are)
     (λ found e f.
-      then_gives (λ n. (z ≡ pos n) × (1 ≤ n) × (n ≤ 4194304)) EndsWell P (length_between 1 4194304 z)
-      (scan_asked (scan_parts look register source target compare) found s)
-      (length_gives P 1 4194304 z
-        (p z f.compare_fits.result known (all_there look s.store.variables register source target compare found f) f.compare_fits.are))
-      (λ n e t. asked_does look s.store.variables register source target compare P found s n f
-        (q n f.compare_fits.result (known ∙ ap (λ z. Known (Int z)) t.0) f.compare_fits.are t.1 t.2)))
+    then_gives (λ n. (z ≡ pos n) × (1 ≤ n) × (n ≤ 4194304)) EndsWell P (length_between 1 4194304 z)
+    (scan_asked (scan_parts look register source target compare) found s)
+    (length_gives P 1 4194304 z
+    (p z f.compare_fits.result known (all_there look s.store.variables register source target compare found f) f.compare_fits.are))
+    (λ n e t. asked_does look s.store.variables register source target compare P found s n f
+    (q n f.compare_fits.result (known ∙ ap (λ z. Known (Int z)) t.0) f.compare_fits.are t.1 t.2)))
 
 module _ (look : Lookup) (variables : List Held) where
   -- ---- lists of arrays
@@ -195,7 +195,7 @@ module _ (look : Lookup) (variables : List Held) where
   both_read expected mask e m cell cs c is_c =
       comparison_is look variables cell e.are m.are cs
       ∙ ap (λ g. then_get g (λ x. then_get (source_bits variables (source_of look mask) m.values) (λ y. then_get (cell_found variables cell cs)
-        (λ c. Known (record { expected = x; mask = y; cell = c }))))) e.is
+      (λ c. Known (record { expected = x; mask = y; cell = c }))))) e.is
       ∙ ap (λ g. then_get g (λ y. then_get (cell_found variables cell cs) (λ c. Known (record { expected = e.bits; mask = y; cell = c })))) m.is
       ∙ then_known (λ c. Known (record { expected = e.bits; mask = m.bits; cell = c })) is_c
 
@@ -221,7 +221,7 @@ module _ (look : Lookup) (variables : List Held) where
         are = more_parts (array_is e.are) (more_parts (array_is m.are) (more_parts (index_is i size known sized inside) no_parts));
         found = Some (record { expected = e.bits; mask = m.bits; cell = cell });
         is = then_known (λ c. Known (Some c)) (both_read expected mask e m (ElementCell (look.variable name)) cs cell
-          (then_known (λ index. Known cell) (index_known look variables (held_by look variables name) i size sized inside)));
+            (then_known (λ index. Known cell) (index_known look variables (held_by look variables name) i size sized inside)));
       }
 
   -- what is compared with, by what both arrays give
@@ -309,14 +309,14 @@ module _ (look : Lookup) (variables : List Held) where
     scan_read r t c =
         let ws : List Value = t.values ++ c.values in
         let ends : Option Place → Option Comparison → Got Found = λ place found.
-          Known (record { data_bits = r.bits; target = place; compare = found }) in
+        Known (record { data_bits = r.bits; target = place; compare = found }) in
         record {
           values = r.values ++ ws;
           are = more_parts (array_is r.are) (t.are (compared_arrays compare) (result_parts compare) c.values c.are);
           found = record { data_bits = r.bits; target = t.place; compare = c.found };
           is = found_is look variables register source target compare r.are ws
               ∙ ap (λ g. then_get g (λ bits. after_source look variables register source target compare bits
-                (take (width_of look variables target) ws) (drop (width_of look variables target) ws))) r.is
+              (take (width_of look variables target) ws) (drop (width_of look variables target) ws))) r.is
               ∙ ap₂ (after_source look variables register source target compare r.bits) (t.front c.values) (t.back c.values)
               ∙ ap (λ g. then_get g (λ place. then_get (compare_found variables (compare_parts look compare) c.values) (ends place))) t.is
               ∙ then_known (ends t.place) c.is;
@@ -374,7 +374,7 @@ module _ (look : Lookup) (variables : List Held) where
               faults = then_may (asked (source_of look source) n r.bits) (λ bits. then_get (target_asked n to.place) (after_target s n c.read.found bits))
                   (asked_may (source_of look source) n r.bits)
                   (λ bits. then_may (target_asked n to.place) (after_target s n c.read.found bits) (target_may n to.place)
-                    (λ place. then_faults (captures s bits place) c.faults));
+                  (λ place. then_faults (captures s bits place) c.faults));
             }
 
 -- ---- the effect

@@ -1,28 +1,26 @@
 -- Scans and paddings break by the table alone, and always if the table says so
-use Rattle.std.proofs.Common.{◌≡◌, ℕ, ◌+◌, ◌-◌, ◌<◌, ◌≤◌, Bool, true, false, List, [], ◌∷◌, ◌++◌, map, length, take, drop, replicate, Option, Some, None, ℤ, pos, negsuc, refl, sym, ap, ◌∙◌, ap₂, subst, arith, append-nil, int_le, ◌&&◌, nat_le, nat_abs, slice_get, if◌then◌else◌}
-use Rattle.std.proofs.lemmas.Bool.{leb-false, lt-leb}
-use Rattle.stapl_lexer.specs.declared.terminal.Padding.{Padding}
+use Rattle.std.proofs.Common.{◌≡◌, ℕ, ◌+◌, ◌-◌, ◌<◌, ◌≤◌, Bool, true, false, List, [], ◌∷◌, ◌++◌, map, length, take, drop, replicate, Option, Some, None, ℤ, pos, negsuc, refl, sym, ap, ◌∙◌, ap₂, subst, arith, append-nil, int_le, ◌&&◌, nat_le, nat_abs}
+use Rattle.std.proofs.lemmas.Bool.{leb-false}
 use Rattle.stapl_lexer.specs.declared.terminal.Register.{Register}
-use Rattle.stapl_syntax.specs.Trees.{ExprTree, number, scalar, element, unary, binary, abs, int, ArrayTree, literal as bit_literal, whole, range, of_int, CompareTree}
+use Rattle.stapl_syntax.specs.Trees.{number, scalar, element, unary, binary, abs, int, ArrayTree, literal as bit_literal, whole, range, of_int, CompareTree}
 use Rattle.stapl_meaning.specs.declared.events.RunFault.{RunFault}
 use Rattle.stapl_meaning.specs.declared.events.RunFault.TheVariants.{BadLength, LengthMismatch}
 use Rattle.stapl_meaning.specs.declared.values.Value.{Value}
-use Rattle.stapl_meaning.specs.declared.values.Value.TheVariants.{Int, Bit}
+use Rattle.stapl_meaning.specs.declared.values.Value.TheVariants.{Int}
 use Rattle.stapl_meaning.specs.declared.values.Held.{Held}
 use Rattle.stapl_meaning.specs.declared.values.Held.TheVariants as held
-use Rattle.stapl_meaning.specs.Values.{Got, Known, Faults, Stuck, then_get, passed, index_held, bits_held, Span, span_of, Source, source_bits, asked, source_of, Lookup}
-use Rattle.stapl_meaning.specs.States.{State, Did, Falls, Captures}
-use Rattle.stapl_meaning.specs.Effects.{IntoWhole, IntoRange}
-use Rattle.stapl_meaning.specs.Scans.{CellPart, settings_of, with_padding, length_between, scan_of, ScalarCell, ElementCell, CompareParts, ScanParts, source_width, target_width, Place, Cell, InScalar, InElement, Comparison, target_found, cell_found, comparison_found, compare_found, Found, scan_found, landed, target_asked, compare_asked, scan_asked, scanned, padding_bits, surrounded}
+use Rattle.stapl_meaning.specs.Values.{Got, Known, Faults, then_get, passed, bits_held, Span, source_bits, asked, source_of, Lookup}
+use Rattle.stapl_meaning.specs.States.{State, Did, Captures}
+use Rattle.stapl_meaning.specs.Scans.{CellPart, settings_of, length_between, scan_of, ScalarCell, ElementCell, CompareParts, ScanParts, source_width, target_width, Place, Cell, InScalar, InElement, Comparison, target_found, cell_found, comparison_found, compare_found, Found, scan_found, landed, target_asked, compare_asked, scan_asked, padding_bits}
 use Rattle.stapl_meaning.specs.ScanTrees.{given_source, given_target, compare_parts, scan_parts}
 use Rattle.fault_laws.specs.Limits.{IsOutside}
-use Rattle.fault_laws.specs.ExprFaults.{size_of, bit_count, held_by, IsInteger}
-use Rattle.fault_laws.specs.PartFaults.{Part, value_part, index_part, array_part, target_arrays, compared_arrays, scan_arrays, result_parts, padding_arrays, ArrayIs, literal_is, whole_is, range_is, integer_is, PartIs, PartsAre, no_parts, more_parts, value_is, index_is, array_is, HasBits, whole_has, range_has, IsThere, other_there, IsShort, AreThere, no_array, more_arrays, OneIsShort, this_short, later_short}
+use Rattle.fault_laws.specs.ExprFaults.{bit_count, held_by}
+use Rattle.fault_laws.specs.PartFaults.{Part, array_part, target_arrays, compared_arrays, scan_arrays, result_parts, padding_arrays, ArrayIs, whole_is, range_is, PartsAre, no_parts, more_parts, index_is, array_is, HasBits, whole_has, range_has, IsThere, other_there, IsShort, AreThere, no_array, more_arrays, OneIsShort, this_short, later_short}
 use Rattle.fault_laws.proofs.Gets.{Gives, Breaks, then_gives, then_breaks, breaks_more, then_known, then_faults}
-use Rattle.fault_laws.proofs.LimitLemmas.{outside_both, not_both, both, is_between, part_of, part_known}
-use Rattle.fault_laws.proofs.PartLemmas.{HoldsBits, holds_bits, some_same, span_known, index_known}
-use Rattle.fault_laws.proofs.ArrayLemmas.{May, passed_may, asked_may, then_may, IsSized, there_if, source_gives, asked_breaks, Read, array_read, ReadBits, bits_read, ReadShort, short_read, array_alone, array_front, array_back}
-use Rattle.fault_laws.proofs.EffectLemmas.{EndsWell, Does, then_does}
+use Rattle.fault_laws.proofs.LimitLemmas.{outside_both, not_both, both, is_between, part_of}
+use Rattle.fault_laws.proofs.PartLemmas.{HoldsBits, holds_bits, span_known, index_known}
+use Rattle.fault_laws.proofs.ArrayLemmas.{IsSized, there_if, source_gives, asked_breaks, Read, array_read, ReadShort, short_read, array_alone, array_front, array_back}
+use Rattle.fault_laws.proofs.EffectLemmas.{Does, then_does}
 
 -- ---- lengths
 
@@ -84,9 +82,9 @@ module _ (look : Lookup) (variables : List Held) where
       then_gives (IsSized look variables a) (λ _. Unit {0}) P (source_bits variables (source_of look a) vs)
       (λ bits. then_get (length_between 0 65536 z) (λ n. asked (source_of look a) n bits)) (source_gives look variables P (array_alone look variables are))
       (λ bits e h.
-        then_gives (λ n. (z ≡ pos n) × (0 ≤ n) × (n ≤ 65536)) (λ _. Unit {0}) P (length_between 0 65536 z) (λ n. asked (source_of look a) n bits)
-        (length_gives P 0 65536 z (p (more_arrays (there_if look variables a bits h) no_array)))
-        (λ n e t. asked_breaks look variables P a n bits h (λ short. q n t.0 t.2 (this_short short no_array))))
+      then_gives (λ n. (z ≡ pos n) × (0 ≤ n) × (n ≤ 65536)) (λ _. Unit {0}) P (length_between 0 65536 z) (λ n. asked (source_of look a) n bits)
+      (length_gives P 0 65536 z (p (more_arrays (there_if look variables a bits h) no_array)))
+      (λ n e t. asked_breaks look variables P a n bits h (λ short. q n t.0 t.2 (this_short short no_array))))
 
   -- the parts of a padding after its length, and how they break
   pub record PaddingFaults (bits : Option ArrayTree) (z : ℤ) (k : RunFault) : Type 0 where
@@ -219,11 +217,11 @@ module _ (look : Lookup) (variables : List Held) where
       then_breaks P (asked (source_of look expected) n c.expected)
       (λ e. then_get (asked (source_of look mask) n c.mask) (λ m. Known (Some (record c { expected = e; mask = m }))))
       (asked_breaks look variables P expected n c.expected is_e
-        (λ short. (refl, this_short short (more_arrays (there_if look variables mask c.mask is_m) no_array))))
+      (λ short. (refl, this_short short (more_arrays (there_if look variables mask c.mask is_m) no_array))))
       (λ e known. then_breaks P (asked (source_of look mask) n c.mask) (λ m. Known (Some (record c { expected = e; mask = m })))
-        (asked_breaks look variables P mask n c.mask is_m
-          (λ short. (refl, later_short (there_if look variables expected c.expected is_e) (this_short short no_array))))
-        (λ m known. tt))
+      (asked_breaks look variables P mask n c.mask is_m
+      (λ short. (refl, later_short (there_if look variables expected c.expected is_e) (this_short short no_array))))
+      (λ m known. tt))
 
   abbrev AreSized : ArrayTree → ArrayTree → Comparison → Type 0
   AreSized expected mask c = IsSized look variables expected c.expected × IsSized look variables mask c.mask
@@ -234,14 +232,14 @@ module _ (look : Lookup) (variables : List Held) where
   comparison_gives P expected mask cell us vs cs c is_e is_m is_c =
       subst (Gives (AreSized expected mask) P) (sym (comparison_is cell is_e is_m cs))
       (then_gives (IsSized look variables expected) (AreSized expected mask) P (source_bits variables (source_of look expected) us)
-        (λ e. then_get (source_bits variables (source_of look mask) vs) (λ m. then_get (cell_found variables cell cs) (λ c. Known (record { expected = e; mask = m; cell = c }))))
-        (source_gives look variables P is_e)
-        (λ e known sized_e.
-          then_gives (IsSized look variables mask) (AreSized expected mask) P (source_bits variables (source_of look mask) vs)
-          (λ m. then_get (cell_found variables cell cs) (λ c. Known (record { expected = e; mask = m; cell = c })))
-          (source_gives look variables P is_m)
-          (λ m known sized_m.
-            subst (Gives (AreSized expected mask) P) (sym (then_known (λ c. Known (record { expected = e; mask = m; cell = c })) is_c)) (sized_e, sized_m))))
+      (λ e. then_get (source_bits variables (source_of look mask) vs) (λ m. then_get (cell_found variables cell cs) (λ c. Known (record { expected = e; mask = m; cell = c }))))
+      (source_gives look variables P is_e)
+      (λ e known sized_e.
+      then_gives (IsSized look variables mask) (AreSized expected mask) P (source_bits variables (source_of look mask) vs)
+      (λ m. then_get (cell_found variables cell cs) (λ c. Known (record { expected = e; mask = m; cell = c })))
+      (source_gives look variables P is_m)
+      (λ m known sized_m.
+      subst (Gives (AreSized expected mask) P) (sym (then_known (λ c. Known (record { expected = e; mask = m; cell = c })) is_c)) (sized_e, sized_m))))
 
   compare_gives : (P : RunFault → Type 0) (compare : Option CompareTree) (ws : List Value) →
       PartsAre look variables (map array_part (compared_arrays compare) ++ result_parts compare) ws →
@@ -269,7 +267,7 @@ module _ (look : Lookup) (variables : List Held) where
       then_gives (AreSized expected mask) (CompareFits (Some (expected, (mask, element name index)))) P
       (comparison_found variables (parts_of expected mask cell) (us ++ (vs ++ (Int (pos i) ∷ [])))) (λ c. Known (Some c))
       (comparison_gives P expected mask cell us vs (Int (pos i) ∷ []) (InElement (look.variable name) (pos i)) is_e is_m
-        (then_known (λ index. Known (InElement (look.variable name) (pos i))) (index_known look variables (held_by look variables name) i size sized inside)))
+      (then_known (λ index. Known (InElement (look.variable name) (pos i))) (index_known look variables (held_by look variables name) i size sized inside)))
       (λ c got sizes. record {
         there = more_arrays (there_if look variables expected c.expected sizes.0) (more_arrays (there_if look variables mask c.mask sizes.1) no_array);
         shorts = λ n. comparison_shorts expected mask cell n c sizes.0 sizes.1;
@@ -308,22 +306,22 @@ module _ (look : Lookup) (variables : List Held) where
     found_gives P _ (more_parts {us = us} {vs = ws} (array_is is) rest) =
         subst (Gives FoundFits P) (sym (found_is is ws))
         (then_gives (IsSized look variables source) FoundFits P (source_bits variables (source_of look source) us)
-          (λ data_bits. after_source data_bits (take (width_of target) ws) (drop (width_of target) ws)) (source_gives look variables P is)
-          (λ data_bits known sized.
-            then_gives (TargetFits target) FoundFits P (target_found variables (given_target look target) (take (width_of target) ws))
-            (λ place. then_get (compare_found variables (compare_parts look compare) (drop (width_of target) ws)) (λ found.
-              Known (record { data_bits = data_bits; target = place; compare = found })))
-            (target_gives P target (compared_arrays compare) (result_parts compare) ws rest)
-            (λ place known target_fits.
-              then_gives (CompareFits compare) FoundFits P (compare_found variables (compare_parts look compare) (drop (width_of target) ws))
-              (λ found. Known (record { data_bits = data_bits; target = place; compare = found }))
-              (compare_gives P compare (drop (width_of target) ws) (target_back target (compared_arrays compare) (result_parts compare) ws rest))
-              (λ found known compare_fits. record {
-                there = there_if look variables source data_bits sized;
-                shorts = λ n. asked_breaks look variables (Shorts n (source ∷ [])) source n data_bits sized (λ short. (refl, this_short short no_array));
-                target_fits = target_fits;
-                compare_fits = compare_fits;
-              }))))
+        (λ data_bits. after_source data_bits (take (width_of target) ws) (drop (width_of target) ws)) (source_gives look variables P is)
+        (λ data_bits known sized.
+        then_gives (TargetFits target) FoundFits P (target_found variables (given_target look target) (take (width_of target) ws))
+        (λ place. then_get (compare_found variables (compare_parts look compare) (drop (width_of target) ws)) (λ found.
+        Known (record { data_bits = data_bits; target = place; compare = found })))
+        (target_gives P target (compared_arrays compare) (result_parts compare) ws rest)
+        (λ place known target_fits.
+        then_gives (CompareFits compare) FoundFits P (compare_found variables (compare_parts look compare) (drop (width_of target) ws))
+        (λ found. Known (record { data_bits = data_bits; target = place; compare = found }))
+        (compare_gives P compare (drop (width_of target) ws) (target_back target (compared_arrays compare) (result_parts compare) ws rest))
+        (λ found known compare_fits. record {
+          there = there_if look variables source data_bits sized;
+          shorts = λ n. asked_breaks look variables (Shorts n (source ∷ [])) source n data_bits sized (λ short. (refl, this_short short no_array));
+          target_fits = target_fits;
+          compare_fits = compare_fits;
+        }))))
 
     pub all_there : (found : Found) → FoundFits found → AreThere look variables (scan_arrays source target compare)
     all_there found f = more_arrays f.there (both_there f.target_fits.there f.compare_fits.there)
@@ -332,21 +330,21 @@ module _ (look : Lookup) (variables : List Held) where
         (OneIsShort look variables n (scan_arrays source target compare) → P LengthMismatch) → Does P (scan_asked parts found s n)
     asked_does P found s n f p =
         let source_first : OneIsShort look variables n (source ∷ []) → P LengthMismatch =
-          λ short. p (short_left short (both_there f.target_fits.there f.compare_fits.there)) in
+        λ short. p (short_left short (both_there f.target_fits.there f.compare_fits.there)) in
         let then_target : OneIsShort look variables n (target_arrays target) → P LengthMismatch =
-          λ short. p (later_short f.there (short_left short f.compare_fits.there)) in
+        λ short. p (later_short f.there (short_left short f.compare_fits.there)) in
         let then_compare : OneIsShort look variables n (compared_arrays compare) → P LengthMismatch =
-          λ short. p (later_short f.there (short_right f.target_fits.there short)) in
+        λ short. p (later_short f.there (short_right f.target_fits.there short)) in
         let ends : List Bool → Option Place → Option Comparison → Got Did = λ bits place found.
-          Known (Captures (scan_of register (settings_of register s) bits) (λ captured. landed place found captured s)) in
+        Known (Captures (scan_of register (settings_of register s) bits) (λ captured. landed place found captured s)) in
         let compared : List Bool → Option Place → Got Did = λ bits place.
-          then_get (compare_asked n (compare_parts look compare) found.compare) (ends bits place) in
+        then_get (compare_asked n (compare_parts look compare) found.compare) (ends bits place) in
         then_does P (asked (source_of look source) n found.data_bits) (λ bits. then_get (target_asked n found.target) (compared bits))
         (breaks_more (Shorts n (source ∷ [])) P (asked (source_of look source) n found.data_bits) (shorts_as P n (source ∷ []) source_first) (f.shorts n))
         (λ bits e. then_does P (target_asked n found.target) (compared bits)
-          (breaks_more (Shorts n (target_arrays target)) P (target_asked n found.target) (shorts_as P n (target_arrays target) then_target)
-            (f.target_fits.shorts n))
-          (λ place e. then_does P (compare_asked n (compare_parts look compare) found.compare) (ends bits place)
-            (breaks_more (Shorts n (compared_arrays compare)) P (compare_asked n (compare_parts look compare) found.compare)
-              (shorts_as P n (compared_arrays compare) then_compare) (f.compare_fits.shorts n))
-            (λ c e. tt)))
+        (breaks_more (Shorts n (target_arrays target)) P (target_asked n found.target) (shorts_as P n (target_arrays target) then_target)
+        (f.target_fits.shorts n))
+        (λ place e. then_does P (compare_asked n (compare_parts look compare) found.compare) (ends bits place)
+        (breaks_more (Shorts n (compared_arrays compare)) P (compare_asked n (compare_parts look compare) found.compare)
+        (shorts_as P n (compared_arrays compare) then_compare) (f.compare_fits.shorts n))
+        (λ c e. tt)))

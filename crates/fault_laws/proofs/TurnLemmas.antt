@@ -1,5 +1,5 @@
 -- Whole statements and turns break exactly by the table
-use Rattle.std.proofs.Common.{◌≡◌, ℕ, ◌+◌, Bool, true, false, List, [], ◌∷◌, ◌++◌, Option, Some, None, ℤ, pos, refl, sym, ap, ◌∙◌, subst, slice_get}
+use Rattle.std.proofs.Common.{◌≡◌, ℕ, ◌+◌, Bool, true, false, List, [], ◌∷◌, Option, Some, None, refl, sym, ap, ◌∙◌, subst, slice_get}
 use Rattle.stapl_syntax.specs.Trees.{ExprTree, BodyTree, boolean, boolean_array, integer, integer_array, if_then, StmtTree}
 use Rattle.dev_card.specs.Scans.{BoardScan}
 use Rattle.stapl_meaning.specs.Deeds.{Deed}
@@ -16,10 +16,10 @@ use Rattle.stapl_meaning.specs.Turns.{effect, target, rows, carried, rows_done, 
 use Rattle.fault_laws.specs.ExprFaults.{ExprBreaks}
 use Rattle.fault_laws.specs.PartFaults.{of_value, first_part}
 use Rattle.fault_laws.specs.RowFaults.{RowBreaks, of_parts}
-use Rattle.fault_laws.specs.TurnFaults.{IsReached, itself, inner, Reaches, TurnBreaks, EndsByTable, NeverFaults}
-use Rattle.fault_laws.proofs.Gets.{Gives, Breaks}
+use Rattle.fault_laws.specs.TurnFaults.{IsReached, itself, inner, TurnBreaks, EndsByTable, NeverFaults}
+use Rattle.fault_laws.proofs.Gets.{Breaks}
 use Rattle.fault_laws.proofs.ExprLemmas.{expr_breaks}
-use Rattle.fault_laws.proofs.EffectLemmas.{EndsWell, Does}
+use Rattle.fault_laws.proofs.EffectLemmas.{Does}
 use Rattle.fault_laws.proofs.RowLemmas.{row_got, row_does}
 use Rattle.fault_laws.proofs.RowFaultLemmas.{row_faults}
 
@@ -174,7 +174,7 @@ turn_only program i s t deeds k piece = by (slice_get program.pieces i) refl
     by (Some st) stands e =
         let scope : Scope = scope_at program i in
         let so : EndsSo (StatementBreaks scope s st.body) s (i + 1) deeds k piece t =
-          piece_only (StatementBreaks scope s st.body) s (i + 1) (done scope s st.body) deeds k piece t (statement_only scope s st.body) e in
+        piece_only (StatementBreaks scope s st.body) s (i + 1) (done scope s st.body) deeds k piece t (statement_only scope s st.body) e in
         record {
           breaks = record { statement = st; stands = stands; row = so.breaks.0; reached = so.breaks.1; holds = so.breaks.2 };
           nothing_done = so.nothing_done;

@@ -2,7 +2,7 @@
 -- are, and in which order they come, are this profile's rules. Parts are evaluated from left to right, so the fault of
 -- a part is that of the whole if all parts to its left have values. That a part has a value is said by `value_of`.
 -- Where faults come is said here by cases, one for each row of the table, and by no test of the meaning.
-use Rattle.std.specs.Prelude.{◌≡◌, ℕ, ℤ, pos, ◌<◌, ◌<ℤ◌, List, length, Option, Some, None, slice_get}
+use Rattle.std.specs.Prelude.{◌≡◌, ℕ, ℤ, pos, ◌<◌, List, length, Option, Some, None, slice_get}
 use Rattle.stapl_lexer.specs.declared.terminal.BinOp.{BinOp}
 use Rattle.stapl_lexer.specs.declared.terminal.BinOp.TheVariants.{Divide, Remainder, ShiftLeft, ShiftRight}
 use Rattle.stapl_syntax.specs.declared.signs.UnOp.{UnOp}

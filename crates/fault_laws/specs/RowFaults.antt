@@ -1,7 +1,7 @@
 -- The faults of a statement without its inner statement, by the table of faults. Source: JESD71, statements. Which
 -- faults there are, their limits and their order are this profile's rules. The effect of a statement breaks only if all
 -- its parts have values, and each case says so by the values of the parts.
-use Rattle.std.specs.Prelude.{◌≡◌, ◌≢◌, ℕ, ℤ, pos, ◌<◌, ◌≤◌, ◌<ℤ◌, true, List, [], ◌∷◌, length, Option, Some, None}
+use Rattle.std.specs.Prelude.{◌≡◌, ◌≢◌, ℕ, ℤ, pos, ◌≤◌, ◌<ℤ◌, true, List, [], ◌∷◌, length, Option, Some, None}
 use Rattle.stapl_lexer.specs.declared.terminal.Padding.{Padding}
 use Rattle.stapl_lexer.specs.declared.terminal.Register.{Register}
 use Rattle.stapl_syntax.specs.Kinds.{expr_kind}
