@@ -1,0 +1,12 @@
+pub mod Gets
+pub mod LimitLemmas
+pub mod ExprLemmas
+pub mod PartLemmas
+pub mod ArrayLemmas
+pub mod EffectLemmas
+pub mod ScanLemmas
+pub mod ScanFaultLemmas
+pub mod RowLemmas
+pub mod RowFaultLemmas
+pub mod TurnLemmas
+pub mod NamedFaults

@@ -1,0 +1,5 @@
+pub mod Limits
+pub mod ExprFaults
+pub mod PartFaults
+pub mod RowFaults
+pub mod TurnFaults
