@@ -40,9 +40,9 @@ impl<'a, C: Cable> FailingCable<'a, C> {
         }
     }
 
-    /// The numbers of the waits, in microseconds, and of the frequencies, in hertz.
-    pub fn signals(&self) -> (&[u32], &[u32]) {
-        (self.waits.as_slice(), self.frequencies.as_slice())
+    /// Whether these are its waits, in microseconds, and its frequencies, in hertz.
+    pub fn has_made(&self, waits: &[u32], frequencies: &[u32]) -> bool {
+        self.waits.as_slice() == waits && self.frequencies.as_slice() == frequencies
     }
 
     // A fault, after which each call fails.

@@ -120,7 +120,7 @@ fn plays(
     let answer = plays_over::<_, Brand>(alloc, played, &mut cable, blank)?;
     Ok(match answer {
         Ok(is_right) => {
-            Ok(is_right && cable.signals() == (played.case.waits, played.case.frequencies))
+            Ok(is_right && cable.has_made(played.case.waits, played.case.frequencies))
         }
         Err(trouble) => Err(trouble),
     })
