@@ -11,14 +11,29 @@ use stapl_meaning::RunFault;
 use std::test::Fail;
 use tool_io::{MemShelf, MemSink};
 
+/// What the store and the sink do: the sink takes so many bytes a write, and the write and the pick or read with these
+/// numbers fail, where 0 is none.
+#[derive(Clone, Copy)]
+pub struct Outside {
+    pub bite: u32,
+    pub write: u32,
+    pub read: u32,
+}
+
+// Nothing fails.
+const SOUND: Outside = Outside {
+    bite: 100,
+    write: 0,
+    read: 0,
+};
+
 // What the tool writes, and its status, for these words, where the store has this board in the file `b` and this
-// program in `p`, and the sink takes `bite` bytes a write, of which the numbered one fails.
-fn answer(
+// program in `p`.
+pub fn answer(
     rt: &HostRuntime,
     words: &[&str],
     files: [&str; 2],
-    bite: u32,
-    failing: u32,
+    outside: Outside,
 ) -> Result<(Status, Vec<u8>), Fail> {
     let alloc = rt.alloc();
     let mut owned = Vec::new(alloc);
@@ -35,9 +50,14 @@ fn answer(
         alloc,
         names,
         vec![in alloc; board, program]?,
-        Vec::new(alloc),
+        vec![in alloc; outside.read]?,
     )?;
-    let mut out = MemSink::new(alloc, 1000, bite.max(1), vec![in alloc; failing]?)?;
+    let mut out = MemSink::new(
+        alloc,
+        1000,
+        outside.bite.max(1),
+        vec![in alloc; outside.write]?,
+    )?;
     let mut rack: Vec<Box<dyn Device>> = Vec::new(alloc);
     fill_rack!(alloc, rack);
     if !is_rack(&rack) {
@@ -55,7 +75,7 @@ const PLAY: [&str; 4] = ["play", "board=b", "program=p", "action=A"];
 
 #[test]
 fn prints_and_exits(rt: HostRuntime) -> Result<(), Fail> {
-    let (status, written) = answer(&rt, &PLAY, [BOARD, HELLO], 100, 0)?;
+    let (status, written) = answer(&rt, &PLAY, [BOARD, HELLO], SOUND)?;
     assert_eq!(rt; status, Status::Done(0));
     assert_eq!(rt; written.as_slice(), b"P HELLO\nE exit 0\n".as_slice());
     assert_eq!(rt; status.exit_code(), 0);
@@ -67,7 +87,7 @@ fn writes_the_clocks(rt: HostRuntime) -> Result<(), Fail> {
     let program =
         "ACTION A=P;PROCEDURE P;STATE IRPAUSE,RESET;WAIT 2 CYCLES,5 USEC;FREQUENCY 1E6 HZ;ENDPROC;";
     let words = ["play", "board=b", "program=p", "action=A", "pins=yes"];
-    let (status, written) = answer(&rt, &words, [BOARD, program], 100, 0)?;
+    let (status, written) = answer(&rt, &words, [BOARD, program], SOUND)?;
     assert_eq!(rt; status, Status::Done(0));
     let text = b"C 5555515515155555111\nW 5\nF 1000000\nE exit 0\n".as_slice();
     assert_eq!(rt; written.as_slice(), text);
@@ -76,7 +96,16 @@ fn writes_the_clocks(rt: HostRuntime) -> Result<(), Fail> {
 
 #[test]
 fn keeps_a_prefix_where_the_third_write_fails(rt: HostRuntime) -> Result<(), Fail> {
-    let (status, written) = answer(&rt, &PLAY, [BOARD, HELLO], 4, 3)?;
+    let (status, written) = answer(
+        &rt,
+        &PLAY,
+        [BOARD, HELLO],
+        Outside {
+            bite: 4,
+            write: 3,
+            read: 0,
+        },
+    )?;
     assert_eq!(rt; status, Status::WriteFault);
     assert_eq!(rt; written.as_slice(), b"P HELLO\n".as_slice());
     assert_eq!(rt; status.exit_code(), 10);
@@ -85,7 +114,7 @@ fn keeps_a_prefix_where_the_third_write_fails(rt: HostRuntime) -> Result<(), Fai
 
 #[test]
 fn refuses_a_board(rt: HostRuntime) -> Result<(), Fail> {
-    let (status, written) = answer(&rt, &PLAY, ["plain U1 4\nplain U1 4\n", HELLO], 100, 0)?;
+    let (status, written) = answer(&rt, &PLAY, ["plain U1 4\nplain U1 4\n", HELLO], SOUND)?;
     assert_eq!(rt; status, Status::BoardRefused(2, BoardReason::Duplicate));
     assert_eq!(rt; written.as_slice(), b"R board 2 Duplicate\n".as_slice());
     assert_eq!(rt; status.exit_code(), 5);
