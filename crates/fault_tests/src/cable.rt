@@ -14,9 +14,9 @@ use tool_io::Failed;
 /// It tells nothing. Calls are numbered from 1; one that fails does not reach the other cable, and raises the count of
 /// faults by one. Once a call has failed, all do.
 #[derive(Drop)]
-pub struct FailingCable<'a, C> {
+pub struct FailingCable<C> {
     inner: C,
-    failing: &'a [u32],
+    failing: Vec<u32>,
     number: u32,
     faults: u32,
     is_broken: bool,
@@ -24,10 +24,10 @@ pub struct FailingCable<'a, C> {
     frequencies: Vec<u32>,
 }
 
-impl<'a, C: Cable> FailingCable<'a, C> {
-    pub fn over(alloc: Global, inner: C, failing: &'a [u32]) -> FailingCable<'a, C>
+impl<C: Cable> FailingCable<C> {
+    pub fn over(alloc: Global, inner: C, failing: Vec<u32>) -> FailingCable<C>
         requires { C.breakage inner ≡ whole }
-        ensures { ⟦<FailingCable<'a, C> as Cable>⟧.breakage result ≡ whole }
+        ensures { ⟦<FailingCable<C> as Cable>⟧.breakage result ≡ whole }
     {
         FailingCable {
             inner,
@@ -75,7 +75,7 @@ impl<'a, C: Cable> FailingCable<'a, C> {
     }
 }
 
-impl<C: Cable> Cable for FailingCable<'_, C> {
+impl<C: Cable> Cable for FailingCable<C> {
     ghost board = { λ _. None };
 
     ghost made = { λ _ _ _. Unit {0} };

@@ -98,8 +98,28 @@ fn plays_over<C: Cable, L: Ledger>(
     }
 }
 
-// The same over the fresh devices of its board, with calls of the cable that fail; and whether the cable gets the waits
-// and frequencies of the case.
+// The same with calls of the cable that fail; and whether the cable gets the waits and frequencies of the case.
+fn plays_through<C: Cable + Drop>(
+    alloc: Global,
+    played: &Play,
+    cable: C,
+    failing: Vec<u32>,
+) -> Result<Result<bool, Trouble>, Fail>
+    requires below { AllBelow (length played.now.code.now.procedures) played.now.chosen.now }
+    requires cable { C.breakage cable ≡ whole }
+{
+    let mut cable = FailingCable::over(alloc, cable, failing);
+    let blank = Blank::new(1);
+    let answer = plays_over::<_, Brand>(alloc, played, &mut cable, blank)?;
+    Ok(match answer {
+        Ok(is_right) => {
+            Ok(is_right && cable.has_made(played.case.waits, played.case.frequencies))
+        }
+        Err(trouble) => Err(trouble),
+    })
+}
+
+// The same over the fresh devices of its board.
 fn plays(
     alloc: Global,
     played: &Play,
@@ -115,15 +135,8 @@ fn plays(
         return Err("no rack".into());
     }
     let places = fit_board(alloc, rack, played.devices)?;
-    let mut cable = FailingCable::over(alloc, Chain::over(rack, &places), failing);
-    let blank = Blank::new(1);
-    let answer = plays_over::<_, Brand>(alloc, played, &mut cable, blank)?;
-    Ok(match answer {
-        Ok(is_right) => {
-            Ok(is_right && cable.has_made(played.case.waits, played.case.frequencies))
-        }
-        Err(trouble) => Err(trouble),
-    })
+    let failing = Vec::from_slice(alloc, failing)?;
+    plays_through(alloc, played, Chain::over(rack, &places), failing)
 }
 
 // Plays with a call of the cable that fails, and after each fault again with none that does, until a play is whole:

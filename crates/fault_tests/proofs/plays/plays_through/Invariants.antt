@@ -1,4 +1,4 @@
-use Rattle.fault_tests.proofs.plays.plays.Given as goal
+use Rattle.fault_tests.proofs.plays.plays_through.Given as goal
 
 abbrev pub ghosts-plays_over : goal.ghosts-plays_over
 ghosts-plays_over g a = record { name = a.blank.name; parts = a.blank.parts }
