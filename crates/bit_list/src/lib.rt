@@ -164,6 +164,25 @@ impl Bits {
         }
     }
 
+    /// Puts the n bits from index `at` on in the other order; the other bits stay.
+    pub fn reverse_within(&mut self, at: u32, n: u32)
+        requires { at + n ≤ length self.old }
+        ensures reversed { self.new ≡ spliced at (reverse (taken at n self.old)) self.old }
+        ensures length { length self.new ≡ length self.old }
+    {
+        let _len = self.len();
+        let (mut low, mut left) = (at, n);
+        while left > 1 {
+            let len = (left / 2).min(64);
+            let high = low + left - len;
+            let (first, last) = (self.reversed_word(low, len), self.reversed_word(high, len));
+            self.set_word(low, len, last);
+            self.set_word(high, len, first);
+            low += len;
+            left -= 2 * len;
+        }
+    }
+
     /// Copies the n bits from index `low` on to the indexes from `at` on; the other bits stay. All are read before one
     /// is written.
     pub fn copy_within(&mut self, at: u32, low: u32, n: u32)
@@ -240,6 +259,19 @@ impl Bits {
         ensures bits { low_bits n result ≡ taken at n self.now }
     {
         words::word_at(&self.words, at as usize, n as usize)
+    }
+
+    /// The n bits from index `at` on, of which there are at most 64, as a number, the last one lowest.
+    pub fn reversed_word(&self, at: u32, n: u32) -> u64
+        requires most { n ≤ 64 }
+        requires inside { at + n ≤ length self.now }
+        ensures value { result ≡ number_of (reverse (taken at n self.now)) }
+        ensures bits { low_bits n result ≡ reverse (taken at n self.now) }
+    {
+        if n == 0 {
+            return 0;
+        }
+        words::reversed(self.word(at, n), n as usize)
     }
 
     /// Sets the n bits from index `at` on, of which there are at most 64, to the lowest ones of a number; the other

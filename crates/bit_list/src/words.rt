@@ -10,6 +10,9 @@ use std::alloc::{AllocError, Global};
 /// How many bits a word has.
 pub const WORD_SIZE: usize = 64;
 
+/// Each number of four bits with its bits in the other order.
+const TURNED_DIGITS: [u64; 16] = [0, 8, 4, 12, 2, 10, 6, 14, 1, 9, 5, 13, 3, 11, 7, 15];
+
 /// So many words that are 0.
 pub fn zeros(alloc: Global, count: usize) -> Result<Vec<u64>, AllocError>
     ensures { IfOk result (λ words. words.items ≡ replicate count 0) }
@@ -340,12 +343,26 @@ pub fn reverse_bits(to: &mut [u64], at: usize, from: &[u64], low: usize, n: usiz
     }
 }
 
-/// The number whose lowest n bits are those of a word, the last one first.
+/// The number of n bits that are the lowest ones of a word, the last one first.
 #[inline(always)]
-fn reversed(word: u64, n: usize) -> u64
+pub fn reversed(word: u64, n: usize) -> u64
     requires some { 0 < n }
     requires most { n ≤ 64 }
-    ensures { low_bits n result ≡ reverse (low_bits n word) }
+    ensures bits { low_bits n result ≡ reverse (low_bits n word) }
+    ensures fits { result < 2 ^ n }
 {
-    word.reverse_bits() >> (WORD_SIZE - n)
+    turned_round(word) >> (WORD_SIZE - n)
+}
+
+/// The word with its bits in the other order. It goes by digits of four bits, where the kit goes bit by bit.
+#[inline(always)]
+fn turned_round(word: u64) -> u64
+    ensures { low_bits word_size result ≡ reverse (low_bits word_size word) }
+{
+    let (mut rest, mut turned) = (word, 0u64);
+    for _ in 0..16usize {
+        turned = turned * 16 + TURNED_DIGITS[(rest % 16) as usize];
+        rest /= 16;
+    }
+    turned
 }
