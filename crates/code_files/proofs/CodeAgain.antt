@@ -2,7 +2,6 @@
 use Rattle.std.proofs.Common.{◌≡◌, ◌≢◌, ◌≤◌, ◌<◌, ◌^◌, ℕ, zero, suc, List, [], ◌∷◌, ◌++◌, length, Result, Ok, refl, sym, ap, ◌∙◌, append_assoc, arith}
 use Rattle.std.specs.Prelude.{slice_get}
 use Rattle.std.specs.List.{AllByRecursion}
-use Rattle.std.specs.Str.{bytes_eq}
 use Rattle.std.proofs.lemmas.List.Elements.{recursion_from_All}
 use Rattle.stapl_syntax.specs.Contents.{IsFreeName}
 use Rattle.stapl_code.specs.declared.instr.Instr.{Instr}
@@ -14,10 +13,12 @@ use Rattle.stapl_code.specs.Ranges.{IsVariable, IsAction, size_of, IsInstr, IsLi
 use Rattle.code_files.specs.declared.fault.Fault.{Fault}
 use Rattle.stapl_code.specs.Fields.{counted, literal, text}
 use Rattle.stapl_code.specs.Instrs.{instr, IsCountableInstr, FitsInstr}
+use Rattle.stapl_meaning.specs.declared.profiles.Profile.{Profile}
+use Rattle.stapl_meaning.specs.declared.profiles.Profile.TheVariants.{One, Two}
 use Rattle.stapl_code.specs.Files.{head, variable, procedure, action, file, IsCountable, IsFitting, HasFile}
 use Rattle.code_files.specs.Reading.{field, listed_in, any_end}
 use Rattle.code_files.specs.ReadInstrs.{instr_at}
-use Rattle.code_files.specs.ReadFiles.{variable_at, literal_at, text_at, procedure_at, action_at, code_at}
+use Rattle.code_files.specs.ReadFiles.{is_head, profile_of, head_at, variable_at, literal_at, text_at, procedure_at, action_at, code_at}
 use Rattle.code_files.proofs.Counts.{countable}
 use Rattle.code_files.proofs.FieldsAgain.{field_again, listed_again}
 use Rattle.code_files.proofs.PartsAgain.{made_again, followed_again, each_again}
@@ -84,6 +85,10 @@ module _ (code : CodeLists) (h : IsInRange code) (few : IsCountable code) (fits 
       (λ x r w. instr_again code.variables (length code.literals) (length code.texts) (length code.procedures) are_few x r w.0 w.1.0 w.1.1)
       0 any_end code.instrs rest (omega arith) (omega arith) few.instrs (λ k d lt. (h.instrs k d lt, (few.counts k d lt, fits.numbers k d lt)))
 
+  head_again : (profile : Profile) (rest : List ℕ) → head_at (head profile ++ rest) ≡ Ok (profile, rest)
+  head_again One rest = made_again profile_of (field 8 is_head) (head One ++ rest) (head One) rest (field_again 8 is_head (head One) rest refl refl)
+  head_again Two rest = made_again profile_of (field 8 is_head) (head Two ++ rest) (head Two) rest (field_again 8 is_head (head Two) rest refl refl)
+
   pub code_again : (rest : List ℕ) → code_at (file code ++ rest) ≡ Ok (code, rest)
   unfolding file
   code_again rest =
@@ -93,17 +98,25 @@ module _ (code : CodeLists) (h : IsInRange code) (few : IsCountable code) (fits 
       let texts = counted text code.texts ++ procedures in
       let literals = counted literal code.literals ++ texts in
       let variables = counted variable code.variables ++ literals in
-      let regrouped : file code ++ rest ≡ head ++ variables =
-      regroup head (counted variable code.variables) (counted literal code.literals) (counted text code.texts)
+      let regrouped : file code ++ rest ≡ head code.profile ++ variables =
+      regroup (head code.profile) (counted variable code.variables) (counted literal code.literals) (counted text code.texts)
       (counted procedure code.procedures) (counted action code.actions) (counted instr code.instrs) rest in
       ap code_at regrouped
-      ∙ followed_again (field 8 (bytes_eq head)) _ (head ++ variables) head variables (field_again 8 (bytes_eq head) head variables refl refl)
+      ∙ followed_again head_at _ (head code.profile ++ variables) code.profile variables (head_again code.profile variables)
       ∙ followed_again (listed_in variable_at 0 any_end) _ variables code.variables literals (variables_again literals)
       ∙ followed_again (listed_in (λ _. literal_at) 0 any_end) _ literals code.literals texts (literals_again texts)
       ∙ followed_again (listed_in (λ _. text_at) 0 any_end) _ texts code.texts procedures (texts_again procedures)
       ∙ followed_again (listed_in procedure_at 1 any_end) _ procedures code.procedures actions (procedures_again actions)
       ∙ followed_again (listed_in (action_at (length code.procedures)) 1 any_end) _ actions code.actions instrs (actions_again instrs)
-      ∙ made_again (λ xs. record { variables = code.variables; literals = code.literals; texts = code.texts; procedures = code.procedures; actions = code.actions; instrs = xs })
+      ∙ made_again (λ xs. record {
+        profile = code.profile;
+        variables = code.variables;
+        literals = code.literals;
+        texts = code.texts;
+        procedures = code.procedures;
+        actions = code.actions;
+        instrs = xs;
+      })
       (listed_in (λ _. instr_at code.variables (length code.literals) (length code.texts) (length code.procedures)) 0 any_end) instrs code.instrs rest (instrs_again rest)
 
 abbrev read_of : {A : Type 0} → A → Result A Fault

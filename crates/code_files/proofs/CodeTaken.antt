@@ -1,5 +1,5 @@
 -- A code that is read is in range, and its file is the bytes that were read.
-use Rattle.std.proofs.Common.{◌≡◌, ◌≢◌, ◌<◌, ◌^◌, ℕ, List, [], length, All, Ok, refl, arith}
+use Rattle.std.proofs.Common.{◌≡◌, ◌≢◌, ◌<◌, ◌^◌, ◌||◌, if◌then◌else◌, Bool, true, false, ℕ, List, [], length, All, Ok, refl, sym, arith, true≢false}
 use Rattle.std.specs.Str.{bytes_eq}
 use Rattle.std.proofs.lemmas.Slice.Eq.{bytes_eq-Decides}
 use Rattle.stapl_syntax.specs.Contents.{IsFreeName}
@@ -10,10 +10,11 @@ use Rattle.stapl_code.specs.declared.raw.CodeLists.{CodeLists}
 use Rattle.stapl_code.specs.Ranges.{AreVariables, AreProcedures, IsAction, AreActions, IsLiteral, IsInRange}
 use Rattle.stapl_code.specs.Fields.{counted, literal, text}
 use Rattle.stapl_code.specs.Instrs.{instr}
+use Rattle.stapl_meaning.specs.declared.profiles.Profile.TheVariants.{One, Two}
 use Rattle.stapl_code.specs.Files.{head, variable, procedure, action, file, IsFitting}
 use Rattle.code_files.specs.Reading.{field, listed_in, any_end}
 use Rattle.code_files.specs.ReadInstrs.{instr_at}
-use Rattle.code_files.specs.ReadFiles.{variable_at, literal_at, text_at, procedure_at, action_at, code_at}
+use Rattle.code_files.specs.ReadFiles.{is_head, profile_of, head_at, variable_at, literal_at, text_at, procedure_at, action_at, code_at}
 use Rattle.code_files.proofs.FieldsAgain.{AllAfter}
 use Rattle.code_files.proofs.ListsAgain.{FitsBehind, ComesAfter}
 use Rattle.code_files.proofs.FieldsTaken.{Takes, IsRead, IsFrom, IsField, AreEach, field_takes, respelled, made_takes, followed_takes, listed_takes, each_takes, all_of}
@@ -83,15 +84,25 @@ whole_code code variables literals texts procedures actions instrs = record {
   };
 }
 
-head_takes : Takes [] (field 8 (bytes_eq head)) (λ _. head) Any
+-- a head is that of its profile
+head_is : (x : List ℕ) → is_head x ≡ true → head (profile_of x) ≡ x
+head_is x is = by (bytes_eq (head One) x) refl (bytes_eq (head Two) x) refl is
+  where
+    by : (one : Bool) → bytes_eq (head One) x ≡ one → (two : Bool) → bytes_eq (head Two) x ≡ two → one || two ≡ true → head (if one then One else Two) ≡ x
+    by true e two f is = (bytes_eq-Decides (head One) x).0 e
+    by false e true f is = (bytes_eq-Decides (head Two) x).0 f
+    by false e false f is = absurd (true≢false (sym is))
+
+head_takes : Takes [] head_at head Any
 head_takes =
-    respelled [] (field 8 (bytes_eq head)) (λ x. x) (IsField 8 (bytes_eq head)) (λ _. head) Any (field_takes 8 (bytes_eq head))
-    (λ x h. (bytes_eq-Decides head x).0 h.1) (λ x h. tt)
+    made_takes [] profile_of (field 8 is_head) (λ x. head (profile_of x)) Any head Any
+    (respelled [] (field 8 is_head) (λ x. x) (IsField 8 is_head) (λ x. head (profile_of x)) Any (field_takes 8 is_head) (λ x h. head_is x h.1) (λ x h. tt))
+    (λ x. refl) (λ x h. tt)
 
 code_takes : Takes [] code_at file IsWhole
 unfolding file
 code_takes =
-    followed_takes [] (field 8 (bytes_eq head)) _ (λ _. head) Any file IsWhole head_takes (λ x _.
+    followed_takes [] head_at _ head Any file IsWhole head_takes (λ profile _.
     followed_takes _ (listed_in variable_at 0 any_end) _ (counted variable) Variables file IsWhole (listed_takes variable_at variable FitsBehind variable_takes 0 any_end) (λ variables v.
     followed_takes _ (listed_in (λ _. literal_at) 0 any_end) _ (counted literal) (AreEach IsLiteral 0 any_end) file IsWhole
     (each_takes literal_at literal IsLiteral literal_takes 0 any_end) (λ literals l.
@@ -101,13 +112,13 @@ code_takes =
     (listed_takes procedure_at procedure StartsAfter procedure_takes 1 any_end) (λ procedures p.
     followed_takes _ (listed_in (action_at (length procedures)) 1 any_end) _ (counted action) (Actions (length procedures)) file IsWhole
     (listed_takes (action_at (length procedures)) action (ActsBehind (length procedures)) (action_takes (length procedures)) 1 any_end) (λ actions a.
-    made_takes _ (λ xs. record { variables = variables; literals = literals; texts = texts; procedures = procedures; actions = actions; instrs = xs })
+    made_takes _ (λ xs. record { profile = profile; variables = variables; literals = literals; texts = texts; procedures = procedures; actions = actions; instrs = xs })
     (listed_in (λ _. instr_at variables (length literals) (length texts) (length procedures)) 0 any_end) (counted instr)
     (AreEach (IsGood variables (length literals) (length texts) (length procedures)) 0 any_end) file IsWhole
     (each_takes (instr_at variables (length literals) (length texts) (length procedures)) instr (IsGood variables (length literals) (length texts) (length procedures))
     (instr_takes variables (length literals) (length texts) (length procedures)) 0 any_end)
     (λ xs. refl)
-    (λ xs i. whole_code (record { variables = variables; literals = literals; texts = texts; procedures = procedures; actions = actions; instrs = xs }) v l t p a i)))))))
+    (λ xs i. whole_code (record { profile = profile; variables = variables; literals = literals; texts = texts; procedures = procedures; actions = actions; instrs = xs }) v l t p a i)))))))
 
 pub code_taken : (bytes : List ℕ) (code : CodeLists) (rest : List ℕ) → All (λ b. b < 256) bytes → code_at bytes ≡ Ok (code, rest) → IsRead file IsWhole bytes code rest
 code_taken bytes code rest are read = code_takes.takes bytes code rest (record { each = are }) read

@@ -65,7 +65,7 @@ action_countable a short = omega (arith, many item (λ i. omega arith) a.items, 
 pub countable : (code : CodeLists) → length (file code) ≤ most_bytes → length code.instrs < 2 ^ 32 → IsCountable code
 unfolding file
 countable code short few =
-    let s = parts_short head (counted variable code.variables) (counted literal code.literals) (counted text code.texts)
+    let s = parts_short (head code.profile) (counted variable code.variables) (counted literal code.literals) (counted text code.texts)
     (counted procedure code.procedures) (counted action code.actions) (counted instr code.instrs) most_bytes short in
     record {
       variables = omega (arith, counted_many variable (λ v. omega arith) code.variables most_bytes s.second);

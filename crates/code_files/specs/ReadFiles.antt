@@ -1,9 +1,11 @@
 -- How the file of a code is read. The format is this profile's.
-use Rattle.std.specs.Prelude.{ℕ, zero, suc, ◌+◌, ◌-◌, ◌<◌, ◌≤◌, min, Bool, true, not, ◌&&◌, List, length, take, drop, fold, map, sum_by}
+use Rattle.std.specs.Prelude.{ℕ, zero, suc, ◌+◌, ◌-◌, ◌<◌, ◌≤◌, min, Bool, true, not, ◌&&◌, ◌||◌, if◌then◌else◌, List, length, take, drop, fold, map, sum_by}
 use Rattle.std.specs.List.{flat_map, list_all, list_any}
 use Rattle.std.specs.Str.{bytes_eq, str_to_ascii_uppercase}
 use Rattle.base.specs.Bits.{low_bits}
 use Rattle.stapl_lexer.specs.ReservedWords.{is_free_name}
+use Rattle.stapl_meaning.specs.declared.profiles.Profile.{Profile}
+use Rattle.stapl_meaning.specs.declared.profiles.Profile.TheVariants.{One, Two}
 use Rattle.stapl_code.specs.declared.raw.VarDef.{VarDef}
 use Rattle.stapl_code.specs.declared.raw.ProcDef.{ProcDef}
 use Rattle.stapl_code.specs.declared.raw.ItemDef.{ItemDef}
@@ -77,16 +79,28 @@ action_among procedures names = followed (name_at names) (λ name.
 abbrev pub action_at : ℕ → List ActionDef → Reads ActionDef
 action_at procedures earlier = action_among procedures (map (λ (a : ActionDef). a.name) earlier)
 
+-- the eight bytes of a head
+abbrev pub is_head : List ℕ → Bool
+is_head bytes = bytes_eq (head One) bytes || bytes_eq (head Two) bytes
+
+-- the profile that a head says
+abbrev pub profile_of : List ℕ → Profile
+profile_of bytes = if bytes_eq (head One) bytes then One else Two
+
+abbrev pub head_at : Reads Profile
+head_at = made_of profile_of (field 8 is_head)
+
 -- the head, and the lists of a code
 abbrev pub code_at : Reads CodeLists
 code_at =
-    followed (field 8 (bytes_eq head)) (λ _.
+    followed head_at (λ profile.
     followed (listed_in variable_at 0 any_end) (λ variables.
     followed (listed_in (λ _. literal_at) 0 any_end) (λ literals.
     followed (listed_in (λ _. text_at) 0 any_end) (λ texts.
     followed (listed_in procedure_at 1 any_end) (λ procedures.
     followed (listed_in (action_at (length procedures)) 1 any_end) (λ actions.
     made_of (λ instrs. record {
+      profile = profile;
       variables = variables;
       literals = literals;
       texts = texts;

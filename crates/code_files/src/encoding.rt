@@ -9,7 +9,7 @@ ghost use Rattle.stapl_code.specs.Files.{head, variable, procedure, item, action
 ghost use Rattle.code_files.specs.CodeFaults.{IsFileOf};
 
 use crate::fields::{
-    HEAD, put_byte, put_bytes, put_count, put_literal, put_name, put_number, put_text,
+    head, put_byte, put_bytes, put_count, put_literal, put_name, put_number, put_text,
 };
 use crate::instrs::put_instr;
 use bit_list::Bits;
@@ -112,7 +112,7 @@ fn file_of(alloc: Global, code: &CodeLists) -> Result<Vec<u8>, AllocError>
     ensures fits { IfOk result (λ _. IsFitting code.now) }
 {
     let mut out = Vec::new(alloc);
-    put_bytes(&mut out, &HEAD)?;
+    put_bytes(&mut out, &head(code.profile))?;
     put_variables(&mut out, code.variables.as_slice())?;
     put_literals(&mut out, code.literals.as_slice())?;
     put_texts(&mut out, code.texts.as_slice())?;

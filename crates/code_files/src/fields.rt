@@ -2,15 +2,24 @@
 ghost use Rattle.std.specs.Prelude.{◌≡◌, ◌+◌, ◌-◌, ◌<◌, ◌*◌, ◌^◌, ◌≤◌, ◌∷◌, [], ◌++◌, length, min, drop, OnOk};
 ghost use Rattle.std.specs.Int.{w32};
 ghost use Rattle.std.specs.Int.RustNames.{FitsSigned};
+ghost use Rattle.stapl_code.specs.Files.{head};
 ghost use Rattle.stapl_code.specs.Fields.{number, integer, marked, name, text, bytes_for, bytes_of_bits, literal};
 
 use bit_list::Bits;
 use stapl_lexer::Name;
-use stapl_meaning::Text;
+use stapl_meaning::{Profile, Text};
 use std::alloc::AllocError;
 
-/// The bytes that each file begins with.
-pub(crate) const HEAD: [u8; 8] = [83, 84, 65, 80, 76, 67, 0, 1];
+/// The bytes that the file of a code of a profile begins with.
+pub(crate) fn head(profile: Profile) -> [u8; 8]
+    ensures { result ≡ head profile }
+{
+    let version = match profile {
+        Profile::One => 1,
+        Profile::Two => 2,
+    };
+    [83, 84, 65, 80, 76, 67, 0, version]
+}
 
 pub(crate) fn put_byte(out: &mut Vec<u8>, byte: u8) -> Result<(), AllocError>
     ensures { OnOk result (out.new.items ≡ out.old.items ++ byte ∷ []) }

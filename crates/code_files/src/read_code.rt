@@ -10,7 +10,7 @@ use crate::read_literals::literals_of;
 use crate::read_names::{actions_of, procedures_of};
 use crate::read_sections::{instrs_of, texts_of};
 use crate::read_variables::variables_of;
-use crate::reading::behind_head;
+use crate::reading::head_of;
 use base::ItemList;
 use bit_list::Bits;
 use stapl_code::{CodeLists, Instr, ProcDef, VarDef};
@@ -42,7 +42,7 @@ fn instrs_behind<'a>(
 pub(crate) fn code_of(alloc: Global, bytes: &[u8]) -> Result<(CodeLists, &[u8]), Stop>
     ensures { Gives (λ x. (x.0, x.1.now)) result (code_at bytes.now) }
 {
-    let rest = behind_head(bytes)?;
+    let (profile, rest) = head_of(bytes)?;
     let (variables, rest) = variables_of(alloc, rest)?;
     let (literals, rest) = literals_of(alloc, rest)?;
     let (texts, rest) = texts_of(alloc, rest)?;
@@ -51,6 +51,7 @@ pub(crate) fn code_of(alloc: Global, bytes: &[u8]) -> Result<(CodeLists, &[u8]),
     let (instrs, rest) = instrs_behind(alloc, &variables, &literals, &texts, &procedures, rest)?;
     Ok((
         CodeLists {
+            profile,
             variables,
             literals,
             texts,

@@ -1,11 +1,11 @@
 //! Fields of a code file, read from the front of the bytes.
-ghost use Rattle.std.specs.Prelude.{◌≡◌, ◌<◌, ◌≤◌, length, IfOk};
-ghost use Rattle.std.specs.Str.{bytes_eq};
-ghost use Rattle.stapl_code.specs.Files.{head};
+ghost use Rattle.std.specs.Prelude.{◌≡◌, ◌<◌, ◌≤◌, length, IfOk, IfSome, IfNone, true, false};
 ghost use Rattle.code_files.specs.Reading.{Gives, field, byte_in, number_in};
+ghost use Rattle.code_files.specs.ReadFiles.{is_head, profile_of, head_at};
 
 use crate::fault::{CodeReason, Fault, Stop};
-use crate::fields::HEAD;
+use crate::fields::head;
+use stapl_meaning::Profile;
 
 // The bytes end inside a field.
 pub(crate) fn cut() -> Stop
@@ -61,17 +61,31 @@ pub(crate) fn number_in(low: usize, end: usize, bytes: &[u8]) -> Result<(u32, &[
     }
 }
 
-/// The bytes after the head of a file.
-pub(crate) fn behind_head(bytes: &[u8]) -> Result<&[u8], Stop>
-    ensures { Gives (λ rest. (head, rest.now)) result (field 8 (bytes_eq head) bytes.now) }
+// The profile that eight bytes say, if they are a head.
+fn profile_of(front: &[u8]) -> Option<Profile>
+    ensures some { IfSome result (λ profile. profile ≡ profile_of front.now) }
+    ensures is_head { IfSome result (λ profile. is_head front.now ≡ true) }
+    ensures none { IfNone result (is_head front.now ≡ false) }
+{
+    if front == head(Profile::One).as_slice() {
+        Some(Profile::One)
+    } else if front == head(Profile::Two).as_slice() {
+        Some(Profile::Two)
+    } else {
+        None
+    }
+}
+
+/// The profile that the head of a file says, and the bytes after it.
+pub(crate) fn head_of(bytes: &[u8]) -> Result<(Profile, &[u8]), Stop>
+    ensures { Gives (λ x. (x.0, x.1.now)) result (head_at bytes.now) }
 {
     if bytes.len() < 8 {
         return Err(cut());
     }
     let (front, rest) = bytes.split_at(8);
-    if front == HEAD.as_slice() {
-        Ok(rest)
-    } else {
-        Err(wrong(bytes))
+    match profile_of(front) {
+        Some(profile) => Ok((profile, rest)),
+        None => Err(wrong(bytes)),
     }
 }

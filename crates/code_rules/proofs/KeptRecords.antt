@@ -11,13 +11,13 @@ use Rattle.stapl_meaning.specs.declared.values.Held.{Held}
 use Rattle.stapl_meaning.specs.declared.values.Value.{Value}
 use Rattle.stapl_meaning.specs.declared.values.Value.TheVariants.{Int}
 use Rattle.stapl_meaning.specs.declared.waits.WaitKind.{WaitKind}
-use Rattle.stapl_meaning.specs.Values.{Got, Known, Faults, Stuck, then_get, Source, Span, span_of, bits_held, source_bits, asked}
+use Rattle.stapl_meaning.specs.Values.{Got, Known, Faults, Stuck, then_get, Source, Span, span_of, whole_span, bits_held, source_bits, asked}
 use Rattle.stapl_meaning.specs.States.{State, Did, Falls, Captures, Ends}
 use Rattle.stapl_meaning.specs.Effects.{written, assigned, element_assigned, Target, IntoWhole, IntoRange, span_written, copied, integers_set, printed, exported, moved_through, waited_for, waited, hertz_of, tuned, exited}
 use Rattle.stapl_meaning.specs.Scans.{ScanParts, Found, scan_limit, length_between, scan_found, target_asked, compare_asked, padding_bits, with_padding, with_stop, scan_asked, scanned, surrounded, stopped}
 use Rattle.stapl_code.specs.declared.instr.ExportPart.{ExportPart}
 use Rattle.stapl_code.specs.declared.instr.ExportPart.TheVariants as exports
-use Rattle.stapl_code.specs.Machine.{part_exported, known_source}
+use Rattle.stapl_code.specs.Machine.{Constants, part_exported, known_source}
 
 -- what is known has this
 abbrev pub IfKnown : {A : Type 0} → (A → Type 0) → Got A → Type 0
@@ -71,11 +71,11 @@ module _ (s : State) where
 
   pub copied_keeps : (target : Target) (source : Source) (vs : List Value) → IfKnown (KeepsRecords s) (copied target source vs s)
   copied_keeps (IntoWhole n) source vs =
-      known_then (KeepsRecords s) (bits_held (slice_get s.store.variables n)) _ (λ old. span_keeps n old source vs (record { low = 0; count = length old }))
-  copied_keeps (IntoRange n) source (high ∷ low ∷ vs) =
+      known_then (KeepsRecords s) (bits_held (slice_get s.store.variables n)) _ (λ old. span_keeps n old source vs (whole_span (length old)))
+  copied_keeps (IntoRange profile n) source (first ∷ second ∷ vs) =
       known_then (KeepsRecords s) (bits_held (slice_get s.store.variables n)) _ (λ old.
-      known_then (KeepsRecords s) (span_of (length old) high low) _ (λ span. span_keeps n old source vs span))
-  copied_keeps (IntoRange n) source _ = tt
+      known_then (KeepsRecords s) (span_of profile (length old) first second) _ (λ span. span_keeps n old source vs span))
+  copied_keeps (IntoRange profile n) source _ = tt
 
   pub set_keeps : (n : ℕ) (zs : List ℤ) (vs : List Value) → IfKnown (KeepsRecords s) (integers_set n zs vs s)
   set_keeps n zs [] = written_keeps _
@@ -88,12 +88,12 @@ module _ (s : State) where
   exported_keeps key (v ∷ []) = same
   exported_keeps key _ = tt
 
-  pub part_keeps : (literals : List (List Bool)) (part : ExportPart) (key : List ℕ) (vs : List Value) →
-      IfKnown (KeepsRecords s) (part_exported literals part key vs s)
-  part_keeps literals exports.Int key vs = exported_keeps key vs
-  part_keeps literals exports.Bit key vs = exported_keeps key vs
-  part_keeps literals (exports.Array source) key vs =
-      known_then (KeepsRecords s) (known_source literals source) _ (λ from.
+  pub part_keeps : (constants : Constants) (part : ExportPart) (key : List ℕ) (vs : List Value) →
+      IfKnown (KeepsRecords s) (part_exported constants part key vs s)
+  part_keeps constants exports.Int key vs = exported_keeps key vs
+  part_keeps constants exports.Bit key vs = exported_keeps key vs
+  part_keeps constants (exports.Array source) key vs =
+      known_then (KeepsRecords s) (known_source constants source) _ (λ from.
       known_then (KeepsRecords s) (source_bits s.store.variables from vs) _ (λ bits. same))
 
   pub moved_keeps : (states : List Tap) (vs : List Value) → IfKnown (KeepsRecords s) (moved_through states vs s)

@@ -329,7 +329,7 @@ module _ (code : CodeLists) (chosen : List ℕ) where
       row_leads here (ToInt source) vs s at within r = puts_on here (ToInt source) (λ h. h) _
       row_leads here (CopyBits dest source) vs s at within r =
           keeps here (CopyBits dest source) s r (λ h. h) _
-          (known_then (KeepsRecords s) (known_source code.literals source) _ (λ from. copied_keeps s (target_of dest) from vs))
+          (known_then (KeepsRecords s) (known_source (constants_of code) source) _ (λ from. copied_keeps s (target_of code.profile dest) from vs))
       row_leads here (SetBits n literal) vs s at within r =
           keeps here (SetBits n literal) s r (λ h. h) _
           (known_then (KeepsRecords s) (known_literal (slice_get code.literals literal)) _ (λ from. copied_keeps s (IntoWhole n) from vs))
@@ -350,15 +350,15 @@ module _ (code : CodeLists) (chosen : List ℕ) where
       row_leads here (Print list) vs s at within r = keeps here (Print list) s r (λ h. h) _ (printed_keeps s _)
       row_leads here (Export key part) vs s at within r =
           keeps here (Export key part) s r (λ h. h) _
-          (known_then (KeepsRecords s) (known_text (slice_get code.texts key)) _ (λ bytes. part_keeps s code.literals part bytes vs))
+          (known_then (KeepsRecords s) (known_text (slice_get code.texts key)) _ (λ bytes. part_keeps s (constants_of code) part bytes vs))
       row_leads here CheckChar vs s at within r = one_puts here CheckChar (λ h. h) vs _
       row_leads here Exit vs s at within r = keeps here Exit s r (λ h. h) _ (exited_keeps s vs)
       row_leads here (Scans scan) vs s at within r =
-          keeps here (Scans scan) s r (λ h. h) _ (known_then (KeepsRecords s) (known_scan code.literals scan) _ (λ parts. scanned_keeps s parts vs))
+          keeps here (Scans scan) s r (λ h. h) _ (known_then (KeepsRecords s) (known_scan (constants_of code) scan) _ (λ parts. scanned_keeps s parts vs))
       row_leads here (Stop register tap) vs s at within r = keeps here (Stop register tap) s r (λ h. h) _ (stopped_keeps s register tap vs)
       row_leads here (Pad which source) vs s at within r =
           keeps here (Pad which source) s r (λ h. h) _
-          (known_then (KeepsRecords s) (known_given code.literals source) _ (λ from. surrounded_keeps s which from vs))
+          (known_then (KeepsRecords s) (known_given (constants_of code) source) _ (λ from. surrounded_keeps s which from vs))
       row_leads here (GoThrough states) vs s at within r = keeps here (GoThrough states) s r (λ h. h) _ (moved_keeps s states vs)
       row_leads here (Wait at_state kind last) vs s at within r = keeps here (Wait at_state kind last) s r (λ h. h) _ (waited_keeps s kind at_state last vs)
       row_leads here (Frequency stated) vs s at within r = keeps here (Frequency stated) s r (λ h. h) _ (tuned_keeps s vs)

@@ -5,7 +5,7 @@ use stapl_code::{
     VarDef, validate,
 };
 use stapl_lexer::Name;
-use stapl_meaning::{ValueKind, WaitKind};
+use stapl_meaning::{Profile, ValueKind, WaitKind};
 use std::alloc::Global;
 use std::test::Fail;
 use tap_states::Tap;
@@ -130,6 +130,7 @@ pub fn lists(
         instrs.push(instr_of(alloc, *op)?)?;
     }
     Ok(CodeLists {
+        profile: Profile::Two,
         variables: ItemList::of(defs),
         literals: ItemList::of(Vec::new(alloc)),
         texts: ItemList::of(vec![in alloc; ItemList::of(b"A".to_vec(alloc)?)]?),

@@ -1,7 +1,7 @@
 -- The bits of arrays: where they are, how many there are, and that a scan or a statement that asks for too many breaks
 use Rattle.std.proofs.Common.{◌≡◌, ℕ, ◌+◌, ◌-◌, ◌<◌, ◌≤◌, Bool, true, false, List, [], ◌∷◌, ◌++◌, length, take, drop, Option, Some, None, pos, refl, sym, ap, ◌∙◌, subst, arith, nat_le}
-use Rattle.std.proofs.lemmas.Bool.{leb-false, lt-leb}
-use Rattle.std.proofs.lemmas.List.{length-take-le, length-drop}
+use Rattle.std.proofs.lemmas.Bool.{leb-true, leb-false, lt-leb}
+use Rattle.std.proofs.lemmas.List.{length-take-le, length-drop, length-reverse}
 use Rattle.base.proofs.NumberBits.{length-low_bits}
 use Rattle.std.specs.Int.{w32, cast_unsigned}
 use Rattle.bit_list.specs.Integers.{bits_of_int}
@@ -13,16 +13,27 @@ use Rattle.stapl_meaning.specs.declared.values.Value.{Value}
 use Rattle.stapl_meaning.specs.declared.values.Value.TheVariants.{Int, Bit}
 use Rattle.stapl_meaning.specs.declared.values.Held.{Held}
 use Rattle.stapl_meaning.specs.declared.values.Held.TheVariants as held
-use Rattle.stapl_meaning.specs.Values.{Got, Known, Faults, Stuck, then_get, passed, bits_held, Source, These, Whole, Range, OfInt, source_bits, asked, source_of, Lookup}
+use Rattle.stapl_meaning.specs.Values.{Got, Known, Faults, Stuck, then_get, passed, bits_held, span_bits, Source, These, Whole, Range, OfInt, source_bits, asked, source_of, Lookup}
 use Rattle.stapl_meaning.specs.Scans.{source_width}
 use Rattle.fault_laws.specs.ExprFaults.{bit_count, held_by}
-use Rattle.fault_laws.specs.PartFaults.{array_part, ArrayIs, literal_is, whole_is, range_is, integer_is, PartsAre, no_parts, more_parts, array_is, HasBits, whole_has, range_has, integer_has, IsThere, literal_there, other_there, IsShort}
+use Rattle.fault_laws.specs.PartFaults.{array_part, ArrayIs, literal_is, whole_is, range_is, integer_is, RangeHas, PartsAre, no_parts, more_parts, array_is, HasBits, whole_has, range_has, integer_has, IsThere, literal_there, other_there, IsShort}
 use Rattle.fault_laws.proofs.Gets.{Gives, Breaks}
+use Rattle.fault_laws.proofs.LimitLemmas.{part_by, part_of, part_has, part_count}
 use Rattle.fault_laws.proofs.PartLemmas.{HoldsBits, holds_bits, some_same, span_known}
 
--- a part of a list has as many bits as its indexes say
 taken_length : (h l : ℕ) (bs : List Bool) → h < length bs → l ≤ h → length (taken l (h + 1 - l) bs) ≡ h + 1 - l
 taken_length h l bs inside below = length-take-le (h + 1 - l) (drop l bs) (let d : length (drop l bs) ≡ length bs - l = length-drop l bs in omega (arith, d, inside, below))
+
+-- a part of a list has as many bits as its indexes say
+part_length : (first second : ℕ) (bs : List Bool) → first < length bs → second < length bs →
+    length (span_bits (part_of first second) bs) ≡ (part_of first second).count
+part_length first second bs first_in second_in = by (nat_le second first) refl
+  where
+    by : (t : Bool) → nat_le second first ≡ t → length (span_bits (part_by t first second) bs) ≡ (part_by t first second).count
+    by true e = taken_length first second bs first_in (leb-true second first e)
+    by false e =
+        let above : first < second = leb-false second first e in
+        length-reverse (taken first (second + 1 - first) bs) ∙ taken_length second first bs second_in (omega (arith, above))
 
 -- bits that are asked of a list that may be too short
 abbrev pub May : {A : Type 0} → Got A → Type 0
@@ -37,7 +48,7 @@ passed_may false x = refl
 pub asked_may : (source : Source) (n : ℕ) (bits : List Bool) → May (asked source n bits)
 asked_may (These own) n bits = tt
 asked_may (Whole v) n bits = passed_may (nat_le n (length bits)) (take n bits)
-asked_may (Range v) n bits = passed_may (nat_le n (length bits)) (take n bits)
+asked_may (Range profile v) n bits = passed_may (nat_le n (length bits)) (take n bits)
 asked_may OfInt n bits = passed_may (nat_le n (length bits)) (take n bits)
 
 pub then_may : {A B : Type 0} (g : Got A) (go : A → Got B) → May g → ((x : A) → go x ≡ Faults LengthMismatch) → then_get g go ≡ Faults LengthMismatch
@@ -50,13 +61,13 @@ module _ (look : Lookup) (variables : List Held) where
   abbrev pub IsSized : ArrayTree → List Bool → Type 0
   IsSized (bit_literal own) bits = Unit {0}
   IsSized (whole name) bits = HasBits look variables (whole name) (length bits)
-  IsSized (range name high low) bits = HasBits look variables (range name high low) (length bits)
+  IsSized (range name first second) bits = HasBits look variables (range name first second) (length bits)
   IsSized (of_int e) bits = HasBits look variables (of_int e) (length bits)
 
   pub there_if : (a : ArrayTree) (bits : List Bool) → IsSized a bits → IsThere look variables a
   there_if (bit_literal own) bits h = literal_there
   there_if (whole name) bits h = other_there (length bits) h
-  there_if (range name high low) bits h = other_there (length bits) h
+  there_if (range name first second) bits h = other_there (length bits) h
   there_if (of_int e) bits h = other_there (length bits) h
 
   -- the bits of an array whose indexes break nothing never break
@@ -71,14 +82,15 @@ module _ (look : Lookup) (variables : List Held) where
       by (Some (held.Bit b)) e = tt
       by (Some (held.Ints zs)) e = tt
       by (Some (held.Bits bs)) e = whole_has (ap bit_count e)
-  source_gives P (range_is {name = name} {high = high} {low = low} h l size is_h is_l sized inside below) =
+  source_gives P (range_is {name = name} {first = first} {second = second} i j size is_i is_j sized first_in second_in) =
       let o : Option Held = held_by look variables name in
       let b : HoldsBits o = holds_bits o size sized in
       let same : size ≡ length b.bits = some_same (sym sized ∙ ap bit_count b.is) in
-      let long : length (taken l (h + 1 - l) b.bits) ≡ h + 1 - l = taken_length h l b.bits (subst (λ n. h < n) same inside) below in
-      subst (Gives (IsSized (range name high low)) P)
-      (sym (span_known look variables o h l size (λ bits span. taken span.low span.count bits) b.bits b.is sized inside below))
-      (range_has h l size is_h is_l sized inside below (omega (arith, long, below)))
+      let long : length (span_bits (part_of i j) b.bits) ≡ (part_of i j).count =
+      part_length i j b.bits (subst (λ n. i < n) same first_in) (subst (λ n. j < n) same second_in) in
+      subst (Gives (IsSized (range name first second)) P)
+      (sym (span_known look variables o i j size (λ bits span. span_bits span bits) b.bits b.is sized first_in second_in))
+      (range_has i j size is_i is_j sized first_in second_in (subst (RangeHas i j) (sym long) (part_has i j)))
   source_gives P (integer_is (Bit b) known) = tt
   source_gives P (integer_is {e = e} (Int z) known) =
       subst (HasBits look variables (of_int e)) (sym (length-low_bits 32 (cast_unsigned w32 z))) (integer_has z known)
@@ -92,7 +104,7 @@ module _ (look : Lookup) (variables : List Held) where
       by : (t : Bool) → nat_le n (length bits) ≡ t → Breaks P (passed t LengthMismatch (take n bits))
       by true e = tt
       by false e = p (record { bits = length bits; has = h; fewer = leb-false n (length bits) e })
-  asked_breaks P (range name high low) n bits h p = by (nat_le n (length bits)) refl
+  asked_breaks P (range name first second) n bits h p = by (nat_le n (length bits)) refl
     where
       by : (t : Bool) → nat_le n (length bits) ≡ t → Breaks P (passed t LengthMismatch (take n bits))
       by true e = tt
@@ -125,19 +137,20 @@ module _ (look : Lookup) (variables : List Held) where
         read = record { values = []; are = whole_is; bits = b.bits; is = ap bits_held b.is };
         long = some_same (sym (ap bit_count b.is) ∙ sized);
       }
-  bits_read (range_has {name = name} {n = n} h l size is_h is_l sized inside below count) =
+  bits_read (range_has {name = name} {n = n} i j size is_i is_j sized first_in second_in count) =
       let o : Option Held = held_by look variables name in
       let b : HoldsBits o = holds_bits o size sized in
       let same : size ≡ length b.bits = some_same (sym sized ∙ ap bit_count b.is) in
-      let long : length (taken l (h + 1 - l) b.bits) ≡ h + 1 - l = taken_length h l b.bits (subst (λ n. h < n) same inside) below in
+      let long : length (span_bits (part_of i j) b.bits) ≡ (part_of i j).count =
+      part_length i j b.bits (subst (λ n. i < n) same first_in) (subst (λ n. j < n) same second_in) in
       record {
         read = record {
-          values = Int (pos h) ∷ Int (pos l) ∷ [];
-          are = range_is h l size is_h is_l sized inside below;
-          bits = taken l (h + 1 - l) b.bits;
-          is = span_known look variables o h l size (λ bits span. taken span.low span.count bits) b.bits b.is sized inside below;
+          values = Int (pos i) ∷ Int (pos j) ∷ [];
+          are = range_is i j size is_i is_j sized first_in second_in;
+          bits = span_bits (part_of i j) b.bits;
+          is = span_known look variables o i j size (λ bits span. span_bits span bits) b.bits b.is sized first_in second_in;
         };
-        long = omega (arith, long, count, below);
+        long = long ∙ part_count count;
       }
   bits_read (integer_has z known) =
       record {
@@ -153,7 +166,7 @@ module _ (look : Lookup) (variables : List Held) where
       asked (source_of look a) n bits ≡ Faults LengthMismatch
   short_asked n bits (whole_has sized) long fewer =
       ap (λ t. passed t LengthMismatch (take n bits)) (lt-leb n (length bits) (omega (arith, long, fewer)))
-  short_asked n bits (range_has h l size is_h is_l sized inside below count) long fewer =
+  short_asked n bits (range_has i j size is_i is_j sized first_in second_in count) long fewer =
       ap (λ t. passed t LengthMismatch (take n bits)) (lt-leb n (length bits) (omega (arith, long, fewer)))
   short_asked n bits (integer_has z known) long fewer =
       ap (λ t. passed t LengthMismatch (take n bits)) (lt-leb n (length bits) (omega (arith, long, fewer)))
@@ -172,7 +185,7 @@ module _ (look : Lookup) (variables : List Held) where
   pub array_alone : {a : ArrayTree} {vs : List Value} → PartsAre look variables (array_part a ∷ []) vs → ArrayIs look variables a vs
   array_alone (more_parts (array_is literal_is) no_parts) = literal_is
   array_alone (more_parts (array_is whole_is) no_parts) = whole_is
-  array_alone (more_parts (array_is (range_is h l size is_h is_l sized inside below)) no_parts) = range_is h l size is_h is_l sized inside below
+  array_alone (more_parts (array_is (range_is i j size is_i is_j sized first_in second_in)) no_parts) = range_is i j size is_i is_j sized first_in second_in
   array_alone (more_parts (array_is (integer_is v known)) no_parts) = integer_is v known
 
   -- the values of an array stand in front of those after it
@@ -180,12 +193,12 @@ module _ (look : Lookup) (variables : List Held) where
       take (source_width (source_of look a)) (us ++ vs) ≡ us
   array_front literal_is vs = refl
   array_front whole_is vs = refl
-  array_front (range_is h l size is_h is_l sized inside below) vs = refl
+  array_front (range_is i j size is_i is_j sized first_in second_in) vs = refl
   array_front (integer_is v known) vs = refl
 
   pub array_back : {a : ArrayTree} {us : List Value} → ArrayIs look variables a us → (vs : List Value) →
       drop (source_width (source_of look a)) (us ++ vs) ≡ vs
   array_back literal_is vs = refl
   array_back whole_is vs = refl
-  array_back (range_is h l size is_h is_l sized inside below) vs = refl
+  array_back (range_is i j size is_i is_j sized first_in second_in) vs = refl
   array_back (integer_is v known) vs = refl

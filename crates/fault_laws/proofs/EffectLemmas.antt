@@ -1,12 +1,11 @@
 -- What the values of parts do breaks by the table alone
-use Rattle.std.proofs.Common.{◌≡◌, ◌≢◌, ℕ, ◌+◌, ◌-◌, ◌<◌, ◌≤◌, Bool, true, false, List, [], ◌∷◌, ◌++◌, length, Option, Some, None, ℤ, pos, negsuc, refl, sym, ap, subst, arith, nat_lt, nat_le, ◌==◌, ◌<ℤ◌, ◌+ℤ◌, slice_get, if◌then◌else◌, nat_abs}
+use Rattle.std.proofs.Common.{◌≡◌, ◌≢◌, ℕ, ◌<◌, ◌≤◌, Bool, true, false, List, [], ◌∷◌, ◌++◌, length, Option, Some, None, ℤ, pos, negsuc, refl, sym, ap, subst, arith, nat_lt, nat_le, ◌==◌, ◌<ℤ◌, ◌+ℤ◌, slice_get, if◌then◌else◌, nat_abs}
 use Rattle.std.specs.Prelude.{slice_set}
 use Rattle.std.specs.Int.{int_wrap, w32}
 use Rattle.std.specs.Ordering.{int_eq}
 use Rattle.std.specs.Int.Signed.{lt_z_yes}
 use Rattle.std.proofs.lemmas.Bool.{ltb-true, ltb-false, leb-false, eqb-false}
 use Rattle.std.proofs.Math.Facts.{yes_ltb}
-use Rattle.bit_list.specs.Ranges.{spliced}
 use Rattle.std.proofs.lemmas.Bool.Decides.{Decides-int_eq}
 use Rattle.stapl_syntax.specs.Trees.{ArrayTree, whole, PartTree, string, value, character}
 use Rattle.tap_states.specs.declared.Tap.{Tap}
@@ -23,7 +22,7 @@ use Rattle.stapl_meaning.specs.declared.values.Value.{Value}
 use Rattle.stapl_meaning.specs.declared.values.Value.TheVariants.{Int, Bit}
 use Rattle.stapl_meaning.specs.declared.values.Held.{Held}
 use Rattle.stapl_meaning.specs.declared.values.Held.TheVariants as held
-use Rattle.stapl_meaning.specs.Values.{Got, Known, Faults, Stuck, then_get, is_index, passed, bits_held, Span, span_of, source_bits, asked, source_of, integer_of, Lookup}
+use Rattle.stapl_meaning.specs.Values.{Got, Known, Faults, Stuck, then_get, is_index, passed, bits_held, Span, span_of, span_put, whole_span, source_bits, asked, of_programs, source_of, integer_of, Lookup}
 use Rattle.stapl_meaning.specs.Operands.{character_of}
 use Rattle.stapl_meaning.specs.States.{State, Did, Falls, Captures, Jumps, Resumes, Returns, Ends}
 use Rattle.stapl_meaning.specs.Effects.{replaced, scalar_written, with_variables, written, assigned, element_written, element_assigned, IntoWhole, IntoRange, span_written, copied, with_integers, integers_set, jumped, with_records, with_room, topmost, popped, pushed, called, returned_from, returned, with_loop, looped, nearest_loop, is_over, integer_held, went_round, repeated, exited, joined, shown, after_value, after_character, printed, exported, bits_exported, moved_through, cycles_of, usec_of, hertz_of}
@@ -205,10 +204,10 @@ module _ (P : RunFault → Type 0) where
       (IsShort look s.store.variables a span.count → P LengthMismatch) → Does P (span_written n old (source_of look a) vs s span)
   span_does look n old s span {a = a} {vs = vs} is p =
       then_gives (IsSized look s.store.variables a) EndsWell P (source_bits s.store.variables (source_of look a) vs)
-      (λ bits. then_get (asked (source_of look a) span.count bits) (λ new. Known (Falls [] (with_variables s (slice_set s.store.variables n (held.Bits (spliced span.low new old)))))))
+      (λ bits. then_get (asked (source_of look a) span.count bits) (λ new. Known (Falls [] (with_variables s (slice_set s.store.variables n (held.Bits (span_put span new old)))))))
       (source_gives look s.store.variables P is)
       (λ bits e h. then_does P (asked (source_of look a) span.count bits)
-      (λ new. Known (Falls [] (with_variables s (slice_set s.store.variables n (held.Bits (spliced span.low new old))))))
+      (λ new. Known (Falls [] (with_variables s (slice_set s.store.variables n (held.Bits (span_put span new old))))))
       (asked_breaks look s.store.variables P a span.count bits h p) (λ new e. tt))
 
   -- all of an array
@@ -218,7 +217,7 @@ module _ (P : RunFault → Type 0) where
   copied_does look name s {a = a} {vs = vs} is p = by (held_by look s.store.variables name) refl
     where
       go : List Bool → Got Did
-      go old = span_written (look.variable name) old (source_of look a) vs s (record { low = 0; count = length old })
+      go old = span_written (look.variable name) old (source_of look a) vs s (whole_span (length old))
 
       by : (o : Option Held) → held_by look s.store.variables name ≡ o → Does P (then_get (bits_held o) go)
       by None e = tt
@@ -226,17 +225,17 @@ module _ (P : RunFault → Type 0) where
       by (Some (held.Bit b)) e = tt
       by (Some (held.Ints zs)) e = tt
       by (Some (held.Bits old)) e =
-          span_does look (look.variable name) old s (record { low = 0; count = length old }) is (p (length old) (whole_has (ap bit_count e)))
+          span_does look (look.variable name) old s (whole_span (length old)) is (p (length old) (whole_has (ap bit_count e)))
 
   -- a range of one, which was tested
-  pub range_does : (look : Lookup) (name : List ℕ) (s : State) (h l size : ℕ) {a : ArrayTree} {vs : List Value} →
-      bit_count (held_by look s.store.variables name) ≡ Some size → h < size → l ≤ h → ArrayIs look s.store.variables a vs →
-      (IsShort look s.store.variables a (h + 1 - l) → P LengthMismatch) →
-      Does P (copied (IntoRange (look.variable name)) (source_of look a) (Int (pos h) ∷ Int (pos l) ∷ vs) s)
-  range_does look name s h l size {a = a} {vs = vs} sized inside below is p = by (held_by look s.store.variables name) sized
+  pub range_does : (look : Lookup) (name : List ℕ) (s : State) (i j size : ℕ) {a : ArrayTree} {vs : List Value} →
+      bit_count (held_by look s.store.variables name) ≡ Some size → i < size → j < size → ArrayIs look s.store.variables a vs →
+      (IsShort look s.store.variables a (part_of i j).count → P LengthMismatch) →
+      Does P (copied (IntoRange of_programs (look.variable name)) (source_of look a) (Int (pos i) ∷ Int (pos j) ∷ vs) s)
+  range_does look name s i j size {a = a} {vs = vs} sized first_in second_in is p = by (held_by look s.store.variables name) sized
     where
       go : List Bool → Got Did
-      go old = then_get (span_of (length old) (Int (pos h)) (Int (pos l))) (span_written (look.variable name) old (source_of look a) vs s)
+      go old = then_get (span_of of_programs (length old) (Int (pos i)) (Int (pos j))) (span_written (look.variable name) old (source_of look a) vs s)
 
       by : (o : Option Held) → bit_count o ≡ Some size → Does P (then_get (bits_held o) go)
       by None e = tt
@@ -246,8 +245,8 @@ module _ (P : RunFault → Type 0) where
       by (Some (held.Bits old)) e =
           let same : size ≡ length old = some_same (sym e) in
           subst (Does P) (sym (then_known (span_written (look.variable name) old (source_of look a) vs s)
-          (part_known (length old) h l (subst (λ n. h < n) same inside) below)))
-          (span_does look (look.variable name) old s (part_of h l) is p)
+          (part_known (length old) i j (subst (λ n. i < n) same first_in) (subst (λ n. j < n) same second_in))))
+          (span_does look (look.variable name) old s (part_of i j) is p)
 
   -- ---- records
 

@@ -1,8 +1,7 @@
 -- Expressions break by the table exactly if their values are faults
-use Rattle.std.proofs.Common.{◌≡◌, ℕ, zero, suc, ◌+◌, ◌-◌, ◌<◌, ◌≤◌, Bool, true, false, List, [], ◌∷◌, length, Option, Some, None, ℤ, pos, negsuc, refl, ap, ◌∙◌, subst, arith, nat_lt, slice_get, get_or, if◌then◌else◌}
+use Rattle.std.proofs.Common.{◌≡◌, ℕ, zero, suc, ◌<◌, Bool, true, false, List, [], ◌∷◌, length, Option, Some, None, ℤ, pos, negsuc, refl, ap, ◌∙◌, subst, arith, nat_lt, slice_get, get_or, if◌then◌else◌}
 use Rattle.std.proofs.lemmas.Option.{slice_get_past, slice_get-get_or}
 use Rattle.std.proofs.lemmas.Bool.{ltb-true, ltb-false}
-use Rattle.bit_list.specs.Ranges.{taken}
 use Rattle.stapl_lexer.specs.declared.terminal.BinOp.{BinOp}
 use Rattle.stapl_lexer.specs.declared.terminal.BinOp.TheVariants.{Multiply, Divide, Remainder, Add, Subtract}
 use Rattle.stapl_lexer.specs.declared.terminal.BinOp.TheVariants.{ShiftLeft, ShiftRight, BitAnd, BitXor, BitOr, And, Or}
@@ -18,11 +17,11 @@ use Rattle.stapl_meaning.specs.declared.values.Value.{Value}
 use Rattle.stapl_meaning.specs.declared.values.Value.TheVariants.{Int, Bit}
 use Rattle.stapl_meaning.specs.declared.values.Held.{Held}
 use Rattle.stapl_meaning.specs.declared.values.Held.TheVariants as held
-use Rattle.stapl_meaning.specs.Values.{Got, Known, Faults, Stuck, then_get, divided_by, shifted_by, combined, combined_integers, combined_booleans, signed, absolute, scalar_of, item_of, item_at, element_of, bits_held, Span, span_of, span_between, bits_between, Range, OfInt, integer_from, source_integer, literal, unary_side, sides, source_of, Lookup, value_of, source_values}
+use Rattle.stapl_meaning.specs.Values.{Got, Known, Faults, Stuck, then_get, divided_by, shifted_by, combined, combined_integers, combined_booleans, signed, absolute, scalar_of, item_of, item_at, element_of, bits_held, Span, span_of, span_bits, span_between, bits_between, Range, OfInt, integer_from, source_integer, literal, unary_side, sides, of_programs, source_of, Lookup, value_of, source_values}
 use Rattle.fault_laws.specs.Limits.{IsOutside, IsNoIndex}
-use Rattle.fault_laws.specs.ExprFaults.{size_of, bit_count, IsDivision, quotient, remainder, IsShift, to_left, to_right, RangeBreaks, held_by, ExprBreaks, of_index, index_outside, of_operand, of_absolute, of_array, of_left, of_right, divides_by_zero, shifts_too_far, ArrayBreaks, of_high, of_low, of_range, of_integer}
+use Rattle.fault_laws.specs.ExprFaults.{size_of, bit_count, IsDivision, quotient, remainder, IsShift, to_left, to_right, RangeBreaks, held_by, ExprBreaks, of_index, index_outside, of_operand, of_absolute, of_array, of_left, of_right, divides_by_zero, shifts_too_far, ArrayBreaks, of_first, of_second, of_range, of_integer}
 use Rattle.fault_laws.proofs.Gets.{Gives, Breaks, then_gives, then_breaks, breaks_more, then_known, then_faults}
-use Rattle.fault_laws.proofs.LimitLemmas.{no_index, not_index, outside, not_outside, range_faults, range_gives}
+use Rattle.fault_laws.proofs.LimitLemmas.{no_index, not_index, outside, not_outside, range_faults, part_of, range_gives}
 
 -- an index of a list has an item there
 none_within : {A : Type 0} (xs : List A) (i : ℕ) → i < length xs → slice_get xs i ≡ None → ⊥
@@ -153,20 +152,20 @@ module _ (P : RunFault → Type 0) where
   -- ranges
 
   pub span_breaks : {A : Type 0} (Q : A → Type 0) (o : Option Held) (x y : Value) (make : List Bool → Span → A) →
-      ((h l : ℤ) (size : ℕ) → x ≡ Int h → y ≡ Int l → bit_count o ≡ Some size → (k : RunFault) → RangeBreaks size h l k → P k) →
-      ((bs : List Bool) (h l : ℕ) → o ≡ Some (held.Bits bs) → x ≡ Int (pos h) → y ≡ Int (pos l) → h < length bs → l ≤ h →
-      Q (make bs (record { low = l; count = h + 1 - l }))) →
-      Gives Q P (then_get (bits_held o) (λ bits. then_get (span_of (length bits) x y) (λ span. Known (make bits span))))
+      ((i j : ℤ) (size : ℕ) → x ≡ Int i → y ≡ Int j → bit_count o ≡ Some size → (k : RunFault) → RangeBreaks size i j k → P k) →
+      ((bs : List Bool) (i j : ℕ) → o ≡ Some (held.Bits bs) → x ≡ Int (pos i) → y ≡ Int (pos j) → i < length bs → j < length bs →
+      Q (make bs (part_of i j))) →
+      Gives Q P (then_get (bits_held o) (λ bits. then_get (span_of of_programs (length bits) x y) (λ span. Known (make bits span))))
   span_breaks Q None x y make p q = tt
   span_breaks Q (Some (held.Int z)) x y make p q = tt
   span_breaks Q (Some (held.Bit b)) x y make p q = tt
   span_breaks Q (Some (held.Ints zs)) x y make p q = tt
   span_breaks Q (Some (held.Bits bs)) (Bit b) y make p q = tt
-  span_breaks Q (Some (held.Bits bs)) (Int h) (Bit b) make p q = tt
-  span_breaks Q (Some (held.Bits bs)) (Int h) (Int l) make p q =
-      then_gives (λ span. Q (make bs span)) Q P (span_between (length bs) h l) (λ span. Known (make bs span))
-      (range_gives (λ span. Q (make bs span)) P (length bs) h l (p h l (length bs) refl refl refl)
-      (λ m n e f inside below. q bs m n refl (ap Int e) (ap Int f) inside below))
+  span_breaks Q (Some (held.Bits bs)) (Int i) (Bit b) make p q = tt
+  span_breaks Q (Some (held.Bits bs)) (Int i) (Int j) make p q =
+      then_gives (λ span. Q (make bs span)) Q P (span_between of_programs (length bs) i j) (λ span. Known (make bs span))
+      (range_gives (λ span. Q (make bs span)) P (length bs) i j (p i j (length bs) refl refl refl)
+      (λ m n e f first_in second_in. q bs m n refl (ap Int e) (ap Int f) first_in second_in))
       (λ span _ h. h)
 
 -- ---- the other way round
@@ -188,16 +187,16 @@ element_faults (Some (held.Ints zs)) z size e out =
 element_faults (Some (held.Bits bs)) z size e out =
     let same : size ≡ length bs = cc in none_at Bit bs z (subst (λ n. IsNoIndex n z) same out)
 
-pub span_faults : {A : Type 0} (o : Option Held) (h l : ℤ) (size : ℕ) (k : RunFault) (make : List Bool → Span → A) → bit_count o ≡ Some size →
-    RangeBreaks size h l k →
-    then_get (bits_held o) (λ bits. then_get (span_of (length bits) (Int h) (Int l)) (λ span. Known (make bits span))) ≡ Faults k
-span_faults None h l size k make e out = absurd cc
-span_faults (Some (held.Int x)) h l size k make e out = absurd cc
-span_faults (Some (held.Bit b)) h l size k make e out = absurd cc
-span_faults (Some (held.Ints zs)) h l size k make e out = absurd cc
-span_faults (Some (held.Bits bs)) h l size k make e out =
+pub span_faults : {A : Type 0} (o : Option Held) (i j : ℤ) (size : ℕ) (k : RunFault) (make : List Bool → Span → A) → bit_count o ≡ Some size →
+    RangeBreaks size i j k →
+    then_get (bits_held o) (λ bits. then_get (span_of of_programs (length bits) (Int i) (Int j)) (λ span. Known (make bits span))) ≡ Faults k
+span_faults None i j size k make e out = absurd cc
+span_faults (Some (held.Int x)) i j size k make e out = absurd cc
+span_faults (Some (held.Bit b)) i j size k make e out = absurd cc
+span_faults (Some (held.Ints zs)) i j size k make e out = absurd cc
+span_faults (Some (held.Bits bs)) i j size k make e out =
     let same : size ≡ length bs = cc in
-    then_faults (λ span. Known (make bs span)) (range_faults (subst (λ n. RangeBreaks n h l k) same out))
+    then_faults (λ span. Known (make bs span)) (range_faults (subst (λ n. RangeBreaks n i j k) same out))
 
 -- both sides of a division and of a shift are integers
 division_sides : (look : Lookup) (op : BinOp) (a b : ExprTree) → IsDivision op → sides look op a b ≡ kinds.Int
@@ -211,10 +210,11 @@ shift_sides look _ a b to_right = refl
 module _ (look : Lookup) (variables : List Held) where
   -- the values of the indexes of a range, and what is made of them
   abbrev range_got : List ℕ → Got Value → Got Value → Got Value
-  range_got name x y = then_get (then_get x (λ h. then_get y (λ l. Known (h ∷ l ∷ [])))) (source_integer variables (Range (look.variable name)))
+  range_got name x y =
+      then_get (then_get x (λ v. then_get y (λ w. Known (v ∷ w ∷ [])))) (source_integer variables (Range of_programs (look.variable name)))
 
   abbrev whole_bits : List Bool → Span → List Bool
-  whole_bits bits span = taken span.low span.count bits
+  whole_bits bits span = span_bits span bits
 
   -- that the value of an expression, where one of a kind is wanted, is an integer
   abbrev IsIntegerOf : ValueKind → ExprTree → ℤ → Type 0
@@ -267,21 +267,21 @@ module _ (look : Lookup) (variables : List Held) where
     integer_breaks (whole name) =
         let P : RunFault → Type 0 = ArrayBreaks look variables (whole name) in
         then_breaks P (bits_held (held_by look variables name)) (λ bits. Known (integer_from bits)) (whole_breaks P (held_by look variables name)) (λ bits _. tt)
-    integer_breaks (range name high low) =
-        by (value_of look variables kinds.Int high) refl (expr_breaks kinds.Int high) (value_of look variables kinds.Int low) refl (expr_breaks kinds.Int low)
+    integer_breaks (range name first second) =
+        by (value_of look variables kinds.Int first) refl (expr_breaks kinds.Int first) (value_of look variables kinds.Int second) refl (expr_breaks kinds.Int second)
       where
-        by : (x : Got Value) → value_of look variables kinds.Int high ≡ x → Breaks (ExprBreaks look variables kinds.Int high) x →
-            (y : Got Value) → value_of look variables kinds.Int low ≡ y → Breaks (ExprBreaks look variables kinds.Int low) y →
-            Breaks (ArrayBreaks look variables (range name high low)) (range_got name x y)
-        by (Faults k) e p y f q = of_high p
+        by : (x : Got Value) → value_of look variables kinds.Int first ≡ x → Breaks (ExprBreaks look variables kinds.Int first) x →
+            (y : Got Value) → value_of look variables kinds.Int second ≡ y → Breaks (ExprBreaks look variables kinds.Int second) y →
+            Breaks (ArrayBreaks look variables (range name first second)) (range_got name x y)
+        by (Faults k) e p y f q = of_first p
         by Stuck e p y f q = tt
-        by (Known x) e p (Faults k) f q = of_low x e q
+        by (Known x) e p (Faults k) f q = of_second x e q
         by (Known x) e p Stuck f q = tt
         by (Known x) e p (Known y) f q =
-            then_breaks (ArrayBreaks look variables (range name high low)) (bits_between (held_by look variables name) x y) (λ bits. Known (integer_from bits))
-            (span_breaks (ArrayBreaks look variables (range name high low)) (λ _. Unit {0}) (held_by look variables name) x y whole_bits
-            (λ h l size is_h is_l sized k out. of_range h l size (e ∙ ap Known is_h) (f ∙ ap Known is_l) sized out)
-            (λ bs h l _ _ _ _ _. tt))
+            then_breaks (ArrayBreaks look variables (range name first second)) (bits_between of_programs (held_by look variables name) x y) (λ bits. Known (integer_from bits))
+            (span_breaks (ArrayBreaks look variables (range name first second)) (λ _. Unit {0}) (held_by look variables name) x y whole_bits
+            (λ i j size is_i is_j sized k out. of_range i j size (e ∙ ap Known is_i) (f ∙ ap Known is_j) sized out)
+            (λ bs i j _ _ _ _ _. tt))
             (λ bits _. tt)
     integer_breaks (of_int e) = by (value_of look variables kinds.Int e) (expr_breaks kinds.Int e)
       where
@@ -317,10 +317,10 @@ module _ (look : Lookup) (variables : List Held) where
 
     integer_faults : {a : ArrayTree} {k : RunFault} → ArrayBreaks look variables a k →
         then_get (source_values look variables a) (source_integer variables (source_of look a)) ≡ Faults k
-    integer_faults (of_high {name = name} {low = low} h) = ap (λ x. range_got name x (value_of look variables kinds.Int low)) (expr_faults h)
-    integer_faults (of_low {name = name} {low = low} x is h) =
-        ap (λ x. range_got name x (value_of look variables kinds.Int low)) is ∙ ap (range_got name (Known x)) (expr_faults h)
-    integer_faults (of_range {name = name} {low = low} {k = k} h l size is_h is_l sized out) =
-        ap (λ x. range_got name x (value_of look variables kinds.Int low)) is_h ∙ ap (range_got name (Known (Int h))) is_l
-        ∙ then_faults (λ bits. Known (integer_from bits)) (span_faults (held_by look variables name) h l size k whole_bits sized out)
+    integer_faults (of_first {name = name} {second = second} h) = ap (λ x. range_got name x (value_of look variables kinds.Int second)) (expr_faults h)
+    integer_faults (of_second {name = name} {second = second} x is h) =
+        ap (λ x. range_got name x (value_of look variables kinds.Int second)) is ∙ ap (range_got name (Known x)) (expr_faults h)
+    integer_faults (of_range {name = name} {second = second} {k = k} i j size is_i is_j sized out) =
+        ap (λ x. range_got name x (value_of look variables kinds.Int second)) is_i ∙ ap (range_got name (Known (Int i))) is_j
+        ∙ then_faults (λ bits. Known (integer_from bits)) (span_faults (held_by look variables name) i j size k whole_bits sized out)
     integer_faults (of_integer h) = ap (λ x. then_get (then_get x (λ v. Known (v ∷ []))) (source_integer variables OfInt)) (expr_faults h)

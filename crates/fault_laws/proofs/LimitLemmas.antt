@@ -1,13 +1,14 @@
 -- The tests of limits and of ranges, against the words of the table
-use Rattle.std.proofs.Common.{◌≡◌, ℕ, ◌+◌, ◌-◌, ◌<◌, ◌≤◌, Bool, true, false, not, ◌&&◌, ℤ, pos, negsuc, inl, inr, refl, ap, ◌∙◌, arith, nat_lt, nat_le, int_le, nat_abs, if◌then◌else◌}
+use Rattle.std.proofs.Common.{◌≡◌, ℕ, ◌+◌, ◌-◌, ◌<◌, ◌≤◌, Bool, true, false, ◌&&◌, ℤ, pos, negsuc, inl, inr, refl, sym, ap, ◌∙◌, subst, arith, nat_lt, nat_le, int_le, if◌then◌else◌}
 use Rattle.std.proofs.Math.Facts.{ltb_yes, yes_ltb, leb_yes, yes_leb}
 use Rattle.std.proofs.lemmas.Bool.{lt-ltb, le-ltb, ltb-true, ltb-false, leb-true, leb-false, le-leb, lt-leb}
 use Rattle.std.specs.Int.Signed.{lt_z_yes, le_z_yes}
 use Rattle.stapl_meaning.specs.declared.events.RunFault.{RunFault}
-use Rattle.stapl_meaning.specs.declared.events.RunFault.TheVariants.{IndexOutOfRange, RangeReversed}
-use Rattle.stapl_meaning.specs.Values.{Known, Faults, is_index, passed, Span, span_between}
+use Rattle.stapl_meaning.specs.declared.events.RunFault.TheVariants.{IndexOutOfRange}
+use Rattle.stapl_meaning.specs.Values.{Known, Faults, is_index, Span, rising_span, span_between, of_programs}
 use Rattle.fault_laws.specs.Limits.{IsOutside, IsNoIndex}
-use Rattle.fault_laws.specs.ExprFaults.{RangeBreaks, high_outside, low_outside, reversed}
+use Rattle.fault_laws.specs.ExprFaults.{RangeBreaks, first_outside, second_outside}
+use Rattle.fault_laws.specs.PartFaults.{RangeHas, to_lower, to_higher}
 use Rattle.fault_laws.proofs.Gets.{Gives}
 
 pub no_index : (size : ℕ) (z : ℤ) → is_index z size ≡ false → IsNoIndex size z
@@ -60,46 +61,61 @@ pub is_between : (least most n : ℕ) → least ≤ n → n ≤ most → int_le 
 is_between least most n a b = ap (λ t. t && nat_le n most) (le-leb least n a) ∙ le-leb n most b
 
 -- a range that breaks by the table breaks by the tests
-pub range_faults : {n : ℕ} {high low : ℤ} {k : RunFault} → RangeBreaks n high low k → span_between n high low ≡ Faults k
-range_faults {n = n} (high_outside {high = high} out) = let e : is_index high n ≡ false = not_index n high out in rw e refl
-range_faults {n = n} (low_outside {high = high} {low = low} h out) =
-    let e : nat_lt high n ≡ true = lt-ltb high n h in
-    let f : is_index low n ≡ false = not_index n low out in
+pub range_faults : {n : ℕ} {first second : ℤ} {k : RunFault} → RangeBreaks n first second k → span_between of_programs n first second ≡ Faults k
+range_faults {n = n} (first_outside {first = first} out) = let e : is_index first n ≡ false = not_index n first out in rw e refl
+range_faults {n = n} (second_outside {first = first} {second = second} inside out) =
+    let e : nat_lt first n ≡ true = lt-ltb first n inside in
+    let f : is_index second n ≡ false = not_index n second out in
     rw e (rw f refl)
-range_faults {n = n} (reversed {high = high} {low = low} h l below) =
-    let e : nat_lt high n ≡ true = lt-ltb high n h in
-    let f : nat_lt low n ≡ true = lt-ltb low n l in
-    let g : nat_le low high ≡ false = lt-leb low high below in
-    rw e (rw f (rw g refl))
 
--- a part from one index down to another
-abbrev pub part_of : (high low : ℕ) → Span
-part_of high low = record { low = low; count = high + 1 - low }
+-- the part that a range is, by whether its second index is not above its first index
+abbrev pub part_by : Bool → (first second : ℕ) → Span
+part_by true first second = record { low = second; count = first + 1 - second; falls = false }
+part_by false first second = record { low = first; count = second + 1 - first; falls = true }
 
--- and the other way round: the tests break a range by the table, or it is a part of the array
-pub range_gives : (Q : Span → Type 0) (P : RunFault → Type 0) (n : ℕ) (high low : ℤ) → ((k : RunFault) → RangeBreaks n high low k → P k) →
-    ((h l : ℕ) → high ≡ pos h → low ≡ pos l → h < n → l ≤ h → Q (part_of h l)) → Gives Q P (span_between n high low)
-range_gives Q P n (negsuc h) low p q = p IndexOutOfRange (high_outside (inl (lt_z_yes tt)))
-range_gives Q P n (pos h) (negsuc l) p q = by (nat_lt h n) refl
+abbrev pub part_of : (first second : ℕ) → Span
+part_of first second = part_by (nat_le second first) first second
+
+-- it has as many bits as its range
+pub part_has : (first second : ℕ) → RangeHas first second (part_of first second).count
+part_has first second = by (nat_le second first) refl
   where
-    by : (a : Bool) → nat_lt h n ≡ a → Gives Q P
-        (if not (a && false) then Faults IndexOutOfRange
-        else passed (int_le (negsuc l) (pos h)) RangeReversed (record { low = nat_abs (negsuc l); count = h + 1 - nat_abs (negsuc l) }))
-    by true e = p IndexOutOfRange (low_outside (ltb-true h n e) (inl (lt_z_yes tt)))
-    by false e = p IndexOutOfRange (high_outside (no_index n (pos h) e))
-range_gives Q P n (pos h) (pos l) p q = by (nat_lt h n) refl (nat_lt l n) refl (nat_le l h) refl
-  where
-    by : (a : Bool) → nat_lt h n ≡ a → (b : Bool) → nat_lt l n ≡ b → (c : Bool) → nat_le l h ≡ c →
-        Gives Q P (if not (a && b) then Faults IndexOutOfRange else passed c RangeReversed (part_of h l))
-    by false e b f c g = p IndexOutOfRange (high_outside (no_index n (pos h) e))
-    by true e false f c g = p IndexOutOfRange (low_outside (ltb-true h n e) (no_index n (pos l) f))
-    by true e true f false g = p RangeReversed (reversed (ltb-true h n e) (ltb-true l n f) (leb-false l h g))
-    by true e true f true g = q h l refl refl (ltb-true h n e) (leb-true l h g)
+    by : (t : Bool) → nat_le second first ≡ t → RangeHas first second (part_by t first second).count
+    by true e = let below : second ≤ first = leb-true second first e in to_lower below (omega (arith, below))
+    by false e = let above : first < second = leb-false second first e in to_higher above (omega (arith, above))
+
+pub part_count : {first second n : ℕ} → RangeHas first second n → (part_of first second).count ≡ n
+part_count {first = first} {second = second} (to_lower below count) =
+    ap (λ t. (part_by t first second).count) (le-leb second first below) ∙ omega (arith, below, count)
+part_count {first = first} {second = second} (to_higher above count) =
+    ap (λ t. (part_by t first second).count) (lt-leb second first above) ∙ omega (arith, above, count)
 
 -- a range by the table is a part of the array
-pub part_known : (n h l : ℕ) → h < n → l ≤ h → span_between n (pos h) (pos l) ≡ Known (part_of h l)
-part_known n h l inside below =
-    let e : nat_lt h n ≡ true = lt-ltb h n inside in
-    let f : nat_lt l n ≡ true = lt-ltb l n (omega (arith, inside, below)) in
-    let g : nat_le l h ≡ true = le-leb l h below in
-    rw e (rw f (rw g refl))
+pub part_known : (n first second : ℕ) → first < n → second < n → span_between of_programs n (pos first) (pos second) ≡ Known (part_of first second)
+part_known n first second first_in second_in =
+    let e : nat_lt first n ≡ true = lt-ltb first n first_in in
+    let f : nat_lt second n ≡ true = lt-ltb second n second_in in
+    rw e (rw f (by (nat_le second first)))
+  where
+    by : (t : Bool) → (if t then Known (part_by true first second) else rising_span of_programs first second) ≡ Known (part_by t first second)
+    by true = refl
+    by false = refl
+
+-- the tests break a range by the table, or it is a part of the array
+pub range_gives : (Q : Span → Type 0) (P : RunFault → Type 0) (n : ℕ) (first second : ℤ) → ((k : RunFault) → RangeBreaks n first second k → P k) →
+    ((i j : ℕ) → first ≡ pos i → second ≡ pos j → i < n → j < n → Q (part_of i j)) → Gives Q P (span_between of_programs n first second)
+range_gives Q P n (negsuc i) second p q = p IndexOutOfRange (first_outside (inl (lt_z_yes tt)))
+range_gives Q P n (pos i) second p q = by (nat_lt i n) refl second (is_index second n) refl refl
+  where
+    broken : RangeBreaks n (pos i) second IndexOutOfRange → Gives Q P (span_between of_programs n (pos i) second)
+    broken h = subst (Gives Q P) (sym (range_faults h)) (p IndexOutOfRange h)
+
+    by : (a : Bool) → nat_lt i n ≡ a → (z : ℤ) (b : Bool) → is_index z n ≡ b → second ≡ z → Gives Q P (span_between of_programs n (pos i) second)
+    by false e z b f is = broken (first_outside (no_index n (pos i) e))
+    by true e z false f is = broken (second_outside (ltb-true i n e) (subst (IsNoIndex n) (sym is) (no_index n z f)))
+    by true e (negsuc j) true f is = absurd cc
+    by true e (pos j) true f is =
+        let first_in : i < n = ltb-true i n e in
+        let second_in : j < n = ltb-true j n f in
+        subst (λ z. Gives Q P (span_between of_programs n (pos i) z)) (sym is)
+        (subst (Gives Q P) (sym (part_known n i j first_in second_in)) (q i j refl is first_in second_in))

@@ -11,7 +11,7 @@ use Rattle.stapl_meaning.specs.Operands.{values_of}
 use Rattle.stapl_meaning.specs.States.{State}
 use Rattle.stapl_meaning.specs.Scopes.{Scope, Played, scope_at}
 use Rattle.stapl_meaning.specs.Turns.{operands, effect}
-use Rattle.fault_laws.specs.ExprFaults.{RangeBreaks, high_outside, low_outside, reversed, ExprBreaks, of_index, index_outside, of_operand, of_absolute, of_array, of_left, of_right, divides_by_zero, shifts_too_far, ArrayBreaks, of_high, of_low, of_range, of_integer}
+use Rattle.fault_laws.specs.ExprFaults.{RangeBreaks, first_outside, second_outside, ExprBreaks, of_index, index_outside, of_operand, of_absolute, of_array, of_left, of_right, divides_by_zero, shifts_too_far, ArrayBreaks, of_first, of_second, of_range, of_integer}
 use Rattle.fault_laws.specs.PartFaults.{Part, IsPartFault, PartBreaks, of_value, of_character, no_character, of_target_index, target_outside, of_part_array, PartsBreak, first_part, later_part}
 use Rattle.fault_laws.specs.RowFaults.{HasShortArray, HasBadLength, HasBadCount, HasZeroStep, LacksRecord, LacksRoom, HasBrokenPart, RowBreaks, of_parts, length_mismatch, bad_length, bad_count, step_zero, no_record, records_full}
 use Rattle.fault_laws.specs.TurnFaults.{Reaches, TurnBreaks, EndsWith}
@@ -27,12 +27,11 @@ pub expr_table : (look : Lookup) (variables : List Held) (kind : ValueKind) (e :
 expr_table look variables kind e k =
     ((λ is. subst (Breaks (ExprBreaks look variables kind e)) is (expr_breaks look variables kind e)), (λ h. expr_faults look variables h))
 
--- ---- the faults of parts are five
+-- ---- the faults of parts are four
 
-range_fault : {size : ℕ} {high low : ℤ} {k : RunFault} → RangeBreaks size high low k → IsPartFault k
-range_fault (high_outside out) = tt
-range_fault (low_outside h out) = tt
-range_fault (reversed h l below) = tt
+range_fault : {size : ℕ} {first second : ℤ} {k : RunFault} → RangeBreaks size first second k → IsPartFault k
+range_fault (first_outside out) = tt
+range_fault (second_outside inside out) = tt
 
 module _ (look : Lookup) (variables : List Held) where
   mutual
@@ -48,9 +47,9 @@ module _ (look : Lookup) (variables : List Held) where
     expr_fault (shifts_too_far x z shift is count out) = tt
 
     array_fault : {a : ArrayTree} {k : RunFault} → ArrayBreaks look variables a k → IsPartFault k
-    array_fault (of_high h) = expr_fault h
-    array_fault (of_low x is h) = expr_fault h
-    array_fault (of_range h l size is_h is_l sized out) = range_fault out
+    array_fault (of_first h) = expr_fault h
+    array_fault (of_second x is h) = expr_fault h
+    array_fault (of_range i j size is_i is_j sized out) = range_fault out
     array_fault (of_integer h) = expr_fault h
 
   part_fault : {p : Part} {k : RunFault} → PartBreaks look variables p k → IsPartFault k
@@ -91,6 +90,9 @@ module _ (scope : Scope) (s : State) where
   is_full : {b : BodyTree} → RowBreaks scope s b faults.RecordsFull → LacksRoom scope s b
   is_full (of_parts h) = absurd (parts_fault_so scope.look s.store.variables h)
   is_full (records_full h) = h
+
+  not_reversed : {b : BodyTree} → ¬ RowBreaks scope s b faults.RangeReversed
+  not_reversed (of_parts h) = parts_fault_so scope.look s.store.variables h
 
   is_broken : {b : BodyTree} {k : RunFault} → IsPartFault k → RowBreaks scope s b k → HasBrokenPart scope s k b
   is_broken p (of_parts h) = h
@@ -149,6 +151,12 @@ module _ (Holds : Scope → State → BodyTree → Type 0) (k : RunFault)
         reached = at.reached;
         holds = breaks (scope_at program i) s at.row at.holds;
       })
+
+-- a program never ends with the fault of a range from a lower index to a higher one
+pub never_reversed : (program : Played) (i : ℕ) (s : State) → ¬ EndsWith program i s faults.RangeReversed
+never_reversed program i s e =
+    let at : TurnBreaks program i s faults.RangeReversed = (turn_only program i s s [] faults.RangeReversed (i + 1) e).breaks in
+    not_reversed (scope_at program i) s at.holds
 
 pub part_table : (k : RunFault) → IsPartFault k → (program : Played) (i : ℕ) (s : State) →
     EndsWith program i s k ↔ Reaches program i s (λ scope s b. HasBrokenPart scope s k b)

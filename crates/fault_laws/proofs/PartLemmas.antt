@@ -11,12 +11,12 @@ use Rattle.stapl_meaning.specs.declared.values.Value.{Value}
 use Rattle.stapl_meaning.specs.declared.values.Value.TheVariants.{Int, Bit}
 use Rattle.stapl_meaning.specs.declared.values.Held.{Held}
 use Rattle.stapl_meaning.specs.declared.values.Held.TheVariants as held
-use Rattle.stapl_meaning.specs.Values.{Got, Known, Faults, Stuck, then_get, is_index, passed, index_held, bits_held, Span, span_of, range_held, Lookup, value_of}
+use Rattle.stapl_meaning.specs.Values.{Got, Known, Faults, Stuck, then_get, is_index, passed, index_held, bits_held, Span, span_of, range_held, of_programs, Lookup, value_of}
 use Rattle.stapl_meaning.specs.Operands.{Plain, Character, Index, Range, Operand, plain, an_integer, a_character, an_index, array_operands, target_operands, compare_operands, part_operands, character_of, tested, operand_value, values_behind, printed_kind}
 use Rattle.stapl_meaning.specs.Turns.{operands}
 use Rattle.stapl_meaning.specs.Scopes.{Scope}
 use Rattle.fault_laws.specs.Limits.{IsOutside, IsNoIndex}
-use Rattle.fault_laws.specs.ExprFaults.{size_of, bit_count, held_by, IsInteger, ExprBreaks, ArrayBreaks, of_high, of_low, of_range, of_integer}
+use Rattle.fault_laws.specs.ExprFaults.{size_of, bit_count, held_by, IsInteger, ExprBreaks, ArrayBreaks, of_first, of_second, of_range, of_integer}
 use Rattle.fault_laws.specs.PartFaults.{Part, value_part, character_part, index_part, array_part, printed_parts, target_arrays, compared_arrays, result_parts, written_parts, ArrayIs, literal_is, whole_is, range_is, integer_is, PartIs, value_is, character_is, index_is, array_is, PartsAre, no_parts, more_parts, PartBreaks, of_value, of_character, no_character, of_target_index, target_outside, of_part_array, PartsBreak, first_part, later_part}
 use Rattle.fault_laws.proofs.Gets.{Gives, then_gives, gives_more, then_known, then_faults}
 use Rattle.fault_laws.proofs.LimitLemmas.{no_index, not_index, outside, not_outside, part_of, part_known}
@@ -54,7 +54,7 @@ after_target : (look : Lookup) (target : Option ArrayTree) (compared : List Arra
 after_target look None compared result os e = e
 after_target look (Some (bit_literal bits)) compared result os e = e
 after_target look (Some (whole name)) compared result os e = e
-after_target look (Some (range name high low)) compared result os e = ap (λ os. array_operands look (range name high low) ++ os) e
+after_target look (Some (range name first second)) compared result os e = ap (λ os. array_operands look (range name first second) ++ os) e
 after_target look (Some (of_int x)) compared result os e = e
 
 pub operands_are : (scope : Scope) (b : BodyTree) → operands scope b ≡ operands_of scope.look (written_parts scope.look b)
@@ -74,8 +74,8 @@ operands_are scope (integer_array name size zs) = refl
 operands_are scope (assign name e) = refl
 operands_are scope (assign_element name index e) = refl
 operands_are scope (assign_array name a) = sym (append-nil (array_operands scope.look a))
-operands_are scope (assign_range name high low a) =
-    ap (λ os. array_operands scope.look (range name high low) ++ os) (sym (append-nil (array_operands scope.look a)))
+operands_are scope (assign_range name first second a) =
+    ap (λ os. array_operands scope.look (range name first second) ++ os) (sym (append-nil (array_operands scope.look a)))
 operands_are scope (call name) = refl
 operands_are scope (goto name) = refl
 operands_are scope (if_then e body) = refl
@@ -200,17 +200,17 @@ module _ (look : Lookup) (variables : List Held) where
   index_gives name e (Int z) known (Some (held.Ints zs)) f = index_tested name e z (length zs) known (ap size_of f) (is_index z (length zs)) refl
   index_gives name e (Int z) known (Some (held.Bits bs)) f = index_tested name e z (length bs) known (ap size_of f) (is_index z (length bs)) refl
 
-  range_gives : (name : List ℕ) (high low : ExprTree) (x y : Value) → value_of look variables kinds.Int high ≡ Known x →
-      value_of look variables kinds.Int low ≡ Known y →
-      Gives (λ v. ArrayIs look variables (range name high low) (x ∷ v ∷ [])) (ArrayBreaks look variables (range name high low))
-      (range_held (held_by look variables name) x y)
-  range_gives name high low x y e f =
-      span_breaks (ArrayBreaks look variables (range name high low)) (λ v. ArrayIs look variables (range name high low) (x ∷ v ∷ []))
+  range_gives : (name : List ℕ) (first second : ExprTree) (x y : Value) → value_of look variables kinds.Int first ≡ Known x →
+      value_of look variables kinds.Int second ≡ Known y →
+      Gives (λ v. ArrayIs look variables (range name first second) (x ∷ v ∷ [])) (ArrayBreaks look variables (range name first second))
+      (range_held of_programs (held_by look variables name) x y)
+  range_gives name first second x y e f =
+      span_breaks (ArrayBreaks look variables (range name first second)) (λ v. ArrayIs look variables (range name first second) (x ∷ v ∷ []))
       (held_by look variables name) x y (λ bits span. y)
-      (λ h l size is_h is_l sized k out. of_range h l size (e ∙ ap Known is_h) (f ∙ ap Known is_l) sized out)
-      (λ bs h l o is_h is_l inside below.
-      subst₂ (λ x y. ArrayIs look variables (range name high low) (x ∷ y ∷ [])) (sym is_h) (sym is_l)
-      (range_is h l (length bs) (e ∙ ap Known is_h) (f ∙ ap Known is_l) (ap bit_count o) inside below))
+      (λ i j size is_i is_j sized k out. of_range i j size (e ∙ ap Known is_i) (f ∙ ap Known is_j) sized out)
+      (λ bs i j o is_i is_j first_in second_in.
+      subst₂ (λ x y. ArrayIs look variables (range name first second) (x ∷ y ∷ [])) (sym is_i) (sym is_j)
+      (range_is i j (length bs) (e ∙ ap Known is_i) (f ∙ ap Known is_j) (ap bit_count o) first_in second_in))
 
   -- an array without indexes has no values
   same_behind : (before : Option Value) (a : ArrayTree) (ps : List Part) → ArrayIs look variables a [] →
@@ -225,30 +225,30 @@ module _ (look : Lookup) (variables : List Held) where
       by (Faults k) b = later_part (array_is is) b
       by Stuck b = tt
 
-  range_then_gives : (before : Option Value) (name : List ℕ) (high low : ExprTree) (ps : List Part) →
+  range_then_gives : (before : Option Value) (name : List ℕ) (first second : ExprTree) (ps : List Part) →
       ((v : Value) → Gives (PartsAre look variables ps) (PartsBreak look variables ps) (values_behind look variables (Some v) (operands_of look ps))) →
-      Gives (PartsAre look variables (array_part (range name high low) ∷ ps)) (PartsBreak look variables (array_part (range name high low) ∷ ps))
-      (values_behind look variables before (array_operands look (range name high low) ++ operands_of look ps))
-  range_then_gives before name high low ps others =
-      let p : Part = array_part (range name high low) in
+      Gives (PartsAre look variables (array_part (range name first second) ∷ ps)) (PartsBreak look variables (array_part (range name first second) ∷ ps))
+      (values_behind look variables before (array_operands look (range name first second) ++ operands_of look ps))
+  range_then_gives before name first second ps others =
+      let p : Part = array_part (range name first second) in
       let P : RunFault → Type 0 = PartsBreak look variables (p ∷ ps) in
       let Q : List Value → Type 0 = PartsAre look variables (p ∷ ps) in
-      let low_operand : Operand = record { expr = low; kind = kinds.Int; test = Range (look.variable name) } in
+      let second_operand : Operand = record { expr = second; kind = kinds.Int; test = Range (look.variable name) } in
       let os : List Operand = operands_of look ps in
       let ends : Value → List Value → Type 0 = λ x vs. Q (x ∷ vs) in
-      then_gives (λ x. value_of look variables kinds.Int high ≡ Known x) Q P (operand_value look variables before (an_integer high))
-      (λ x. then_get (values_behind look variables (Some x) (low_operand ∷ os)) (λ vs. Known (x ∷ vs)))
-      (test_gives (λ x. value_of look variables kinds.Int high ≡ Known x) P kinds.Int high (tested look variables Plain before)
-      (λ k h. first_part (of_part_array (of_high h))) (λ x known. known))
+      then_gives (λ x. value_of look variables kinds.Int first ≡ Known x) Q P (operand_value look variables before (an_integer first))
+      (λ x. then_get (values_behind look variables (Some x) (second_operand ∷ os)) (λ vs. Known (x ∷ vs)))
+      (test_gives (λ x. value_of look variables kinds.Int first ≡ Known x) P kinds.Int first (tested look variables Plain before)
+      (λ k h. first_part (of_part_array (of_first h))) (λ x known. known))
       (λ x _ known.
-      then_gives (ends x) Q P (values_behind look variables (Some x) (low_operand ∷ os)) (λ vs. Known (x ∷ vs))
-      (let is_range : Value → Type 0 = λ y. ArrayIs look variables (range name high low) (x ∷ y ∷ []) in
-      then_gives is_range (ends x) P (operand_value look variables (Some x) low_operand)
+      then_gives (ends x) Q P (values_behind look variables (Some x) (second_operand ∷ os)) (λ vs. Known (x ∷ vs))
+      (let is_range : Value → Type 0 = λ y. ArrayIs look variables (range name first second) (x ∷ y ∷ []) in
+      then_gives is_range (ends x) P (operand_value look variables (Some x) second_operand)
       (λ y. then_get (values_behind look variables (Some y) os) (λ vs. Known (y ∷ vs)))
-      (test_gives is_range P kinds.Int low (tested look variables (Range (look.variable name)) (Some x))
-      (λ k h. first_part (of_part_array (of_low x known h)))
-      (λ y known2. gives_more is_range (ArrayBreaks look variables (range name high low)) P (range_held (held_by look variables name) x y)
-      (λ k h. first_part (of_part_array h)) (range_gives name high low x y known known2)))
+      (test_gives is_range P kinds.Int second (tested look variables (Range (look.variable name)) (Some x))
+      (λ k h. first_part (of_part_array (of_second x known h)))
+      (λ y known2. gives_more is_range (ArrayBreaks look variables (range name first second)) P (range_held of_programs (held_by look variables name) x y)
+      (λ k h. first_part (of_part_array h)) (range_gives name first second x y known known2)))
       (λ y _ is.
       then_gives (PartsAre look variables ps) (ends x) P (values_behind look variables (Some y) os) (λ vs. Known (y ∷ vs))
       (gives_more (PartsAre look variables ps) (PartsBreak look variables ps) P (values_behind look variables (Some y) os)
@@ -282,8 +282,8 @@ module _ (look : Lookup) (variables : List Held) where
       (test_gives (λ v. PartIs look variables (array_part (of_int e)) (v ∷ [])) (PartBreaks look variables (array_part (of_int e))) kinds.Int e
       (tested look variables Plain before) (λ k h. of_part_array (of_integer h)) (λ v known. array_is (integer_is v known)))
       (λ v. parts_give (Some v) ps)
-  parts_give before (array_part (range name high low) ∷ ps) =
-      range_then_gives before name high low ps (λ v. parts_give (Some v) ps)
+  parts_give before (array_part (range name first second) ∷ ps) =
+      range_then_gives before name first second ps (λ v. parts_give (Some v) ps)
 
   -- ---- the other way round
 
@@ -316,19 +316,19 @@ module _ (look : Lookup) (variables : List Held) where
       ap (λ t. passed t IndexOutOfRange (Int z)) (not_index (length bs) z (subst (λ n. IsNoIndex n z) same out))
 
   -- a range of an array that holds so many bits, with what is made of it
-  pub span_known : {A : Type 0} (o : Option Held) (h l size : ℕ) (make : List Bool → Span → A) (bs : List Bool) → o ≡ Some (held.Bits bs) →
-      bit_count o ≡ Some size → h < size → l ≤ h →
-      then_get (bits_held o) (λ bits. then_get (span_of (length bits) (Int (pos h)) (Int (pos l))) (λ span. Known (make bits span)))
-      ≡ Known (make bs (part_of h l))
-  span_known o h l size make bs is sized inside below =
+  pub span_known : {A : Type 0} (o : Option Held) (i j size : ℕ) (make : List Bool → Span → A) (bs : List Bool) → o ≡ Some (held.Bits bs) →
+      bit_count o ≡ Some size → i < size → j < size →
+      then_get (bits_held o) (λ bits. then_get (span_of of_programs (length bits) (Int (pos i)) (Int (pos j))) (λ span. Known (make bits span)))
+      ≡ Known (make bs (part_of i j))
+  span_known o i j size make bs is sized first_in second_in =
       let same : size ≡ length bs = some_same (sym sized ∙ ap bit_count is) in
-      ap (λ o. then_get (bits_held o) (λ bits. then_get (span_of (length bits) (Int (pos h)) (Int (pos l))) (λ span. Known (make bits span)))) is
-      ∙ then_known (λ span. Known (make bs span)) (part_known (length bs) h l (subst (λ n. h < n) same inside) below)
+      ap (λ o. then_get (bits_held o) (λ bits. then_get (span_of of_programs (length bits) (Int (pos i)) (Int (pos j))) (λ span. Known (make bits span)))) is
+      ∙ then_known (λ span. Known (make bs span)) (part_known (length bs) i j (subst (λ n. i < n) same first_in) (subst (λ n. j < n) same second_in))
 
-  range_known : (o : Option Held) (h l size : ℕ) → bit_count o ≡ Some size → h < size → l ≤ h →
-      range_held o (Int (pos h)) (Int (pos l)) ≡ Known (Int (pos l))
-  range_known o h l size sized inside below =
-      let b : HoldsBits o = holds_bits o size sized in span_known o h l size (λ bits span. Int (pos l)) b.bits b.is sized inside below
+  range_known : (o : Option Held) (i j size : ℕ) → bit_count o ≡ Some size → i < size → j < size →
+      range_held of_programs o (Int (pos i)) (Int (pos j)) ≡ Known (Int (pos j))
+  range_known o i j size sized first_in second_in =
+      let b : HoldsBits o = holds_bits o size sized in span_known o i j size (λ bits span. Int (pos j)) b.bits b.is sized first_in second_in
 
   part_behind : {p : Part} {us : List Value} (before : Option Value) → PartIs look variables p us → (ps : List Part) →
       values_behind look variables before (operands_of look (p ∷ ps))
@@ -343,15 +343,15 @@ module _ (look : Lookup) (variables : List Held) where
   part_behind before (array_is whole_is) ps = same_list (values_behind look variables before (operands_of look ps))
   part_behind before (array_is (integer_is v known)) ps =
       ap (λ g. one_then (then_get g (tested look variables Plain before)) (operands_of look ps)) known
-  part_behind before (array_is (range_is {name = name} {low = low} h l size is_h is_l sized inside below)) ps =
+  part_behind before (array_is (range_is {name = name} {second = second} i j size is_i is_j sized first_in second_in)) ps =
       let o : Option Held = held_by look variables name in
       let os : List Operand = operands_of look ps in
-      let low_operand : Operand = record { expr = low; kind = kinds.Int; test = Range (look.variable name) } in
-      let second : then_get (value_of look variables kinds.Int low) (range_held o (Int (pos h))) ≡ Known (Int (pos l)) =
-      then_known (range_held o (Int (pos h))) is_l ∙ range_known o h l size sized inside below in
-      ap (λ g. one_then (then_get g (tested look variables Plain before)) (low_operand ∷ os)) is_h
-      ∙ ap (λ g. then_get (one_then g os) (λ vs. Known (Int (pos h) ∷ vs))) second
-      ∙ two_behind (Int (pos h)) (Int (pos l)) (values_behind look variables (Some (Int (pos l))) os)
+      let second_operand : Operand = record { expr = second; kind = kinds.Int; test = Range (look.variable name) } in
+      let tested_range : then_get (value_of look variables kinds.Int second) (range_held of_programs o (Int (pos i))) ≡ Known (Int (pos j)) =
+      then_known (range_held of_programs o (Int (pos i))) is_j ∙ range_known o i j size sized first_in second_in in
+      ap (λ g. one_then (then_get g (tested look variables Plain before)) (second_operand ∷ os)) is_i
+      ∙ ap (λ g. then_get (one_then g os) (λ vs. Known (Int (pos i) ∷ vs))) tested_range
+      ∙ two_behind (Int (pos i)) (Int (pos j)) (values_behind look variables (Some (Int (pos j))) os)
 
   pub parts_known : {ps : List Part} {vs : List Value} (before : Option Value) → PartsAre look variables ps vs →
       values_behind look variables before (operands_of look ps) ≡ Known vs
@@ -372,23 +372,23 @@ module _ (look : Lookup) (variables : List Held) where
   part_faults before (target_outside {name = name} z size known sized out) ps =
       ap (λ g. one_then g (operands_of look ps))
       (then_known (tested look variables (Index (look.variable name)) before) known ∙ index_faults (held_by look variables name) z size sized out)
-  part_faults before (of_part_array (of_high {name = name} {low = low} h)) ps =
-      let low_operand : Operand = record { expr = low; kind = kinds.Int; test = Range (look.variable name) } in
-      ap (λ g. one_then (then_get g (tested look variables Plain before)) (low_operand ∷ operands_of look ps)) (expr_faults look variables h)
-  part_faults before (of_part_array (of_low {name = name} {low = low} x is h)) ps =
-      let low_operand : Operand = record { expr = low; kind = kinds.Int; test = Range (look.variable name) } in
+  part_faults before (of_part_array (of_first {name = name} {second = second} h)) ps =
+      let second_operand : Operand = record { expr = second; kind = kinds.Int; test = Range (look.variable name) } in
+      ap (λ g. one_then (then_get g (tested look variables Plain before)) (second_operand ∷ operands_of look ps)) (expr_faults look variables h)
+  part_faults before (of_part_array (of_second {name = name} {second = second} x is h)) ps =
+      let second_operand : Operand = record { expr = second; kind = kinds.Int; test = Range (look.variable name) } in
       let o : Option Held = held_by look variables name in
       let os : List Operand = operands_of look ps in
-      ap (λ g. one_then (then_get g (tested look variables Plain before)) (low_operand ∷ os)) is
-      ∙ ap (λ g. then_get (one_then (then_get g (range_held o x)) os) (λ vs. Known (x ∷ vs))) (expr_faults look variables h)
-  part_faults before (of_part_array (of_range {name = name} {low = low} {k = k} h l size is_h is_l sized out)) ps =
-      let low_operand : Operand = record { expr = low; kind = kinds.Int; test = Range (look.variable name) } in
+      ap (λ g. one_then (then_get g (tested look variables Plain before)) (second_operand ∷ os)) is
+      ∙ ap (λ g. then_get (one_then (then_get g (range_held of_programs o x)) os) (λ vs. Known (x ∷ vs))) (expr_faults look variables h)
+  part_faults before (of_part_array (of_range {name = name} {second = second} {k = k} i j size is_i is_j sized out)) ps =
+      let second_operand : Operand = record { expr = second; kind = kinds.Int; test = Range (look.variable name) } in
       let o : Option Held = held_by look variables name in
       let os : List Operand = operands_of look ps in
-      let second : then_get (value_of look variables kinds.Int low) (range_held o (Int h)) ≡ Faults k =
-      then_known (range_held o (Int h)) is_l ∙ span_faults o h l size k (λ bits span. Int l) sized out in
-      ap (λ g. one_then (then_get g (tested look variables Plain before)) (low_operand ∷ os)) is_h
-      ∙ ap (λ g. then_get (one_then g os) (λ vs. Known (Int h ∷ vs))) second
+      let tested_range : then_get (value_of look variables kinds.Int second) (range_held of_programs o (Int i)) ≡ Faults k =
+      then_known (range_held of_programs o (Int i)) is_j ∙ span_faults o i j size k (λ bits span. Int j) sized out in
+      ap (λ g. one_then (then_get g (tested look variables Plain before)) (second_operand ∷ os)) is_i
+      ∙ ap (λ g. then_get (one_then g os) (λ vs. Known (Int i ∷ vs))) tested_range
   part_faults before (of_part_array (of_integer h)) ps =
       ap (λ g. one_then (then_get g (tested look variables Plain before)) (operands_of look ps)) (expr_faults look variables h)
 

@@ -1,8 +1,7 @@
 -- A statement without its inner statement breaks if the table says so
-use Rattle.std.proofs.Common.{◌≡◌, ◌≢◌, ℕ, ◌+◌, ◌<◌, ◌≤◌, Bool, true, false, List, [], ◌∷◌, ◌++◌, length, Option, Some, None, ℤ, pos, negsuc, refl, sym, ap, ◌∙◌, subst, arith, nat_lt, nat_abs, ◌<ℤ◌, if◌then◌else◌}
+use Rattle.std.proofs.Common.{◌≡◌, ◌≢◌, ℕ, ◌<◌, ◌≤◌, Bool, true, false, List, [], ◌∷◌, ◌++◌, length, Option, Some, None, ℤ, pos, negsuc, refl, sym, ap, ◌∙◌, subst, arith, nat_lt, nat_abs, ◌<ℤ◌, if◌then◌else◌}
 use Rattle.std.specs.Ordering.{int_eq}
 use Rattle.std.specs.Prelude.{slice_get, slice_set}
-use Rattle.bit_list.specs.Ranges.{spliced}
 use Rattle.std.proofs.Math.Facts.{ltb_yes}
 use Rattle.std.proofs.lemmas.Bool.{le-ltb, lt-ltb, ne_eqb}
 use Rattle.std.proofs.lemmas.Bool.Decides.{Decides-int_eq}
@@ -20,7 +19,7 @@ use Rattle.stapl_meaning.specs.declared.values.Held.{Held}
 use Rattle.stapl_meaning.specs.declared.values.Held.TheVariants as held
 use Rattle.stapl_meaning.specs.declared.waits.WaitKind.TheVariants as waits
 use Rattle.stapl_meaning.specs.Deeds.{Deed, Says, Goes, Stays}
-use Rattle.stapl_meaning.specs.Values.{Got, Known, Faults, Stuck, then_get, is_index, passed, bits_held, Span, span_of, asked, source_of}
+use Rattle.stapl_meaning.specs.Values.{Got, Known, Faults, Stuck, then_get, is_index, passed, bits_held, Span, span_of, span_put, whole_span, asked, of_programs, source_of}
 use Rattle.stapl_meaning.specs.Operands.{values_of, given_kind}
 use Rattle.stapl_meaning.specs.States.{State, Did, Falls}
 use Rattle.stapl_meaning.specs.Effects.{with_records, with_variables, assigned, element_assigned, span_written, with_room, with_loop, topmost, nearest_loop, integer_held, went_round, cycles_of, usec_of, hertz_of, waited_for}
@@ -30,10 +29,10 @@ use Rattle.stapl_meaning.specs.Scopes.{Scope}
 use Rattle.stapl_meaning.specs.Turns.{effect, tap_or_idle}
 use Rattle.fault_laws.specs.Limits.{IsOutside}
 use Rattle.fault_laws.specs.ExprFaults.{bit_count, held_by}
-use Rattle.fault_laws.specs.PartFaults.{written_parts, range_is, PartsAre, no_parts, more_parts, value_is, array_is, HasBits, whole_has, range_has, IsShort}
+use Rattle.fault_laws.specs.PartFaults.{written_parts, range_is, PartsAre, no_parts, more_parts, value_is, array_is, RangeHas, HasBits, whole_has, range_has, IsShort}
 use Rattle.fault_laws.specs.RowFaults.{HasNoValue, nothing_there, call_on_top, loop_on_top, HasNoLoop, nothing_left, value_above, call_above, other_loop, RowBreaks, of_parts, length_mismatch, bad_length, bad_count, step_zero, no_record, records_full, assigned_short, range_short, zero_step, full_for, full_push, full_call, no_loop, no_value, no_value_for_element, left_out, written_down, bad_cycles, bad_usec, bad_usec_alone, bad_hertz, bad_scan, scan_short, bad_padding, padding_short}
 use Rattle.fault_laws.proofs.Gets.{then_known, then_faults}
-use Rattle.fault_laws.proofs.LimitLemmas.{not_outside, part_of, part_known}
+use Rattle.fault_laws.proofs.LimitLemmas.{not_outside, part_of, part_count, part_known}
 use Rattle.fault_laws.proofs.PartLemmas.{operands_are, parts_known, parts_fault, HoldsBits, holds_bits, some_same}
 use Rattle.fault_laws.proofs.ArrayLemmas.{ReadShort, short_read}
 use Rattle.fault_laws.proofs.ScanLemmas.{alone, PaddingFaults, bad_padding_faults, short_padding_faults}
@@ -94,7 +93,7 @@ module _ (scope : Scope) (s : State) where
   span_faults : (n : ℕ) (old : List Bool) (span : Span) (a : ArrayTree) (m : ℕ) → span.count ≡ m → (r : ReadShort scope.look s.store.variables a m) →
       span_written n old (source_of scope.look a) r.read.values s span ≡ Faults LengthMismatch
   span_faults n old span a m count r =
-      let puts : List Bool → Got Did = λ new. Known (Falls [] (with_variables s (slice_set s.store.variables n (held.Bits (spliced span.low new old))))) in
+      let puts : List Bool → Got Did = λ new. Known (Falls [] (with_variables s (slice_set s.store.variables n (held.Bits (span_put span new old))))) in
       then_known (λ bits. then_get (asked (source_of scope.look a) span.count bits) puts) r.read.is
       ∙ ap (λ m. then_get (asked (source_of scope.look a) m r.read.bits) puts) count
       ∙ then_faults puts r.faults
@@ -106,21 +105,21 @@ module _ (scope : Scope) (s : State) where
       let o : Option Held = held_by scope.look s.store.variables name in
       let b : HoldsBits o = holds_bits o n sized in
       let number : ℕ = scope.look.variable name in
-      ap (λ o. then_get (bits_held o) (λ old. span_written number old (source_of scope.look a) r.read.values s (record { low = 0; count = length old }))) b.is
-      ∙ span_faults number b.bits (record { low = 0; count = length b.bits }) a n (some_same (sym (ap bit_count b.is) ∙ sized)) r
+      ap (λ o. then_get (bits_held o) (λ old. span_written number old (source_of scope.look a) r.read.values s (whole_span (length old)))) b.is
+      ∙ span_faults number b.bits (whole_span (length b.bits)) a n (some_same (sym (ap bit_count b.is) ∙ sized)) r
 
-  part_faults : (name : List ℕ) (h l size n : ℕ) (a : ArrayTree) → bit_count (held_by scope.look s.store.variables name) ≡ Some size → h < size → l ≤ h →
-      n + l ≡ h + 1 → (r : ReadShort scope.look s.store.variables a n) →
-      copied (IntoRange (scope.look.variable name)) (source_of scope.look a) (Int (pos h) ∷ Int (pos l) ∷ r.read.values) s ≡ Faults LengthMismatch
-  part_faults name h l size n a sized inside below count r =
+  part_faults : (name : List ℕ) (i j size n : ℕ) (a : ArrayTree) → bit_count (held_by scope.look s.store.variables name) ≡ Some size → i < size → j < size →
+      RangeHas i j n → (r : ReadShort scope.look s.store.variables a n) →
+      copied (IntoRange of_programs (scope.look.variable name)) (source_of scope.look a) (Int (pos i) ∷ Int (pos j) ∷ r.read.values) s ≡ Faults LengthMismatch
+  part_faults name i j size n a sized first_in second_in count r =
       let o : Option Held = held_by scope.look s.store.variables name in
       let b : HoldsBits o = holds_bits o size sized in
       let same : size ≡ length b.bits = some_same (sym sized ∙ ap bit_count b.is) in
       let number : ℕ = scope.look.variable name in
       let puts : List Bool → Span → Got Did = λ old. span_written number old (source_of scope.look a) r.read.values s in
-      ap (λ o. then_get (bits_held o) (λ old. then_get (span_of (length old) (Int (pos h)) (Int (pos l))) (puts old))) b.is
-      ∙ then_known (puts b.bits) (part_known (length b.bits) h l (subst (λ n. h < n) same inside) below)
-      ∙ span_faults number b.bits (part_of h l) a n (omega (arith, count, below)) r
+      ap (λ o. then_get (bits_held o) (λ old. then_get (span_of of_programs (length old) (Int (pos i)) (Int (pos j))) (puts old))) b.is
+      ∙ then_known (puts b.bits) (part_known (length b.bits) i j (subst (λ n. i < n) same first_in) (subst (λ n. j < n) same second_in))
+      ∙ span_faults number b.bits (part_of i j) a n (part_count count) r
 
   -- ---- the table
 
@@ -132,13 +131,13 @@ module _ (scope : Scope) (s : State) where
       then_known (λ values. effect scope b values s)
       (ap (values_of scope.look s.store.variables) (operands_are scope b) ∙ parts_known scope.look s.store.variables None are) ∙ e
 
-  range_row : (name : List ℕ) (high low : ExprTree) (a : ArrayTree) (n : ℕ) → HasBits scope.look s.store.variables (range name high low) n →
-      IsShort scope.look s.store.variables a n → row_got scope s (assign_range name high low a) ≡ Faults LengthMismatch
-  range_row name high low a n (range_has h l size is_h is_l sized inside below count) short =
+  range_row : (name : List ℕ) (first second : ExprTree) (a : ArrayTree) (n : ℕ) → HasBits scope.look s.store.variables (range name first second) n →
+      IsShort scope.look s.store.variables a n → row_got scope s (assign_range name first second a) ≡ Faults LengthMismatch
+  range_row name first second a n (range_has i j size is_i is_j sized first_in second_in count) short =
       let r : ReadShort scope.look s.store.variables a n = short_read scope.look s.store.variables short in
-      from_values (assign_range name high low a) (Int (pos h) ∷ Int (pos l) ∷ r.read.values) LengthMismatch
-      (more_parts (array_is (range_is h l size is_h is_l sized inside below)) (alone scope.look s.store.variables r.read.are))
-      (part_faults name h l size n a sized inside below count r)
+      from_values (assign_range name first second a) (Int (pos i) ∷ Int (pos j) ∷ r.read.values) LengthMismatch
+      (more_parts (array_is (range_is i j size is_i is_j sized first_in second_in)) (alone scope.look s.store.variables r.read.are))
+      (part_faults name i j size n a sized first_in second_in count r)
 
   pub row_faults : {b : BodyTree} {k : RunFault} → RowBreaks scope s b k → row_got scope s b ≡ Faults k
   row_faults (of_parts {b = b} h) =
@@ -147,7 +146,7 @@ module _ (scope : Scope) (s : State) where
   row_faults (length_mismatch (assigned_short {name = name} {a = a} n has short)) =
       let r : ReadShort scope.look s.store.variables a n = short_read scope.look s.store.variables short in
       from_values (assign_array name a) r.read.values LengthMismatch (alone scope.look s.store.variables r.read.are) (whole_faults name n a has r)
-  row_faults (length_mismatch (range_short {name = name} {high = high} {low = low} {a = a} n has short)) = range_row name high low a n has short
+  row_faults (length_mismatch (range_short {name = name} {first = first} {second = second} {a = a} n has short)) = range_row name first second a n has short
   row_faults (step_zero (zero_step {name = name} {from = from} {to = to} {step = step} a b is_a is_b is_zero)) =
       from_values (for_loop name from to step) (Int a ∷ Int b ∷ Int (pos 0) ∷ []) ZeroStep
       (more_parts (value_is (Int a) is_a) (more_parts (value_is (Int b) is_b) (more_parts (value_is (Int (pos 0)) is_zero) no_parts))) refl

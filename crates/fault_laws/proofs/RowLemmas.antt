@@ -1,5 +1,5 @@
 -- A statement without its inner statement breaks by the table alone
-use Rattle.std.proofs.Common.{◌≡◌, ℕ, ◌+◌, ◌-◌, ◌≤◌, Bool, true, false, List, [], ◌∷◌, ◌++◌, map, Option, Some, None, ℤ, pos, refl, sym, ap, ◌∙◌, subst, arith, if◌then◌else◌}
+use Rattle.std.proofs.Common.{◌≡◌, ℕ, ◌≤◌, Bool, true, false, List, [], ◌∷◌, ◌++◌, map, Option, Some, None, ℤ, pos, refl, sym, ap, ◌∙◌, subst, if◌then◌else◌}
 use Rattle.stapl_syntax.specs.Trees.{ExprTree, number, scalar, element, unary, binary, abs, int, ArrayTree, literal as bit_literal, BodyTree, note, action, procedure, data_block, end_data, crc, end_procedure, boolean, boolean_array, integer, integer_array, assign, assign_element, assign_array, assign_range, call, goto, if_then, for_loop, next, push, pop, print, exported_value, exported_array, export, exit, scan, stop, pad, state_list, wait_cycles, wait_usec, frequency}
 use Rattle.stapl_lexer.specs.declared.terminal.Padding.{Padding}
 use Rattle.stapl_meaning.specs.declared.values.Held.{Held}
@@ -23,6 +23,7 @@ use Rattle.fault_laws.specs.ExprFaults.{IsInteger}
 use Rattle.fault_laws.specs.PartFaults.{Part, padding_arrays, written_parts, literal_is, range_is, PartsAre, no_parts, more_parts, value_is, index_is, array_is, PartsBreak, HasBits, range_has, OneIsShort, this_short, later_short}
 use Rattle.fault_laws.specs.RowFaults.{RowBreaks, of_parts, length_mismatch, bad_length, bad_count, step_zero, no_record, records_full, assigned_short, range_short, zero_step, full_for, full_push, full_call, no_loop, no_value, no_value_for_element, left_out, written_down, bad_cycles, bad_usec, bad_usec_alone, bad_hertz, bad_scan, scan_short, bad_padding, padding_short}
 use Rattle.fault_laws.proofs.Gets.{Gives, Breaks, then_gives, then_breaks, gives_more}
+use Rattle.fault_laws.proofs.LimitLemmas.{part_of, part_has}
 use Rattle.fault_laws.proofs.PartLemmas.{operands_are, parts_give}
 use Rattle.fault_laws.proofs.ArrayLemmas.{array_alone}
 use Rattle.fault_laws.proofs.EffectLemmas.{EndsWell, Does, then_does, assigned_does, element_does, integers_does, jumped_does, returned_does, exited_does, exported_does, moved_does, stopped_does, printed_does, export_bits_does, copied_does, range_does, pushed_does, called_does, looped_does, repeated_does, popped_does, cycles_break, cycles_give, usec_breaks, hertz_breaks}
@@ -64,12 +65,12 @@ module _ (scope : Scope) (s : State) where
   assign_element_does name index e _ (more_parts (index_is i size known sized inside) (more_parts (value_is v known2) no_parts)) =
       element_does (RowBreaks scope s (assign_element name index e)) (scope.look.variable name) i size v s sized inside
 
-  assign_range_does : (name : List ℕ) (high low : ExprTree) (a : ArrayTree) (vs : List Value) → WrittenParts (assign_range name high low a) vs →
-      EffectDoes (assign_range name high low a) vs
-  assign_range_does name high low a _ (more_parts (array_is (range_is h l size is_h is_l sized inside below)) rest) =
-      range_does (RowBreaks scope s (assign_range name high low a)) scope.look name s h l size sized inside below
+  assign_range_does : (name : List ℕ) (first second : ExprTree) (a : ArrayTree) (vs : List Value) → WrittenParts (assign_range name first second a) vs →
+      EffectDoes (assign_range name first second a) vs
+  assign_range_does name first second a _ (more_parts (array_is (range_is i j size is_i is_j sized first_in second_in)) rest) =
+      range_does (RowBreaks scope s (assign_range name first second a)) scope.look name s i j size sized first_in second_in
       (array_alone scope.look s.store.variables rest)
-      (λ short. length_mismatch (range_short (h + 1 - l) (range_has h l size is_h is_l sized inside below (omega (arith, below))) short))
+      (λ short. length_mismatch (range_short (part_of i j).count (range_has i j size is_i is_j sized first_in second_in (part_has i j)) short))
 
   for_does : (name : List ℕ) (from to : ExprTree) (step : Option ExprTree) (vs : List Value) → WrittenParts (for_loop name from to step) vs →
       EffectDoes (for_loop name from to step) vs
@@ -188,7 +189,7 @@ module _ (scope : Scope) (s : State) where
   effect_does (assign_element name index e) vs are = assign_element_does name index e vs are
   effect_does (assign_array name a) vs are =
       copied_does (RowBreaks scope s (assign_array name a)) scope.look name s (array_alone scope.look s.store.variables are) (λ n has short. length_mismatch (assigned_short n has short))
-  effect_does (assign_range name high low a) vs are = assign_range_does name high low a vs are
+  effect_does (assign_range name first second a) vs are = assign_range_does name first second a vs are
   effect_does (call name) vs are = called_does (RowBreaks scope s (call name)) scope.follow vs s (λ full. records_full (full_call full))
   effect_does (goto name) vs are = jumped_does (RowBreaks scope s (goto name)) vs s
   effect_does (if_then e body) vs are = parted_does (RowBreaks scope s (if_then e body)) vs s

@@ -1,6 +1,6 @@
 -- A scan breaks if the table says so: its arrays are found, its length is tested, and then whether each array has as
 -- many bits
-use Rattle.std.proofs.Common.{◌≡◌, ℕ, ◌+◌, ◌<◌, ◌≤◌, Bool, List, [], ◌∷◌, ◌++◌, map, length, take, drop, Option, Some, None, ℤ, pos, refl, sym, ap, ◌∙◌, ap₂, subst, arith, nat_le, ◌⊎◌, inl, inr}
+use Rattle.std.proofs.Common.{◌≡◌, ℕ, ◌<◌, ◌≤◌, Bool, List, [], ◌∷◌, ◌++◌, map, length, take, drop, Option, Some, None, ℤ, pos, refl, sym, ap, ◌∙◌, ap₂, subst, arith, nat_le, ◌⊎◌, inl, inr}
 use Rattle.std.proofs.lemmas.Bool.{lt-leb}
 use Rattle.stapl_lexer.specs.declared.terminal.Register.{Register}
 use Rattle.stapl_syntax.specs.Trees.{ExprTree, number, scalar, element, unary, binary, abs, int, ArrayTree, literal as bit_literal, whole, range, of_int, CompareTree}
@@ -10,15 +10,15 @@ use Rattle.stapl_meaning.specs.declared.values.ValueKind.TheVariants as kinds
 use Rattle.stapl_meaning.specs.declared.values.Value.{Value}
 use Rattle.stapl_meaning.specs.declared.values.Value.TheVariants.{Int, Bit}
 use Rattle.stapl_meaning.specs.declared.values.Held.{Held}
-use Rattle.stapl_meaning.specs.Values.{Got, Known, Faults, then_get, passed, bits_held, Span, source_bits, asked, source_of, Lookup}
+use Rattle.stapl_meaning.specs.Values.{Got, Known, Faults, then_get, passed, bits_held, Span, whole_span, source_bits, asked, source_of, Lookup}
 use Rattle.stapl_meaning.specs.States.{State, Did, Captures}
 use Rattle.stapl_meaning.specs.Scans.{CellPart, target_width, settings_of, length_between, scan_of, ScalarCell, ElementCell, Place, Cell, InScalar, InElement, Comparison, target_found, cell_found, comparison_found, compare_found, Found, scan_found, landed, target_asked, compare_asked, scan_asked, scanned}
 use Rattle.stapl_meaning.specs.ScanTrees.{given_target, compare_parts, scan_parts}
 use Rattle.fault_laws.specs.Limits.{IsOutside}
 use Rattle.fault_laws.specs.ExprFaults.{size_of, bit_count, held_by, IsInteger}
-use Rattle.fault_laws.specs.PartFaults.{Part, value_part, array_part, target_arrays, compared_arrays, scan_arrays, result_parts, whole_is, range_is, PartsAre, no_parts, more_parts, value_is, index_is, array_is, HasBits, whole_has, range_has, other_there, AreThere, no_array, more_arrays, OneIsShort, this_short, later_short}
+use Rattle.fault_laws.specs.PartFaults.{Part, value_part, array_part, target_arrays, compared_arrays, scan_arrays, result_parts, whole_is, range_is, PartsAre, no_parts, more_parts, value_is, index_is, array_is, RangeHas, HasBits, whole_has, range_has, other_there, AreThere, no_array, more_arrays, OneIsShort, this_short, later_short}
 use Rattle.fault_laws.proofs.Gets.{then_gives, then_known, then_faults}
-use Rattle.fault_laws.proofs.LimitLemmas.{part_of}
+use Rattle.fault_laws.proofs.LimitLemmas.{part_of, part_count}
 use Rattle.fault_laws.proofs.PartLemmas.{HoldsBits, holds_bits, some_same, span_known, index_known}
 use Rattle.fault_laws.proofs.ArrayLemmas.{May, passed_may, asked_may, then_may, Read, array_read, ReadShort, short_read}
 use Rattle.fault_laws.proofs.EffectLemmas.{EndsWell, Does}
@@ -90,12 +90,12 @@ module _ (look : Lookup) (variables : List Held) where
   whole_target : (name : List ℕ) (n : ℕ) → bit_count (held_by look variables name) ≡ Some n → TargetBits (Some (whole name)) n
   whole_target name n sized =
       let b : HoldsBits (held_by look variables name) = holds_bits (held_by look variables name) n sized in
-      let span : Span = record { low = 0; count = length b.bits } in
+      let span : Span = whole_span (length b.bits) in
       record {
         read = record {
           values = [];
           place = in_array look variables name span;
-          is = ap (λ o. then_get (bits_held o) (λ old. Known (in_array look variables name (record { low = 0; count = length old })))) b.is;
+          is = ap (λ o. then_get (bits_held o) (λ old. Known (in_array look variables name (whole_span (length old))))) b.is;
           are = λ compared result ws rest. more_parts (array_is whole_is) rest;
           front = λ ws. refl;
           back = λ ws. refl;
@@ -105,24 +105,24 @@ module _ (look : Lookup) (variables : List Held) where
         long = some_same (sym (ap bit_count b.is) ∙ sized);
       }
 
-  range_target : (name : List ℕ) (high low : ExprTree) (n h l size : ℕ) → IsInteger look variables high (pos h) →
-      IsInteger look variables low (pos l) → bit_count (held_by look variables name) ≡ Some size → h < size → l ≤ h → n + l ≡ h + 1 →
-      TargetBits (Some (range name high low)) n
-  range_target name high low n h l size is_h is_l sized inside below count =
+  range_target : (name : List ℕ) (first second : ExprTree) (n i j size : ℕ) → IsInteger look variables first (pos i) →
+      IsInteger look variables second (pos j) → bit_count (held_by look variables name) ≡ Some size → i < size → j < size → RangeHas i j n →
+      TargetBits (Some (range name first second)) n
+  range_target name first second n i j size is_i is_j sized first_in second_in count =
       let o : Option Held = held_by look variables name in
       let b : HoldsBits o = holds_bits o size sized in
       record {
         read = record {
-          values = Int (pos h) ∷ Int (pos l) ∷ [];
-          place = in_array look variables name (part_of h l);
-          is = span_known look variables o h l size (λ bits span. in_array look variables name span) b.bits b.is sized inside below;
-          are = λ compared result ws rest. more_parts (array_is (range_is h l size is_h is_l sized inside below)) rest;
+          values = Int (pos i) ∷ Int (pos j) ∷ [];
+          place = in_array look variables name (part_of i j);
+          is = span_known look variables o i j size (λ bits span. in_array look variables name span) b.bits b.is sized first_in second_in;
+          are = λ compared result ws rest. more_parts (array_is (range_is i j size is_i is_j sized first_in second_in)) rest;
           front = λ ws. refl;
           back = λ ws. refl;
         };
-        place = record { array = look.variable name; span = part_of h l };
+        place = record { array = look.variable name; span = part_of i j };
         is = refl;
-        long = omega (arith, count, below);
+        long = part_count count;
       }
 
   no_target : (target : Option ArrayTree) → given_target look target ≡ None → target_arrays target ≡ [] → TargetRead target
@@ -140,8 +140,8 @@ module _ (look : Lookup) (variables : List Held) where
   target_read (Some (bit_literal bits)) there = no_target (Some (bit_literal bits)) refl refl
   target_read (Some (of_int e)) there = no_target (Some (of_int e)) refl refl
   target_read (Some (whole name)) (more_arrays (other_there n (whole_has sized)) no_array) = (whole_target name n sized).read
-  target_read (Some (range name high low)) (more_arrays (other_there n (range_has h l size is_h is_l sized inside below count)) no_array) =
-      (range_target name high low n h l size is_h is_l sized inside below count).read
+  target_read (Some (range name first second)) (more_arrays (other_there n (range_has i j size is_i is_j sized first_in second_in count)) no_array) =
+      (range_target name first second n i j size is_i is_j sized first_in second_in count).read
 
   -- a target that is short
   pub record TargetShort (target : Option ArrayTree) (n : ℕ) : Type 0 where
@@ -161,10 +161,10 @@ module _ (look : Lookup) (variables : List Held) where
   whole_short : (n : ℕ) (name : List ℕ) (m : ℕ) → HasBits look variables (whole name) m → m < n → TargetShort (Some (whole name)) n
   whole_short n name m (whole_has sized) fewer = place_short (Some (whole name)) n m (whole_target name m sized) fewer
 
-  range_short : (n : ℕ) (name : List ℕ) (high low : ExprTree) (m : ℕ) → HasBits look variables (range name high low) m → m < n →
-      TargetShort (Some (range name high low)) n
-  range_short n name high low m (range_has h l size is_h is_l sized inside below count) fewer =
-      place_short (Some (range name high low)) n m (range_target name high low m h l size is_h is_l sized inside below count) fewer
+  range_short : (n : ℕ) (name : List ℕ) (first second : ExprTree) (m : ℕ) → HasBits look variables (range name first second) m → m < n →
+      TargetShort (Some (range name first second)) n
+  range_short n name first second m (range_has i j size is_i is_j sized first_in second_in count) fewer =
+      place_short (Some (range name first second)) n m (range_target name first second m i j size is_i is_j sized first_in second_in count) fewer
 
   target_short : {n : ℕ} (target : Option ArrayTree) → OneIsShort look variables n (target_arrays target) → TargetShort target n
   target_short None short = elim short [ ]
@@ -172,8 +172,8 @@ module _ (look : Lookup) (variables : List Held) where
   target_short (Some (of_int e)) short = elim short [ ]
   target_short {n = n} (Some (whole name)) (this_short short no_array) = whole_short n name short.bits short.has short.fewer
   target_short (Some (whole name)) (later_short this short) = elim short [ ]
-  target_short {n = n} (Some (range name high low)) (this_short short no_array) = range_short n name high low short.bits short.has short.fewer
-  target_short (Some (range name high low)) (later_short this short) = elim short [ ]
+  target_short {n = n} (Some (range name first second)) (this_short short no_array) = range_short n name first second short.bits short.has short.fewer
+  target_short (Some (range name first second)) (later_short this short) = elim short [ ]
 
   target_may : (n : ℕ) (place : Option Place) → May (target_asked n place)
   target_may n None = tt

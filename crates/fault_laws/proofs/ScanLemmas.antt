@@ -1,5 +1,5 @@
 -- Scans and paddings break by the table alone, and always if the table says so
-use Rattle.std.proofs.Common.{◌≡◌, ℕ, ◌+◌, ◌-◌, ◌<◌, ◌≤◌, Bool, true, false, List, [], ◌∷◌, ◌++◌, map, length, take, drop, replicate, Option, Some, None, ℤ, pos, negsuc, refl, sym, ap, ◌∙◌, ap₂, subst, arith, append-nil, int_le, ◌&&◌, nat_le, nat_abs}
+use Rattle.std.proofs.Common.{◌≡◌, ℕ, ◌<◌, ◌≤◌, Bool, true, false, List, [], ◌∷◌, ◌++◌, map, length, take, drop, replicate, Option, Some, None, ℤ, pos, negsuc, refl, sym, ap, ◌∙◌, ap₂, subst, arith, append-nil, int_le, ◌&&◌, nat_le, nat_abs}
 use Rattle.std.proofs.lemmas.Bool.{leb-false}
 use Rattle.stapl_lexer.specs.declared.terminal.Register.{Register}
 use Rattle.stapl_syntax.specs.Trees.{number, scalar, element, unary, binary, abs, int, ArrayTree, literal as bit_literal, whole, range, of_int, CompareTree}
@@ -9,7 +9,7 @@ use Rattle.stapl_meaning.specs.declared.values.Value.{Value}
 use Rattle.stapl_meaning.specs.declared.values.Value.TheVariants.{Int}
 use Rattle.stapl_meaning.specs.declared.values.Held.{Held}
 use Rattle.stapl_meaning.specs.declared.values.Held.TheVariants as held
-use Rattle.stapl_meaning.specs.Values.{Got, Known, Faults, then_get, passed, bits_held, Span, source_bits, asked, source_of, Lookup}
+use Rattle.stapl_meaning.specs.Values.{Got, Known, Faults, then_get, passed, bits_held, Span, whole_span, source_bits, asked, source_of, Lookup}
 use Rattle.stapl_meaning.specs.States.{State, Did, Captures}
 use Rattle.stapl_meaning.specs.Scans.{CellPart, settings_of, length_between, scan_of, ScalarCell, ElementCell, CompareParts, ScanParts, source_width, target_width, Place, Cell, InScalar, InElement, Comparison, target_found, cell_found, comparison_found, compare_found, Found, scan_found, landed, target_asked, compare_asked, scan_asked, padding_bits}
 use Rattle.stapl_meaning.specs.ScanTrees.{given_source, given_target, compare_parts, scan_parts}
@@ -17,7 +17,7 @@ use Rattle.fault_laws.specs.Limits.{IsOutside}
 use Rattle.fault_laws.specs.ExprFaults.{bit_count, held_by}
 use Rattle.fault_laws.specs.PartFaults.{Part, array_part, target_arrays, compared_arrays, scan_arrays, result_parts, padding_arrays, ArrayIs, whole_is, range_is, PartsAre, no_parts, more_parts, index_is, array_is, HasBits, whole_has, range_has, IsThere, other_there, IsShort, AreThere, no_array, more_arrays, OneIsShort, this_short, later_short}
 use Rattle.fault_laws.proofs.Gets.{Gives, Breaks, then_gives, then_breaks, breaks_more, then_known, then_faults}
-use Rattle.fault_laws.proofs.LimitLemmas.{outside_both, not_both, both, is_between, part_of}
+use Rattle.fault_laws.proofs.LimitLemmas.{outside_both, not_both, both, is_between, part_of, part_has}
 use Rattle.fault_laws.proofs.PartLemmas.{HoldsBits, holds_bits, span_known, index_known}
 use Rattle.fault_laws.proofs.ArrayLemmas.{IsSized, there_if, source_gives, asked_breaks, Read, array_read, ReadShort, short_read, array_alone, array_front, array_back}
 use Rattle.fault_laws.proofs.EffectLemmas.{Does, then_does}
@@ -148,7 +148,7 @@ module _ (look : Lookup) (variables : List Held) where
   target_gives P (Some (whole name)) compared result ws are = by (held_by look variables name) refl
     where
       by : (o : Option Held) → held_by look variables name ≡ o →
-          Gives (TargetFits (Some (whole name))) P (then_get (bits_held o) (λ old. Known (in_array name (record { low = 0; count = length old }))))
+          Gives (TargetFits (Some (whole name))) P (then_get (bits_held o) (λ old. Known (in_array name (whole_span (length old)))))
       by None e = tt
       by (Some (held.Int z)) e = tt
       by (Some (held.Bit b)) e = tt
@@ -157,17 +157,17 @@ module _ (look : Lookup) (variables : List Held) where
           let has : HasBits look variables (whole name) (length old) = whole_has (ap bit_count e) in
           record {
             there = more_arrays (other_there (length old) has) no_array;
-            shorts = λ n. place_shorts n (length old) (whole name) (record { array = look.variable name; span = record { low = 0; count = length old } }) has refl;
+            shorts = λ n. place_shorts n (length old) (whole name) (record { array = look.variable name; span = whole_span (length old) }) has refl;
           }
-  target_gives P (Some (range name high low)) compared result _ (more_parts (array_is (range_is h l size is_h is_l sized inside below)) rest) =
+  target_gives P (Some (range name first second)) compared result _ (more_parts (array_is (range_is i j size is_i is_j sized first_in second_in)) rest) =
       let o : Option Held = held_by look variables name in
       let b : HoldsBits o = holds_bits o size sized in
-      let has : HasBits look variables (range name high low) (h + 1 - l) = range_has h l size is_h is_l sized inside below (omega (arith, below)) in
-      subst (Gives (TargetFits (Some (range name high low))) P)
-      (sym (span_known look variables o h l size (λ bits span. in_array name span) b.bits b.is sized inside below))
+      let has : HasBits look variables (range name first second) (part_of i j).count = range_has i j size is_i is_j sized first_in second_in (part_has i j) in
+      subst (Gives (TargetFits (Some (range name first second))) P)
+      (sym (span_known look variables o i j size (λ bits span. in_array name span) b.bits b.is sized first_in second_in))
       (record {
-        there = more_arrays (other_there (h + 1 - l) has) no_array;
-        shorts = λ n. place_shorts n (h + 1 - l) (range name high low) (record { array = look.variable name; span = part_of h l }) has refl;
+        there = more_arrays (other_there (part_of i j).count has) no_array;
+        shorts = λ n. place_shorts n (part_of i j).count (range name first second) (record { array = look.variable name; span = part_of i j }) has refl;
       })
 
   target_back : (target : Option ArrayTree) (compared : List ArrayTree) (result : List Part) (ws : List Value) →
@@ -177,7 +177,7 @@ module _ (look : Lookup) (variables : List Held) where
   target_back (Some (bit_literal bits)) compared result ws are = are
   target_back (Some (of_int e)) compared result ws are = are
   target_back (Some (whole name)) compared result _ (more_parts (array_is whole_is) rest) = rest
-  target_back (Some (range name high low)) compared result _ (more_parts (array_is (range_is h l size is_h is_l sized inside below)) rest) = rest
+  target_back (Some (range name first second)) compared result _ (more_parts (array_is (range_is i j size is_i is_j sized first_in second_in)) rest) = rest
 
   -- ---- what a scan compares with
 

@@ -8,7 +8,7 @@ use Rattle.stapl_lexer.specs.declared.terminal.BinOp.TheVariants.{Divide, Remain
 use Rattle.stapl_syntax.specs.declared.signs.UnOp.{UnOp}
 use Rattle.stapl_syntax.specs.Trees.{ExprTree, element, unary, binary, abs, int, ArrayTree, range, of_int}
 use Rattle.stapl_meaning.specs.declared.events.RunFault.{RunFault}
-use Rattle.stapl_meaning.specs.declared.events.RunFault.TheVariants.{DivideByZero, IndexOutOfRange, RangeReversed, ShiftCount}
+use Rattle.stapl_meaning.specs.declared.events.RunFault.TheVariants.{DivideByZero, IndexOutOfRange, ShiftCount}
 use Rattle.stapl_meaning.specs.declared.values.ValueKind.{ValueKind}
 use Rattle.stapl_meaning.specs.declared.values.ValueKind.TheVariants as kinds
 use Rattle.stapl_meaning.specs.declared.values.Value.{Value}
@@ -37,11 +37,12 @@ pub data IsShift : BinOp → Type 0 where
   to_left : IsShift ShiftLeft
   to_right : IsShift ShiftRight
 
--- the fault of a range from a high index to a low one, in an array of so many bits
-pub data RangeBreaks (size : ℕ) : (high low : ℤ) → RunFault → Type 0 where
-  high_outside : {high low : ℤ} → IsNoIndex size high → RangeBreaks size high low IndexOutOfRange
-  low_outside : {high : ℕ} {low : ℤ} → high < size → IsNoIndex size low → RangeBreaks size (pos high) low IndexOutOfRange
-  reversed : {high low : ℕ} → high < size → low < size → high < low → RangeBreaks size (pos high) (pos low) RangeReversed
+-- The fault of a range of an array of so many bits: its first index is no index of the array, or the first is one and
+-- the second is none. Either index may be the lower one.
+pub data RangeBreaks (size : ℕ) : (first second : ℤ) → RunFault → Type 0 where
+  first_outside : {first second : ℤ} → IsNoIndex size first → RangeBreaks size first second IndexOutOfRange
+  second_outside : {first : ℕ} {second : ℤ} → first < size → IsNoIndex size second →
+      RangeBreaks size (pos first) second IndexOutOfRange
 
 module _ (look : Lookup) (variables : List Held) where
   -- what the variable of a name holds
@@ -76,12 +77,14 @@ module _ (look : Lookup) (variables : List Held) where
       shifts_too_far : {kind : ValueKind} {op : BinOp} {a b : ExprTree} (x z : ℤ) → IsShift op → IsInteger a x →
           IsInteger b z → IsOutside (pos 0) (pos 31) z → ExprBreaks kind (binary op a b) ShiftCount
 
-    -- the fault of an array: of a range first its high index, then its low index, then the range itself
+    -- the fault of an array: of a range that of its first index, then that of its second index, then that of the range
     pub data ArrayBreaks : ArrayTree → RunFault → Type 0 where
-      of_high : {name : List ℕ} {high low : ExprTree} {k : RunFault} → ExprBreaks kinds.Int high k →
-          ArrayBreaks (range name high low) k
-      of_low : {name : List ℕ} {high low : ExprTree} {k : RunFault} (x : Value) →
-          value_of look variables kinds.Int high ≡ Known x → ExprBreaks kinds.Int low k → ArrayBreaks (range name high low) k
-      of_range : {name : List ℕ} {high low : ExprTree} {k : RunFault} (h l : ℤ) (size : ℕ) → IsInteger high h →
-          IsInteger low l → bit_count (held_by name) ≡ Some size → RangeBreaks size h l k → ArrayBreaks (range name high low) k
+      of_first : {name : List ℕ} {first second : ExprTree} {k : RunFault} → ExprBreaks kinds.Int first k →
+          ArrayBreaks (range name first second) k
+      of_second : {name : List ℕ} {first second : ExprTree} {k : RunFault} (x : Value) →
+          value_of look variables kinds.Int first ≡ Known x → ExprBreaks kinds.Int second k →
+          ArrayBreaks (range name first second) k
+      of_range : {name : List ℕ} {first second : ExprTree} {k : RunFault} (i j : ℤ) (size : ℕ) → IsInteger first i →
+          IsInteger second j → bit_count (held_by name) ≡ Some size → RangeBreaks size i j k →
+          ArrayBreaks (range name first second) k
       of_integer : {e : ExprTree} {k : RunFault} → ExprBreaks kinds.Int e k → ArrayBreaks (of_int e) k

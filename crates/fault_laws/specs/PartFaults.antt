@@ -5,7 +5,7 @@ use Rattle.std.specs.Prelude.{◌≡◌, ℕ, ℤ, pos, ◌<◌, ◌≤◌, ◌+
 use Rattle.stapl_syntax.specs.Kinds.{expr_kind}
 use Rattle.stapl_syntax.specs.Trees.{ExprTree, number, scalar, element, ArrayTree, literal as bit_literal, whole, range, of_int, CompareTree, PartTree, string, value, character, BodyTree, boolean, integer, assign, assign_element, assign_array, assign_range, if_then, for_loop, push, pop, print, exported_value, exported_array, export, exit, scan, pad, wait_cycles, wait_usec, frequency}
 use Rattle.stapl_meaning.specs.declared.events.RunFault.{RunFault}
-use Rattle.stapl_meaning.specs.declared.events.RunFault.TheVariants.{DivideByZero, IndexOutOfRange, RangeReversed, ShiftCount, BadChar}
+use Rattle.stapl_meaning.specs.declared.events.RunFault.TheVariants.{DivideByZero, IndexOutOfRange, ShiftCount, BadChar}
 use Rattle.stapl_meaning.specs.declared.values.ValueKind.{ValueKind}
 use Rattle.stapl_meaning.specs.declared.values.ValueKind.TheVariants as kinds
 use Rattle.stapl_meaning.specs.declared.values.Value.{Value}
@@ -28,7 +28,6 @@ pub data Part : Type 0 where
 abbrev pub IsPartFault : RunFault → Type 0
 IsPartFault DivideByZero = Unit {0}
 IsPartFault IndexOutOfRange = Unit {0}
-IsPartFault RangeReversed = Unit {0}
 IsPartFault ShiftCount = Unit {0}
 IsPartFault BadChar = Unit {0}
 IsPartFault _ = ⊥
@@ -48,7 +47,7 @@ printed_parts look (character e ∷ parts) = character_part e ∷ printed_parts 
 -- trees stand there in no program.
 abbrev pub target_arrays : Option ArrayTree → List ArrayTree
 target_arrays (Some (whole name)) = whole name ∷ []
-target_arrays (Some (range name high low)) = range name high low ∷ []
+target_arrays (Some (range name first second)) = range name first second ∷ []
 target_arrays _ = []
 
 abbrev pub compared_arrays : Option CompareTree → List ArrayTree
@@ -76,7 +75,7 @@ written_parts look (integer name (Some z)) = value_part kinds.Int (number z) ∷
 written_parts look (assign name e) = value_part (given_kind (look.kind name)) e ∷ []
 written_parts look (assign_element name index e) = index_part name index ∷ value_part (given_kind (look.kind name)) e ∷ []
 written_parts look (assign_array name a) = array_part a ∷ []
-written_parts look (assign_range name high low a) = array_part (range name high low) ∷ array_part a ∷ []
+written_parts look (assign_range name first second a) = array_part (range name first second) ∷ array_part a ∷ []
 written_parts look (if_then e body) = value_part kinds.Bit e ∷ []
 written_parts look (for_loop name from to step) =
     value_part kinds.Int from ∷ value_part kinds.Int to ∷ value_part kinds.Int (step_or_one step) ∷ []
@@ -94,14 +93,20 @@ written_parts look (wait_usec state usec last) = value_part kinds.Int usec ∷ [
 written_parts look (frequency hertz) = given_part hertz
 written_parts look _ = []
 
+-- How many bits a range has whose two indexes are these. The elements at both indexes are among them, and either index
+-- may be the lower one.
+pub data RangeHas (first second n : ℕ) : Type 0 where
+  to_lower : second ≤ first → n + second ≡ first + 1 → RangeHas first second n
+  to_higher : first < second → n + first ≡ second + 1 → RangeHas first second n
+
 module _ (look : Lookup) (variables : List Held) where
   -- an array whose indexes break nothing, and their values
   pub data ArrayIs : ArrayTree → List Value → Type 0 where
     literal_is : {bits : List Bool} → ArrayIs (bit_literal bits) []
     whole_is : {name : List ℕ} → ArrayIs (whole name) []
-    range_is : {name : List ℕ} {high low : ExprTree} (h l size : ℕ) → IsInteger look variables high (pos h) →
-        IsInteger look variables low (pos l) → bit_count (held_by look variables name) ≡ Some size → h < size → l ≤ h →
-        ArrayIs (range name high low) (Int (pos h) ∷ Int (pos l) ∷ [])
+    range_is : {name : List ℕ} {first second : ExprTree} (i j size : ℕ) → IsInteger look variables first (pos i) →
+        IsInteger look variables second (pos j) → bit_count (held_by look variables name) ≡ Some size → i < size →
+        j < size → ArrayIs (range name first second) (Int (pos i) ∷ Int (pos j) ∷ [])
     integer_is : {e : ExprTree} (v : Value) → value_of look variables kinds.Int e ≡ Known v → ArrayIs (of_int e) (v ∷ [])
 
   -- a part that breaks nothing, and its values
@@ -139,9 +144,10 @@ module _ (look : Lookup) (variables : List Held) where
   -- How many bits an array has that is no literal. A literal has as many as are asked of it.
   pub data HasBits : ArrayTree → ℕ → Type 0 where
     whole_has : {name : List ℕ} {n : ℕ} → bit_count (held_by look variables name) ≡ Some n → HasBits (whole name) n
-    range_has : {name : List ℕ} {high low : ExprTree} {n : ℕ} (h l size : ℕ) → IsInteger look variables high (pos h) →
-        IsInteger look variables low (pos l) → bit_count (held_by look variables name) ≡ Some size → h < size → l ≤ h →
-        n + l ≡ h + 1 → HasBits (range name high low) n
+    range_has : {name : List ℕ} {first second : ExprTree} {n : ℕ} (i j size : ℕ) →
+        IsInteger look variables first (pos i) → IsInteger look variables second (pos j) →
+        bit_count (held_by look variables name) ≡ Some size → i < size → j < size → RangeHas i j n →
+        HasBits (range name first second) n
     integer_has : {e : ExprTree} (z : ℤ) → IsInteger look variables e z → HasBits (of_int e) 32
 
   -- an array that has bits

@@ -59,9 +59,9 @@ module _ (scope : Scope) (s : State) where
   pub data HasShortArray : BodyTree → Type 0 where
     assigned_short : {name : List ℕ} {a : ArrayTree} (n : ℕ) → HasBits scope.look s.store.variables (whole name) n →
         IsShort scope.look s.store.variables a n → HasShortArray (assign_array name a)
-    range_short : {name : List ℕ} {high low : ExprTree} {a : ArrayTree} (n : ℕ) →
-        HasBits scope.look s.store.variables (range name high low) n → IsShort scope.look s.store.variables a n →
-        HasShortArray (assign_range name high low a)
+    range_short : {name : List ℕ} {first second : ExprTree} {a : ArrayTree} (n : ℕ) →
+        HasBits scope.look s.store.variables (range name first second) n → IsShort scope.look s.store.variables a n →
+        HasShortArray (assign_range name first second a)
     scan_short : {register : Register} {count : ExprTree} {source : ArrayTree} {target : Option ArrayTree} {compare : Option CompareTree}
         (n : ℕ) (values : List Value) → Is count (pos n) → PartsAre scope.look s.store.variables (result_parts compare) values →
         1 ≤ n → n ≤ 4194304 → OneIsShort scope.look s.store.variables n (scan_arrays source target compare) →
@@ -116,7 +116,7 @@ module _ (scope : Scope) (s : State) where
   abbrev pub HasBrokenPart : RunFault → BodyTree → Type 0
   HasBrokenPart k b = PartsBreak scope.look s.store.variables (written_parts scope.look b) k
 
-  -- The table: the faults of parts are DivideByZero, IndexOutOfRange, RangeReversed, ShiftCount and BadChar.
+  -- The table: the faults of parts are DivideByZero, IndexOutOfRange, ShiftCount and BadChar. RangeReversed has no row.
   pub data RowBreaks : BodyTree → RunFault → Type 0 where
     of_parts : {b : BodyTree} {k : RunFault} → HasBrokenPart k b → RowBreaks b k
     length_mismatch : {b : BodyTree} → HasShortArray b → RowBreaks b LengthMismatch

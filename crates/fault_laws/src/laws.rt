@@ -42,14 +42,14 @@ pub fn a_turn_has_one_fault()
         TurnBreaks program i s other → k ≡ other }
 {}
 
-/// Each fault of the table, and where it comes.
+/// Each fault of the table, and where it comes. A range from a lower index to a higher one means its elements in the
+/// other order, so programs never end with RangeReversed.
 pub fn where_each_fault_comes()
     ensures divide_by_zero { (program : Played) (i : ℕ) (s : State) →
         EndsWith program i s faults.DivideByZero ↔ ReachesBrokenPart program i s faults.DivideByZero }
     ensures index_out_of_range { (program : Played) (i : ℕ) (s : State) →
         EndsWith program i s faults.IndexOutOfRange ↔ ReachesBrokenPart program i s faults.IndexOutOfRange }
-    ensures range_reversed { (program : Played) (i : ℕ) (s : State) →
-        EndsWith program i s faults.RangeReversed ↔ ReachesBrokenPart program i s faults.RangeReversed }
+    ensures range_reversed { (program : Played) (i : ℕ) (s : State) → ¬ EndsWith program i s faults.RangeReversed }
     ensures length_mismatch { (program : Played) (i : ℕ) (s : State) →
         EndsWith program i s faults.LengthMismatch ↔ Reaches program i s HasShortArray }
     ensures bad_length { (program : Played) (i : ℕ) (s : State) →

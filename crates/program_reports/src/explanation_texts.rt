@@ -49,7 +49,7 @@ choice, of the words: a name of do is not optional in the action, or one of skip
 place, of the words: the board has fewer devices than place. Do this: count the devices from 1.
 DivideByZero, in a play: a count or a period that was never set. Do this: set it before the / or %.
 IndexOutOfRange, in a play: a loop that goes one too far, or too short an array. Do this: stop at the size less 1, which is the last index.
-RangeReversed, in a play: a range with its low index first, A[0..7]. Do this: write A[7..0].
+RangeReversed, in a play: in run alone, of an old code file: a range with its low index first, A[0..7]. Do this: compile the program again; then it means the bits in the other order.
 LengthMismatch, in a play: a scan longer than its array, or a CAPTURE into a shorter one. Do this: make the array as long.
 BadLength, in a play: a scan of length 0, as by a variable that was never set; a padding above 65,536. Do this: set the length.
 BadCount, in a play: a WAIT of over 16,777,216 clocks or below 0; a FREQUENCY of 0. Do this: write two WAITs in place of one; correct it.

@@ -2,7 +2,7 @@
 use Rattle.std.proofs.Common.{◌≡◌, ℕ, zero, suc, ◌+◌, ◌-◌, ◌<◌, ◌≤◌, Bool, true, false, List, [], ◌∷◌, ◌++◌, Option, Some, None, length, take, drop, arith, refl, sym, ap, ◌∙◌, subst}
 use Rattle.std.specs.Prelude.{ℤ, pos, negsuc, int_le, nat_abs, nat_lt, nat_le, not, ◌&&◌, ◌==◌, is_some, replicate, slice_get, slice_set, if◌then◌else◌}
 use Rattle.std.specs.List.{list_all}
-use Rattle.std.proofs.lemmas.Bool.{and_parts, leb-true, ltb-true}
+use Rattle.std.proofs.lemmas.Bool.{and_parts, leb-true, leb-false, ltb-true}
 use Rattle.std.proofs.lemmas.List.{length-append, length-drop, length-replicate, length-set, length-take-le}
 use Rattle.stapl_meaning.specs.declared.events.RunFault.{RunFault}
 use Rattle.stapl_meaning.specs.declared.events.RunFault.TheVariants.{IndexOutOfRange, RangeReversed, LengthMismatch}
@@ -12,18 +12,21 @@ use Rattle.stapl_meaning.specs.declared.values.Value.{Value}
 use Rattle.stapl_meaning.specs.declared.values.Value.TheVariants.{Int, Bit}
 use Rattle.stapl_meaning.specs.declared.values.ValueKind.{ValueKind}
 use Rattle.stapl_meaning.specs.declared.values.ValueKind.TheVariants as kinds
-use Rattle.stapl_meaning.specs.Values.{Got, Known, Faults, Stuck, then_get, is_index, passed, item_of, item_at, element_of, index_held, bits_held, Span, span_between, span_of, range_held, bits_between, source_bits, padded, asked, integer_from, source_integer}
+use Rattle.stapl_meaning.specs.Values.{Got, Known, Faults, Stuck, then_get, is_index, passed, item_of, item_at, element_of, index_held, bits_held, Span, whole_span, turned, span_bits, first_places, span_put, rising_span, span_between, span_of, range_held, bits_between, source_bits, padded, asked, integer_from, source_integer}
 use Rattle.stapl_meaning.specs.Values as values
 use Rattle.stapl_meaning.specs.States.{State, Did}
 use Rattle.stapl_meaning.specs.States as did
 use Rattle.stapl_meaning.specs.Effects.{replaced, with_variables, written, with_element, element_written, IntoWhole, IntoRange, span_written, copied, with_integers, integers_set}
-use Rattle.bit_list.specs.Ranges.{taken, spliced}
+use Rattle.bit_list.specs.Ranges.{spliced}
+use Rattle.stapl_meaning.specs.declared.profiles.Profile.{Profile}
+use Rattle.stapl_meaning.specs.declared.profiles.Profile.TheVariants.{One, Two}
+use Rattle.std.proofs.lemmas.List.{length-reverse}
 use Rattle.stapl_code.specs.declared.raw.VarDef.{VarDef}
 use Rattle.stapl_code.specs.declared.instr.Source.{Source}
 use Rattle.stapl_code.specs.declared.instr.Source.TheVariants as sources
 use Rattle.stapl_code.specs.declared.instr.Dest.{Dest}
 use Rattle.stapl_code.specs.declared.instr.Dest.TheVariants as dests
-use Rattle.stapl_code.specs.Machine.{source_slots, source_wants, dest_slots, dest_want, target_of, known_literal, known_source}
+use Rattle.stapl_code.specs.Machine.{Constants, source_slots, source_wants, dest_slots, dest_want, target_of, known_literal, known_source}
 use Rattle.stapl_code.specs.Ranges.{IsSource}
 use Rattle.stapl_code.specs.Kinds.{item_kind, element_kind, is_of_kind, is_met}
 use Rattle.stapl_code.specs.Safe.{Fits, AllFit}
@@ -110,44 +113,49 @@ holds_bits (Some v) (Some (held.Bits bs)) f e =
 abbrev pub EndsWithin : ℕ → Span → Type 0
 EndsWithin n span = span.low + span.count ≤ n
 
-pub span_between_good : (n : ℕ) (high low : ℤ) → IsGot (EndsWithin n) (span_between n high low)
-span_between_good n (pos h) (pos l) = by (nat_lt h n) refl (nat_lt l n) (int_le (pos l) (pos h)) refl
+pub span_between_good : (profile : Profile) (n : ℕ) (first second : ℤ) → IsGot (EndsWithin n) (span_between profile n first second)
+span_between_good profile n (pos h) (pos l) = by (nat_lt h n) refl (nat_lt l n) refl (nat_le l h) refl
   where
-    by : (a : Bool) → nat_lt h n ≡ a → (b c : Bool) → nat_le l h ≡ c →
+    rising : (profile : Profile) → nat_lt l n ≡ true → nat_le l h ≡ false → IsGot (EndsWithin n) (rising_span profile h l)
+    rising One inside le = tt
+    rising Two inside le = let above = leb-false l h le in omega (arith, ltb-true l n inside, above)
+
+    by : (a : Bool) → nat_lt h n ≡ a → (b : Bool) → nat_lt l n ≡ b → (c : Bool) → nat_le l h ≡ c →
         IsGot (EndsWithin n)
-        (if not (a && b) then Faults IndexOutOfRange else passed c RangeReversed (record { low = l; count = h + 1 - l }))
-    by true inside true true le = omega (arith, ltb-true h n inside, leb-true l h le)
-    by true inside true false le = tt
-    by true inside false c le = tt
-    by false inside b c le = tt
-span_between_good n (pos h) (negsuc l) = by (nat_lt h n)
+        (if not (a && b) then Faults IndexOutOfRange
+        else if c then Known (record { low = l; count = h + 1 - l; falls = false }) else rising_span profile h l)
+    by true inside true low true le = omega (arith, ltb-true h n inside, leb-true l h le)
+    by true inside true low false le = rising profile low le
+    by true inside false low c le = tt
+    by false inside b low c le = tt
+span_between_good profile n (pos h) (negsuc l) = by (nat_lt h n)
   where
     by : (a : Bool) → IsGot (EndsWithin n)
         (if not (a && false) then Faults IndexOutOfRange
-        else passed (int_le (negsuc l) (pos h)) RangeReversed (record { low = nat_abs (negsuc l); count = h + 1 - nat_abs (negsuc l) }))
+        else if int_le (negsuc l) (pos h) then Known (record { low = nat_abs (negsuc l); count = h + 1 - nat_abs (negsuc l); falls = false }) else rising_span profile h (nat_abs (negsuc l)))
     by true = tt
     by false = tt
-span_between_good n (negsuc h) low = tt
+span_between_good profile n (negsuc h) second = tt
 
 module _ (ov : Option VarDef) (oh : Option Held) (fit : FitAt ov oh) (kind : is_of_kind 3 ov ≡ true) where
   held_good : IsAnswer (bits_held oh)
   held_good = let h = holds_bits ov oh fit kind in subst (λ o. IsAnswer (bits_held o)) (sym h.held) tt
 
   -- what is made of the bits and of a part of them
-  of_part : {B : Type 0} (make : List Bool → Span → B) (high low : ℤ) →
-      IsAnswer (then_get (bits_held oh) (λ bits. then_get (span_of (length bits) (Int high) (Int low)) (λ span. Known (make bits span))))
-  of_part make high low =
+  of_part : {B : Type 0} (profile : Profile) (make : List Bool → Span → B) (high low : ℤ) →
+      IsAnswer (then_get (bits_held oh) (λ bits. then_get (span_of profile (length bits) (Int high) (Int low)) (λ span. Known (make bits span))))
+  of_part profile make high low =
       then_good (λ _. Unit {0}) (λ _. Unit {0}) (bits_held oh)
-      (λ bits. then_get (span_of (length bits) (Int high) (Int low)) (λ span. Known (make bits span))) held_good
+      (λ bits. then_get (span_of profile (length bits) (Int high) (Int low)) (λ span. Known (make bits span))) held_good
       (λ bits _.
-      then_good (EndsWithin (length bits)) (λ _. Unit {0}) (span_between (length bits) high low) (λ span. Known (make bits span))
-      (span_between_good (length bits) high low) (λ span _. tt))
+      then_good (EndsWithin (length bits)) (λ _. Unit {0}) (span_between profile (length bits) high low) (λ span. Known (make bits span))
+      (span_between_good profile (length bits) high low) (λ span _. tt))
 
-  pub range_good : (high low : ℤ) → IsAnswer (range_held oh (Int high) (Int low))
-  range_good high low = of_part (λ bits span. Int low) high low
+  pub range_good : (profile : Profile) (high low : ℤ) → IsAnswer (range_held profile oh (Int high) (Int low))
+  range_good profile high low = of_part profile (λ bits span. Int low) high low
 
-  between_good : (high low : ℤ) → IsAnswer (bits_between oh (Int high) (Int low))
-  between_good high low = of_part (λ bits span. taken span.low span.count bits) high low
+  between_good : (profile : Profile) (high low : ℤ) → IsAnswer (bits_between profile oh (Int high) (Int low))
+  between_good profile high low = of_part profile (λ bits span. span_bits span bits) high low
 
 -- ---- sources
 
@@ -169,6 +177,11 @@ asked_good _ n bits = by (nat_le n (length bits)) refl
     by true enough = length-take-le n bits (leb-true n (length bits) enough)
     by false enough = tt
 
+-- the first places of a part
+pub length-turned : (falls : Bool) (bits : List Bool) → length (turned falls bits) ≡ length bits
+length-turned false bits = refl
+length-turned true bits = length-reverse bits
+
 pub length-spliced : (low : ℕ) (new old : List Bool) → low + length new ≤ length old → length (spliced low new old) ≡ length old
 length-spliced low new old inside =
     let front = length-take-le low old (omega (arith, inside)) in
@@ -176,22 +189,30 @@ length-spliced low new old inside =
     let joined = length-append (take low old ++ new) rest in
     omega (arith, inside, front, joined, length-append (take low old) new, length-drop (low + length new) old)
 
+pub length-put : (span : Span) (new old : List Bool) → length new ≤ span.count → EndsWithin (length old) span → length (span_put span new old) ≡ length old
+length-put span new old few inside =
+    length-spliced (first_places span (length new)) (turned span.falls new) old (omega (arith, few, inside, length-turned span.falls new, by span.falls))
+  where
+    by : (falls : Bool) → (if falls then span.low + span.count - length new else span.low) + length new ≤ span.low + span.count
+    by true = omega (arith, few)
+    by false = omega (arith, few)
+
 literal_there : (n : ℕ) (literals : List (List Bool)) → n < length literals → (bits : List Bool) × (slice_get literals n ≡ Some bits)
 literal_there n [] h = absurd (omega arith)
 literal_there zero (bits ∷ literals) h = (bits, refl)
 literal_there (suc n) (bits ∷ literals) h = literal_there n literals (omega arith)
 
 -- a source stands for one of the meaning, of which all values of its slots give bits
-pub record Resolves (variables : List VarDef) (literals : List (List Bool)) (contents : List Held) (source : Source) : Type 0 where
+pub record Resolves (variables : List VarDef) (constants : Constants) (contents : List Held) (source : Source) : Type 0 where
   pub from : values.Source
-  pub known : known_source literals source ≡ Known from
+  pub known : known_source constants source ≡ Known from
   pub bits : Each variables (source_slots source) (λ vs. IsAnswer (source_bits contents from vs))
 
-module _ (variables : List VarDef) (literals : List (List Bool)) (contents : List Held) where
-  pub source_good : (source : Source) → AllFit variables contents → IsSource (length variables) (length literals) source →
-      list_all (is_met variables) (source_wants source) ≡ true → Resolves variables literals contents source
+module _ (variables : List VarDef) (constants : Constants) (contents : List Held) where
+  pub source_good : (source : Source) → AllFit variables contents → IsSource (length variables) (length constants.literals) source →
+      list_all (is_met variables) (source_wants source) ≡ true → Resolves variables constants contents source
   source_good (sources.Literal n) fit r met =
-      let there = literal_there n literals r in
+      let there = literal_there n constants.literals r in
       record { from = values.These there.0; known = ap known_literal there.1; bits = tt }
   source_good (sources.Whole n) fit r met =
       let kind = (and_parts (is_of_kind 3 (slice_get variables n)) true met).0 in
@@ -203,9 +224,9 @@ module _ (variables : List VarDef) (literals : List (List Bool)) (contents : Lis
   source_good (sources.Range n) fit r met =
       let kind = (and_parts (is_of_kind 3 (slice_get variables n)) true met).0 in
       record {
-        from = values.Range n;
+        from = values.Range constants.profile n;
         known = refl;
-        bits = between_good (slice_get variables n) (slice_get contents n) (fit_at variables contents n fit) kind;
+        bits = between_good (slice_get variables n) (slice_get contents n) (fit_at variables contents n fit) kind constants.profile;
       }
   source_good sources.FromInt fit r met = record { from = values.OfInt; known = refl; bits = λ z. tt }
 
@@ -215,12 +236,12 @@ module _ (variables : List VarDef) (literals : List (List Bool)) (contents : Lis
   integer_got Stuck answer = absurd answer
 
   -- what a source is as an integer
-  pub integer_good : (source : Source) → Resolves variables literals contents source →
+  pub integer_good : (source : Source) → Resolves variables constants contents source →
       Each variables (source_slots source)
-      (λ vs. GotOf (Some kinds.Int) (then_get (known_source literals source) (λ from. source_integer contents from vs)))
+      (λ vs. GotOf (Some kinds.Int) (then_get (known_source constants source) (λ from. source_integer contents from vs)))
   integer_good source is =
       each_map variables (source_slots source) (λ vs. IsAnswer (source_bits contents is.from vs))
-      (λ vs. GotOf (Some kinds.Int) (then_get (known_source literals source) (λ from. source_integer contents from vs)))
+      (λ vs. GotOf (Some kinds.Int) (then_get (known_source constants source) (λ from. source_integer contents from vs)))
       (λ vs answer.
       subst (λ g. GotOf (Some kinds.Int) (then_get g (λ from. source_integer contents from vs))) (sym is.known)
       (integer_got (source_bits contents is.from vs) answer)) is.bits
@@ -277,13 +298,12 @@ module _ (variables : List VarDef) (s : State) (fit : AllFit variables s.store.v
       (from : values.Source) (vs : List Value) (span : Span) → EndsWithin (length old) span →
       IsAnswer (source_bits s.store.variables from vs) → IsGot (Writes variables s) (span_written n old from vs s span)
   span_good n v old at kind size from vs span inside answer =
-      let array : List Bool → Held = λ new. held.Bits (spliced span.low new old) in
+      let array : List Bool → Held = λ new. held.Bits (span_put span new old) in
       let put : List Bool → Got Did = λ new. Known (did.Falls [] (with_variables s (slice_set s.store.variables n (array new)))) in
       let go : List Bool → Got Did = λ bits. then_get (asked from span.count bits) put in
       then_good (λ _. Unit {0}) (Writes variables s) (source_bits s.store.variables from vs) go answer (λ bits _.
       then_good (HasLength span.count) (Writes variables s) (asked from span.count bits) put (asked_good from span.count bits) (λ new count.
-      let within : span.low + length new ≤ length old = omega (arith, inside, count) in
-      let fits : Fits v (array new) = (kind, length-spliced span.low new old within ∙ size) in
+      let fits : Fits v (array new) = (kind, length-put span new old (omega (arith, count)) inside ∙ size) in
       (refl, refl, fit_set variables s.store.variables n v (array new) fit at fits)))
 
   module _
@@ -295,28 +315,28 @@ module _ (variables : List VarDef) (s : State) (fit : AllFit variables s.store.v
     -- bits are copied into a whole array
     whole_copied : IsGot (Writes variables s) (copied (IntoWhole n) from vs s)
     whole_copied =
-        let into : List Bool → Got Did = λ old. span_written n old from vs s (record { low = 0; count = length old }) in
-        let all : Span = record { low = 0; count = length holds.bits } in
+        let into : List Bool → Got Did = λ old. span_written n old from vs s (whole_span (length old)) in
+        let all : Span = whole_span (length holds.bits) in
         let inside : 0 + length holds.bits ≤ length holds.bits = omega arith in
         subst (λ o. IsGot (Writes variables s) (then_get (bits_held o) into)) (sym holds.held)
         (span_good n holds.variable holds.bits holds.is holds.kind holds.size from vs all inside answer)
 
     -- bits are copied into a range of an array
-    range_copied : (high low : ℤ) → IsGot (Writes variables s) (copied (IntoRange n) from (Int high ∷ Int low ∷ vs) s)
-    range_copied high low =
-        let into : List Bool → Got Did = λ old. then_get (span_of (length old) (Int high) (Int low)) (span_written n old from vs s) in
+    range_copied : (profile : Profile) (high low : ℤ) → IsGot (Writes variables s) (copied (IntoRange profile n) from (Int high ∷ Int low ∷ vs) s)
+    range_copied profile high low =
+        let into : List Bool → Got Did = λ old. then_get (span_of profile (length old) (Int high) (Int low)) (span_written n old from vs s) in
         subst (λ o. IsGot (Writes variables s) (then_get (bits_held o) into)) (sym holds.held)
-        (then_good (EndsWithin (length holds.bits)) (Writes variables s) (span_between (length holds.bits) high low)
-        (span_written n holds.bits from vs s) (span_between_good (length holds.bits) high low)
+        (then_good (EndsWithin (length holds.bits)) (Writes variables s) (span_between profile (length holds.bits) high low)
+        (span_written n holds.bits from vs s) (span_between_good profile (length holds.bits) high low)
         (λ span inside. span_good n holds.variable holds.bits holds.is holds.kind holds.size from vs span inside answer))
 
-  module _ (literals : List (List Bool)) where
+  module _ (constants : Constants) where
     -- a copy writes
     abbrev pub Copies : Dest → Source → List Value → Type 0
-    Copies dest source vs = IsGot (Writes variables s) (then_get (known_source literals source) (λ from. copied (target_of dest) from vs s))
+    Copies dest source vs = IsGot (Writes variables s) (then_get (known_source constants source) (λ from. copied (target_of constants.profile dest) from vs s))
 
     pub copy_good : (dest : Dest) (source : Source) → is_met variables (dest_want dest) ≡ true →
-        Resolves variables literals s.store.variables source → Each variables (dest_slots dest (source_slots source)) (Copies dest source)
+        Resolves variables constants s.store.variables source → Each variables (dest_slots dest (source_slots source)) (Copies dest source)
     copy_good (dests.Whole n) source kind is =
         each_map variables (source_slots source) (λ vs. IsAnswer (source_bits s.store.variables is.from vs)) (Copies (dests.Whole n) source)
         (λ vs answer.
@@ -326,13 +346,13 @@ module _ (variables : List VarDef) (s : State) (fit : AllFit variables s.store.v
         each_map variables (source_slots source) (λ vs. IsAnswer (source_bits s.store.variables is.from vs))
         (λ vs. Copies (dests.Range n) source (Int high ∷ Int low ∷ vs))
         (λ vs answer.
-        subst (λ g. IsGot (Writes variables s) (then_get g (λ from. copied (IntoRange n) from (Int high ∷ Int low ∷ vs) s))) (sym is.known)
-        (range_copied n kind is.from vs answer high low)) is.bits
+        subst (λ g. IsGot (Writes variables s) (then_get g (λ from. copied (IntoRange constants.profile n) from (Int high ∷ Int low ∷ vs) s))) (sym is.known)
+        (range_copied n kind is.from vs answer constants.profile high low)) is.bits
 
     -- a BOOLEAN array is set
-    pub bits_good : (n literal : ℕ) → is_of_kind 3 (slice_get variables n) ≡ true → literal < length literals →
-        IsGot (Writes variables s) (then_get (known_literal (slice_get literals literal)) (λ from. copied (IntoWhole n) from [] s))
+    pub bits_good : (n literal : ℕ) → is_of_kind 3 (slice_get variables n) ≡ true → literal < length constants.literals →
+        IsGot (Writes variables s) (then_get (known_literal (slice_get constants.literals literal)) (λ from. copied (IntoWhole n) from [] s))
     bits_good n literal kind r =
-        let there = literal_there literal literals r in
+        let there = literal_there literal constants.literals r in
         subst (λ o. IsGot (Writes variables s) (then_get (known_literal o) (λ from. copied (IntoWhole n) from [] s))) (sym there.1)
         (whole_copied n kind (values.These there.0) [] tt)

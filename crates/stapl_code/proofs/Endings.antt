@@ -78,11 +78,11 @@ padding : PaddingRule ending
 padding = record { same = λ which bits s. refl; kept = λ which bits s h. (tt, tt, tt) }
 
 module _ (entries : List ℕ) (constants : Constants) where
-  exported_ends : (part : ExportPart) (key : List ℕ) (vs : List Value) (s : State) → KeptGot ending (part_exported constants.literals part key vs s)
+  exported_ends : (part : ExportPart) (key : List ℕ) (vs : List Value) (s : State) → KeptGot ending (part_exported constants part key vs s)
   exported_ends exports.Int key vs s = (exported_same ending key vs s (tt, tt, tt)).kept
   exported_ends exports.Bit key vs s = (exported_same ending key vs s (tt, tt, tt)).kept
   exported_ends (exports.Array source) key vs s =
-      got_kept (known_source constants.literals source) (λ from. effects.bits_exported key from vs s) (λ from. (bits_same ending key from vs s (tt, tt, tt)).kept)
+      got_kept (known_source constants source) (λ from. effects.bits_exported key from vs s) (λ from. (bits_same ending key from vs s (tt, tt, tt)).kept)
 
   made_ends : (here : ℕ) (i : Instr) (vs : List Value) (s : State) → MadeEnds (made entries constants here i vs s)
   made_ends here (Turn piece) vs s = does_end (effects.jumped vs s) (jumped_same ending vs s (tt, tt, tt)).kept
@@ -98,9 +98,13 @@ module _ (entries : List ℕ) (constants : Constants) where
   made_ends here (Binary op) vs s = two_end vs _
   made_ends here (ToInt source) vs s = puts_end _
   made_ends here (CopyBits dest source) vs s =
-      does_end (then_get (known_source constants.literals source) (λ from. effects.copied (target_of dest) from vs s)) (got_kept (known_source constants.literals source) (λ from. effects.copied (target_of dest) from vs s) (λ from. (copied_same ending (target_of dest) from vs s (tt, tt, tt)).kept))
+      does_end (then_get (known_source constants source) (λ from. effects.copied (target_of constants.profile dest) from vs s))
+      (got_kept (known_source constants source) (λ from. effects.copied (target_of constants.profile dest) from vs s)
+      (λ from. (copied_same ending (target_of constants.profile dest) from vs s (tt, tt, tt)).kept))
   made_ends here (SetBits n literal) vs s =
-      does_end (then_get (known_literal (slice_get constants.literals literal)) (λ from. effects.copied (effects.IntoWhole n) from vs s)) (got_kept (known_literal (slice_get constants.literals literal)) (λ from. effects.copied (effects.IntoWhole n) from vs s) (λ from. (copied_same ending (effects.IntoWhole n) from vs s (tt, tt, tt)).kept))
+      does_end (then_get (known_literal (slice_get constants.literals literal)) (λ from. effects.copied (effects.IntoWhole n) from vs s))
+      (got_kept (known_literal (slice_get constants.literals literal)) (λ from. effects.copied (effects.IntoWhole n) from vs s)
+      (λ from. (copied_same ending (effects.IntoWhole n) from vs s (tt, tt, tt)).kept))
   made_ends here (SetInts n list) vs s = does_end (effects.integers_set n list vs s) (integers_same ending n list vs s (tt, tt, tt)).kept
   made_ends here (For n body) vs s = does_end (effects.looped n body vs s) (looped_same ending n body vs s (tt, tt, tt)).kept
   made_ends here (Next n) vs s = does_end (effects.repeated n vs s) (repeated_same ending n vs s (tt, tt, tt)).kept
@@ -112,15 +116,17 @@ module _ (entries : List ℕ) (constants : Constants) where
   made_ends here EndProc vs s = does_end (effects.returned vs s) (returned_same ending vs s (tt, tt, tt)).kept
   made_ends here (Print list) vs s = does_end (effects.printed (parts_text entries constants list vs) s) (printed_same ending (parts_text entries constants list vs) s (tt, tt, tt)).kept
   made_ends here (Export key part) vs s =
-      let from : List ℕ → Got Did = λ bytes. part_exported constants.literals part bytes vs s in
+      let from : List ℕ → Got Did = λ bytes. part_exported constants part bytes vs s in
       does_end (then_get (known_text (slice_get constants.texts key)) from) (got_kept (known_text (slice_get constants.texts key)) from (λ bytes. exported_ends part bytes vs s))
   made_ends here CheckChar vs s = one_ends vs _
   made_ends here Exit vs s = does_end (effects.exited vs s) (exited_same ending vs s (tt, tt, tt)).kept
   made_ends here (Scans scan) vs s =
-      does_end (then_get (known_scan constants.literals scan) (λ from. scans.scanned from vs s)) (got_kept (known_scan constants.literals scan) (λ from. scans.scanned from vs s) (λ from. (scanned_same ending from vs s (tt, tt, tt)).kept))
+      does_end (then_get (known_scan constants scan) (λ from. scans.scanned from vs s))
+      (got_kept (known_scan constants scan) (λ from. scans.scanned from vs s) (λ from. (scanned_same ending from vs s (tt, tt, tt)).kept))
   made_ends here (Stop register tap) vs s = does_end (scans.stopped register tap vs s) (stopped_same ending register tap vs s (tt, tt, tt)).kept
   made_ends here (Pad which source) vs s =
-      does_end (then_get (known_given constants.literals source) (λ from. scans.surrounded which from vs s)) (got_kept (known_given constants.literals source) (λ from. scans.surrounded which from vs s) (λ from. (surrounded_same ending padding which from vs s (tt, tt, tt)).kept))
+      does_end (then_get (known_given constants source) (λ from. scans.surrounded which from vs s))
+      (got_kept (known_given constants source) (λ from. scans.surrounded which from vs s) (λ from. (surrounded_same ending padding which from vs s (tt, tt, tt)).kept))
   made_ends here (GoThrough states) vs s = does_end (effects.moved_through states vs s) (moved_same ending states vs s (tt, tt, tt)).kept
   made_ends here (Wait at kind last) vs s = does_end (effects.waited kind at last vs s) (waited_same ending kind at last vs s (tt, tt, tt)).kept
   made_ends here (Frequency stated) vs s = does_end (effects.tuned vs s) (tuned_same ending vs s (tt, tt, tt)).kept

@@ -609,8 +609,8 @@ module _
         IsMet x = list_all (is_met variables) (wants x) ≡ true
 
         resolves : (source : Source) → IsSource (length variables) (length constants.literals) source →
-            list_all (is_met variables) (source_wants source) ≡ true → Resolves variables constants.literals s.store.variables source
-        resolves source = source_good variables constants.literals s.store.variables source good.variables_fit
+            list_all (is_met variables) (source_wants source) ≡ true → Resolves variables constants s.store.variables source
+        resolves source = source_good variables constants s.store.variables source good.variables_fit
 
         -- a line for each instruction
         row_good : (x : Instr) (mid : List ValueKind) → all_on variables (gives x) mid ≡ Some after → IsMet x →
@@ -633,8 +633,8 @@ module _
             (index_good (slice_get variables n) (slice_get s.store.variables n) i (fits n) array)
         row_good (CheckRange n) mid on met leads rests r at behind = λ high low.
             let bits = (and_parts (is_met variables (OfBits n)) true met).0 in
-            kept_good high low (range_held (slice_get s.store.variables n) (Int high) (Int low))
-            (range_good (slice_get variables n) (slice_get s.store.variables n) (fits n) bits high low)
+            kept_good high low (range_held constants.profile (slice_get s.store.variables n) (Int high) (Int low))
+            (range_good (slice_get variables n) (slice_get s.store.variables n) (fits n) bits constants.profile high low)
         row_good (Store n) mid on met leads rests r at behind =
             each_of (variable_kind (slice_get variables n)) (Stores s good n (slice_get s.store.variables n))
             (λ v. store_good s good n (slice_get variables n) (slice_get s.store.variables n) v refl (fits n))
@@ -647,21 +647,21 @@ module _
         row_good (Binary op) mid on met leads rests r at behind = binary_good false None (slice_get operator_table op) (combined_good op r)
         row_good (ToInt source) mid on met leads rests r at behind =
             let integer : List Value → Got Value =
-            λ vs. then_get (known_source constants.literals source) (λ from. source_integer s.store.variables from vs)
+            λ vs. then_get (known_source constants source) (λ from. source_integer s.store.variables from vs)
             in
             each_map variables (source_slots source) (λ vs. GotOf (Some kinds.Int) (integer vs)) (Makes (ToInt source))
             (λ vs. puts_good false None (Of kinds.Int) (integer vs))
-            (integer_good variables constants.literals s.store.variables source (resolves source r met))
+            (integer_good variables constants s.store.variables source (resolves source r met))
         row_good (CopyBits dest source) mid on met leads rests r at behind =
             let both = and_parts (is_met variables (dest_want dest)) (list_all (is_met variables) (source_wants source)) met in
-            each_map variables (dest_slots dest (source_slots source)) (Copies variables s good.variables_fit constants.literals dest source)
+            each_map variables (dest_slots dest (source_slots source)) (Copies variables s good.variables_fit constants dest source)
             (Makes (CopyBits dest source))
-            (λ vs. wrote_good s good (then_get (known_source constants.literals source) (λ from. copied (target_of dest) from vs s)))
-            (copy_good variables s good.variables_fit constants.literals dest source both.0 (resolves source r.1 both.1))
+            (λ vs. wrote_good s good (then_get (known_source constants source) (λ from. copied (target_of constants.profile dest) from vs s)))
+            (copy_good variables s good.variables_fit constants dest source both.0 (resolves source r.1 both.1))
         row_good (SetBits n literal) mid on met leads rests r at behind =
             let bits = (and_parts (is_met variables (OfBits n)) true met).0 in
             wrote_good s good (then_get (known_literal (slice_get constants.literals literal)) (λ from. copied (IntoWhole n) from [] s))
-            (bits_good variables s good.variables_fit constants.literals n literal bits r.1)
+            (bits_good variables s good.variables_fit constants n literal bits r.1)
         row_good (SetInts n list) mid on met leads rests r at behind =
             let integers = (and_parts (is_met variables (OfInts n)) true met).0 in
             wrote_good s good (integers_set n list [] s) (integers_good variables s good.variables_fit n list integers)
@@ -693,7 +693,7 @@ module _
             each_map variables (source_slots source) (λ vs. IsAnswer (source_bits s.store.variables is.from vs))
             (Makes (Export key (exports.Array source)))
             (λ vs answer.
-            keyed_good s good (slice_get constants.texts key) (text_there key constants.texts r.0) (put (known_source constants.literals source) vs)
+            keyed_good s good (slice_get constants.texts key) (text_there key constants.texts r.0) (put (known_source constants source) vs)
             (λ bytes.
             subst (λ g. MadeGood [] false None (does (put g vs bytes))) (sym is.known)
             (exports_good s good bytes (source_bits s.store.variables is.from vs) answer))) is.bits
@@ -703,14 +703,14 @@ module _
         row_good (Scans scan) mid on met leads rests r at behind =
             each_filled variables (Of kinds.Int ∷ scan_slots scan) (Makes (Scans scan))
             (λ vs fill.
-            scanned_good s good (then_get (known_scan constants.literals scan) (λ parts. scanned parts vs s))
-            (scan_good variables constants.literals s good.variables_fit good.ir_stable good.dr_stable scan met r vs fill))
+            scanned_good s good (then_get (known_scan constants scan) (λ parts. scanned parts vs s))
+            (scan_good variables constants s good.variables_fit good.ir_stable good.dr_stable scan met r vs fill))
         row_good (Stop register tap) mid on met leads rests r at behind = stop_good s good register tap rests
         row_good (Pad which source) mid on met leads rests r at behind =
             each_filled variables (Of kinds.Int ∷ given_slots source) (Makes (Pad which source))
             (λ vs fill.
-            padded_good s good which (then_get (known_given constants.literals source) (λ from. surrounded which from vs s))
-            (padding_good variables constants.literals s good.variables_fit which source met r vs fill))
+            padded_good s good which (then_get (known_given constants source) (λ from. surrounded which from vs s))
+            (padding_good variables constants s good.variables_fit which source met r vs fill))
         row_good (GoThrough states) mid on met leads rests r at behind = (λ below. refl, good, goes_stable states r rests)
         row_good (Wait state kind last) mid on met leads rests r at behind =
             let both = and_parts (is_stable_state state) (is_stable_state last) rests in waits_good s good kind state last both.0 both.1

@@ -5,7 +5,6 @@ use Rattle.std.specs.List.{list_all}
 use Rattle.std.specs.Option.{option_map}
 use Rattle.std.proofs.Math.Seq.{take-append_seam, drop-append_seam}
 use Rattle.std.proofs.lemmas.Bool.{and_parts, leb-true}
-use Rattle.bit_list.specs.Ranges.{spliced}
 use Rattle.stapl_lexer.specs.declared.terminal.Padding.{Padding}
 use Rattle.stapl_lexer.specs.declared.terminal.Register.{Register}
 use Rattle.stapl_lexer.specs.declared.terminal.Register.TheVariants as registers
@@ -22,7 +21,7 @@ use Rattle.stapl_meaning.specs.declared.values.Held.TheVariants as held
 use Rattle.stapl_meaning.specs.declared.values.Value.{Value}
 use Rattle.stapl_meaning.specs.declared.values.Value.TheVariants.{Int, Bit}
 use Rattle.stapl_meaning.specs.declared.values.ValueKind.TheVariants as kinds
-use Rattle.stapl_meaning.specs.Values.{Got, Known, Faults, Stuck, then_get, is_index, passed, index_held, bits_held, bits_in, Span, span_of, span_between, source_bits, asked}
+use Rattle.stapl_meaning.specs.Values.{Got, Known, Faults, Stuck, then_get, is_index, passed, index_held, bits_held, bits_in, Span, whole_span, span_put, span_of, span_between, source_bits, asked}
 use Rattle.stapl_meaning.specs.Values as values
 use Rattle.stapl_meaning.specs.States.{State, Did, Falls, Captures}
 use Rattle.stapl_meaning.specs.Effects.{Target, with_variables, scalar_written, element_written, written}
@@ -36,13 +35,13 @@ use Rattle.stapl_code.specs.declared.instr.Cell as code
 use Rattle.stapl_code.specs.declared.instr.Cell.TheVariants as cells
 use Rattle.stapl_code.specs.declared.instr.Compare.{Compare}
 use Rattle.stapl_code.specs.declared.instr.Scan.{Scan}
-use Rattle.stapl_code.specs.Machine.{Of, Want, source_slots, source_wants, target_of, known_literal, known_source, known_given, given_slots, given_wants, target_slots, target_wants, cell_slots, cell_want, compare_slots, compare_wants, scan_slots, scan_wants, cell_part, known_compare, known_scan}
+use Rattle.stapl_code.specs.Machine.{Constants, Of, Want, source_slots, source_wants, target_of, known_literal, known_source, known_given, given_slots, given_wants, target_slots, target_wants, cell_slots, cell_want, compare_slots, compare_wants, scan_slots, scan_wants, cell_part, known_compare, known_scan}
 use Rattle.stapl_code.specs.Ranges.{IsSource, IsGiven, IsCompare, IsScan}
 use Rattle.stapl_code.specs.Kinds.{item_kind, element_kind, is_of_kind, is_met}
 use Rattle.stapl_code.specs.Safe.{AllFit}
 use Rattle.stapl_code.proofs.Fitting.{FitAt, fit_at, fit_set}
 use Rattle.stapl_code.proofs.Operands.{kind_of, Fill, each_at, filled_count, fill_parts}
-use Rattle.stapl_code.proofs.ArraySteps.{IsGot, IsAnswer, then_good, passed_good, EndsWithin, HasLength, asked_good, length-spliced, HoldsBits, holds_bits, span_between_good, source_good, Writes, element_stored}
+use Rattle.stapl_code.proofs.ArraySteps.{IsGot, IsAnswer, then_good, passed_good, EndsWithin, HasLength, asked_good, length-put, HoldsBits, holds_bits, span_between_good, source_good, Writes, element_stored}
 use Rattle.stapl_code.proofs.ScanKinds.{all_both}
 
 -- ---- captured bits
@@ -98,7 +97,7 @@ module _ (variables : List VarDef) where
   one_integer (Int z) e = (z, refl)
   one_integer (Bit b) e = absurd cc
 
-  module _ (literals : List (List Bool)) (s : State) (fit : AllFit variables s.store.variables) where
+  module _ (constants : Constants) (s : State) (fit : AllFit variables s.store.variables) where
     abbrev contents : List Held
     contents = s.store.variables
 
@@ -108,26 +107,26 @@ module _ (variables : List VarDef) where
     holds n kind = holds_bits (slice_get variables n) (slice_get contents n) (fit_at variables contents n fit) kind
 
     -- a source has as many operands as its slots
-    width_is : (source : Source) (from : values.Source) → known_source literals source ≡ Known from → source_width from ≡ length (source_slots source)
-    width_is (sources.Literal n) from e = by (slice_get literals n) e
+    width_is : (source : Source) (from : values.Source) → known_source constants source ≡ Known from → source_width from ≡ length (source_slots source)
+    width_is (sources.Literal n) from e = by (slice_get constants.literals n) e
       where
         by : (o : Option (List Bool)) → known_literal o ≡ Known from → source_width from ≡ 0
         by None e = absurd cc
         by (Some bits) e = let same : values.These bits ≡ from = cc in ap source_width (sym same)
     width_is (sources.Whole n) from e = let same : values.Whole n ≡ from = cc in ap source_width (sym same)
-    width_is (sources.Range n) from e = let same : values.Range n ≡ from = cc in ap source_width (sym same)
+    width_is (sources.Range n) from e = let same : values.Range constants.profile n ≡ from = cc in ap source_width (sym same)
     width_is sources.FromInt from e = let same : values.OfInt ≡ from = cc in ap source_width (sym same)
 
     -- a source that was resolved, with the operands in its slots
     pub record Reads (source : Source) : Type 0 where
       pub from : values.Source
-      pub known : known_source literals source ≡ Known from
+      pub known : known_source constants source ≡ Known from
       pub width : source_width from ≡ length (source_slots source)
       pub bits : (vs : List Value) → Fill variables (source_slots source) vs → IsAnswer (source_bits contents from vs)
 
-    reads : (source : Source) → IsSource (length variables) (length literals) source → list_all (is_met variables) (source_wants source) ≡ true → Reads source
+    reads : (source : Source) → IsSource (length variables) (length constants.literals) source → list_all (is_met variables) (source_wants source) ≡ true → Reads source
     reads source r met =
-        let is = source_good variables literals contents source fit r met in
+        let is = source_good variables constants contents source fit r met in
         record {
           from = is.from;
           known = is.known;
@@ -135,30 +134,30 @@ module _ (variables : List VarDef) where
           bits = each_at variables (source_slots source) (λ vs. IsAnswer (source_bits contents is.from vs)) is.bits;
         }
 
-    target_width_is : (target : Option Dest) → target_width (option_map target_of target) ≡ length (target_slots target)
+    target_width_is : (target : Option Dest) → target_width (option_map (target_of constants.profile) target) ≡ length (target_slots target)
     target_width_is None = refl
     target_width_is (Some (dests.Whole n)) = refl
     target_width_is (Some (dests.Range n)) = refl
 
     -- a part of an array is found
     range_found : (n : ℕ) (kind : is_of_kind 3 (slice_get variables n) ≡ true) (high low : ℤ) →
-        IsGot TargetFits (target_found contents (Some (target_of (dests.Range n))) (Int high ∷ Int low ∷ []))
+        IsGot TargetFits (target_found contents (Some (target_of constants.profile (dests.Range n))) (Int high ∷ Int low ∷ []))
     range_found n kind high low =
         let h = holds n kind in
         let make : Span → Option Place = λ span. Some (record { array = n; span = span }) in
-        subst (λ o. IsGot TargetFits (then_get (bits_held o) (λ old. then_get (span_of (length old) (Int high) (Int low)) (λ span. Known (make span))))) (sym h.held)
-        (then_good (EndsWithin (length h.bits)) TargetFits (span_between (length h.bits) high low) (λ span. Known (make span))
-        (span_between_good (length h.bits) high low)
+        subst (λ o. IsGot TargetFits (then_get (bits_held o) (λ old. then_get (span_of constants.profile (length old) (Int high) (Int low)) (λ span. Known (make span))))) (sym h.held)
+        (then_good (EndsWithin (length h.bits)) TargetFits (span_between constants.profile (length h.bits) high low) (λ span. Known (make span))
+        (span_between_good constants.profile (length h.bits) high low)
         (λ span inside. record { variable = h.variable; is = h.is; kind = h.kind; inside = omega (arith, inside, h.size) }))
 
     target_good : (target : Option Dest) → list_all (is_met variables) (target_wants target) ≡ true →
-        (vs : List Value) → Fill variables (target_slots target) vs → IsGot TargetFits (target_found contents (option_map target_of target) vs)
+        (vs : List Value) → Fill variables (target_slots target) vs → IsGot TargetFits (target_found contents (option_map (target_of constants.profile) target) vs)
     target_good None met [] fill = tt
     target_good None met (v ∷ vs) fill = absurd fill
     target_good (Some (dests.Whole n)) met [] fill =
         let kind = (and_parts (is_of_kind 3 (slice_get variables n)) true met).0 in
         let h = holds n kind in
-        let all : List Bool → Option Place = λ old. Some (record { array = n; span = record { low = 0; count = length old } }) in
+        let all : List Bool → Option Place = λ old. Some (record { array = n; span = whole_span (length old) }) in
         subst (λ o. IsGot TargetFits (then_get (bits_held o) (λ old. Known (all old)))) (sym h.held)
         (record { variable = h.variable; is = h.is; kind = h.kind; inside = omega (arith, h.size) })
     target_good (Some (dests.Whole n)) met (v ∷ vs) fill = absurd fill
@@ -166,8 +165,8 @@ module _ (variables : List VarDef) where
         let kind = (and_parts (is_of_kind 3 (slice_get variables n)) true met).0 in
         let high = one_integer v fill.0 in
         let low = one_integer w fill.1.0 in
-        subst (λ x. IsGot TargetFits (target_found contents (Some (target_of (dests.Range n))) (x ∷ w ∷ []))) (sym high.1)
-        (subst (λ y. IsGot TargetFits (target_found contents (Some (target_of (dests.Range n))) (Int high.0 ∷ y ∷ []))) (sym low.1) (range_found n kind high.0 low.0))
+        subst (λ x. IsGot TargetFits (target_found contents (Some (target_of constants.profile (dests.Range n))) (x ∷ w ∷ []))) (sym high.1)
+        (subst (λ y. IsGot TargetFits (target_found contents (Some (target_of constants.profile (dests.Range n))) (Int high.0 ∷ y ∷ []))) (sym low.1) (range_found n kind high.0 low.0))
     target_good (Some (dests.Range n)) met [] fill = absurd fill
     target_good (Some (dests.Range n)) met (v ∷ []) fill = absurd fill.1
     target_good (Some (dests.Range n)) met (v ∷ w ∷ x ∷ vs) fill = absurd fill.1.1
@@ -189,7 +188,7 @@ module _ (variables : List VarDef) where
     -- a comparison that was resolved
     pub record Compares (compare : Option Compare) : Type 0 where
       pub parts : Option CompareParts
-      pub known : known_compare literals compare ≡ Known parts
+      pub known : known_compare constants compare ≡ Known parts
       pub found : (vs : List Value) → Fill variables (compare_slots compare) vs → IsGot CompareFits (compare_found contents parts vs)
 
     abbrev CellOf : Comparison → Type 0
@@ -218,7 +217,7 @@ module _ (variables : List VarDef) where
         then_good (λ _. Unit {0}) CellOf (source_bits contents m.from g.front) (λ mask. celled expected mask g.back) (m.bits g.front g.fill_front) (λ mask _.
         then_good CellFits CellOf (cell_found contents (cell_part c.cell) g.back) (λ cell. Known (made expected mask cell)) (cell_good c.cell met g.back g.fill_back) (λ cell fits. fits))))))
 
-    compares : (compare : Option Compare) → IsGiven (IsCompare (length variables) (length literals)) compare →
+    compares : (compare : Option Compare) → IsGiven (IsCompare (length variables) (length constants.literals)) compare →
         list_all (is_met variables) (compare_wants compare) ≡ true → Compares compare
     compares None r met = record { parts = None; known = refl; found = none }
       where
@@ -235,7 +234,7 @@ module _ (variables : List VarDef) where
         let make : values.Source → values.Source → Got (Option CompareParts) = λ expected mask. Known (Some (record { expected = expected; mask = mask; cell = cell_part c.cell })) in
         record {
           parts = Some parts;
-          known = ap (λ g. then_get g (λ expected. then_get (known_source literals c.mask) (λ mask. make expected mask))) e.known ∙ ap (λ g. then_get g (λ mask. make e.from mask)) m.known;
+          known = ap (λ g. then_get g (λ expected. then_get (known_source constants c.mask) (λ mask. make expected mask))) e.known ∙ ap (λ g. then_get g (λ mask. make e.from mask)) m.known;
           found = λ vs fill.
               then_good CellOf CompareFits (comparison_found contents parts vs) (λ comparison. Known (Some comparison)) (some_compared c e m both.0 vs fill) (λ c fits. fits);
         }
@@ -248,9 +247,9 @@ module _ (variables : List VarDef) where
 
     found_good : (scan : Scan) (a : Reads scan.source) (c : Compares scan.compare) → list_all (is_met variables) (target_wants scan.target) ≡ true →
         (vs : List Value) → Fill variables (scan_slots scan) vs →
-        IsGot FoundFits (scan_found contents (record { register = scan.register; source = a.from; target = option_map target_of scan.target; compare = c.parts }) vs)
+        IsGot FoundFits (scan_found contents (record { register = scan.register; source = a.from; target = option_map (target_of constants.profile) scan.target; compare = c.parts }) vs)
     found_good scan a c met vs fill =
-        let to : Option Target = option_map target_of scan.target in
+        let to : Option Target = option_map (target_of constants.profile) scan.target in
         let f = fill_parts variables (source_slots scan.source) (target_slots scan.target ++ compare_slots scan.compare) vs fill in
         let g = fill_parts variables (target_slots scan.target) (compare_slots scan.compare) f.back f.fill_back in
         let first = a.width ∙ sym (filled_count variables (source_slots scan.source) f.front f.fill_front) in
@@ -282,10 +281,10 @@ module _ (variables : List VarDef) where
         let same : h.variable ≡ fits.variable = let e : Some h.variable ≡ Some fits.variable = sym h.is ∙ fits.is in cc in
         let size = ap (λ (v : VarDef). v.size) same in
         let most = enough place refl in
-        let inside : place.span.low + length bits ≤ length h.bits = omega (arith, count, most, fits.inside, size, h.size) in
-        let new : List Bool = spliced place.span.low bits h.bits in
-        let length_new : length new ≡ fits.variable.size = length-spliced place.span.low bits h.bits inside ∙ h.size ∙ size in
-        subst (λ o. AllFit variables (slice_set contents place.array (held.Bits (spliced place.span.low bits (bits_in o))))) (sym h.held)
+        let new : List Bool = span_put place.span bits h.bits in
+        let length_new : length new ≡ fits.variable.size =
+        length-put place.span bits h.bits (omega (arith, count, most)) (omega (arith, fits.inside, size, h.size)) ∙ h.size ∙ size in
+        subst (λ o. AllFit variables (slice_set contents place.array (held.Bits (span_put place.span bits (bits_in o))))) (sym h.held)
         (fit_set variables contents place.array fits.variable (held.Bits new) fit fits.is (fits.kind, length_new))
 
   -- a result goes into a cell of whatever fits
@@ -332,7 +331,7 @@ abbrev pub PadsWell : Padding → State → Did → Type 0
 PadsWell which s (Falls deeds t) = (deeds ≡ []) × ((bits : List Bool) × (t ≡ with_padding which bits s))
 PadsWell which s _ = ⊥
 
-module _ (variables : List VarDef) (literals : List (List Bool)) (s : State) (fit : AllFit variables s.store.variables) where
+module _ (variables : List VarDef) (constants : Constants) (s : State) (fit : AllFit variables s.store.variables) where
   stop_stable : (register : Register) → is_stable_state s.ir.stop ≡ true → is_stable_state s.dr.stop ≡ true → is_stable_state (settings_of register s).stop ≡ true
   stop_stable registers.Data ir dr = dr
   stop_stable registers.Instruction ir dr = ir
@@ -367,11 +366,11 @@ module _ (variables : List VarDef) (literals : List (List Bool)) (s : State) (fi
   landed_well : (n : ℕ) (target : Option Place) (compare : Option Comparison) → TargetHas n target → CompareFits variables compare → (captured : List Bool) → length captured ≡ n →
       AllFit variables (landed target compare captured s).store.variables
   landed_well n target compare has fits captured count =
-      let kept = caught_fits variables literals s fit n target has.fits has.enough captured count in
+      let kept = caught_fits variables constants s fit n target has.fits has.enough captured count in
       judged_fits variables (with_variables s (caught target captured s.store.variables)) kept compare fits captured
 
   -- a scan of what was found
-  asked_well : (ir : is_stable_state s.ir.stop ≡ true) (dr : is_stable_state s.dr.stop ≡ true) (parts : ScanParts) (found : Found) → FoundFits variables literals s fit found → (n : ℕ) →
+  asked_well : (ir : is_stable_state s.ir.stop ≡ true) (dr : is_stable_state s.dr.stop ≡ true) (parts : ScanParts) (found : Found) → FoundFits variables constants s fit found → (n : ℕ) →
       IsGot (ScansWell variables s) (scan_asked parts found s n)
   asked_well ir dr parts found fits n =
       let job : List Bool → BoardScan = λ bits. scan_of parts.register (settings_of parts.register s) bits in
@@ -387,29 +386,29 @@ module _ (variables : List VarDef) (literals : List (List Bool)) (s : State) (fi
       (stop_stable parts.register ir dr, λ captured same. (refl, landed_well n target compare has own captured (same ∙ count))))))
 
   pub scan_good : is_stable_state s.ir.stop ≡ true → is_stable_state s.dr.stop ≡ true → (scan : Scan) → list_all (is_met variables) (scan_wants scan) ≡ true →
-      IsScan (length variables) (length literals) scan → (vs : List Value) → Fill variables (Of kinds.Int ∷ scan_slots scan) vs →
-      IsGot (ScansWell variables s) (then_get (known_scan literals scan) (λ parts. scanned parts vs s))
+      IsScan (length variables) (length constants.literals) scan → (vs : List Value) → Fill variables (Of kinds.Int ∷ scan_slots scan) vs →
+      IsGot (ScansWell variables s) (then_get (known_scan constants scan) (λ parts. scanned parts vs s))
   scan_good ir dr scan met r [] fill = absurd fill
   scan_good ir dr scan met r (v ∷ vs) fill =
       let wants : List Want = target_wants scan.target ++ compare_wants scan.compare in
       let both = and_parts (list_all (is_met variables) (source_wants scan.source)) (list_all (is_met variables) wants) (sym (all_both variables (source_wants scan.source) wants) ∙ met) in
       let more = and_parts (list_all (is_met variables) (target_wants scan.target)) (list_all (is_met variables) (compare_wants scan.compare))
       (sym (all_both variables (target_wants scan.target) (compare_wants scan.compare)) ∙ both.1) in
-      let a = reads variables literals s fit scan.source r.source both.0 in
-      let c = compares variables literals s fit scan.compare r.compare more.1 in
+      let a = reads variables constants s fit scan.source r.source both.0 in
+      let c = compares variables constants s fit scan.compare r.compare more.1 in
       let z = one_integer variables v fill.0 in
-      let parts : ScanParts = record { register = scan.register; source = a.from; target = option_map target_of scan.target; compare = c.parts } in
+      let parts : ScanParts = record { register = scan.register; source = a.from; target = option_map (target_of constants.profile) scan.target; compare = c.parts } in
       let make : values.Source → Option CompareParts → ScanParts =
-      λ source compare. record { register = scan.register; source = source; target = option_map target_of scan.target; compare = compare } in
-      let known : known_scan literals scan ≡ Known parts =
-      ap (λ g. then_get g (λ source. then_get (known_compare literals scan.compare) (λ compare. Known (make source compare)))) a.known
+      λ source compare. record { register = scan.register; source = source; target = option_map (target_of constants.profile) scan.target; compare = compare } in
+      let known : known_scan constants scan ≡ Known parts =
+      ap (λ g. then_get g (λ source. then_get (known_compare constants scan.compare) (λ compare. Known (make source compare)))) a.known
       ∙ ap (λ g. then_get g (λ compare. Known (make a.from compare))) c.known
       in
       let measured : Found → Got Did = λ found. then_get (length_between 1 scan_limit z.0) (scan_asked parts found s) in
       subst (λ g. IsGot (ScansWell variables s) (then_get g (λ p. scanned p (v ∷ vs) s))) (sym known)
       (subst (λ x. IsGot (ScansWell variables s) (scanned parts (x ∷ vs) s)) (sym z.1)
-      (then_good (FoundFits variables literals s fit) (ScansWell variables s) (scan_found s.store.variables parts vs) measured
-      (found_good variables literals s fit scan a c more.0 vs fill.1) (λ found fits.
+      (then_good (FoundFits variables constants s fit) (ScansWell variables s) (scan_found s.store.variables parts vs) measured
+      (found_good variables constants s fit scan a c more.0 vs fill.1) (λ found fits.
       then_good (λ _. Unit {0}) (ScansWell variables s) (length_between 1 scan_limit z.0) (scan_asked parts found s)
       (passed_good (λ _. Unit {0}) (int_le (pos 1) z.0 && int_le z.0 (pos scan_limit)) BadLength (nat_abs z.0) tt) (λ n _. asked_well ir dr parts found fits n))))
 
@@ -433,8 +432,8 @@ module _ (variables : List VarDef) (literals : List (List Bool)) (s : State) (fi
       got_answers Stuck h = absurd h
 
   pub padding_good : (which : Padding) (source : Option Source) → list_all (is_met variables) (given_wants source) ≡ true →
-      IsGiven (IsSource (length variables) (length literals)) source → (vs : List Value) → Fill variables (Of kinds.Int ∷ given_slots source) vs →
-      IsGot (PadsWell which s) (then_get (known_given literals source) (λ from. surrounded which from vs s))
+      IsGiven (IsSource (length variables) (length constants.literals)) source → (vs : List Value) → Fill variables (Of kinds.Int ∷ given_slots source) vs →
+      IsGot (PadsWell which s) (then_get (known_given constants source) (λ from. surrounded which from vs s))
   padding_good which source met r [] fill = absurd fill
   padding_good which None met r (v ∷ []) fill =
       let z = one_integer variables v fill.0 in
@@ -442,7 +441,7 @@ module _ (variables : List VarDef) (literals : List (List Bool)) (s : State) (fi
       (set_well which (padding_bits s.store.variables None [] z.0) (long_enough z.0 (λ n. Known (replicate n true)) (λ n. tt)))
   padding_good which None met r (v ∷ w ∷ vs) fill = absurd fill.1
   padding_good which (Some source) met r (v ∷ vs) fill =
-      let a = reads variables literals s fit source r met in
+      let a = reads variables constants s fit source r met in
       let z = one_integer variables v fill.0 in
       let measured : List Bool → Got (List Bool) = λ bits. then_get (length_between 0 padding_limit z.0) (λ n. asked a.from n bits) in
       subst (λ g. IsGot (PadsWell which s) (then_get (then_get g (λ from. Known (Some from))) (λ from. surrounded which from (v ∷ vs) s))) (sym a.known)

@@ -71,7 +71,7 @@ pub length_of_file : (code : CodeLists) →
     + (bytes_of procedure code.procedures + bytes_of action code.actions + bytes_of instr code.instrs)
 unfolding file
 length_of_file code =
-    let all = joined_lengths head (counted variable code.variables) (counted literal code.literals) (counted text code.texts)
+    let all = joined_lengths (head code.profile) (counted variable code.variables) (counted literal code.literals) (counted text code.texts)
     (counted procedure code.procedures) (counted action code.actions) (counted instr code.instrs) in
     let a = length_of_counted variable code.variables in
     let b = length_of_counted literal code.literals in

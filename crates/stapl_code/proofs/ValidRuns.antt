@@ -15,7 +15,7 @@ use Rattle.stapl_meaning.specs.declared.records.Record.{Record}
 use Rattle.stapl_meaning.specs.declared.records.Record.TheVariants.{Pushed, Called, Looped}
 use Rattle.stapl_meaning.specs.States.{State, Turned, Leads, Over, Broken, Scanning, NoTurn, next_chosen, Happened, Led, Finished, Broke, Lacks, happens, with_events, happened_in_piece}
 use Rattle.stapl_meaning.specs.Effects.{scalar_written, written, replaced, span_written, with_integers, returned_from}
-use Rattle.stapl_meaning.specs.Values.{Known, then_get, bits_held}
+use Rattle.stapl_meaning.specs.Values.{Known, then_get, bits_held, whole_span}
 use Rattle.stapl_meaning.specs.Plays.{goes_on, Stopped, start}
 use Rattle.stapl_meaning.specs.declared.values.ValueKind.{ValueKind}
 use Rattle.stapl_code.specs.declared.raw.VarDef.{VarDef}
@@ -151,7 +151,7 @@ module _ (entries : List ℕ) (to : Option ℕ) (ops : List Value) (s : State) w
 
   bits_never_stop : (n : ℕ) (o : Option (List Bool)) (h : Option Held) →
       NeverStops (on_made entries to ops s (does
-      (then_get (known_literal o) (λ from. then_get (bits_held h) (λ old. span_written n old from [] s (record { low = 0; count = length old }))))))
+      (then_get (known_literal o) (λ from. then_get (bits_held h) (λ old. span_written n old from [] s (whole_span (length old)))))))
   bits_never_stop n None h = tt
   bits_never_stop n (Some bits) None = tt
   bits_never_stop n (Some bits) (Some (held.Bits old)) = tt

@@ -1,5 +1,7 @@
 -- The file of a code: a head, and the lists of the code, each with its count. The format is this profile's.
 use Rattle.std.specs.Prelude.{ℕ, pos, ◌≤◌, ◌<◌, ◌^◌, List, [], ◌∷◌, ◌++◌, length, All}
+use Rattle.stapl_meaning.specs.declared.profiles.Profile.{Profile}
+use Rattle.stapl_meaning.specs.declared.profiles.Profile.TheVariants.{One, Two}
 use Rattle.stapl_code.specs.declared.raw.VarDef.{VarDef}
 use Rattle.stapl_code.specs.declared.raw.ProcDef.{ProcDef}
 use Rattle.stapl_code.specs.declared.raw.ItemDef.{ItemDef}
@@ -10,9 +12,14 @@ use Rattle.stapl_code.specs.Ranges.{IsInRange}
 use Rattle.stapl_code.specs.Fields.{number, counted, name, text, literal}
 use Rattle.stapl_code.specs.Instrs.{instr, IsCountableInstr, FitsInstr}
 
--- `STAPLC`, and the version, 1
-abbrev pub head : List ℕ
-head = 83 ∷ 84 ∷ 65 ∷ 80 ∷ 76 ∷ 67 ∷ 0 ∷ 1 ∷ []
+-- the version says the profile
+abbrev pub version : Profile → ℕ
+version One = 1
+version Two = 2
+
+-- `STAPLC`, and the version in two bytes
+abbrev pub head : Profile → List ℕ
+head profile = 83 ∷ 84 ∷ 65 ∷ 80 ∷ 76 ∷ 67 ∷ 0 ∷ version profile ∷ []
 
 abbrev pub variable : VarDef → List ℕ
 variable v = v.kind ∷ number v.size
@@ -29,7 +36,7 @@ action a = name a.name ++ counted item a.items
 -- the file of a code
 unfoldable pub file : CodeLists → List ℕ
 file code =
-    head ++ counted variable code.variables ++ counted literal code.literals ++ counted text code.texts
+    head code.profile ++ counted variable code.variables ++ counted literal code.literals ++ counted text code.texts
     ++ counted procedure code.procedures ++ counted action code.actions ++ counted instr code.instrs
 
 -- the most bytes of a file
@@ -55,6 +62,7 @@ pub record IsCountable (code : CodeLists) : Type 0 where
 -- the code of `ACTION A=P;PROCEDURE P;EXIT 0;ENDPROC;`
 abbrev pub example : CodeLists
 example = record {
+  profile = One;
   variables = [];
   literals = [];
   texts = [];

@@ -2,6 +2,7 @@
 use Rattle.std.specs.Prelude.{ℕ, zero, suc, ◌-◌, ◌^◌, Bool, true, false, List, [], ◌∷◌, ◌++◌, length, drop, Option, Some, None, slice_get, slice_index_or}
 use Rattle.std.specs.Option.{option_map}
 use Rattle.dev_card.specs.Scans.{BoardScan}
+use Rattle.stapl_meaning.specs.declared.profiles.Profile.{Profile}
 use Rattle.stapl_meaning.specs.declared.waits.WaitKind.{WaitKind}
 use Rattle.stapl_meaning.specs.declared.waits.WaitKind.TheVariants as waits
 use Rattle.stapl_meaning.specs.Deeds.{Deed, Chain, deeds_events, deeds_chain}
@@ -38,8 +39,9 @@ use Rattle.stapl_code.specs.declared.instr.Instr.{Instr}
 use Rattle.stapl_code.specs.declared.instr.Instr.TheVariants.{Turn, Push, PushBit, Load, LoadAt, CheckIndex, CheckRange, Store, StoreAt, Unary, Binary, ToInt, CopyBits, SetBits, SetInts, For, Next, PushRecord, PopRecord, Call, Jump, JumpIfZero, EndProc, Print, Export, CheckChar, Exit, Scan as Scans, Stop, Pad, State as GoThrough, Wait, Frequency}
 use Rattle.stapl_code.specs.Operators.{operator_table, unary_kinds, unary_results}
 
--- what instructions name by number, and no run changes
+-- what instructions name by number, and what their ranges mean; no run changes it
 pub record Constants : Type 0 where
+  pub profile : Profile
   pub texts : List (List ℕ)
   pub literals : List (List Bool)
 
@@ -212,9 +214,9 @@ frequency_slots true = Of kinds.Int ∷ []
 frequency_slots false = []
 
 -- where a destination puts bits
-abbrev pub target_of : Dest → Target
-target_of (dests.Whole n) = IntoWhole n
-target_of (dests.Range n) = IntoRange n
+abbrev pub target_of : Profile → Dest → Target
+target_of profile (dests.Whole n) = IntoWhole n
+target_of profile (dests.Range n) = IntoRange profile n
 
 -- The table of instructions.
 
@@ -288,39 +290,39 @@ known_literal None = Stuck
 known_literal (Some bits) = Known (values.These bits)
 
 -- a source with the bits of its literal
-abbrev pub known_source : List (List Bool) → Source → Got values.Source
-known_source literals (sources.Literal n) = known_literal (slice_get literals n)
-known_source literals (sources.Whole n) = Known (values.Whole n)
-known_source literals (sources.Range n) = Known (values.Range n)
-known_source literals sources.FromInt = Known values.OfInt
+abbrev pub known_source : Constants → Source → Got values.Source
+known_source constants (sources.Literal n) = known_literal (slice_get constants.literals n)
+known_source constants (sources.Whole n) = Known (values.Whole n)
+known_source constants (sources.Range n) = Known (values.Range constants.profile n)
+known_source constants sources.FromInt = Known values.OfInt
 
-abbrev pub known_given : List (List Bool) → Option Source → Got (Option values.Source)
-known_given literals None = Known None
-known_given literals (Some source) = then_get (known_source literals source) (λ from. Known (Some from))
+abbrev pub known_given : Constants → Option Source → Got (Option values.Source)
+known_given constants None = Known None
+known_given constants (Some source) = then_get (known_source constants source) (λ from. Known (Some from))
 
 -- the parts of a Scan with the bits of its literals
 abbrev pub cell_part : Cell → CellPart
 cell_part (cells.Scalar n) = scans.ScalarCell n
 cell_part (cells.Element n) = scans.ElementCell n
 
-abbrev pub known_compare : List (List Bool) → Option Compare → Got (Option CompareParts)
-known_compare literals None = Known None
-known_compare literals (Some c) =
-    then_get (known_source literals c.expected) (λ expected.
-    then_get (known_source literals c.mask) (λ mask. Known (Some (record { expected = expected; mask = mask; cell = cell_part c.cell }))))
+abbrev pub known_compare : Constants → Option Compare → Got (Option CompareParts)
+known_compare constants None = Known None
+known_compare constants (Some c) =
+    then_get (known_source constants c.expected) (λ expected.
+    then_get (known_source constants c.mask) (λ mask. Known (Some (record { expected = expected; mask = mask; cell = cell_part c.cell }))))
 
-abbrev pub known_scan : List (List Bool) → Scan → Got ScanParts
-known_scan literals scan =
-    then_get (known_source literals scan.source) (λ source.
-    then_get (known_compare literals scan.compare) (λ compare.
-    Known (record { register = scan.register; source = source; target = option_map target_of scan.target; compare = compare })))
+abbrev pub known_scan : Constants → Scan → Got ScanParts
+known_scan constants scan =
+    then_get (known_source constants scan.source) (λ source.
+    then_get (known_compare constants scan.compare) (λ compare.
+    Known (record { register = scan.register; source = source; target = option_map (target_of constants.profile) scan.target; compare = compare })))
 
 -- what is exported under a key
-abbrev pub part_exported : List (List Bool) → ExportPart → List ℕ → List Value → State → Got Did
-part_exported literals exports.Int key vs s = exported key vs s
-part_exported literals exports.Bit key vs s = exported key vs s
-part_exported literals (exports.Array source) key vs s =
-    then_get (known_source literals source) (λ from. bits_exported key from vs s)
+abbrev pub part_exported : Constants → ExportPart → List ℕ → List Value → State → Got Did
+part_exported constants exports.Int key vs s = exported key vs s
+part_exported constants exports.Bit key vs s = exported key vs s
+part_exported constants (exports.Array source) key vs s =
+    then_get (known_source constants source) (λ from. bits_exported key from vs s)
 
 -- where the procedures begin, and the constants
 module _ (entries : List ℕ) (constants : Constants) where
@@ -345,15 +347,15 @@ module _ (entries : List ℕ) (constants : Constants) where
   made here (Load n) vs s = puts (scalar_of (slice_get s.store.variables n))
   made here (LoadAt n) vs s = one vs (element_of (slice_get s.store.variables n))
   made here (CheckIndex n) vs s = one vs (index_held (slice_get s.store.variables n))
-  made here (CheckRange n) vs s = kept vs (range_held (slice_get s.store.variables n))
+  made here (CheckRange n) vs s = kept vs (range_held constants.profile (slice_get s.store.variables n))
   made here (Store n) vs s = does (assigned n vs s)
   made here (StoreAt n) vs s = does (element_assigned n vs s)
   made here (Unary op) vs s = one vs (signed_by (slice_get unary_results op))
   made here (Binary op) vs s = two vs (operated op)
   made here (ToInt source) vs s =
-      puts (then_get (known_source constants.literals source) (λ from. source_integer s.store.variables from vs))
+      puts (then_get (known_source constants source) (λ from. source_integer s.store.variables from vs))
   made here (CopyBits dest source) vs s =
-      does (then_get (known_source constants.literals source) (λ from. copied (target_of dest) from vs s))
+      does (then_get (known_source constants source) (λ from. copied (target_of constants.profile dest) from vs s))
   made here (SetBits n literal) vs s =
       does (then_get (known_literal (slice_get constants.literals literal)) (λ from. copied (IntoWhole n) from vs s))
   made here (SetInts n list) vs s = does (integers_set n list vs s)
@@ -367,12 +369,12 @@ module _ (entries : List ℕ) (constants : Constants) where
   made here EndProc vs s = does (returned vs s)
   made here (Print list) vs s = does (printed (parts_text list vs) s)
   made here (Export key part) vs s =
-      does (then_get (known_text (slice_get constants.texts key)) (λ bytes. part_exported constants.literals part bytes vs s))
+      does (then_get (known_text (slice_get constants.texts key)) (λ bytes. part_exported constants part bytes vs s))
   made here CheckChar vs s = one vs character_of
   made here Exit vs s = does (exited vs s)
-  made here (Scans scan) vs s = does (then_get (known_scan constants.literals scan) (λ parts. scanned parts vs s))
+  made here (Scans scan) vs s = does (then_get (known_scan constants scan) (λ parts. scanned parts vs s))
   made here (Stop register tap) vs s = does (stopped register tap vs s)
-  made here (Pad which source) vs s = does (then_get (known_given constants.literals source) (λ from. surrounded which from vs s))
+  made here (Pad which source) vs s = does (then_get (known_given constants source) (λ from. surrounded which from vs s))
   made here (GoThrough states) vs s = does (moved_through states vs s)
   made here (Wait at kind last) vs s = does (waited kind at last vs s)
   made here (Frequency stated) vs s = does (tuned vs s)

@@ -23,7 +23,7 @@ entries_of procedures = map (λ p. p.entry) procedures
 
 -- the constants of a code
 abbrev pub constants_of : CodeLists → Constants
-constants_of code = record { texts = code.texts; literals = code.literals }
+constants_of code = record { profile = code.profile; texts = code.texts; literals = code.literals }
 
 -- a variable holds what its kind and size say
 abbrev pub Fits : VarDef → Held → Type 0

@@ -24,7 +24,7 @@ pub enum Source {
     Literal(u32),
     /// The whole of a BOOLEAN array.
     Whole(u32),
-    /// A range of a BOOLEAN array, whose high and low indexes are from the operands.
+    /// A range of a BOOLEAN array, whose first and second indexes are from the operands.
     Range(u32),
     /// The 32 bits of an integer, from the operands.
     FromInt,
@@ -35,7 +35,7 @@ pub enum Source {
 pub enum Dest {
     /// Into the whole of a BOOLEAN array.
     Whole(u32),
-    /// Into a range of a BOOLEAN array, whose high and low indexes are from the operands.
+    /// Into a range of a BOOLEAN array, whose first and second indexes are from the operands.
     Range(u32),
 }
 
@@ -94,7 +94,7 @@ pub enum Instr {
     LoadAt(u32),
     /// Tests that the topmost operand is an index of an array.
     CheckIndex(u32),
-    /// Tests that the two topmost operands are the high and the low index of a range of a BOOLEAN array.
+    /// Tests that the two topmost operands are the first and the second index of a range of a BOOLEAN array.
     CheckRange(u32),
     /// Takes a value off the operands, into a scalar variable.
     Store(u32),

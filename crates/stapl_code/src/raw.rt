@@ -7,7 +7,7 @@ use crate::instr::Instr;
 use base::ItemList;
 use bit_list::Bits;
 use stapl_lexer::Name;
-use stapl_meaning::Text;
+use stapl_meaning::{Profile, Text};
 use std::marker::Model;
 
 /// A variable.
@@ -43,9 +43,11 @@ pub struct ActionDef {
     pub items: ItemList<ItemDef>,
 }
 
-/// The lists of a code, one for each section of its file. Items of each are told by their numbers, from 0.
+/// The profile of a code, and its lists, one for each section of its file. Items of each are told by their numbers,
+/// from 0.
 #[derive(Drop)]
 pub struct CodeLists {
+    pub profile: Profile,
     pub variables: ItemList<VarDef>,
     pub literals: ItemList<Bits>,
     pub texts: ItemList<Text>,

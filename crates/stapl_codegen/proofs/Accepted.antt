@@ -254,5 +254,6 @@ accepted text program is typed shaped named short held small = record {
   literals = few_bits (length text) is.short (literals_of (as_played program))
       (items_of_program row_literals (AreLiteralBits (length text)) (HoldsLiterals (length text)) (held_body (length text)) tt program (all_start (as_played program) typed) held);
   texts = weaker (length text) is.short (texts_of (as_played program))
-      (all_items row_texts (IsShort (length text)) (PrintsShortStrings (length text)) (short_body (length text)) (pieces_from None program) (pieces_all (PrintsShortStrings (length text)) tt None program short));
+      (all_items row_texts (IsShort (length text)) (PrintsShortStrings (length text)) (short_body (length text)) (pieces_from None program)
+      (pieces_all (PrintsShortStrings (length text)) tt None program short));
 }

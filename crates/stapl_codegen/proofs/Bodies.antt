@@ -15,7 +15,7 @@ use Rattle.stapl_meaning.specs.declared.values.Value.{Value}
 use Rattle.stapl_meaning.specs.declared.values.Value.TheVariants.{Int, Bit}
 use Rattle.stapl_meaning.specs.declared.values.ValueKind.{ValueKind}
 use Rattle.stapl_meaning.specs.declared.values.ValueKind.TheVariants as kinds
-use Rattle.stapl_meaning.specs.Values.{Got, Known, Faults, Stuck, then_get, is_index, passed, index_held, Lookup, value_of}
+use Rattle.stapl_meaning.specs.Values.{Got, Known, Faults, Stuck, then_get, is_index, passed, index_held, of_programs, Lookup, value_of}
 use Rattle.stapl_meaning.specs.Operands.{an_index, values_of, given_kind, printed_kind}
 use Rattle.stapl_meaning.specs.States.{State, Did, Falls, Jumps, Resumes, Returns, Ends, Turned, Captures, Leads, with_got, preceded, next_chosen, led, Happened, Led, happens, with_events, scanned_on}
 use Rattle.stapl_meaning.specs.Effects.{with_scalar, replaced, scalar_written, written, assigned, with_element, element_written, element_assigned, IntoWhole, IntoRange, copied, with_records, value_as, topmost, popped, called, returned_from, printed, exported, bits_exported}
@@ -26,7 +26,7 @@ use Rattle.stapl_code.specs.declared.instr.Instr.{Instr}
 use Rattle.stapl_code.specs.declared.instr.Instr.TheVariants.{Store, StoreAt, PopRecord, EndProc}
 use Rattle.stapl_code.specs.Machine.{Constants, Step, Does, does, two, unrecorded, export_slots, known_literal, known_source, known_text, part_exported, wait_slots, frequency_slots, takes, lands, made, on_taken, taken, on_made, continues, stretch, entry_of}
 use Rattle.stapl_code.proofs.Preceded.{with_nothing, happens_behind, scan_alike}
-use Rattle.stapl_codegen.specs.Emit.{Firsts, last, between, source_code, export_part, row_texts, row_literals, behind_row, rows_items, body_texts, body_literals, row_code, rows_code, body_code}
+use Rattle.stapl_codegen.specs.Emit.{program_constants, Firsts, last, between, source_code, export_part, row_texts, row_literals, behind_row, rows_items, body_texts, body_literals, row_code, rows_code, body_code}
 use Rattle.stapl_codegen.specs.Correct.{falls, placed_record, placed_state}
 use Rattle.stapl_codegen.proofs.Constants.{HasConstants, row_has, others_have, item_known, source_known, source_count}
 use Rattle.stapl_codegen.proofs.Exprs.{got_on, with_known, operands_follow, one_each}
@@ -158,7 +158,10 @@ element_never look n index vs s e v records = by (value_of look s.store.variable
     by (Faults k) e = absurd cc
     by Stuck e = absurd cc
 
-module _ (place : ℕ → ℕ) (entries : List ℕ) (constants : Constants) (total : ℕ) (scope : Scope) where
+module _ (place : ℕ → ℕ) (entries : List ℕ) (texts : List (List ℕ)) (literals : List (List Bool)) (total : ℕ) (scope : Scope) where
+  abbrev constants : Constants
+  constants = program_constants texts literals
+
   -- the place of the code that stands before this is that of the piece after the statement
   abbrev IsBehind : List Instr → Type 0
   IsBehind rest = suc (total - suc (length rest)) ≡ place scope.follow
@@ -296,7 +299,7 @@ module _ (place : ℕ → ℕ) (entries : List ℕ) (constants : Constants) (tot
 
   -- ---- a line for each statement
 
-  value_exported : (kind : ValueKind) (key : List ℕ) (vs : List Value) (s : State) → part_exported constants.literals (export_part kind) key vs s ≡ exported key vs s
+  value_exported : (kind : ValueKind) (key : List ℕ) (vs : List Value) (s : State) → part_exported constants (export_part kind) key vs s ≡ exported key vs s
   value_exported kinds.Int key vs s = refl
   value_exported kinds.Bit key vs s = refl
 
@@ -331,12 +334,12 @@ module _ (place : ℕ → ℕ) (entries : List ℕ) (constants : Constants) (tot
       plainly first (assign_array name a) entry_is (λ l. refl) (source_count scope.look first.literal a) (λ here. refl)
       (λ here vs s.
       ap (λ g. does (then_get g (λ from. copied (IntoWhole (scope.look.variable name)) from vs s)))
-      (source_known constants.literals scope.look first.literal a has.literals))
+      (source_known texts literals scope.look first.literal a has.literals))
   row_tied first (assign_range name high low a) entry_is has =
       plainly first (assign_range name high low a) entry_is (λ l. refl) (ap (λ n. suc (suc n)) (source_count scope.look first.literal a)) (λ here. refl)
       (λ here vs s.
-      ap (λ g. does (then_get g (λ from. copied (IntoRange (scope.look.variable name)) from vs s)))
-      (source_known constants.literals scope.look first.literal a has.literals))
+      ap (λ g. does (then_get g (λ from. copied (IntoRange of_programs (scope.look.variable name)) from vs s)))
+      (source_known texts literals scope.look first.literal a has.literals))
   row_tied first (call name) entry_is has =
       simply first (call name) entry_is (λ l. refl) refl (λ here. ap Some (entry_is (scope.procedure name)))
       (λ here vs s behind.
@@ -367,22 +370,22 @@ module _ (place : ℕ → ℕ) (entries : List ℕ) (constants : Constants) (tot
       let kind : ValueKind = printed_kind (expr_kind scope.look.kind e) in
       plainly first (export key (exported_value e)) entry_is (λ l. refl) (value_count kind) (λ here. refl)
       (λ here vs s.
-      ap (λ o. does (then_get (known_text o) (λ bytes. part_exported constants.literals (export_part kind) bytes vs s))) (item_known constants.texts first.text key has.texts)
+      ap (λ o. does (then_get (known_text o) (λ bytes. part_exported constants (export_part kind) bytes vs s))) (item_known constants.texts first.text key has.texts)
       ∙ ap does (value_exported kind key vs s))
   row_tied first (export key (exported_array a)) entry_is has =
       plainly first (export key (exported_array a)) entry_is (λ l. refl) (source_count scope.look first.literal a) (λ here. refl)
       (λ here vs s.
-      ap (λ o. does (then_get (known_text o) (λ bytes. then_get (known_source constants.literals (source_code scope.look first.literal a)) (λ from. bits_exported bytes from vs s))))
+      ap (λ o. does (then_get (known_text o) (λ bytes. then_get (known_source constants (source_code scope.look first.literal a)) (λ from. bits_exported bytes from vs s))))
       (item_known constants.texts first.text key has.texts)
-      ∙ ap (λ g. does (then_get g (λ from. bits_exported key from vs s))) (source_known constants.literals scope.look first.literal a has.literals))
+      ∙ ap (λ g. does (then_get g (λ from. bits_exported key from vs s))) (source_known texts literals scope.look first.literal a has.literals))
   row_tied first (exit e) entry_is has = plainly first (exit e) entry_is (λ l. refl) refl (λ here. refl) (λ here vs s. refl)
   row_tied first (scan register count source target compare) entry_is has =
       plainly first (scan register count source target compare) entry_is (λ l. refl) (ap suc (scan_count scope.look first.literal register source target compare)) (λ here. refl)
-      (λ here vs s. ap (λ g. does (then_get g (λ parts. scanned parts vs s))) (scan_known constants.literals scope.look first.literal register source target compare has.literals))
+      (λ here vs s. ap (λ g. does (then_get g (λ parts. scanned parts vs s))) (scan_known texts literals scope.look first.literal register source target compare has.literals))
   row_tied first (stop register state) entry_is has = plainly first (stop register state) entry_is (λ l. refl) refl (λ here. refl) (λ here vs s. refl)
   row_tied first (pad which count bits) entry_is has =
       plainly first (pad which count bits) entry_is (λ l. refl) (ap suc (given_count scope.look first.literal bits)) (λ here. refl)
-      (λ here vs s. ap (λ g. does (then_get g (λ from. surrounded which from vs s))) (given_known constants.literals scope.look first.literal bits has.literals))
+      (λ here vs s. ap (λ g. does (then_get g (λ from. surrounded which from vs s))) (given_known texts literals scope.look first.literal bits has.literals))
   row_tied first (state_list states) entry_is has = plainly first (state_list states) entry_is (λ l. refl) refl (λ here. refl) (λ here vs s. refl)
   row_tied first (wait_cycles state cycles usec end) entry_is has =
       plainly first (wait_cycles state cycles usec end) entry_is (λ l. refl) (wait_count usec) (λ here. refl) (λ here vs s. refl)
@@ -399,7 +402,7 @@ module _ (place : ℕ → ℕ) (entries : List ℕ) (constants : Constants) (tot
   row_follows s k first b rest go tied behind more =
       let values : Got (List Value) = values_of scope.look s.store.variables (operands scope b) in
       let did : List Value → Turned = λ vs. with_got (effect scope b vs s) s (λ did. led scope.entry (target scope b) did go) in
-      operands_follow entries constants total (placed_state place s) k scope.look (operands scope b) (between scope b (last scope place first b ∷ rest)) []
+      operands_follow entries texts literals total (placed_state place s) k scope.look (operands scope b) (between scope b (last scope place first b ∷ rest)) []
       ∙ with_known values (placed_state place s) k _ (λ vs. happens k (placed place (did vs))) (λ vs e. tied.follows rest vs s k go e behind more)
       ∙ with_placed place values s k did
 

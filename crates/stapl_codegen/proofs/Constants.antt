@@ -5,7 +5,7 @@ use Rattle.stapl_syntax.specs.Trees.{ArrayTree, literal, whole, range, of_int}
 use Rattle.stapl_meaning.specs.Values.{Known, Lookup, source_of}
 use Rattle.stapl_meaning.specs.Operands.{array_operands}
 use Rattle.stapl_code.specs.Machine.{Constants, source_slots, known_literal, known_source}
-use Rattle.stapl_codegen.specs.Emit.{source_code, array_literals, Firsts, past}
+use Rattle.stapl_codegen.specs.Emit.{program_constants, source_code, array_literals, Firsts, past}
 use Rattle.stapl_code.proofs.Heads.{head_of, get_head, drop_tail}
 
 -- the list has these items from a number on
@@ -51,12 +51,12 @@ pub item_known : {A : Type 0} (all : List A) (n : ℕ) (x : A) → HasItems all 
 item_known all n x has = get_head n all ∙ ap head_of has.from
 
 -- an array takes its bits from where its instruction does
-pub source_known : (literals : List (List Bool)) (look : Lookup) (n : ℕ) (a : ArrayTree) → HasItems literals n (array_literals a) →
-    known_source literals (source_code look n a) ≡ Known (source_of look a)
-source_known literals look n (literal bits) has = ap known_literal (item_known literals n bits has)
-source_known literals look n (whole name) has = refl
-source_known literals look n (range name high low) has = refl
-source_known literals look n (of_int e) has = refl
+pub source_known : (texts : List (List ℕ)) (literals : List (List Bool)) (look : Lookup) (n : ℕ) (a : ArrayTree) → HasItems literals n (array_literals a) →
+    known_source (program_constants texts literals) (source_code look n a) ≡ Known (source_of look a)
+source_known texts literals look n (literal bits) has = ap known_literal (item_known literals n bits has)
+source_known texts literals look n (whole name) has = refl
+source_known texts literals look n (range name high low) has = refl
+source_known texts literals look n (of_int e) has = refl
 
 -- and takes as many operands
 pub source_count : (look : Lookup) (n : ℕ) (a : ArrayTree) → length (source_slots (source_code look n a)) ≡ length (array_operands look a)

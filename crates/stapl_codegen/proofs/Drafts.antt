@@ -132,7 +132,8 @@ starts_more program i start starts s e = record {
 }
 
 module _ (program : Played) (i : ℕ) (d : Draft) (starts : List ℕ) (so_far : AreDrafted program i d starts) where
-  pub piece_more : IsTyped program → (st : StmtTree) (is : drop i program.pieces ≡ st ∷ drop (i + 1) program.pieces) (o : Option Preset) (at_preset : drop i program.presets ≡ o ∷ drop (i + 1) program.presets)
+  pub piece_more : IsTyped program → (st : StmtTree) (is : drop i program.pieces ≡ st ∷ drop (i + 1) program.pieces) (o : Option Preset)
+      (at_preset : drop i program.presets ≡ o ∷ drop (i + 1) program.presets)
       (d' : Draft) (start : ℕ) (starts' : List ℕ) → d'.code ≡ d.code ++ piece_code_in d st → d'.texts ≡ d.texts ++ body_texts st.body →
       d'.literals ≡ d.literals ++ (body_literals st.body ++ preset_items row_literals o) → d'.site ≡ site_behind d.site st.body →
       start ≡ (if is_outer st.body then nowhere else length d.code) → starts' ≡ starts ++ start ∷ [] → AreDrafted program (i + 1) d' starts'
@@ -183,7 +184,8 @@ pub behind_items : {A : Type 0} (xs ys zs : List A) → zs ≡ xs ++ ys → past
 behind_items xs ys zs e = omega (arith, past_length (length xs) ys, ap length e, length-append xs ys)
 
 -- the code of an initial value where it stands
-preset_same : (program : Played) (site : Site) (i : ℕ) (literal : ℕ) (o : Option Preset) → Starts o → site ≡ site_at program 0 → literal ≡ (preset_firsts program i).literal → (d : Draft) → d.site ≡ site →
+preset_same : (program : Played) (site : Site) (i : ℕ) (literal : ℕ) (o : Option Preset) → Starts o → site ≡ site_at program 0 → literal ≡ (preset_firsts program i).literal →
+    (d : Draft) → d.site ≡ site →
     preset_code_in d literal o ≡ preset_code program (λ j. j) i o []
 preset_same program site i literal None starts same number d at = refl
 preset_same program site i literal (Some preset) starts same number d at =
@@ -199,7 +201,8 @@ preset_same program site i literal (Some preset) starts same number d at =
     none_called _ e = tt
 
 -- so many literals stand before the initial value at a place, and before the next place
-module _ (program : Played) (i : ℕ) (o : Option Preset) (st : StmtTree) (presets : drop i program.presets ≡ o ∷ drop (i + 1) program.presets) (pieces : drop i program.pieces ≡ st ∷ drop (i + 1) program.pieces) where
+module _ (program : Played) (i : ℕ) (o : Option Preset) (st : StmtTree) (presets : drop i program.presets ≡ o ∷ drop (i + 1) program.presets)
+    (pieces : drop i program.pieces ≡ st ∷ drop (i + 1) program.pieces) where
   pub own_counted : (before own : ℕ) → before ≡ length (literals_before program i) → own ≡ length (body_literals st.body) → before + own ≡ (preset_firsts program i).literal
   own_counted before own counted is =
       omega (
@@ -226,7 +229,8 @@ module _ (program : Played) (i : ℕ) (o : Option Preset) (st : StmtTree) (prese
 -- a statement more, which has an initial value or none
 pub preset_more : (program : Played) (i : ℕ) (d d' : Draft) (before own number more behind : ℕ) (o : Option Preset) (st : StmtTree) → drop i program.presets ≡ o ∷ drop (i + 1) program.presets →
     drop i program.pieces ≡ st ∷ drop (i + 1) program.pieces → Starts o → ArePresetsWritten program i d before → own ≡ length (body_literals st.body) →
-    more ≡ length (preset_items row_literals o) → number ≡ before + own → behind ≡ number + more → d'.code ≡ d.code ++ preset_code_in d number o → d'.texts ≡ d.texts → d'.literals ≡ d.literals → d'.site ≡ d.site →
+    more ≡ length (preset_items row_literals o) → number ≡ before + own → behind ≡ number + more → d'.code ≡ d.code ++ preset_code_in d number o → d'.texts ≡ d.texts →
+    d'.literals ≡ d.literals → d'.site ≡ d.site →
     ArePresetsWritten program (i + 1) d' behind
 preset_more program i d d' before own number more behind o st presets pieces starts so_far is next first last code texts literals site =
     let here : List Instr = preset_code program (λ j. j) i o [] in

@@ -10,7 +10,7 @@ use Rattle.stapl_meaning.specs.declared.values.ValueKind.{ValueKind}
 use Rattle.stapl_meaning.specs.declared.values.ValueKind.TheVariants as kinds
 use Rattle.stapl_meaning.specs.declared.values.Value.{Value}
 use Rattle.stapl_meaning.specs.declared.values.Held.{Held}
-use Rattle.stapl_meaning.specs.Values.{Got, Known, Faults, Stuck, then_get, combined, signed, absolute, scalar_of, element_of, index_held, bits_held, range_held, Span, span_of, Whole, Range, OfInt, source_integer, literal, unary_side, Lookup, sides, source_of, value_of, source_values}
+use Rattle.stapl_meaning.specs.Values.{Got, Known, Faults, Stuck, then_get, combined, signed, absolute, scalar_of, element_of, index_held, bits_held, range_held, of_programs, Span, span_of, Whole, Range, OfInt, source_integer, literal, unary_side, Lookup, sides, source_of, value_of, source_values}
 use Rattle.stapl_meaning.specs.Operands.{Test, Plain, Character, Operand, character_of, tested, operand_value, values_behind, values_of}
 use Rattle.stapl_meaning.specs.Operands as tests
 use Rattle.stapl_meaning.specs.Deeds.{Chain}
@@ -19,7 +19,7 @@ use Rattle.stapl_code.specs.declared.instr.Instr.{Instr}
 use Rattle.stapl_code.specs.declared.instr.Instr.TheVariants.{LoadAt, Unary, Binary, ToInt}
 use Rattle.stapl_code.specs.declared.instr.Source.TheVariants as sources
 use Rattle.stapl_code.specs.Machine.{Constants, PutsTwo, puts, kept, on_made, continues, stretch}
-use Rattle.stapl_codegen.specs.Emit.{operator_number, sign_number, absolute_number, literal_code, test_code, expr_code, int_code, operands_code}
+use Rattle.stapl_codegen.specs.Emit.{program_constants, operator_number, sign_number, absolute_number, literal_code, test_code, expr_code, int_code, operands_code}
 use Rattle.stapl_code.proofs.Heads.{head_of}
 use Rattle.stapl_code.proofs.PutOn.{onto}
 
@@ -45,7 +45,10 @@ with_then (Faults f) h s chain k = refl
 with_then Stuck h s chain k = refl
 
 -- what was put on is taken off again
-module _ (entries : List ℕ) (constants : Constants) (total : ℕ) (s : State) (chain : Chain) where
+module _ (entries : List ℕ) (texts : List (List ℕ)) (literals : List (List Bool)) (total : ℕ) (s : State) (chain : Chain) where
+  abbrev constants : Constants
+  constants = program_constants texts literals
+
   -- an instruction that puts a value on
   put_follows : (g : Got Value) (to : Option ℕ) (below : List Value) (go : List Value → State → Chain → Happened) →
       continues chain (on_made entries to below s (puts g)) go ≡ got_on g s chain (λ v. go (v ∷ below) s chain)
@@ -105,14 +108,14 @@ module _ (entries : List ℕ) (constants : Constants) (total : ℕ) (s : State) 
   span_kept x y Stuck below go = refl
 
   range_kept : (x y : Value) (array : Option Held) (below : List Value) (go : List Value → State → Chain → Happened) →
-      continues chain (on_made entries None below s (kept (x ∷ y ∷ []) (range_held array))) go
-      ≡ got_on (range_held array x y) s chain (λ v. go (v ∷ x ∷ below) s chain)
+      continues chain (on_made entries None below s (kept (x ∷ y ∷ []) (range_held of_programs array))) go
+      ≡ got_on (range_held of_programs array x y) s chain (λ v. go (v ∷ x ∷ below) s chain)
   range_kept x y array below go = by (bits_held array)
     where
       by : (g : Got (List Bool)) →
-          continues chain (on_made entries None below s (then_get (then_get g (λ bits. then_get (span_of (length bits) x y) (λ span. Known y))) (λ z. Known (PutsTwo x y)))) go
-          ≡ got_on (then_get g (λ bits. then_get (span_of (length bits) x y) (λ span. Known y))) s chain (λ v. go (v ∷ x ∷ below) s chain)
-      by (Known bits) = span_kept x y (span_of (length bits) x y) below go
+          continues chain (on_made entries None below s (then_get (then_get g (λ bits. then_get (span_of of_programs (length bits) x y) (λ span. Known y))) (λ z. Known (PutsTwo x y)))) go
+          ≡ got_on (then_get g (λ bits. then_get (span_of of_programs (length bits) x y) (λ span. Known y))) s chain (λ v. go (v ∷ x ∷ below) s chain)
+      by (Known bits) = span_kept x y (span_of of_programs (length bits) x y) below go
       by (Faults k) = refl
       by Stuck = refl
 
@@ -177,7 +180,7 @@ module _ (entries : List ℕ) (constants : Constants) (total : ℕ) (s : State) 
       int_follows (range name a b) rest ops =
           let n : ℕ = look.variable name in
           let k : Value → Happened = λ v. stretch entries constants total rest (v ∷ ops) s chain in
-          let integer : List Value → Got Value = source_integer s.store.variables (Range n) in
+          let integer : List Value → Got Value = source_integer s.store.variables (Range of_programs n) in
           let left : Got Value = value_of look s.store.variables kinds.Int a in
           let right : Got Value = value_of look s.store.variables kinds.Int b in
           let both : Value → Got (List Value) = λ x. then_get right (λ y. Known (x ∷ y ∷ [])) in

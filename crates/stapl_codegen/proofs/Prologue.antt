@@ -1,5 +1,5 @@
 -- The prologue of the code does what the initial values of DATA blocks do.
-use Rattle.std.proofs.Common.{◌≡◌, ℕ, true, List, [], ◌∷◌, ◌++◌, Option, None, Some, ◌+◌, drop, add-one, refl, sym, ap, ◌∙◌, append_assoc}
+use Rattle.std.proofs.Common.{◌≡◌, ℕ, Bool, true, List, [], ◌∷◌, ◌++◌, Option, None, Some, ◌+◌, drop, add-one, refl, sym, ap, ◌∙◌, append_assoc}
 use Rattle.std.proofs.lemmas.List.Elements.{All-head, All-tail}
 use Rattle.stapl_syntax.specs.Trees.{BodyTree, end_data}
 use Rattle.stapl_meaning.specs.declared.values.Value.{Value}
@@ -14,7 +14,7 @@ use Rattle.stapl_code.specs.declared.instr.Instr.{Instr}
 use Rattle.stapl_code.specs.Machine.{Constants, entry_of, begins_chosen, stretch}
 use Rattle.stapl_code.proofs.Heads.{drop_tail}
 use Rattle.stapl_code.proofs.Preceded.{happens_begun}
-use Rattle.stapl_codegen.specs.Emit.{Firsts, row_texts, row_literals, preset_firsts, presets_code}
+use Rattle.stapl_codegen.specs.Emit.{program_constants, Firsts, row_texts, row_literals, preset_firsts, presets_code}
 use Rattle.stapl_codegen.proofs.Constants.{HasConstants}
 use Rattle.stapl_codegen.specs.Correct.{placed_state, Starts, AllStart}
 use Rattle.stapl_codegen.proofs.Rows.{starts_no_call}
@@ -81,7 +81,11 @@ set_up_alike program place (Some preset ∷ presets) s =
 
 -- ---- the prologue
 
-module _ (program : Played) (place : ℕ → ℕ) (entries : List ℕ) (constants : Constants) (total : ℕ) (entry_is : (p : ℕ) → entry_of entries p ≡ place (entry_from program.pieces p)) where
+module _ (program : Played) (place : ℕ → ℕ) (entries : List ℕ) (texts : List (List ℕ)) (literals : List (List Bool))
+    (total : ℕ) (entry_is : (p : ℕ) → entry_of entries p ≡ place (entry_from program.pieces p)) where
+  abbrev constants : Constants
+  constants = program_constants texts literals
+
   -- what stands after the prologue leads to a place
   abbrev LeadsTo : ℕ → List Instr → Type 0
   LeadsTo first_place rest = (t : State) (k : Chain) → stretch entries constants total rest [] t k ≡ Led [] (place first_place) t k
@@ -102,8 +106,8 @@ module _ (program : Played) (place : ℕ → ℕ) (entries : List ℕ) (constant
     preset_follows i (Some preset) presets e starts others s k =
         let b : BodyTree = preset.body in
         let first : Firsts = preset_firsts program i in
-        row_follows place entries constants total (preset_scope program preset) s k first b (presets_code program place (i + 1) presets rest)
-        (set_up_to program first_place presets) (row_tied place entries constants total (preset_scope program preset) first b entry_is (known i preset presets e starts))
+        row_follows place entries texts literals total (preset_scope program preset) s k first b (presets_code program place (i + 1) presets rest)
+        (set_up_to program first_place presets) (row_tied place entries texts literals total (preset_scope program preset) first b entry_is (known i preset presets e starts))
         (λ is. absurd (starts_no_call b starts is))
         others
 
@@ -115,7 +119,7 @@ module _ (program : Played) (place : ℕ → ℕ) (entries : List ℕ) (constant
 
   begun_placed : (t : Turned) → begun (entry_of entries) (placed place t) ≡ placed place (begun (entry_from program.pieces) t)
   begun_placed (Leads deeds i s) =
-      ap (preceded deeds) (end_law place entries constants total (preset_scope program (record { block = []; body = end_data })) s s.chosen entry_is)
+      ap (preceded deeds) (end_law place entries texts literals total (preset_scope program (record { block = []; body = end_data })) s s.chosen entry_is)
       ∙ preceded_placed place deeds (next_chosen (entry_from program.pieces) s s.chosen)
   begun_placed (Over deeds ending s) = refl
   begun_placed (Broken deeds k s) = refl

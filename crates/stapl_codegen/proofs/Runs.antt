@@ -14,7 +14,7 @@ use Rattle.stapl_code.specs.declared.instr.Instr.{Instr}
 use Rattle.stapl_code.specs.declared.instr.Instr.TheVariants.{Turn}
 use Rattle.stapl_code.specs.Machine.{Constants, nowhere, stretch, begins, code_turn, code_run}
 use Rattle.stapl_code.proofs.Preceded.{scan_alike, scan_through, happens_in_piece}
-use Rattle.stapl_codegen.specs.Emit.{body_code, firsts_at, constants_in, pieces_code, program_code, start_of, program_entries}
+use Rattle.stapl_codegen.specs.Emit.{body_code, firsts_at, constants_in, texts_of, literals_of, pieces_code, program_code, start_of, program_entries}
 use Rattle.stapl_codegen.specs.Correct.{GoesOn, IsClosed, placed_state, placed_run, AllStart, Stands}
 use Rattle.stapl_code.proofs.Heads.{head_of, get_head, drop_tail}
 use Rattle.stapl_codegen.proofs.Lists.{body_before, code_split}
@@ -138,21 +138,22 @@ module _ (program : Played) where
   From i sts = pieces_code program place i sts
 
   behind_turn : (scope : Scope) (q : ℕ) (code : List Instr) → suc (length (Turn q ∷ code)) ≤ All → All - length (Turn q ∷ code) ≡ place scope.follow →
-      Behind place Entries These All scope (Turn q ∷ code)
+      Behind place Entries (texts_of program) (literals_of program) All scope (Turn q ∷ code)
   behind_turn scope q code within e =
       let next : suc (All - suc (length (Turn q ∷ code))) ≡ All - length (Turn q ∷ code) = omega (arith, within) in
       record { falls_on = λ t k. ap (λ n. let h : Happened = Led [] n t k in h) e; is_behind = next ∙ e }
 
   -- what follows a piece that is not the last of its procedure
   behind_piece : (i : ℕ) (sts : List StmtTree) → drop (i + 1) program.pieces ≡ sts → suc (length (From (i + 1) sts)) ≤ All → GoesOn sts →
-      Behind place Entries These All (scope_at program i) (From (i + 1) sts)
+      Behind place Entries (texts_of program) (literals_of program) All (scope_at program i) (From (i + 1) sts)
   behind_piece i [] e within go = absurd go
   behind_piece i (st ∷ rest) e within go =
       let code = body_code (scope_at program (i + 1)) place (firsts_at program (i + 1)) st.body (From (i + 1 + 1) rest) in
       let is : From (i + 1) (st ∷ rest) ≡ Turn (i + 1 + 1) ∷ code = ap (λ b. cond b (From (i + 1 + 1) rest) (Turn (i + 1 + 1) ∷ code)) go in
       let at = start_is program (i + 1) st (get_head (i + 1) program.pieces ∙ ap head_of e) go in
       let at' : All - length (Turn (i + 1 + 1) ∷ code) ≡ place (i + 1) = sym (at ∙ ap (λ l. All - length (From (i + 1) l)) e ∙ ap (λ c. All - length c) is) in
-      subst (Behind place Entries These All (scope_at program i)) (sym is) (behind_turn (scope_at program i) (i + 1 + 1) code (omega (arith, within, ap length is)) at')
+      subst (Behind place Entries (texts_of program) (literals_of program) All (scope_at program i)) (sym is)
+      (behind_turn (scope_at program i) (i + 1 + 1) code (omega (arith, within, ap length is)) at')
 
   module _ (closed : IsClosed program.pieces) (short : All ≤ nowhere) where
     none_there : (s : State) (k : Chain) → code_turn Entries These Code nowhere s k ≡ Lacks []
@@ -192,7 +193,7 @@ module _ (program : Played) where
         ap (λ d. begins Entries These All d (placed_state place s) k) (code_from program i st at inner ∙ ap (From i) e)
         ∙ ap (λ b. begins Entries These All (cond b (From (i + 1) rest) (Turn (i + 1) ∷ body)) (placed_state place s) k) inner
         ∙ ap (happened_in_piece (i + 1))
-        (body_follows place Entries These All scope s k first st.body (From (i + 1) rest) (entry_is program)
+        (body_follows place Entries (texts_of program) (literals_of program) All scope s k first st.body (From (i + 1) rest) (entry_is program)
         (λ f. behind_piece i rest next (not_all i st rest e inner) (c.0 inner f)) (constants_at i program st rest e))
         ∙ sym (happens_in_piece k (i + 1) (placed place (done scope s st.body)))
         ∙ ap (happens k) (piece_placed place (i + 1) (done scope s st.body) ∙ ap (λ o. placed place (turn_of (scope_at program i) (i + 1) s o)) (sym at))
@@ -249,6 +250,7 @@ module _ (program : Played) where
       stands chosen n k =
           let s : State = start chosen (zeros_of program) in
           ap (λ h. goes_on h s k (code_run Entries These Code n))
-          (begins_alike program place Entries These All (entry_is program) first_turn.first (From 0 program.pieces) s k (λ i preset others e. preset_known i program preset others e) start_all turn_behind
+          (begins_alike program place Entries (texts_of program) (literals_of program) All (entry_is program) first_turn.first (From 0 program.pieces) s k
+          (λ i preset others e. preset_known i program preset others e) start_all turn_behind
           ∙ happens_placed place k (beginning program s))
           ∙ goes_follows n (run_follows n) (happens k (beginning program s)) s k

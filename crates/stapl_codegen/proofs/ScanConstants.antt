@@ -4,7 +4,7 @@ use Rattle.std.specs.Option.{option_map}
 use Rattle.stapl_lexer.specs.declared.terminal.Register.{Register}
 use Rattle.stapl_syntax.specs.Trees.{number, scalar, element, unary, binary, abs, int, ArrayTree, literal, whole, range, of_int, CompareTree}
 use Rattle.stapl_meaning.specs.Values as values
-use Rattle.stapl_meaning.specs.Values.{Got, Known, then_get, Lookup, source_of}
+use Rattle.stapl_meaning.specs.Values.{Got, Known, then_get, Lookup, source_of, of_programs}
 use Rattle.stapl_meaning.specs.Effects.{Target}
 use Rattle.stapl_meaning.specs.Operands.{Operand, an_index, array_operands, given_operands, target_operands, compare_operands}
 use Rattle.stapl_meaning.specs.Scans.{CompareParts, ScanParts}
@@ -12,25 +12,26 @@ use Rattle.stapl_meaning.specs.ScanTrees.{given_source, given_target, compare_pa
 use Rattle.stapl_code.specs.declared.instr.Cell.{Cell}
 use Rattle.stapl_code.specs.declared.instr.Cell.TheVariants as cells
 use Rattle.stapl_code.specs.Machine.{Slot, source_slots, given_slots, target_slots, cell_slots, compare_slots, scan_slots, target_of, cell_part, known_source, known_given, known_compare, known_scan}
-use Rattle.stapl_codegen.specs.Emit.{past, array_literals, given_literals, compare_literals, source_code, given_code, target_code, compare_code, scan_code}
+use Rattle.stapl_codegen.specs.Emit.{program_constants, past, array_literals, given_literals, compare_literals, source_code, given_code, target_code, compare_code, scan_code}
 use Rattle.stapl_codegen.proofs.Constants.{HasItems, has_front, has_behind, source_known, source_count}
 
-module _ (literals : List (List Bool)) (look : Lookup) where
-  pub given_known : (n : ℕ) (a : Option ArrayTree) → HasItems literals n (given_literals a) → known_given literals (given_code look n a) ≡ Known (given_source look a)
+module _ (texts : List (List ℕ)) (literals : List (List Bool)) (look : Lookup) where
+  pub given_known : (n : ℕ) (a : Option ArrayTree) → HasItems literals n (given_literals a) → known_given (program_constants texts literals) (given_code look n a) ≡ Known (given_source look a)
   given_known n None has = refl
-  given_known n (Some a) has = ap (λ g. then_get g (λ from. Known (Some from))) (source_known literals look n a has)
+  given_known n (Some a) has = ap (λ g. then_get g (λ from. Known (Some from))) (source_known texts literals look n a has)
 
   both_known : (n : ℕ) (expected mask : ArrayTree) (cell : Cell) → HasItems literals n (array_literals expected ++ array_literals mask) →
-      known_compare literals (Some (record { expected = source_code look n expected; mask = source_code look (past n (array_literals expected)) mask; cell = cell }))
+      known_compare (program_constants texts literals) (Some (record { expected = source_code look n expected; mask = source_code look (past n (array_literals expected)) mask; cell = cell }))
       ≡ Known (Some (record { expected = source_of look expected; mask = source_of look mask; cell = cell_part cell }))
   both_known n expected mask cell has =
       let masked : values.Source → values.Source → Got (Option CompareParts) = λ e m. Known (Some (record { expected = e; mask = m; cell = cell_part cell })) in
-      let second = known_source literals (source_code look (past n (array_literals expected)) mask) in
-      ap (λ g. then_get g (λ e. then_get second (masked e))) (source_known literals look n expected (has_front literals n (array_literals expected) (array_literals mask) has))
+      let second = known_source (program_constants texts literals) (source_code look (past n (array_literals expected)) mask) in
+      ap (λ g. then_get g (λ e. then_get second (masked e))) (source_known texts literals look n expected (has_front literals n (array_literals expected) (array_literals mask) has))
       ∙ ap (λ g. then_get g (masked (source_of look expected)))
-      (source_known literals look (past n (array_literals expected)) mask (has_behind literals n (array_literals expected) (array_literals mask) has))
+      (source_known texts literals look (past n (array_literals expected)) mask (has_behind literals n (array_literals expected) (array_literals mask) has))
 
-  compare_known : (n : ℕ) (compare : Option CompareTree) → HasItems literals n (compare_literals compare) → known_compare literals (compare_code look n compare) ≡ Known (compare_parts look compare)
+  compare_known : (n : ℕ) (compare : Option CompareTree) → HasItems literals n (compare_literals compare) →
+      known_compare (program_constants texts literals) (compare_code look n compare) ≡ Known (compare_parts look compare)
   compare_known n None has = refl
   compare_known n (Some (expected, (mask, scalar name))) has = both_known n expected mask (cells.Scalar (look.variable name)) has
   compare_known n (Some (expected, (mask, element name index))) has = both_known n expected mask (cells.Element (look.variable name)) has
@@ -40,7 +41,7 @@ module _ (literals : List (List Bool)) (look : Lookup) where
   compare_known n (Some (expected, (mask, abs e))) has = refl
   compare_known n (Some (expected, (mask, int a))) has = refl
 
-  target_known : (target : Option ArrayTree) → option_map target_of (target_code look target) ≡ given_target look target
+  target_known : (target : Option ArrayTree) → option_map (target_of of_programs) (target_code look target) ≡ given_target look target
   target_known None = refl
   target_known (Some (literal bits)) = refl
   target_known (Some (whole name)) = refl
@@ -49,15 +50,15 @@ module _ (literals : List (List Bool)) (look : Lookup) where
 
   pub scan_known : (n : ℕ) (register : Register) (source : ArrayTree) (target : Option ArrayTree) (compare : Option CompareTree) →
       HasItems literals n (array_literals source ++ compare_literals compare) →
-      known_scan literals (scan_code look n register source target compare) ≡ Known (scan_parts look register source target compare)
+      known_scan (program_constants texts literals) (scan_code look n register source target compare) ≡ Known (scan_parts look register source target compare)
   scan_known n register source target compare has =
       let parts : values.Source → Option Target → Option CompareParts → Got ScanParts =
       λ s t c. Known (record { register = register; source = s; target = t; compare = c })
       in
-      let to : Option Target = option_map target_of (target_code look target) in
+      let to : Option Target = option_map (target_of of_programs) (target_code look target) in
       let behind : ℕ = past n (array_literals source) in
-      ap (λ g. then_get g (λ s. then_get (known_compare literals (compare_code look behind compare)) (parts s to)))
-      (source_known literals look n source (has_front literals n (array_literals source) (compare_literals compare) has))
+      ap (λ g. then_get g (λ s. then_get (known_compare (program_constants texts literals) (compare_code look behind compare)) (parts s to)))
+      (source_known texts literals look n source (has_front literals n (array_literals source) (compare_literals compare) has))
       ∙ ap (λ g. then_get g (parts (source_of look source) to)) (compare_known behind compare (has_behind literals n (array_literals source) (compare_literals compare) has))
       ∙ ap (λ t. parts (source_of look source) t (compare_parts look compare)) (target_known target)
 

@@ -142,7 +142,8 @@ module _ (i : ℕ) (program : Played) (preset : Preset) (others : List (Option P
   preset_below = below row_literals i program.presets program.pieces Front (row_literals preset.body) Rest (preset_parts row_literals i program.presets program.pieces preset others e)
 
 -- the literals before the next place
-pub literals_more : (program : Played) (i : ℕ) (o : Option Preset) (st : StmtTree) → drop i program.presets ≡ o ∷ drop (i + 1) program.presets → drop i program.pieces ≡ st ∷ drop (i + 1) program.pieces →
+pub literals_more : (program : Played) (i : ℕ) (o : Option Preset) (st : StmtTree) → drop i program.presets ≡ o ∷ drop (i + 1) program.presets →
+    drop i program.pieces ≡ st ∷ drop (i + 1) program.pieces →
     literals_before program (i + 1) ≡ literals_before program i ++ (body_literals st.body ++ preset_items row_literals o)
 literals_more program i o st presets pieces =
     let next : i + 1 ≡ suc i = omega arith in

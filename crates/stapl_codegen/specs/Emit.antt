@@ -14,7 +14,7 @@ use Rattle.stapl_syntax.specs.Kinds.{expr_kind}
 use Rattle.stapl_syntax.specs.Statements.{is_outer}
 use Rattle.stapl_meaning.specs.declared.values.ValueKind.{ValueKind}
 use Rattle.stapl_meaning.specs.declared.values.ValueKind.TheVariants as kinds
-use Rattle.stapl_meaning.specs.Values.{Lookup, unary_side, sides}
+use Rattle.stapl_meaning.specs.Values.{Lookup, of_programs, unary_side, sides}
 use Rattle.stapl_meaning.specs.Operands.{Test, Plain, Character, Index, Range, Operand, printed_kind, given_kind}
 use Rattle.stapl_meaning.specs.Scopes.{Scope, Preset, Played, scope_at, preset_scope, procedure_number}
 use Rattle.stapl_meaning.specs.declared.waits.WaitKind.TheVariants as waits
@@ -317,8 +317,12 @@ texts_of program = statements_items row_texts program.pieces
 abbrev pub literals_of : Played → List (List Bool)
 literals_of program = pieces_items row_literals program.presets program.pieces
 
+-- what the code of a program with these texts and literals names by number
+abbrev pub program_constants : List (List ℕ) → List (List Bool) → Constants
+program_constants texts literals = record { profile = of_programs; texts = texts; literals = literals }
+
 abbrev pub constants_in : Played → Constants
-constants_in program = record { texts = texts_of program; literals = literals_of program }
+constants_in program = program_constants (texts_of program) (literals_of program)
 
 -- those before a place
 abbrev pub texts_before : Played → ℕ → List (List ℕ)

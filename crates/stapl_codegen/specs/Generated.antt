@@ -4,6 +4,7 @@ use Rattle.stapl_syntax.specs.declared.names.Key.{Key}
 use Rattle.stapl_syntax.specs.declared.names.Variable.{Variable}
 use Rattle.stapl_syntax.specs.declared.names.VarKind.{VarKind}
 use Rattle.stapl_syntax.specs.declared.names.VarKind.TheVariants as kinds
+use Rattle.stapl_meaning.specs.Values.{of_programs}
 use Rattle.stapl_meaning.specs.Scopes.{Played, zeros_of}
 use Rattle.stapl_code.specs.declared.raw.VarDef.{VarDef}
 use Rattle.stapl_code.specs.declared.raw.CodeLists.{CodeLists}
@@ -24,6 +25,7 @@ variable_def v = record { kind = kind_number v.1.kind; size = nat_abs v.1.size }
 -- the lists of the code
 abbrev pub lists_of : Played → CodeLists
 lists_of program = record {
+  profile = of_programs;
   variables = map variable_def program.names.variables;
   literals = literals_of program;
   texts = texts_of program;

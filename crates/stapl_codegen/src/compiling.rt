@@ -4,6 +4,7 @@ ghost use Rattle.std.specs.List.{range_with_len};
 ghost use Rattle.stapl_syntax.specs.Trees.{trees};
 ghost use Rattle.stapl_syntax.specs.ProgramValues.{trees_of};
 ghost use Rattle.stapl_syntax.specs.Programs.{piece_limit, IsProgram};
+ghost use Rattle.stapl_meaning.specs.Values.{of_programs};
 ghost use Rattle.stapl_meaning.specs.Scopes.{program_names, as_played};
 ghost use Rattle.stapl_code.specs.Files.{file};
 ghost use Rattle.stapl_code.specs.Ranges.{IsInRange};
@@ -19,6 +20,7 @@ use crate::draft::{Written, write_program};
 use crate::laws::{accepted_code_is_valid, files_are_short, programs_are_accepted};
 use base::ItemList;
 use stapl_code::{ActionDef, Code, CodeLists, ProcDef, RawCode, ValidateRefused, VarDef, validate};
+use stapl_meaning::Profile;
 use stapl_names::{Names, collect};
 use stapl_syntax::{Program, Stmt};
 use std::alloc::{AllocError, Global};
@@ -83,6 +85,7 @@ fn outline_of(
 // The lists of a code, by what is written of it and what it defines.
 fn joined(written: Written, outline: Outline) -> CodeLists
     ensures { result ≡ record {
+      profile = of_programs;
       variables = outline.variables.items;
       literals = written.literals.items;
       texts = written.texts.items;
@@ -92,6 +95,7 @@ fn joined(written: Written, outline: Outline) -> CodeLists
     } }
 {
     CodeLists {
+        profile: Profile::Two,
         variables: ItemList::of(outline.variables),
         literals: ItemList::of(written.literals),
         texts: ItemList::of(written.texts),

@@ -1,22 +1,19 @@
 -- On elements and parts of arrays.
-use Rattle.std.proofs.Common.{◌≡◌, ◌≢◌, get_or, ◌≤◌, ◌<◌, ℕ, ◌+◌, List, [], ◌∷◌, length, take, drop, refl, sym, ap, ◌∙◌, arith, Option, Some, None}
-use Rattle.std.specs.Prelude.{ℤ, min, Bool, true, false, Result, Ok, Err, slice_get, slice_set, nat_le}
+use Rattle.std.proofs.Common.{◌≡◌, ◌≢◌, get_or, ◌≤◌, ◌<◌, ℕ, ◌+◌, List, [], ◌∷◌, length, take, refl, sym, ap, ◌∙◌, arith, Option, Some, None}
+use Rattle.std.specs.Prelude.{ℤ, Bool, true, Result, Ok, Err, slice_get, slice_set, nat_le}
 use Rattle.std.specs.Int.{w32, cast_unsigned}
 use Rattle.std.specs.Int.RustNames.{FitsSigned}
-use Rattle.std.proofs.lemmas.List.{set-set, get_or-set_other, take_all, take-take, length-take-le, length-drop}
-use borrow.Author.Tests.{leb-true}
+use Rattle.std.proofs.lemmas.List.{set-set, get_or-set_other, take_all}
 use Rattle.base.proofs.NumberBits.{lowest_bits, length-low_bits}
 use Rattle.bit_list.specs.Integers.{bits_of_int, int_of}
-use Rattle.bit_list.specs.Ranges.{taken, spliced}
 use Rattle.bit_list.proofs.IntegerBits.{int_of-bits_of_int}
-use Rattle.bit_list.proofs.Padding.{first_of_first}
-use Rattle.stapl_meaning.specs.declared.events.RunFault.{RunFault}
+use Rattle.stapl_meaning.specs.declared.profiles.Profile.{Profile}
 use Rattle.stapl_meaning.specs.declared.events.RunFault.TheVariants.{LengthMismatch}
 use Rattle.stapl_meaning.specs.declared.values.Value.{Value}
 use Rattle.stapl_meaning.specs.declared.values.Value.TheVariants.{Int, Bit}
 use Rattle.stapl_meaning.specs.declared.values.Held.{Held}
 use Rattle.stapl_meaning.specs.declared.values.Held.TheVariants as held
-use Rattle.stapl_meaning.specs.Values.{Got, Known, Stuck, then_get, passed, bits_held, source_bits, asked, Whole, Range, OfInt, bits_of, bits_in}
+use Rattle.stapl_meaning.specs.Values.{Got, Known, Stuck, then_get, passed, bits_held, source_bits, asked, Whole, Range, OfInt, bits_of, bits_in, span_bits, span_put}
 use Rattle.stapl_meaning.specs.Values as values
 use Rattle.std.proofs.lemmas.Bool.Decides.{nat_tests}
 use Rattle.stapl_meaning.specs.States.{ScanSettings, State, Did, Falls}
@@ -32,15 +29,12 @@ use Rattle.stapl_instructions.specs.declared.parts.Part.{Part}
 use Rattle.stapl_instructions.specs.declared.parts.Span.{Span}
 use Rattle.stapl_instructions.specs.Found.{IsGot}
 use Rattle.stapl_instructions.proofs.PrintLemmas.{item_at}
-use Rattle.stapl_instructions.specs.Arrays.{with_bits, span_in, HasPart, part_held, whole_span, range_span, IsFound, array_of, dest_span, behind_dest, with_part, bits_put, part_asked, integer_asked}
+use Rattle.stapl_instructions.specs.Arrays.{with_bits, span_in, HasPart, part_held, whole_span, range_span, IsFound, array_of, dest_span, behind_dest, with_part, bits_put, first_bits, part_asked, integer_asked}
+use Rattle.stapl_instructions.proofs.SpanLemmas.{length_span}
 
 -- an integer of all its bits
 pub same_integer : (z : ℤ) → FitsSigned w32 z → int_of (take 32 (bits_of_int z)) ≡ z
 same_integer z fits = ap int_of (lowest_bits 32 32 (cast_unsigned w32 z) (omega arith)) ∙ int_of-bits_of_int z fits
-
--- the lowest bits of a part
-pub low_taken : (m low count : ℕ) (bits : List Bool) → m ≡ min count 32 → taken low m bits ≡ take 32 (taken low count bits)
-low_taken m low count bits e = first_of_first m count 32 (drop low bits) e
 
 -- lists of few items
 pub no_item_left : {A : Type 0} (xs : List A) → length xs < 1 → xs ≡ []
@@ -83,29 +77,29 @@ never (Some (held.Bit b)) go = refl
 never (Some (held.Ints zs)) go = refl
 never (Some (held.Bits bs)) go = refl
 
-pub copied_parts : (dest : Dest) (source : values.Source) (vs : List Value) (s : State) →
-    copied (target_of dest) source vs s
-    ≡ then_get (part_held (slice_get s.store.variables (array_of dest)) (dest_span dest vs))
+pub copied_parts : (profile : Profile) (dest : Dest) (source : values.Source) (vs : List Value) (s : State) →
+    copied (target_of profile dest) source vs s
+    ≡ then_get (part_held (slice_get s.store.variables (array_of dest)) (dest_span profile dest vs))
     (span_written (array_of dest) (bits_in (slice_get s.store.variables (array_of dest))) source (behind_dest dest vs) s)
-copied_parts (dests.Whole n) source vs s =
+copied_parts profile (dests.Whole n) source vs s =
     parts_then (slice_get s.store.variables n) whole_span (λ old. span_written n old source vs s)
-copied_parts (dests.Range n) source (high ∷ low ∷ vs) s =
-    parts_then (slice_get s.store.variables n) (range_span high low) (λ old. span_written n old source vs s)
-copied_parts (dests.Range n) source [] s = never (slice_get s.store.variables n) (λ old. span_written n old source [] s)
-copied_parts (dests.Range n) source (high ∷ []) s = never (slice_get s.store.variables n) (λ old. span_written n old source [] s)
+copied_parts profile (dests.Range n) source (first ∷ second ∷ vs) s =
+    parts_then (slice_get s.store.variables n) (range_span profile first second) (λ old. span_written n old source vs s)
+copied_parts profile (dests.Range n) source [] s = never (slice_get s.store.variables n) (λ old. span_written n old source [] s)
+copied_parts profile (dests.Range n) source (first ∷ []) s = never (slice_get s.store.variables n) (λ old. span_written n old source [] s)
 
 -- the part is known
-pub copied_at : (dest : Dest) (source : values.Source) (vs rest : List Value) (part : Part) (s : State) →
-    IsFound s.store.variables (array_of dest) (dest_span dest vs) part → behind_dest dest vs ≡ rest →
-    copied (target_of dest) source vs s
+pub copied_at : (profile : Profile) (dest : Dest) (source : values.Source) (vs rest : List Value) (part : Part) (s : State) →
+    IsFound s.store.variables (array_of dest) (dest_span profile dest vs) part → behind_dest dest vs ≡ rest →
+    copied (target_of profile dest) source vs s
     ≡ span_written part.array (bits_in (slice_get s.store.variables part.array)) source rest s (span_in part.span)
-copied_at dest source vs rest part s found e =
-    copied_parts dest source vs s
+copied_at profile dest source vs rest part s found e =
+    copied_parts profile dest source vs s
     ∙ ap (λ g. then_get g (span_written (array_of dest) (bits_in (slice_get s.store.variables (array_of dest))) source (behind_dest dest vs) s)) found.span
     ∙ ap (λ n. span_written n (bits_in (slice_get s.store.variables n)) source (behind_dest dest vs) s (span_in part.span)) (sym found.array)
     ∙ ap (λ l. span_written part.array (bits_in (slice_get s.store.variables part.array)) source l s (span_in part.span)) e
 
-all_of : (array : Option Held) → bits_held array ≡ then_get (part_held array whole_span) (λ span. Known (taken span.low span.count (bits_in array)))
+all_of : (array : Option Held) → bits_held array ≡ then_get (part_held array whole_span) (λ span. Known (span_bits span (bits_in array)))
 all_of None = refl
 all_of (Some (held.Int z)) = refl
 all_of (Some (held.Bit b)) = refl
@@ -115,26 +109,20 @@ all_of (Some (held.Bits bs)) = ap (λ (l : List Bool). let g : Got (List Bool) =
 -- the bits of a source
 pub whole_bits : (variables : List Held) (n : ℕ) →
     source_bits variables (Whole n) [] ≡ then_get (part_held (slice_get variables n) whole_span)
-    (λ span. Known (taken span.low span.count (bits_in (slice_get variables n))))
+    (λ span. Known (span_bits span (bits_in (slice_get variables n))))
 whole_bits variables n = all_of (slice_get variables n)
 
-pub range_bits : (variables : List Held) (n : ℕ) (high low : Value) →
-    source_bits variables (Range n) (high ∷ low ∷ [])
-    ≡ then_get (part_held (slice_get variables n) (range_span high low)) (λ span. Known (taken span.low span.count (bits_in (slice_get variables n))))
-range_bits variables n high low = parts_then (slice_get variables n) (range_span high low) (λ bits span. Known (taken span.low span.count bits))
-
-passed_same : {A : Type 0} (b : Bool) (k : RunFault) (x y : A) → (b ≡ true → x ≡ y) → passed b k x ≡ passed b k y
-passed_same true k x y h = ap Known (h refl)
-passed_same false k x y h = refl
+pub range_bits : (profile : Profile) (variables : List Held) (n : ℕ) (first second : Value) →
+    source_bits variables (Range profile n) (first ∷ second ∷ [])
+    ≡ then_get (part_held (slice_get variables n) (range_span profile first second)) (λ span. Known (span_bits span (bits_in (slice_get variables n))))
+range_bits profile variables n first second =
+    parts_then (slice_get variables n) (range_span profile first second) (λ bits span. Known (span_bits span bits))
 
 -- so many of the bits of a part
-asked_taken : (n low count : ℕ) (bits : List Bool) → low + count ≤ length bits →
-    passed (nat_le n (length (taken low count bits))) LengthMismatch (take n (taken low count bits)) ≡ passed (nat_le n count) LengthMismatch (taken low n bits)
-asked_taken n low count bits h =
-    let len : length (taken low count bits) ≡ count = length-take-le count (drop low bits) (omega (arith, length-drop low bits)) in
-    ap (λ m. passed (nat_le n m) LengthMismatch (take n (taken low count bits))) len
-    ∙ passed_same (nat_le n count) LengthMismatch (take n (taken low count bits)) (taken low n bits)
-    (λ e. take-take n count (drop low bits) (leb-true n count e))
+asked_taken : (n : ℕ) (span : Span) (bits : List Bool) → span.low + span.count ≤ length bits →
+    passed (nat_le n (length (span_bits (span_in span) bits))) LengthMismatch (take n (span_bits (span_in span) bits))
+    ≡ passed (nat_le n span.count) LengthMismatch (first_bits n span bits)
+asked_taken n span bits inside = ap (λ m. passed (nat_le n m) LengthMismatch (first_bits n span bits)) (length_span span bits inside)
 
 asked_integer : (n : ℕ) (z : ℤ) → asked OfInt n (bits_of_int z) ≡ passed (nat_le n 32) LengthMismatch (take n (bits_of_int z))
 asked_integer n z = ap (λ m. passed (nat_le n m) LengthMismatch (take n (bits_of_int z))) (length-low_bits 32 (cast_unsigned w32 z))
@@ -144,50 +132,51 @@ part_inside None span h = absurd h
 part_inside (Some array) span h = h.inside
 
 -- what an instruction that copies does
-module _ (dest : Dest) (vs : List Value) (part : Part) (chosen : List ℕ) (records : List Record) (ir dr : ScanSettings)
-    (variables : List Held) (found : IsFound variables (array_of dest) (dest_span dest vs) part) where
+module _ (profile : Profile) (dest : Dest) (vs : List Value) (part : Part) (chosen : List ℕ) (records : List Record) (ir dr : ScanSettings)
+    (variables : List Held) (found : IsFound variables (array_of dest) (dest_span profile dest vs) part) where
   pub copied_integer : (v : Value) → behind_dest dest vs ≡ v ∷ [] →
-      copied (target_of dest) OfInt vs (state_with chosen records ir dr variables) ≡ bits_put variables part
+      copied (target_of profile dest) OfInt vs (state_with chosen records ir dr variables) ≡ bits_put variables part
       (state_with chosen records ir dr variables) (integer_asked part v)
   copied_integer (Int z) e =
-      copied_at dest OfInt vs (Int z ∷ []) part (state_with chosen records ir dr variables) found e
+      copied_at profile dest OfInt vs (Int z ∷ []) part (state_with chosen records ir dr variables) found e
       ∙ ap (bits_put variables part (state_with chosen records ir dr variables)) (asked_integer part.span.count z)
-  copied_integer (Bit b) e = copied_at dest OfInt vs (Bit b ∷ []) part (state_with chosen records ir dr variables) found e
+  copied_integer (Bit b) e = copied_at profile dest OfInt vs (Bit b ∷ []) part (state_with chosen records ir dr variables) found e
 
   -- the bits of a part of an array
   module _ (n : ℕ) (spans : ℕ → Got values.Span) (from : Part) (is : IsFound variables n spans from) where
     abbrev bits_there : List Bool
-    bits_there = taken from.span.low from.span.count (bits_in (slice_get variables from.array))
+    bits_there = span_bits (span_in from.span) (bits_in (slice_get variables from.array))
 
     known_bits : then_get (part_held (slice_get variables n) spans)
-        (λ span. Known (taken span.low span.count (bits_in (slice_get variables n)))) ≡ Known bits_there
+        (λ span. Known (span_bits span (bits_in (slice_get variables n)))) ≡ Known bits_there
     known_bits =
-        ap (λ g. then_get g (λ span. Known (taken span.low span.count (bits_in (slice_get variables n))))) is.span
-        ∙ ap (λ (m : ℕ). let g : Got (List Bool) = Known (taken from.span.low from.span.count (bits_in (slice_get variables m))) in g) (sym is.array)
+        ap (λ g. then_get g (λ span. Known (span_bits span (bits_in (slice_get variables n))))) is.span
+        ∙ ap (λ (m : ℕ). let g : Got (List Bool) = Known (span_bits (span_in from.span) (bits_in (slice_get variables m))) in g) (sym is.array)
 
     asked_there : passed (nat_le part.span.count (length bits_there)) LengthMismatch (take part.span.count bits_there) ≡ part_asked variables part from
     asked_there =
-        asked_taken part.span.count from.span.low from.span.count (bits_in (slice_get variables from.array))
+        asked_taken part.span.count from.span (bits_in (slice_get variables from.array))
         (part_inside (slice_get variables from.array) from.span is.is_part.has)
 
   pub copied_whole : (n : ℕ) (from : Part) → IsFound variables n whole_span from → behind_dest dest vs ≡ [] →
-      copied (target_of dest) (Whole n) vs (state_with chosen records ir dr variables) ≡ bits_put variables part
+      copied (target_of profile dest) (Whole n) vs (state_with chosen records ir dr variables) ≡ bits_put variables part
       (state_with chosen records ir dr variables) (part_asked variables part from)
   copied_whole n from is e =
-      copied_at dest (Whole n) vs [] part (state_with chosen records ir dr variables) found e
+      copied_at profile dest (Whole n) vs [] part (state_with chosen records ir dr variables) found e
       ∙ ap (λ g. then_get g
       (λ bits. bits_put variables part (state_with chosen records ir dr variables)
       (asked (Whole n) part.span.count bits))) (whole_bits variables n ∙ known_bits n whole_span from is)
       ∙ ap (bits_put variables part (state_with chosen records ir dr variables)) (asked_there n whole_span from is)
 
-  pub copied_range : (n : ℕ) (high low : Value) (from : Part) → IsFound variables n (range_span high low) from → behind_dest dest vs ≡ high ∷ low ∷ [] →
-      copied (target_of dest) (Range n) vs (state_with chosen records ir dr variables) ≡ bits_put variables part
+  pub copied_range : (n : ℕ) (first second : Value) (from : Part) → IsFound variables n (range_span profile first second) from →
+      behind_dest dest vs ≡ first ∷ second ∷ [] →
+      copied (target_of profile dest) (Range profile n) vs (state_with chosen records ir dr variables) ≡ bits_put variables part
       (state_with chosen records ir dr variables) (part_asked variables part from)
-  copied_range n high low from is e =
-      copied_at dest (Range n) vs (high ∷ low ∷ []) part (state_with chosen records ir dr variables) found e
-      ∙ ap (λ g. then_get g (λ bits. bits_put variables part (state_with chosen records ir dr variables) (asked (Range n) part.span.count bits)))
-      (range_bits variables n high low ∙ known_bits n (range_span high low) from is)
-      ∙ ap (bits_put variables part (state_with chosen records ir dr variables)) (asked_there n (range_span high low) from is)
+  copied_range n first second from is e =
+      copied_at profile dest (Range profile n) vs (first ∷ second ∷ []) part (state_with chosen records ir dr variables) found e
+      ∙ ap (λ g. then_get g (λ bits. bits_put variables part (state_with chosen records ir dr variables) (asked (Range profile n) part.span.count bits)))
+      (range_bits profile variables n first second ∙ known_bits n (range_span profile first second) from is)
+      ∙ ap (bits_put variables part (state_with chosen records ir dr variables)) (asked_there n (range_span profile first second) from is)
 
 -- bits go into a part of a variable where it lies
 pub part_put : (variables : List Held) (part : Part) (bits : List Bool) (old new : Held) →
@@ -196,35 +185,37 @@ pub part_put : (variables : List Held) (part : Part) (bits : List Bool) (old new
 part_put variables part bits old new inside old_is e =
     let at = item_at variables part.array old inside old_is in
     ap (λ (h : Held). slice_set variables part.array h)
-    (e ∙ ap (λ (b : List Bool). let h : Held = held.Bits (spliced part.span.low bits b) in h) (sym (ap bits_in at)))
+    (e ∙ ap (λ (b : List Bool). let h : Held = held.Bits (span_put (span_in part.span) bits b) in h) (sym (ap bits_in at)))
 
 -- bits of the same array go into a part of it
-pub moved_put : (variables : List Held) (part : Part) (from low : ℕ) (old new : Held) → part.array < length variables →
-    part.array ≡ from → old ≡ get_or variables part.array old →
-    new ≡ with_bits old part.span (taken low part.span.count (bits_of old)) →
-    slice_set variables part.array new ≡ with_part variables part (taken low part.span.count (bits_in (slice_get variables from)))
-moved_put variables part from low old new inside same old_is e =
+pub moved_put : (variables : List Held) (part from : Part) (old new : Held) → part.array < length variables →
+    part.array ≡ from.array → old ≡ get_or variables part.array old →
+    new ≡ with_bits old part.span (first_bits part.span.count from.span (bits_of old)) →
+    slice_set variables part.array new
+    ≡ with_part variables part (first_bits part.span.count from.span (bits_in (slice_get variables from.array)))
+moved_put variables part from old new inside same old_is e =
     let at = item_at variables part.array old inside old_is in
-    part_put variables part (taken low part.span.count (bits_of old)) old new inside old_is e
-    ∙ ap (λ (b : List Bool). with_part variables part (taken low part.span.count b)) (sym (ap bits_in at)
+    part_put variables part (first_bits part.span.count from.span (bits_of old)) old new inside old_is e
+    ∙ ap (λ (b : List Bool). with_part variables part (first_bits part.span.count from.span b)) (sym (ap bits_in at)
     ∙ ap (λ (n : ℕ). bits_in (slice_get variables n)) same)
 
 -- a variable that was taken out is put back, with bits of another one
-pub other_put : (variables : List Held) (part : Part) (from low : ℕ) (taken_out old new there : Held) →
-    part.array < length variables → from < length variables → part.array ≢ from →
-    old ≡ get_or variables part.array old → there ≡ get_or (slice_set variables part.array taken_out) from there →
-    new ≡ with_bits old part.span (taken low part.span.count (bits_of there)) →
-    slice_set (slice_set variables part.array taken_out) part.array new ≡ with_part variables part
-    (taken low part.span.count (bits_in (slice_get variables from)))
-other_put variables part from low taken_out old new there inside within other old_is there_is e =
+pub other_put : (variables : List Held) (part from : Part) (taken_out old new there : Held) →
+    part.array < length variables → from.array < length variables → part.array ≢ from.array →
+    old ≡ get_or variables part.array old → there ≡ get_or (slice_set variables part.array taken_out) from.array there →
+    new ≡ with_bits old part.span (first_bits part.span.count from.span (bits_of there)) →
+    slice_set (slice_set variables part.array taken_out) part.array new
+    ≡ with_part variables part (first_bits part.span.count from.span (bits_in (slice_get variables from.array)))
+other_put variables part from taken_out old new there inside within other old_is there_is e =
     let at_part = item_at variables part.array old inside old_is in
-    let at_from = item_at variables from there within (there_is ∙ get_or-set_other variables part.array from taken_out there (λ q. other (sym q))) in
+    let at_from = item_at variables from.array there within (there_is ∙ get_or-set_other variables part.array from.array taken_out there (λ q. other (sym q))) in
+    let new_bits : List Bool → List Bool = first_bits part.span.count from.span in
     set-set variables part.array taken_out new
     ∙ ap (λ (h : Held). slice_set variables part.array h)
     (e
-    ∙ ap (λ (b : List Bool). let h : Held = held.Bits (spliced part.span.low (taken low part.span.count b) (bits_of old)) in h) (sym (ap bits_in at_from))
+    ∙ ap (λ (b : List Bool). let h : Held = held.Bits (span_put (span_in part.span) (new_bits b) (bits_of old)) in h) (sym (ap bits_in at_from))
     ∙ ap (λ (b : List Bool). let h : Held =
-    held.Bits (spliced part.span.low (taken low part.span.count (bits_in (slice_get variables from))) b) in h)
+    held.Bits (span_put (span_in part.span) (new_bits (bits_in (slice_get variables from.array))) b) in h)
     (sym (ap bits_in at_part)))
 
 -- the bits of an integer went into a part of an array

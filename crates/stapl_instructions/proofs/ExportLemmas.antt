@@ -20,9 +20,9 @@ item_there (x ∷ xs) (suc n) d h = item_there xs n d (omega (arith, h))
 -- the text is known, and what is exported
 pub export_known : (constants : Constants) (variables : List Held) (e : Export) (part : ExportPart) (vs : List Value) (s : State) (bytes : List ℕ) →
     slice_get constants.texts e.key ≡ Some bytes →
-    part_exported constants.literals part bytes vs s ≡ Known (Falls (Says (events.Export bytes (value_exported constants.literals variables e.value)) ∷ []) s) →
-    does (then_get (known_text (slice_get constants.texts e.key)) (λ b. part_exported constants.literals part b vs s)) ≡ Known (Does (Falls (Says (export_event constants variables e) ∷ []) s))
+    part_exported constants part bytes vs s ≡ Known (Falls (Says (events.Export bytes (value_exported constants.literals variables e.value)) ∷ []) s) →
+    does (then_get (known_text (slice_get constants.texts e.key)) (λ b. part_exported constants part b vs s)) ≡ Known (Does (Falls (Says (export_event constants variables e) ∷ []) s))
 export_known constants variables e part vs s bytes at is =
-    ap (λ t. does (then_get (known_text t) (λ b. part_exported constants.literals part b vs s))) at
+    ap (λ t. does (then_get (known_text t) (λ b. part_exported constants part b vs s))) at
     ∙ ap does is
     ∙ ap (λ (t : List ℕ). let g : Got Made = Known (Does (Falls (Says (events.Export t (value_exported constants.literals variables e.value)) ∷ []) s)) in g) (sym (ap text_in at))

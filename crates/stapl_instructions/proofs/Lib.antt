@@ -6,6 +6,7 @@ pub mod Slices
 pub mod MoveLemmas
 pub mod SettingLemmas
 pub mod ScanLemmas
+pub mod SpanLemmas
 pub mod ArrayLemmas
 pub mod RoomLemmas
 pub mod OperandLemmas

@@ -12,7 +12,7 @@ use Rattle.stapl_code.specs.declared.instr.Source.{Source}
 use Rattle.stapl_code.specs.declared.instr.Source.TheVariants as sources
 use Rattle.stapl_code.specs.declared.instr.Compare.{Compare}
 use Rattle.stapl_code.specs.declared.instr.Scan.{Scan}
-use Rattle.stapl_code.specs.Machine.{known_literal, known_source, known_given, known_compare, known_scan, target_of, cell_part}
+use Rattle.stapl_code.specs.Machine.{Constants, known_literal, known_source, known_given, known_compare, known_scan, target_of, cell_part}
 use Rattle.stapl_instructions.specs.declared.effects.BitsAt.{BitsAt}
 use Rattle.stapl_instructions.specs.declared.effects.BitsAt.TheVariants as places
 use Rattle.stapl_instructions.specs.declared.operate.Stop.{Stop}
@@ -77,115 +77,115 @@ agrees false mask expected bits p q is = by (agree mask expected bits) refl
     by true e = absurd (true≢false (sym (is.1 ((agree_is mask expected bits p q).0 e))))
 
 -- bits that lie somewhere are asked for as those of their source
-asks_alike : (literals : List (List Bool)) (source : Source) (at : BitsAt) → IsOf source at → (n : ℕ) (list : List Bool) →
-    asked (resolved literals source) n list ≡ asked_at at n list
-asks_alike literals (sources.Literal k) (places.Literal j) is n list = refl
-asks_alike literals (sources.Literal k) (places.Part part) is n list = absurd is
-asks_alike literals (sources.Literal k) (places.Integer z) is n list = absurd is
-asks_alike literals (sources.Whole k) (places.Literal j) is n list = absurd is
-asks_alike literals (sources.Whole k) (places.Part part) is n list = refl
-asks_alike literals (sources.Whole k) (places.Integer z) is n list = absurd is
-asks_alike literals (sources.Range k) (places.Literal j) is n list = absurd is
-asks_alike literals (sources.Range k) (places.Part part) is n list = refl
-asks_alike literals (sources.Range k) (places.Integer z) is n list = absurd is
-asks_alike literals sources.FromInt (places.Literal j) is n list = absurd is
-asks_alike literals sources.FromInt (places.Part part) is n list = absurd is
-asks_alike literals sources.FromInt (places.Integer z) is n list = refl
+asks_alike : (constants : Constants) (source : Source) (at : BitsAt) → IsOf source at → (n : ℕ) (list : List Bool) →
+    asked (resolved constants source) n list ≡ asked_at at n list
+asks_alike constants (sources.Literal k) (places.Literal j) is n list = refl
+asks_alike constants (sources.Literal k) (places.Part part) is n list = absurd is
+asks_alike constants (sources.Literal k) (places.Integer z) is n list = absurd is
+asks_alike constants (sources.Whole k) (places.Literal j) is n list = absurd is
+asks_alike constants (sources.Whole k) (places.Part part) is n list = refl
+asks_alike constants (sources.Whole k) (places.Integer z) is n list = absurd is
+asks_alike constants (sources.Range k) (places.Literal j) is n list = absurd is
+asks_alike constants (sources.Range k) (places.Part part) is n list = refl
+asks_alike constants (sources.Range k) (places.Integer z) is n list = absurd is
+asks_alike constants sources.FromInt (places.Literal j) is n list = absurd is
+asks_alike constants sources.FromInt (places.Part part) is n list = absurd is
+asks_alike constants sources.FromInt (places.Integer z) is n list = refl
 
-pub ask_alike : (literals : List (List Bool)) (source : Source) (r : Result BitsAt Stop) → IfOk r (IsOf source) →
-    IfOk r (λ at. (n : ℕ) (list : List Bool) → asked (resolved literals source) n list ≡ asked_at at n list)
-ask_alike literals source (Ok at) is = λ n list. asks_alike literals source at is n list
-ask_alike literals source (Err stop) is = tt
+pub ask_alike : (constants : Constants) (source : Source) (r : Result BitsAt Stop) → IfOk r (IsOf source) →
+    IfOk r (λ at. (n : ℕ) (list : List Bool) → asked (resolved constants source) n list ≡ asked_at at n list)
+ask_alike constants source (Ok at) is = λ n list. asks_alike constants source at is n list
+ask_alike constants source (Err stop) is = tt
 
 -- ---- scans whose literals are not there
 
-known_as : (literals : List (List Bool)) (source : Source) (b : Bool) → is_known literals source ≡ b →
-    known_source literals source ≡ (if b then Known (resolved literals source) else Stuck)
-known_as literals (sources.Literal n) b e = by (slice_get literals n) b e
+known_as : (constants : Constants) (source : Source) (b : Bool) → is_known constants.literals source ≡ b →
+    known_source constants source ≡ (if b then Known (resolved constants source) else Stuck)
+known_as constants (sources.Literal n) b e = by (slice_get constants.literals n) b e
   where
     by : (o : Option (List Bool)) (b : Bool) → is_some o ≡ b → known_literal o ≡ (if b then Known (values.These (literal_in o)) else Stuck)
     by None false e = refl
     by None true e = absurd (true≢false (sym e))
     by (Some list) true e = refl
     by (Some list) false e = absurd (true≢false e)
-known_as literals (sources.Whole n) true e = refl
-known_as literals (sources.Whole n) false e = absurd (true≢false e)
-known_as literals (sources.Range n) true e = refl
-known_as literals (sources.Range n) false e = absurd (true≢false e)
-known_as literals sources.FromInt true e = refl
-known_as literals sources.FromInt false e = absurd (true≢false e)
+known_as constants (sources.Whole n) true e = refl
+known_as constants (sources.Whole n) false e = absurd (true≢false e)
+known_as constants (sources.Range n) true e = refl
+known_as constants (sources.Range n) false e = absurd (true≢false e)
+known_as constants sources.FromInt true e = refl
+known_as constants sources.FromInt false e = absurd (true≢false e)
 
-compare_as : (literals : List (List Bool)) (compare : Option Compare) (b : Bool) → is_compare_known literals compare ≡ b →
-    known_compare literals compare ≡ (if b then Known (option_map (compare_resolved literals) compare) else Stuck)
-compare_as literals None true e = refl
-compare_as literals None false e = absurd (true≢false e)
-compare_as literals (Some c) b e = by (is_known literals c.expected) refl (is_known literals c.mask) refl b e
+compare_as : (constants : Constants) (compare : Option Compare) (b : Bool) → is_compare_known constants.literals compare ≡ b →
+    known_compare constants compare ≡ (if b then Known (option_map (compare_resolved constants) compare) else Stuck)
+compare_as constants None true e = refl
+compare_as constants None false e = absurd (true≢false e)
+compare_as constants (Some c) b e = by (is_known constants.literals c.expected) refl (is_known constants.literals c.mask) refl b e
   where
     make : values.Source → values.Source → Got (Option CompareParts)
     make expected mask = Known (Some (record { expected = expected; mask = mask; cell = cell_part c.cell }))
 
-    by : (x : Bool) → is_known literals c.expected ≡ x → (y : Bool) → is_known literals c.mask ≡ y → (b : Bool) →
-        (is_known literals c.expected && is_known literals c.mask) ≡ b →
-        then_get (known_source literals c.expected) (λ expected. then_get (known_source literals c.mask) (λ mask. make expected mask))
-        ≡ (if b then Known (Some (compare_resolved literals c)) else Stuck)
+    by : (x : Bool) → is_known constants.literals c.expected ≡ x → (y : Bool) → is_known constants.literals c.mask ≡ y → (b : Bool) →
+        (is_known constants.literals c.expected && is_known constants.literals c.mask) ≡ b →
+        then_get (known_source constants c.expected) (λ expected. then_get (known_source constants c.mask) (λ mask. make expected mask))
+        ≡ (if b then Known (Some (compare_resolved constants c)) else Stuck)
     by true p true q b e =
-        let both : true ≡ b = sym (ap (λ (x : Bool). x && is_known literals c.mask) p ∙ q) ∙ e in
-        ap (λ g. then_get g (λ expected. then_get (known_source literals c.mask) (λ mask. make expected mask))) (known_as literals c.expected true p)
-        ∙ ap (λ g. then_get g (λ mask. make (resolved literals c.expected) mask)) (known_as literals c.mask true q)
-        ∙ ap (λ (x : Bool). if x then Known (Some (compare_resolved literals c)) else Stuck) both
+        let both : true ≡ b = sym (ap (λ (x : Bool). x && is_known constants.literals c.mask) p ∙ q) ∙ e in
+        ap (λ g. then_get g (λ expected. then_get (known_source constants c.mask) (λ mask. make expected mask))) (known_as constants c.expected true p)
+        ∙ ap (λ g. then_get g (λ mask. make (resolved constants c.expected) mask)) (known_as constants c.mask true q)
+        ∙ ap (λ (x : Bool). if x then Known (Some (compare_resolved constants c)) else Stuck) both
     by true p false q b e =
-        let both : false ≡ b = sym (ap (λ (x : Bool). x && is_known literals c.mask) p ∙ q) ∙ e in
-        ap (λ g. then_get g (λ expected. then_get (known_source literals c.mask) (λ mask. make expected mask))) (known_as literals c.expected true p)
-        ∙ ap (λ g. then_get g (λ mask. make (resolved literals c.expected) mask)) (known_as literals c.mask false q)
-        ∙ ap (λ (x : Bool). if x then Known (Some (compare_resolved literals c)) else Stuck) both
+        let both : false ≡ b = sym (ap (λ (x : Bool). x && is_known constants.literals c.mask) p ∙ q) ∙ e in
+        ap (λ g. then_get g (λ expected. then_get (known_source constants c.mask) (λ mask. make expected mask))) (known_as constants c.expected true p)
+        ∙ ap (λ g. then_get g (λ mask. make (resolved constants c.expected) mask)) (known_as constants c.mask false q)
+        ∙ ap (λ (x : Bool). if x then Known (Some (compare_resolved constants c)) else Stuck) both
     by false p y q b e =
-        let both : false ≡ b = sym (ap (λ (x : Bool). x && is_known literals c.mask) p) ∙ e in
-        ap (λ g. then_get g (λ expected. then_get (known_source literals c.mask) (λ mask. make expected mask))) (known_as literals c.expected false p)
-        ∙ ap (λ (x : Bool). if x then Known (Some (compare_resolved literals c)) else Stuck) both
+        let both : false ≡ b = sym (ap (λ (x : Bool). x && is_known constants.literals c.mask) p) ∙ e in
+        ap (λ g. then_get g (λ expected. then_get (known_source constants c.mask) (λ mask. make expected mask))) (known_as constants c.expected false p)
+        ∙ ap (λ (x : Bool). if x then Known (Some (compare_resolved constants c)) else Stuck) both
 
-scan_as : (literals : List (List Bool)) (scan : Scan) (x y b : Bool) → is_known literals scan.source ≡ x →
-    is_compare_known literals scan.compare ≡ y → (x && y) ≡ b →
-    known_scan literals scan ≡ (if b then Known (scan_resolved literals scan) else Stuck)
-scan_as literals scan x y b p q e =
-    ap (λ g. then_get g (λ source. then_get (known_compare literals scan.compare) (λ compare. Known (made source compare)))) (known_as literals scan.source x p)
-    ∙ by x y b e (compare_as literals scan.compare y q)
+scan_as : (constants : Constants) (scan : Scan) (x y b : Bool) → is_known constants.literals scan.source ≡ x →
+    is_compare_known constants.literals scan.compare ≡ y → (x && y) ≡ b →
+    known_scan constants scan ≡ (if b then Known (scan_resolved constants scan) else Stuck)
+scan_as constants scan x y b p q e =
+    ap (λ g. then_get g (λ source. then_get (known_compare constants scan.compare) (λ compare. Known (made source compare)))) (known_as constants scan.source x p)
+    ∙ by x y b e (compare_as constants scan.compare y q)
   where
     made : values.Source → Option CompareParts → ScanParts
-    made source compare = record { register = scan.register; source = source; target = option_map target_of scan.target; compare = compare }
+    made source compare = record { register = scan.register; source = source; target = option_map (target_of constants.profile) scan.target; compare = compare }
 
-    by : (x y b : Bool) → (x && y) ≡ b → known_compare literals scan.compare
-        ≡ (if y then Known (option_map (compare_resolved literals) scan.compare) else Stuck) →
-        then_get (if x then Known (resolved literals scan.source) else Stuck)
-        (λ source. then_get (known_compare literals scan.compare) (λ compare. Known (made source compare)))
-        ≡ (if b then Known (scan_resolved literals scan) else Stuck)
-    by true true true e r = ap (λ g. then_get g (λ compare. Known (made (resolved literals scan.source) compare))) r
+    by : (x y b : Bool) → (x && y) ≡ b → known_compare constants scan.compare
+        ≡ (if y then Known (option_map (compare_resolved constants) scan.compare) else Stuck) →
+        then_get (if x then Known (resolved constants scan.source) else Stuck)
+        (λ source. then_get (known_compare constants scan.compare) (λ compare. Known (made source compare)))
+        ≡ (if b then Known (scan_resolved constants scan) else Stuck)
+    by true true true e r = ap (λ g. then_get g (λ compare. Known (made (resolved constants scan.source) compare))) r
     by true true false e r = absurd (true≢false e)
-    by true false false e r = ap (λ g. then_get g (λ compare. Known (made (resolved literals scan.source) compare))) r
+    by true false false e r = ap (λ g. then_get g (λ compare. Known (made (resolved constants scan.source) compare))) r
     by true false true e r = absurd (true≢false (sym e))
     by false y false e r = refl
     by false y true e r = absurd (true≢false (sym e))
 
-pub scan_known : (literals : List (List Bool)) (scan : Scan) → is_scan_known literals scan ≡ true →
-    known_scan literals scan ≡ Known (scan_resolved literals scan)
-scan_known literals scan e = scan_as literals scan (is_known literals scan.source) (is_compare_known literals scan.compare) true refl refl e
+pub scan_known : (constants : Constants) (scan : Scan) → is_scan_known constants.literals scan ≡ true →
+    known_scan constants scan ≡ Known (scan_resolved constants scan)
+scan_known constants scan e = scan_as constants scan (is_known constants.literals scan.source) (is_compare_known constants.literals scan.compare) true refl refl e
 
-pub scan_unknown : (literals : List (List Bool)) (scan : Scan) → is_scan_known literals scan ≡ false → known_scan literals scan ≡ Stuck
-scan_unknown literals scan e = scan_as literals scan (is_known literals scan.source) (is_compare_known literals scan.compare) false refl refl e
+pub scan_unknown : (constants : Constants) (scan : Scan) → is_scan_known constants.literals scan ≡ false → known_scan constants scan ≡ Stuck
+scan_unknown constants scan e = scan_as constants scan (is_known constants.literals scan.source) (is_compare_known constants.literals scan.compare) false refl refl e
 
-given_as : (literals : List (List Bool)) (source : Option Source) (b : Bool) → is_given_known literals source ≡ b →
-    known_given literals source ≡ (if b then Known (option_map (resolved literals) source) else Stuck)
-given_as literals None true e = refl
-given_as literals None false e = absurd (true≢false e)
-given_as literals (Some source) b e = ap (λ g. then_get g (λ from. Known (Some from))) (known_as literals source b e) ∙ by b
+given_as : (constants : Constants) (source : Option Source) (b : Bool) → is_given_known constants.literals source ≡ b →
+    known_given constants source ≡ (if b then Known (option_map (resolved constants) source) else Stuck)
+given_as constants None true e = refl
+given_as constants None false e = absurd (true≢false e)
+given_as constants (Some source) b e = ap (λ g. then_get g (λ from. Known (Some from))) (known_as constants source b e) ∙ by b
   where
-    by : (b : Bool) → then_get (if b then Known (resolved literals source) else Stuck) (λ from. Known (Some from))
-        ≡ (if b then Known (Some (resolved literals source)) else Stuck)
+    by : (b : Bool) → then_get (if b then Known (resolved constants source) else Stuck) (λ from. Known (Some from))
+        ≡ (if b then Known (Some (resolved constants source)) else Stuck)
     by true = refl
     by false = refl
 
-pub given_known : (literals : List (List Bool)) (source : Option Source) → is_given_known literals source ≡ true →
-    known_given literals source ≡ Known (option_map (resolved literals) source)
-given_known literals source e = given_as literals source true e
+pub given_known : (constants : Constants) (source : Option Source) → is_given_known constants.literals source ≡ true →
+    known_given constants source ≡ Known (option_map (resolved constants) source)
+given_known constants source e = given_as constants source true e
 
-pub given_unknown : (literals : List (List Bool)) (source : Option Source) → is_given_known literals source ≡ false → known_given literals source ≡ Stuck
-given_unknown literals source e = given_as literals source false e
+pub given_unknown : (constants : Constants) (source : Option Source) → is_given_known constants.literals source ≡ false → known_given constants source ≡ Stuck
+given_unknown constants source e = given_as constants source false e

@@ -1,7 +1,6 @@
 -- What an Export exports, by where it lies.
 use Rattle.std.specs.Prelude.{ℕ, Bool, List, [], Option, Some, None, slice_get}
 use Rattle.bit_list.specs.Integers.{bits_of_int}
-use Rattle.bit_list.specs.Ranges.{taken}
 use Rattle.stapl_meaning.specs.declared.events.Event.{Event}
 use Rattle.stapl_meaning.specs.declared.events.Event.TheVariants as events
 use Rattle.stapl_meaning.specs.declared.events.ExportValue.{ExportValue}
@@ -14,7 +13,8 @@ use Rattle.stapl_instructions.specs.declared.effects.BitsAt.TheVariants as bits
 use Rattle.stapl_instructions.specs.declared.effects.Exported.{Exported}
 use Rattle.stapl_instructions.specs.declared.effects.Exported.TheVariants as exported
 use Rattle.stapl_instructions.specs.declared.effects.Export.{Export}
-use Rattle.stapl_meaning.specs.Values.{bits_in}
+use Rattle.stapl_meaning.specs.Values.{bits_in, span_bits}
+use Rattle.stapl_instructions.specs.Arrays.{span_in}
 
 -- a text or a literal, or nothing where there is none
 abbrev pub text_in : Option (List ℕ) → List ℕ
@@ -28,7 +28,7 @@ literal_in None = []
 -- the bits that lie there
 abbrev pub bits_at : List (List Bool) → List Held → BitsAt → List Bool
 bits_at literals variables (bits.Literal n) = literal_in (slice_get literals n)
-bits_at literals variables (bits.Part part) = taken part.span.low part.span.count (bits_in (slice_get variables part.array))
+bits_at literals variables (bits.Part part) = span_bits (span_in part.span) (bits_in (slice_get variables part.array))
 bits_at literals variables (bits.Integer z) = bits_of_int z
 
 -- what is exported

@@ -11,7 +11,7 @@ use Rattle.stapl_code.specs.declared.instr.Source.{Source}
 use Rattle.stapl_code.specs.declared.instr.Source.TheVariants as sources
 use Rattle.stapl_code.specs.declared.instr.Compare.{Compare}
 use Rattle.stapl_code.specs.declared.instr.Scan.{Scan}
-use Rattle.stapl_code.specs.Machine.{target_of, cell_part}
+use Rattle.stapl_code.specs.Machine.{Constants, target_of, cell_part}
 use Rattle.stapl_instructions.specs.declared.parts.Part.{Part}
 use Rattle.stapl_instructions.specs.declared.effects.BitsAt.{BitsAt}
 use Rattle.stapl_instructions.specs.declared.effects.BitsAt.TheVariants as bits
@@ -43,22 +43,22 @@ abbrev pub is_scan_known : List (List Bool) → Scan → Bool
 is_scan_known literals scan = is_known literals scan.source && is_compare_known literals scan.compare
 
 -- the sources of the meaning that they stand for
-abbrev pub resolved : List (List Bool) → Source → values.Source
-resolved literals (sources.Literal n) = values.These (literal_in (slice_get literals n))
-resolved literals (sources.Whole n) = values.Whole n
-resolved literals (sources.Range n) = values.Range n
-resolved literals sources.FromInt = values.OfInt
+abbrev pub resolved : Constants → Source → values.Source
+resolved constants (sources.Literal n) = values.These (literal_in (slice_get constants.literals n))
+resolved constants (sources.Whole n) = values.Whole n
+resolved constants (sources.Range n) = values.Range constants.profile n
+resolved constants sources.FromInt = values.OfInt
 
-abbrev pub compare_resolved : List (List Bool) → Compare → CompareParts
-compare_resolved literals c =
-    record { expected = resolved literals c.expected; mask = resolved literals c.mask; cell = cell_part c.cell }
+abbrev pub compare_resolved : Constants → Compare → CompareParts
+compare_resolved constants c =
+    record { expected = resolved constants c.expected; mask = resolved constants c.mask; cell = cell_part c.cell }
 
-abbrev pub scan_resolved : List (List Bool) → Scan → ScanParts
-scan_resolved literals scan = record {
+abbrev pub scan_resolved : Constants → Scan → ScanParts
+scan_resolved constants scan = record {
   register = scan.register;
-  source = resolved literals scan.source;
-  target = option_map target_of scan.target;
-  compare = option_map (compare_resolved literals) scan.compare;
+  source = resolved constants scan.source;
+  target = option_map (target_of constants.profile) scan.target;
+  compare = option_map (compare_resolved constants) scan.compare;
 }
 
 -- ---- where they lie
@@ -113,21 +113,21 @@ compare_at literals variables compare = option_map (compared_at literals variabl
 abbrev pub AreCompared : List (List Bool) → List Held → ComparedAt → Type 0
 AreCompared literals variables at = IsThere literals variables at.expected × IsThere literals variables at.mask
 
-pub record AskAlike (literals : List (List Bool)) (c : Compare) (at : ComparedAt) : Type 0 where
-  pub expected : (n : ℕ) (list : List Bool) → asked (resolved literals c.expected) n list ≡ asked_at at.expected n list
-  pub mask : (n : ℕ) (list : List Bool) → asked (resolved literals c.mask) n list ≡ asked_at at.mask n list
+pub record AskAlike (constants : Constants) (c : Compare) (at : ComparedAt) : Type 0 where
+  pub expected : (n : ℕ) (list : List Bool) → asked (resolved constants c.expected) n list ≡ asked_at at.expected n list
+  pub mask : (n : ℕ) (list : List Bool) → asked (resolved constants c.mask) n list ≡ asked_at at.mask n list
 
-abbrev pub IsCompareFound : List (List Bool) → List Held → Option Compare → Option ComparedAt → Type 0
-IsCompareFound literals variables None None = length literals ≡ length literals
-IsCompareFound literals variables (Some c) (Some at) = AreCompared literals variables at × AskAlike literals c at
-IsCompareFound literals variables _ _ = ⊥
+abbrev pub IsCompareFound : Constants → List Held → Option Compare → Option ComparedAt → Type 0
+IsCompareFound constants variables None None = constants ≡ constants
+IsCompareFound constants variables (Some c) (Some at) = AreCompared constants.literals variables at × AskAlike constants c at
+IsCompareFound constants variables _ _ = ⊥
 
 -- the same of a scan
-pub record AreFound (literals : List (List Bool)) (variables : List Held) (scan : Scan) (at : PartsAt) : Type 0 where
-  pub source : IsThere literals variables at.source
-  pub asks : (n : ℕ) (list : List Bool) → asked (resolved literals scan.source) n list ≡ asked_at at.source n list
+pub record AreFound (constants : Constants) (variables : List Held) (scan : Scan) (at : PartsAt) : Type 0 where
+  pub source : IsThere constants.literals variables at.source
+  pub asks : (n : ℕ) (list : List Bool) → asked (resolved constants scan.source) n list ≡ asked_at at.source n list
   pub target : IsPartIf variables at.target
-  pub compare : IsCompareFound literals variables scan.compare at.compare
+  pub compare : IsCompareFound constants variables scan.compare at.compare
 
 abbrev pub found_at : List (List Bool) → List Held → PartsAt → Found
 found_at literals variables at = record {

@@ -58,33 +58,16 @@ fn make(
         Instr::Load(n) => Ok(Made::Put(load(&memory.variables, *n)?)),
         Instr::LoadAt(n) => load_at(&memory.variables, *n, values),
         Instr::CheckIndex(n) => check_index(&memory.variables, *n, values),
-        Instr::CheckRange(n) => check_range(&memory.variables, *n, values),
+        Instr::CheckRange(n) => check_range(code.profile, &memory.variables, *n, values),
         Instr::Store(n) => assign(&mut memory.variables, *n, values),
         Instr::StoreAt(n) => assign_at(&mut memory.variables, *n, values),
         Instr::Unary(number) => operate_one(*number, values),
         Instr::Binary(number) => operate_two(*number, values),
-        Instr::ToInt(source) => integer(
-            code.literals.as_slice(),
-            *source,
-            values,
-            &memory.variables,
-        ),
-        Instr::CopyBits(dest, source) => copy(
-            code.literals.as_slice(),
-            *dest,
-            *source,
-            values,
-            &mut memory.variables,
-        ),
+        Instr::ToInt(source) => integer(code, *source, values, &memory.variables),
+        Instr::CopyBits(dest, source) => copy(code, *dest, *source, values, &mut memory.variables),
         Instr::SetBits(n, literal) => {
             let (dest, source) = (Dest::Whole(*n), Source::Literal(*literal));
-            copy(
-                code.literals.as_slice(),
-                dest,
-                source,
-                values,
-                &mut memory.variables,
-            )
+            copy(code, dest, source, values, &mut memory.variables)
         }
         Instr::SetInts(n, list) => set_integers(&mut memory.variables, *n, list.as_slice(), values),
         Instr::For(n, body) => begin_loop(memory, *n, *body, values),
@@ -98,9 +81,9 @@ fn make(
         Instr::Export(key, part) => export(code, *key, *part, values, &memory.variables),
         Instr::CheckChar => check_character(values),
         Instr::Exit => exit(values),
-        Instr::Scan(plan) => scan(code.literals.as_slice(), plan, values, memory),
+        Instr::Scan(plan) => scan(code, plan, values, memory),
         Instr::Stop(register, state) => stop(*register, *state, values, memory),
-        Instr::Pad(which, source) => pad(code.literals.as_slice(), *which, *source, values, memory),
+        Instr::Pad(which, source) => pad(code, *which, *source, values, memory),
         Instr::State(_) => go_through(values),
         Instr::Wait(at, kind, last) => wait(*at, *kind, *last, values),
         Instr::Frequency(_) => tune(values),

@@ -2,22 +2,23 @@
 ghost use Rattle.std.specs.Prelude.{◌≡◌, ◌≢◌, ◌<◌, ◌≤◌, ◌+◌, ◌∷◌, []};
 ghost use Rattle.std.specs.Prelude.{List, ℕ, length, slice_get, take, false};
 ghost use Rattle.bit_list.specs.Integers.{bits_of_int, int_of};
-ghost use Rattle.bit_list.specs.Ranges.{taken};
-ghost use Rattle.stapl_meaning.specs.Values.{These, Whole, Range, OfInt, padded, then_get, integer_from, source_integer, bits_of, bits_in};
+ghost use Rattle.stapl_meaning.specs.Values.{These, Whole, Range, OfInt, padded, then_get, integer_from, source_integer, bits_of, bits_in, span_bits};
 ghost use Rattle.stapl_meaning.specs.States.{ScanSettings, State};
 ghost use Rattle.stapl_meaning.specs.declared.records.Record.{Record};
 ghost use Rattle.stapl_meaning.specs.Effects.{copied};
 ghost use Rattle.stapl_code.specs.Machine.{puts, does, known_source, target_of};
+ghost use Rattle.stapl_code.specs.Safe.{constants_of};
 ghost use Rattle.stapl_instructions.specs.Found.{IsValue};
 ghost use Rattle.stapl_instructions.specs.Acts.{IsMade, Told, state_with};
-ghost use Rattle.stapl_instructions.specs.Arrays.{HasSpan, IsPart, with_bits, with_part, bits_put, part_asked, integer_asked};
+ghost use Rattle.stapl_instructions.specs.Arrays.{span_in, HasSpan, HasPart, IsPart, first_bits, with_bits, with_part, bits_put, part_asked, integer_asked};
 
 use crate::effects::Made;
 use crate::operate::Stop;
+use crate::part_bits::{copy_turned, first_places, part_word, turn_within};
 use crate::parts::{Part, Span, behind, holder, literal_at, place, range, whole};
 use bit_list::Bits;
-use stapl_code::{Dest, Source};
-use stapl_meaning::{Held, RunFault, Value};
+use stapl_code::{CodeLists, Dest, Source};
+use stapl_meaning::{Held, Profile, RunFault, Value};
 
 // Sets a part of an array to the lowest bits of a literal, and to 0 where it has none.
 fn pad_bits(held: &mut Held, span: Span, literal: &Bits)
@@ -26,6 +27,7 @@ fn pad_bits(held: &mut Held, span: Span, literal: &Bits)
 {
     if let Held::Bits(bits) = held {
         bits.copy_padded(span.low, literal, span.count);
+        turn_within(bits, span.low, span.count, span.falls);
     }
 }
 
@@ -44,6 +46,7 @@ fn set_low_bits(held: &mut Held, span: Span, value: i32)
 {
     if let Held::Bits(bits) = held {
         bits.set_low_bits(span.low, value, span.count);
+        turn_within(bits, span.low, span.count, span.falls);
     }
 }
 
@@ -55,42 +58,53 @@ fn put_integer(variables: &mut Vec<Held>, part: Part, value: i32)
     set_low_bits(&mut variables[part.array as usize], part.span, value);
 }
 
-// Moves the bits from a low index on within an array.
-fn move_bits(held: &mut Held, span: Span, low: u32)
+// Moves the first bits of a part of an array to another part of it. All are read before one is written.
+fn move_bits(held: &mut Held, span: Span, from: Span)
     requires is_part { HasSpan held.old span }
-    requires source { low + span.count ≤ length (bits_of held.old) }
-    ensures { held.new ≡ with_bits held.old span (taken low span.count (bits_of held.old)) }
+    requires source { HasSpan held.old from }
+    requires enough { span.count ≤ from.count }
+    ensures { held.new ≡ with_bits held.old span (first_bits span.count from (bits_of held.old)) }
 {
     if let Held::Bits(bits) = held {
+        let low = first_places(bits, from, span.count);
         bits.copy_within(span.low, low, span.count);
+        turn_within(bits, span.low, span.count, span.falls != from.falls);
     }
 }
 
-// Copies the bits from a low index on of another array.
-fn copy_bits(held: &mut Held, span: Span, from: &Held, low: u32)
+// Copies the first bits of a part of another array.
+fn copy_bits(held: &mut Held, span: Span, other: &Held, from: Span)
     requires is_part { HasSpan held.old span }
-    requires source { low + span.count ≤ length (bits_of from.now) }
-    ensures { held.new ≡ with_bits held.old span (taken low span.count (bits_of from.now)) }
+    requires source { HasSpan other.now from }
+    requires enough { span.count ≤ from.count }
+    ensures { held.new ≡ with_bits held.old span (first_bits span.count from (bits_of other.now)) }
 {
     if let Held::Bits(bits) = held {
-        if let Held::Bits(from) = from {
-            bits.copy_range(span.low, from, low, span.count);
+        if let Held::Bits(other) = other {
+            let low = first_places(other, from, span.count);
+            let falls = span.falls != from.falls;
+            copy_turned(bits, span.low, other, low, span.count, falls);
         }
     }
 }
 
-// Copies the bits from a low index on of another variable. The one that is written is taken out and put back.
-fn put_other(variables: &mut Vec<Held>, part: Part, from: u32, low: u32)
+// Copies the first bits of a part of another variable. The one that is written is taken out and put back.
+fn put_other(variables: &mut Vec<Held>, part: Part, from: Part)
     requires is_part { IsPart variables.old.items part }
-    requires source { low + part.span.count ≤ length (bits_in (slice_get variables.old.items from)) }
-    requires there { from < length variables.old.items }
-    requires other { part.array ≢ from }
+    requires source { IsPart variables.old.items from }
+    requires enough { part.span.count ≤ from.span.count }
+    requires other { part.array ≢ from.array }
     ensures { variables.new.items ≡ with_part variables.old.items part
-        (taken low part.span.count (bits_in (slice_get variables.old.items from))) }
+        (first_bits part.span.count from.span (bits_in (slice_get variables.old.items from.array))) }
 {
     let at = part.array as usize;
     let mut held = std::mem::replace(&mut variables[at], Held::Int(0));
-    copy_bits(&mut held, part.span, &variables[from as usize], low);
+    copy_bits(
+        &mut held,
+        part.span,
+        &variables[from.array as usize],
+        from.span,
+    );
     variables[at] = held;
 }
 
@@ -99,16 +113,12 @@ fn put_part(variables: &mut Vec<Held>, part: Part, from: Part)
     requires source { IsPart variables.old.items from }
     requires enough { part.span.count ≤ from.span.count }
     ensures { variables.new.items ≡ with_part variables.old.items part
-        (taken from.span.low part.span.count (bits_in (slice_get variables.old.items from.array))) }
+        (first_bits part.span.count from.span (bits_in (slice_get variables.old.items from.array))) }
 {
     if part.array == from.array {
-        move_bits(
-            &mut variables[part.array as usize],
-            part.span,
-            from.span.low,
-        );
+        move_bits(&mut variables[part.array as usize], part.span, from.span);
     } else {
-        put_other(variables, part, from.array, from.span.low);
+        put_other(variables, part, from);
     }
 }
 
@@ -130,6 +140,7 @@ fn copy_part(variables: &mut Vec<Held>, part: Part, from: Part) -> Result<Made, 
 }
 
 fn copy_literal(
+    profile: Profile,
     literal: &Bits,
     dest: Dest,
     values: &[Value],
@@ -138,10 +149,10 @@ fn copy_literal(
     ensures { (told : Told) (chosen : List ℕ) (records : List Record) (ir dr : ScanSettings) →
         IsMade result told (state_with chosen records ir dr variables.old.items)
         (state_with chosen records ir dr variables.new.items)
-        (does (copied (target_of dest) (These literal.now) values.now
+        (does (copied (target_of profile dest) (These literal.now) values.now
         (state_with chosen records ir dr variables.old.items))) }
 {
-    let part = place(variables, dest, values)?;
+    let part = place(profile, variables, dest, values)?;
     match behind(dest, values) {
         [] => {
             put_literal(variables, part, literal);
@@ -152,6 +163,7 @@ fn copy_literal(
 }
 
 fn copy_whole(
+    profile: Profile,
     from: u32,
     dest: Dest,
     values: &[Value],
@@ -160,9 +172,10 @@ fn copy_whole(
     ensures { (told : Told) (chosen : List ℕ) (records : List Record) (ir dr : ScanSettings) →
         IsMade result told (state_with chosen records ir dr variables.old.items)
         (state_with chosen records ir dr variables.new.items)
-        (does (copied (target_of dest) (Whole from) values.now (state_with chosen records ir dr variables.old.items))) }
+        (does (copied (target_of profile dest) (Whole from) values.now
+        (state_with chosen records ir dr variables.old.items))) }
 {
-    let part = place(variables, dest, values)?;
+    let part = place(profile, variables, dest, values)?;
     match behind(dest, values) {
         [] => {
             let from = whole(variables, from)?;
@@ -173,6 +186,7 @@ fn copy_whole(
 }
 
 fn copy_range(
+    profile: Profile,
     from: u32,
     dest: Dest,
     values: &[Value],
@@ -181,12 +195,13 @@ fn copy_range(
     ensures { (told : Told) (chosen : List ℕ) (records : List Record) (ir dr : ScanSettings) →
         IsMade result told (state_with chosen records ir dr variables.old.items)
         (state_with chosen records ir dr variables.new.items)
-        (does (copied (target_of dest) (Range from) values.now (state_with chosen records ir dr variables.old.items))) }
+        (does (copied (target_of profile dest) (Range profile from) values.now
+        (state_with chosen records ir dr variables.old.items))) }
 {
-    let part = place(variables, dest, values)?;
+    let part = place(profile, variables, dest, values)?;
     match behind(dest, values) {
-        [high, low] => {
-            let from = range(variables, from, *high, *low)?;
+        [first, second] => {
+            let from = range(profile, variables, from, *first, *second)?;
             copy_part(variables, part, from)
         }
         _ => Err(Stop::Wrong),
@@ -214,13 +229,18 @@ fn fill_integer(variables: &mut Vec<Held>, part: Part, value: Value) -> Result<M
     }
 }
 
-fn copy_integer(dest: Dest, values: &[Value], variables: &mut Vec<Held>) -> Result<Made, Stop>
+fn copy_integer(
+    profile: Profile,
+    dest: Dest,
+    values: &[Value],
+    variables: &mut Vec<Held>,
+) -> Result<Made, Stop>
     ensures { (told : Told) (chosen : List ℕ) (records : List Record) (ir dr : ScanSettings) →
         IsMade result told (state_with chosen records ir dr variables.old.items)
         (state_with chosen records ir dr variables.new.items)
-        (does (copied (target_of dest) OfInt values.now (state_with chosen records ir dr variables.old.items))) }
+        (does (copied (target_of profile dest) OfInt values.now (state_with chosen records ir dr variables.old.items))) }
 {
-    let part = place(variables, dest, values)?;
+    let part = place(profile, variables, dest, values)?;
     match behind(dest, values) {
         [value] => fill_integer(variables, part, *value),
         _ => Err(Stop::Wrong),
@@ -229,7 +249,7 @@ fn copy_integer(dest: Dest, values: &[Value], variables: &mut Vec<Held>) -> Resu
 
 /// Bits of a source go into an array or a range of it. All are read before the first is written.
 pub fn copy(
-    literals: &[Bits],
+    code: &CodeLists,
     dest: Dest,
     source: Source,
     values: &[Value],
@@ -238,26 +258,29 @@ pub fn copy(
     ensures { (told : Told) (chosen : List ℕ) (records : List Record) (ir dr : ScanSettings) →
         IsMade result told (state_with chosen records ir dr variables.old.items)
         (state_with chosen records ir dr variables.new.items)
-        (does (then_get (known_source literals.now source)
-        (λ from. copied (target_of dest) from values.now (state_with chosen records ir dr variables.old.items)))) }
+        (does (then_get (known_source (constants_of code.now) source)
+        (λ from. copied (target_of code.now.profile dest) from values.now
+        (state_with chosen records ir dr variables.old.items)))) }
 {
+    let profile = code.profile;
     match source {
-        Source::Literal(n) => match literal_at(literals, n) {
-            Some(literal) => copy_literal(literal, dest, values, variables),
+        Source::Literal(n) => match literal_at(code.literals.as_slice(), n) {
+            Some(literal) => copy_literal(profile, literal, dest, values, variables),
             None => Err(Stop::Wrong),
         },
-        Source::Whole(from) => copy_whole(from, dest, values, variables),
-        Source::Range(from) => copy_range(from, dest, values, variables),
-        Source::FromInt => copy_integer(dest, values, variables),
+        Source::Whole(from) => copy_whole(profile, from, dest, values, variables),
+        Source::Range(from) => copy_range(profile, from, dest, values, variables),
+        Source::FromInt => copy_integer(profile, dest, values, variables),
     }
 }
 
-// The integer with the lowest 32 bits of a part of a list.
+// The integer with the first 32 bits of a part of a list.
 fn low_integer(bits: &Bits, span: Span) -> i32
     requires { span.low + span.count ≤ length bits.now }
-    ensures { result ≡ int_of (take 32 (taken span.low span.count bits.now)) }
+    ensures { result ≡ int_of (first_bits 32 span bits.now) }
 {
-    bits.to_int(span.low, span.count.min(32))
+    let word = part_word(bits, span, 0, span.count.min(32));
+    (word as u32).cast_signed()
 }
 
 fn literal_integer(literal: &Bits, values: &[Value]) -> Result<Value, Stop>
@@ -268,6 +291,7 @@ fn literal_integer(literal: &Bits, values: &[Value]) -> Result<Value, Stop>
             let span = Span {
                 low: 0,
                 count: literal.len(),
+                falls: false,
             };
             Ok(Value::Int(low_integer(literal, span)))
         }
@@ -277,7 +301,7 @@ fn literal_integer(literal: &Bits, values: &[Value]) -> Result<Value, Stop>
 
 fn part_integer(held: &Held, span: Span) -> Value
     requires { HasSpan held.now span }
-    ensures { result ≡ integer_from (taken span.low span.count (bits_of held.now)) }
+    ensures { result ≡ integer_from (span_bits (span_in span) (bits_of held.now)) }
 {
     match held {
         Held::Bits(bits) => Value::Int(low_integer(bits, span)),
@@ -297,20 +321,31 @@ fn whole_integer(variables: &[Held], from: u32, values: &[Value]) -> Result<Valu
     }
 }
 
-// The integer with the lowest 32 bits of the range between these indexes.
-fn integer_between(variables: &[Held], from: u32, high: Value, low: Value) -> Result<Value, Stop>
-    ensures { IsValue result (source_integer variables.now (Range from) (high ∷ low ∷ [])) }
+// The integer with the first 32 bits of the range between these indexes.
+fn integer_between(
+    profile: Profile,
+    variables: &[Held],
+    from: u32,
+    first: Value,
+    second: Value,
+) -> Result<Value, Stop>
+    ensures { IsValue result (source_integer variables.now (Range profile from) (first ∷ second ∷ [])) }
 {
-    let part = range(variables, from, high, low)?;
+    let part = range(profile, variables, from, first, second)?;
     Ok(part_integer(holder(variables, part), part.span))
 }
 
-/// The integer with the lowest 32 bits of a range, whose high and low indexes these values are.
-pub fn range_integer(variables: &[Held], from: u32, values: &[Value]) -> Result<Value, Stop>
-    ensures { IsValue result (source_integer variables.now (Range from) values.now) }
+/// The integer with the first 32 bits of a range under a profile, whose first and second indexes these values are.
+pub fn range_integer(
+    profile: Profile,
+    variables: &[Held],
+    from: u32,
+    values: &[Value],
+) -> Result<Value, Stop>
+    ensures { IsValue result (source_integer variables.now (Range profile from) values.now) }
 {
     match values {
-        [high, low] => integer_between(variables, from, *high, *low),
+        [first, second] => integer_between(profile, variables, from, *first, *second),
         _ => Err(Stop::Wrong),
     }
 }
@@ -335,34 +370,36 @@ fn taken_integer(values: &[Value]) -> Result<Value, Stop>
 }
 
 fn integer_of(
-    literals: &[Bits],
+    code: &CodeLists,
     source: Source,
     values: &[Value],
     variables: &[Held],
 ) -> Result<Value, Stop>
     ensures { IsValue result
-        (then_get (known_source literals.now source) (λ from. source_integer variables.now from values.now)) }
+        (then_get (known_source (constants_of code.now) source)
+        (λ from. source_integer variables.now from values.now)) }
 {
     match source {
-        Source::Literal(n) => match literal_at(literals, n) {
+        Source::Literal(n) => match literal_at(code.literals.as_slice(), n) {
             Some(literal) => literal_integer(literal, values),
             None => Err(Stop::Wrong),
         },
         Source::Whole(from) => whole_integer(variables, from, values),
-        Source::Range(from) => range_integer(variables, from, values),
+        Source::Range(from) => range_integer(code.profile, variables, from, values),
         Source::FromInt => taken_integer(values),
     }
 }
 
-/// The integer with the lowest 32 bits of a source.
+/// The integer with the first 32 bits of a source.
 pub fn integer(
-    literals: &[Bits],
+    code: &CodeLists,
     source: Source,
     values: &[Value],
     variables: &[Held],
 ) -> Result<Made, Stop>
     ensures { (told : Told) (s : State) → IsMade result told s s (puts
-        (then_get (known_source literals.now source) (λ from. source_integer variables.now from values.now))) }
+        (then_get (known_source (constants_of code.now) source)
+        (λ from. source_integer variables.now from values.now))) }
 {
-    Ok(Made::Put(integer_of(literals, source, values, variables)?))
+    Ok(Made::Put(integer_of(code, source, values, variables)?))
 }

@@ -17,22 +17,21 @@ ghost use Rattle.stapl_instructions.specs.Acts.{IsMade, state_with};
 use crate::effects::{BitsAt, Doing, Export, Exported, Made};
 use crate::operate::Stop;
 use crate::parts::{literal_at, range, whole};
-use bit_list::Bits;
 use stapl_code::{CodeLists, ExportPart, Source};
 use stapl_meaning::{Held, Value};
 
 fn literal_bits(
-    literals: &[Bits],
+    code: &CodeLists,
     n: u32,
     values: &[Value],
     variables: &[Held],
 ) -> Result<BitsAt, Stop>
-    ensures is { IsGot (λ at g. g ≡ Known (bits_at literals.now variables.now at)) result
-        (then_get (known_literal (slice_get literals.now n)) (λ from. source_bits variables.now from values.now)) }
-    ensures there { IfOk result (IsThere literals.now variables.now) }
+    ensures is { IsGot (λ at g. g ≡ Known (bits_at code.now.literals variables.now at)) result
+        (then_get (known_literal (slice_get code.now.literals n)) (λ from. source_bits variables.now from values.now)) }
+    ensures there { IfOk result (IsThere code.now.literals variables.now) }
     ensures kind { IfOk result (IsOf (Source.Literal n)) }
 {
-    match literal_at(literals, n) {
+    match literal_at(code.literals.as_slice(), n) {
         Some(_) => match values {
             [] => Ok(BitsAt::Literal(n)),
             _ => Err(Stop::Wrong),
@@ -42,14 +41,14 @@ fn literal_bits(
 }
 
 fn whole_bits(
-    literals: &[Bits],
+    code: &CodeLists,
     n: u32,
     values: &[Value],
     variables: &[Held],
 ) -> Result<BitsAt, Stop>
-    ensures is { IsGot (λ at g. g ≡ Known (bits_at literals.now variables.now at)) result
+    ensures is { IsGot (λ at g. g ≡ Known (bits_at code.now.literals variables.now at)) result
         (source_bits variables.now (Whole n) values.now) }
-    ensures there { IfOk result (IsThere literals.now variables.now) }
+    ensures there { IfOk result (IsThere code.now.literals variables.now) }
     ensures kind { IfOk result (IsOf (Source.Whole n)) }
 {
     match values {
@@ -59,26 +58,29 @@ fn whole_bits(
 }
 
 fn range_bits(
-    literals: &[Bits],
+    code: &CodeLists,
     n: u32,
     values: &[Value],
     variables: &[Held],
 ) -> Result<BitsAt, Stop>
-    ensures is { IsGot (λ at g. g ≡ Known (bits_at literals.now variables.now at)) result
-        (source_bits variables.now (Range n) values.now) }
-    ensures there { IfOk result (IsThere literals.now variables.now) }
+    ensures is { IsGot (λ at g. g ≡ Known (bits_at code.now.literals variables.now at)) result
+        (source_bits variables.now (Range code.now.profile n) values.now) }
+    ensures there { IfOk result (IsThere code.now.literals variables.now) }
     ensures kind { IfOk result (IsOf (Source.Range n)) }
 {
     match values {
-        [high, low] => Ok(BitsAt::Part(range(variables, n, *high, *low)?)),
+        [first, second] => {
+            let part = range(code.profile, variables, n, *first, *second)?;
+            Ok(BitsAt::Part(part))
+        }
         _ => Err(Stop::Wrong),
     }
 }
 
-fn integer_bits(literals: &[Bits], values: &[Value], variables: &[Held]) -> Result<BitsAt, Stop>
-    ensures is { IsGot (λ at g. g ≡ Known (bits_at literals.now variables.now at)) result
+fn integer_bits(code: &CodeLists, values: &[Value], variables: &[Held]) -> Result<BitsAt, Stop>
+    ensures is { IsGot (λ at g. g ≡ Known (bits_at code.now.literals variables.now at)) result
         (source_bits variables.now OfInt values.now) }
-    ensures there { IfOk result (IsThere literals.now variables.now) }
+    ensures there { IfOk result (IsThere code.now.literals variables.now) }
     ensures kind { IfOk result (IsOf Source.FromInt) }
 {
     match values {
@@ -89,28 +91,29 @@ fn integer_bits(literals: &[Bits], values: &[Value], variables: &[Held]) -> Resu
 
 /// Where the bits of a source lie.
 pub fn find_bits(
-    literals: &[Bits],
+    code: &CodeLists,
     source: Source,
     values: &[Value],
     variables: &[Held],
 ) -> Result<BitsAt, Stop>
-    ensures is { IsGot (λ at g. g ≡ Known (bits_at literals.now variables.now at)) result
-        (then_get (known_source literals.now source) (λ from. source_bits variables.now from values.now)) }
-    ensures there { IfOk result (IsThere literals.now variables.now) }
+    ensures is { IsGot (λ at g. g ≡ Known (bits_at code.now.literals variables.now at)) result
+        (then_get (known_source (constants_of code.now) source)
+        (λ from. source_bits variables.now from values.now)) }
+    ensures there { IfOk result (IsThere code.now.literals variables.now) }
     ensures kind { IfOk result (IsOf source) }
 {
     match source {
-        Source::Literal(n) => literal_bits(literals, n, values, variables),
-        Source::Whole(n) => whole_bits(literals, n, values, variables),
-        Source::Range(n) => range_bits(literals, n, values, variables),
-        Source::FromInt => integer_bits(literals, values, variables),
+        Source::Literal(n) => literal_bits(code, n, values, variables),
+        Source::Whole(n) => whole_bits(code, n, values, variables),
+        Source::Range(n) => range_bits(code, n, values, variables),
+        Source::FromInt => integer_bits(code, values, variables),
     }
 }
 
-fn one_value(literals: &[Bits], values: &[Value], variables: &[Held]) -> Result<Exported, Stop>
+fn one_value(code: &CodeLists, values: &[Value], variables: &[Held]) -> Result<Exported, Stop>
     ensures { (key : List ℕ) (s : State) → IsGot
         (λ value g. g
-        ≡ Known (Falls (Says (events.Export key (value_exported literals.now variables.now value)) ∷ []) s))
+        ≡ Known (Falls (Says (events.Export key (value_exported code.now.literals variables.now value)) ∷ []) s))
         result (exported key values.now s) }
 {
     match values {
@@ -120,35 +123,37 @@ fn one_value(literals: &[Bits], values: &[Value], variables: &[Held]) -> Result<
 }
 
 fn array_value(
-    literals: &[Bits],
+    code: &CodeLists,
     source: Source,
     values: &[Value],
     variables: &[Held],
 ) -> Result<Exported, Stop>
     ensures { (key chosen : List ℕ) (records : List Record) (ir dr : ScanSettings) → IsGot
-        (λ value g. g ≡ Known (Falls (Says (events.Export key (value_exported literals.now variables.now value)) ∷ [])
+        (λ value g. g
+        ≡ Known (Falls (Says (events.Export key (value_exported code.now.literals variables.now value)) ∷ [])
         (state_with chosen records ir dr variables.now))) result
-        (then_get (known_source literals.now source)
+        (then_get (known_source (constants_of code.now) source)
         (λ from. bits_exported key from values.now (state_with chosen records ir dr variables.now))) }
 {
-    Ok(Exported::Bits(find_bits(literals, source, values, variables)?))
+    Ok(Exported::Bits(find_bits(code, source, values, variables)?))
 }
 
 // What a part exports.
 fn exported(
-    literals: &[Bits],
+    code: &CodeLists,
     part: ExportPart,
     values: &[Value],
     variables: &[Held],
 ) -> Result<Exported, Stop>
     ensures { (key chosen : List ℕ) (records : List Record) (ir dr : ScanSettings) → IsGot
-        (λ value g. g ≡ Known (Falls (Says (events.Export key (value_exported literals.now variables.now value)) ∷ [])
+        (λ value g. g
+        ≡ Known (Falls (Says (events.Export key (value_exported code.now.literals variables.now value)) ∷ [])
         (state_with chosen records ir dr variables.now))) result
-        (part_exported literals.now part key values.now (state_with chosen records ir dr variables.now)) }
+        (part_exported (constants_of code.now) part key values.now (state_with chosen records ir dr variables.now)) }
 {
     match part {
-        ExportPart::Int | ExportPart::Bit => one_value(literals, values, variables),
-        ExportPart::Array(source) => array_value(literals, source, values, variables),
+        ExportPart::Int | ExportPart::Bit => one_value(code, values, variables),
+        ExportPart::Array(source) => array_value(code, source, values, variables),
     }
 }
 
@@ -164,11 +169,12 @@ pub fn export(
         IsMade result (record { text = text; constants = constants_of code.now; states = []; shifted = shifted })
         (state_with chosen records ir dr variables.now) (state_with chosen records ir dr variables.now)
         (does (then_get (known_text (slice_get code.now.texts key))
-        (λ bytes. part_exported code.now.literals part bytes values.now (state_with chosen records ir dr variables.now)))) }
+        (λ bytes. part_exported (constants_of code.now) part bytes values.now
+        (state_with chosen records ir dr variables.now)))) }
 {
     if key as usize >= code.texts.len() {
         return Err(Stop::Wrong);
     }
-    let value = exported(code.literals.as_slice(), part, values, variables)?;
+    let value = exported(code, part, values, variables)?;
     Ok(Made::Acts(Doing::Exports(Export { key, value })))
 }

@@ -27,7 +27,7 @@ use crate::operate::{
 };
 use crate::parts::range;
 use crate::record_stack::RecordStack;
-use stapl_code::{Instr, Source};
+use stapl_code::{CodeLists, Instr, Source};
 use stapl_meaning::{Held, Loop, Record, Value};
 
 /// What came of an instruction that was tried.
@@ -272,12 +272,18 @@ fn try_store_at(n: u32, work: &mut Workspace) -> Tried
 }
 
 #[inline(always)]
-fn try_range(n: u32, work: &Workspace) -> Tried
-    ensures { (code : CodeLists) (here : ℕ) (chosen : List ℕ) →
-        IsTried result chosen work.now work.now (step_of code here (CheckRange n) chosen work.now) }
+fn try_range(code: &CodeLists, n: u32, work: &Workspace) -> Tried
+    ensures { (here : ℕ) (chosen : List ℕ) →
+        IsTried result chosen work.now work.now (step_of code.now here (CheckRange n) chosen work.now) }
 {
     match top_two(&work.operands) {
-        Some((high, low)) => match range(&work.memory.variables, n, high, low) {
+        Some((first, second)) => match range(
+            code.profile,
+            &work.memory.variables,
+            n,
+            first,
+            second,
+        ) {
             Ok(_) => Tried::On,
             Err(_) => Tried::Not,
         },
@@ -286,20 +292,23 @@ fn try_range(n: u32, work: &Workspace) -> Tried
 }
 
 #[inline(always)]
-fn try_integer(n: u32, work: &mut Workspace) -> Tried
-    ensures tried { (code : CodeLists) (here : ℕ) (chosen : List ℕ) →
-        IsTried result chosen work.old work.new (step_of code here (ToInt (Range n)) chosen work.old) }
+fn try_integer(code: &CodeLists, n: u32, work: &mut Workspace) -> Tried
+    ensures tried { (here : ℕ) (chosen : List ℕ) →
+        IsTried result chosen work.old work.new (step_of code.now here (ToInt (Range n)) chosen work.old) }
     ensures kept { IsKeptBeside work.old work.new }
 {
     match top_two(&work.operands) {
-        Some((high, low)) => match range_integer(&work.memory.variables, n, &[high, low]) {
-            Ok(value) => {
-                leave(&mut work.operands);
-                replace(&mut work.operands, value);
-                Tried::On
+        Some((first, second)) => {
+            let indexes = [first, second];
+            match range_integer(code.profile, &work.memory.variables, n, &indexes) {
+                Ok(value) => {
+                    leave(&mut work.operands);
+                    replace(&mut work.operands, value);
+                    Tried::On
+                }
+                Err(_) => Tried::Not,
             }
-            Err(_) => Tried::Not,
-        },
+        }
         None => Tried::Not,
     }
 }
@@ -404,10 +413,10 @@ fn go(to: u32, work: &Workspace) -> Tried
 /// Carries out an instruction that stands here, if it is a common one and nothing stands in its way: it does not fault.
 /// There is room for the operands that it leaves.
 #[inline(always)]
-pub fn try_step(here: u32, instr: &Instr, work: &mut Workspace) -> Tried
+pub fn try_step(code: &CodeLists, here: u32, instr: &Instr, work: &mut Workspace) -> Tried
     requires { count_behind instr.now (length work.old.operands.items) ≤ vec_capacity work.old.operands }
-    ensures tried { (code : CodeLists) (chosen : List ℕ) →
-        IsTried result chosen work.old work.new (step_of code here instr.now chosen work.old) }
+    ensures tried { (chosen : List ℕ) →
+        IsTried result chosen work.old work.new (step_of code.now here instr.now chosen work.old) }
     ensures kept { IsKeptBeside work.old work.new }
 {
     match instr {
@@ -424,8 +433,8 @@ pub fn try_step(here: u32, instr: &Instr, work: &mut Workspace) -> Tried
         Instr::StoreAt(n) => try_store_at(*n, work),
         Instr::CheckIndex(n) => try_index(*n, work),
         Instr::Unary(number) => try_unary(*number, work),
-        Instr::CheckRange(n) => try_range(*n, work),
-        Instr::ToInt(Source::Range(n)) => try_integer(*n, work),
+        Instr::CheckRange(n) => try_range(code, *n, work),
+        Instr::ToInt(Source::Range(n)) => try_integer(code, *n, work),
         _ => Tried::Not,
     }
 }

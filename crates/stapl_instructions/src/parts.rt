@@ -1,6 +1,6 @@
 //! Parts of BOOLEAN arrays.
-ghost use Rattle.std.specs.Prelude.{◌≡◌, ◌≤◌, ◌+◌, IfOk, IfSome, IfNone, Some, None, slice_get};
-ghost use Rattle.stapl_meaning.specs.Values.{is_index, span_between, span_of, range_held, bits_in, bits_of};
+ghost use Rattle.std.specs.Prelude.{◌≡◌, ◌<◌, ◌≤◌, ◌+◌, ◌^◌, IfOk, IfSome, IfNone, Some, None, slice_get};
+ghost use Rattle.stapl_meaning.specs.Values.{is_index, rising_span, span_between, span_of, range_held, bits_in, bits_of};
 ghost use Rattle.stapl_meaning.specs.Values.{Known};
 ghost use Rattle.stapl_meaning.specs.States.{State};
 ghost use Rattle.stapl_code.specs.Machine.{kept};
@@ -12,13 +12,14 @@ use crate::effects::Made;
 use crate::operate::Stop;
 use bit_list::Bits;
 use stapl_code::Dest;
-use stapl_meaning::{Held, RunFault, Value};
+use stapl_meaning::{Held, Profile, RunFault, Value};
 
-/// A part of an array: its lowest index, and how many bits it has.
+/// A part of an array: its lowest index, how many bits it has, and whether these go from its highest index down.
 #[derive(Clone, Copy)]
 pub struct Span {
     pub low: u32,
     pub count: u32,
+    pub falls: bool,
 }
 
 /// A part of the array of a number.
@@ -60,28 +61,48 @@ pub fn is_index(index: i32, count: u32) -> bool
     index >= 0 && index.cast_unsigned() < count
 }
 
-// The part from a high index down to a low one, of an array of so many bits.
-fn span_between(count: u32, high: i32, low: i32) -> Result<Span, Stop>
-    ensures span { IsGot (λ span g. g ≡ Known (span_in span)) result (span_between count high low) }
-    ensures inside { IfOk result (λ span. span.low + span.count ≤ count) }
+// The part that a range is whose first index is below its second, under a profile.
+fn rising_span(profile: Profile, first: u32, second: u32) -> Result<Span, Stop>
+    requires rises { first < second }
+    requires room { second + 1 < 2 ^ 32 }
+    ensures span { IsGot (λ span g. g ≡ Known (span_in span)) result (rising_span profile first second) }
+    ensures inside { IfOk result (λ span. span.low + span.count ≤ second + 1) }
 {
-    if !is_index(high, count) || !is_index(low, count) {
-        return Err(Stop::Fault(RunFault::IndexOutOfRange));
+    match profile {
+        Profile::One => Err(Stop::Fault(RunFault::RangeReversed)),
+        Profile::Two => Ok(Span {
+            low: first,
+            count: second + 1 - first,
+            falls: true,
+        }),
     }
-    if high < low {
-        return Err(Stop::Fault(RunFault::RangeReversed));
-    }
-    let (high, low) = (high.cast_unsigned(), low.cast_unsigned());
-    let count = high + 1 - low;
-    Ok(Span { low, count })
 }
 
-fn span_of(count: u32, high: Value, low: Value) -> Result<Span, Stop>
-    ensures span { IsGot (λ span g. g ≡ Known (span_in span)) result (span_of count high low) }
+// The part that a range of an array of so many bits is, under a profile.
+fn span_between(profile: Profile, count: u32, first: i32, second: i32) -> Result<Span, Stop>
+    ensures span { IsGot (λ span g. g ≡ Known (span_in span)) result (span_between profile count first second) }
     ensures inside { IfOk result (λ span. span.low + span.count ≤ count) }
 {
-    match (high, low) {
-        (Value::Int(high), Value::Int(low)) => span_between(count, high, low),
+    if !is_index(first, count) || !is_index(second, count) {
+        return Err(Stop::Fault(RunFault::IndexOutOfRange));
+    }
+    let (start, end) = (first.cast_unsigned(), second.cast_unsigned());
+    if first < second {
+        return rising_span(profile, start, end);
+    }
+    Ok(Span {
+        low: end,
+        count: start + 1 - end,
+        falls: false,
+    })
+}
+
+fn span_of(profile: Profile, count: u32, first: Value, second: Value) -> Result<Span, Stop>
+    ensures span { IsGot (λ span g. g ≡ Known (span_in span)) result (span_of profile count first second) }
+    ensures inside { IfOk result (λ span. span.low + span.count ≤ count) }
+{
+    match (first, second) {
+        (Value::Int(first), Value::Int(second)) => span_between(profile, count, first, second),
         _ => Err(Stop::Wrong),
     }
 }
@@ -95,6 +116,7 @@ pub fn whole(variables: &[Held], n: u32) -> Result<Part, Stop>
             let span = Span {
                 low: 0,
                 count: bits.len(),
+                falls: false,
             };
             Ok(Part { array: n, span })
         }
@@ -102,41 +124,57 @@ pub fn whole(variables: &[Held], n: u32) -> Result<Part, Stop>
     }
 }
 
-/// The range of the BOOLEAN array of a number, by a high and a low index.
-pub fn range(variables: &[Held], n: u32, high: Value, low: Value) -> Result<Part, Stop>
-    ensures { IsPartOf result variables.now n (range_span high low) }
+/// The range of the BOOLEAN array of a number, by its first and its second index, under a profile.
+pub fn range(
+    profile: Profile,
+    variables: &[Held],
+    n: u32,
+    first: Value,
+    second: Value,
+) -> Result<Part, Stop>
+    ensures { IsPartOf result variables.now n (range_span profile first second) }
 {
     match held_at(variables, n) {
         Some(Held::Bits(bits)) => {
-            let span = span_of(bits.len(), high, low)?;
+            let span = span_of(profile, bits.len(), first, second)?;
             Ok(Part { array: n, span })
         }
         _ => Err(Stop::Wrong),
     }
 }
 
-/// The test of a range.
-pub fn check_range(variables: &[Held], n: u32, values: &[Value]) -> Result<Made, Stop>
+/// The test of a range, under a profile.
+pub fn check_range(
+    profile: Profile,
+    variables: &[Held],
+    n: u32,
+    values: &[Value],
+) -> Result<Made, Stop>
     ensures { (told : Told) (s : State) →
-        IsMade result told s s (kept values.now (range_held (slice_get variables.now n))) }
+        IsMade result told s s (kept values.now (range_held profile (slice_get variables.now n))) }
 {
     match values {
-        [high, low] => {
-            range(variables, n, *high, *low)?;
-            Ok(Made::PutTwo(*high, *low))
+        [first, second] => {
+            range(profile, variables, n, *first, *second)?;
+            Ok(Made::PutTwo(*first, *second))
         }
         _ => Err(Stop::Wrong),
     }
 }
 
-/// Where a destination puts bits.
-pub fn place(variables: &[Held], dest: Dest, values: &[Value]) -> Result<Part, Stop>
-    ensures { IsPartOf result variables.now (array_of dest) (dest_span dest values.now) }
+/// Where a destination puts bits, under a profile.
+pub fn place(
+    profile: Profile,
+    variables: &[Held],
+    dest: Dest,
+    values: &[Value],
+) -> Result<Part, Stop>
+    ensures { IsPartOf result variables.now (array_of dest) (dest_span profile dest values.now) }
 {
     match dest {
         Dest::Whole(n) => whole(variables, n),
         Dest::Range(n) => match values {
-            [high, low, ..] => range(variables, n, *high, *low),
+            [first, second, ..] => range(profile, variables, n, *first, *second),
             _ => Err(Stop::Wrong),
         },
     }

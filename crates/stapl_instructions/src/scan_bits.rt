@@ -1,9 +1,12 @@
 //! The bits of scans, in memory that is taken at once.
 ghost use Rattle.std.specs.Prelude.{◌≡◌, ◌≤◌, ◌+◌, ◌++◌, ◌↔◌, [], true, false, IfOk, IsTrue, length, replicate, take};
 ghost use Rattle.bit_list.specs.Integers.{bits_of_int};
-ghost use Rattle.bit_list.specs.Ranges.{taken, AgreeUnderMask};
+ghost use Rattle.bit_list.specs.Ranges.{AgreeUnderMask};
 ghost use Rattle.stapl_meaning.specs.Scans.{scan_limit};
+ghost use Rattle.stapl_instructions.specs.Arrays.{first_bits};
 
+use crate::part_bits::{copy_turned, first_places};
+use crate::parts::Span;
 use bit_list::Bits;
 use std::alloc::{AllocError, Global};
 use std::marker::Model;
@@ -61,14 +64,15 @@ impl ScanBits {
         &self.room
     }
 
-    /// Becomes the n bits of a list from an index on.
-    #[tactic(auto, using(crate::proofs::RoomLemmas::front_replaced))]
-    pub fn take_range(&mut self, from: &Bits, low: u32, n: u32)
+    /// Becomes the first n bits of a part of a list.
+    pub fn take_part(&mut self, from: &Bits, span: Span, n: u32)
         requires few { n ≤ scan_limit }
-        requires inside { low + n ≤ length from.now }
-        ensures { self.new ≡ taken low n from.now }
+        requires enough { n ≤ span.count }
+        requires inside { span.low + span.count ≤ length from.now }
+        ensures { self.new ≡ first_bits n span from.now }
     {
-        self.room.copy_range(0, from, low, n);
+        let low = first_places(from, span, n);
+        copy_turned(&mut self.room, 0, from, low, n, span.falls);
         self.count = n;
     }
 

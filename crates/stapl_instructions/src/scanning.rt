@@ -1,27 +1,27 @@
 //! Scans, paddings, and the states in which scans end.
-ghost use Rattle.std.specs.Prelude.{◌≡◌, ◌≤◌, ◌+◌, ◌∷◌, ℕ, List, length, IfOk, OnOk, true, None, Some};
+ghost use Rattle.std.specs.Prelude.{◌≡◌, ◌≤◌, ◌∷◌, ℕ, List, length, IfOk, OnOk, true, None, Some};
 ghost use Rattle.std.specs.Option.{option_map};
-ghost use Rattle.bit_list.specs.Ranges.{spliced};
-ghost use Rattle.stapl_meaning.specs.declared.values.Held.TheVariants as arrays;
-ghost use Rattle.stapl_meaning.specs.Values.{Known, then_get, bits_of};
+ghost use Rattle.stapl_meaning.specs.Values.{Known, then_get};
 ghost use Rattle.stapl_meaning.specs.Scans.{with_padding, with_stop, scan_limit, padding_limit, caught, agree, known_or, cell_written, judged, target_asked, compare_asked, scan_asked, scanned, padding_bits, surrounded, stopped};
 ghost use Rattle.stapl_code.specs.Machine.{Constants, known_given, known_scan, does};
+ghost use Rattle.stapl_code.specs.Safe.{constants_of};
 ghost use Rattle.stapl_instructions.specs.Found.{IsGot};
 ghost use Rattle.stapl_instructions.specs.Acts.{IsMade, Told, state_in};
+ghost use Rattle.stapl_instructions.specs.Arrays.{HasSpan, with_bits};
 ghost use Rattle.stapl_instructions.specs.Jobs.{is_known, is_given_known, is_scan_known, resolved, compare_resolved, scan_resolved, IsPartIf, HasRoom, IsAsLong, AreCompared, IsCompareFound, AreFound, places_of, cell_of, cell_at, compared_at, compare_at, found_at, compared_by, both_asked, job_compare, job_lands, CanBeDone};
 
 use crate::arrays::store_at;
 use crate::effects::{CellAt, Made, ScanJob, store};
 use crate::memory::{Memory, Shifted};
 use crate::operate::Stop;
-use crate::parts::Part;
+use crate::part_bits::{copy_turned, first_places};
+use crate::parts::{Part, Span};
 use crate::scan_bits::ScanBits;
 use crate::scan_parts::{
     ComparedAt, PartsAt, fill_bits, find_known, find_parts, is_given_known, is_scan_known,
     padding_length, scan_length,
 };
-use bit_list::Bits;
-use stapl_code::{Compare, Scan, Source};
+use stapl_code::{CodeLists, Compare, Scan, Source};
 use stapl_lexer::{Padding, Register};
 use stapl_meaning::{Held, RunFault, Value};
 use tap_states::Tap;
@@ -46,20 +46,20 @@ fn test_room(target: Option<Part>, n: u32) -> Result<(), Stop>
 fn take_both(
     expected: &mut ScanBits,
     mask: &mut ScanBits,
-    literals: &[Bits],
+    code: &CodeLists,
     variables: &[Held],
     at: ComparedAt,
     n: u32,
 ) -> Result<(), Stop>
     requires few { n ≤ scan_limit }
-    requires there { AreCompared literals.now variables.now at }
+    requires there { AreCompared code.now.literals variables.now at }
     ensures is { IsGot (λ done g. g ≡ Known (compared_by expected.new mask.new at.cell)) result
-        (both_asked n at (compared_at literals.now variables.now at)) }
+        (both_asked n at (compared_at code.now.literals variables.now at)) }
     ensures expected { OnOk result (length expected.new ≡ n) }
     ensures mask { OnOk result (length mask.new ≡ n) }
 {
-    fill_bits(expected, literals, variables, at.expected, n)?;
-    fill_bits(mask, literals, variables, at.mask, n)?;
+    fill_bits(expected, code, variables, at.expected, n)?;
+    fill_bits(mask, code, variables, at.mask, n)?;
     Ok(())
 }
 
@@ -67,21 +67,21 @@ fn take_both(
 fn take_compared(
     expected: &mut ScanBits,
     mask: &mut ScanBits,
-    literals: &[Bits],
+    code: &CodeLists,
     variables: &[Held],
     compare: Option<Compare>,
     at: Option<ComparedAt>,
     n: u32,
 ) -> Result<(), Stop>
     requires few { n ≤ scan_limit }
-    requires found { IsCompareFound literals.now variables.now compare at }
+    requires found { IsCompareFound (constants_of code.now) variables.now compare at }
     ensures is { IsGot (λ done g. g ≡ Known (job_compare expected.new mask.new (cell_at at))) result
-        (compare_asked n (option_map (compare_resolved literals.now) compare) (compare_at literals.now variables.now at)) }
+        (compare_asked n (option_map (compare_resolved (constants_of code.now)) compare) (compare_at code.now.literals variables.now at)) }
     ensures expected { OnOk result (IsAsLong (cell_at at) n expected.new) }
     ensures mask { OnOk result (IsAsLong (cell_at at) n mask.new) }
 {
     match at {
-        Some(at) => take_both(expected, mask, literals, variables, at, n),
+        Some(at) => take_both(expected, mask, code, variables, at, n),
         None => Ok(()),
     }
 }
@@ -97,25 +97,25 @@ fn cell_at(compare: Option<ComparedAt>) -> Option<CellAt>
 
 // Takes the bits of a scan whose parts were found.
 fn take_scan(
-    literals: &[Bits],
+    code: &CodeLists,
     scan: &Scan,
     found: PartsAt,
     n: u32,
     memory: &mut Memory,
 ) -> Result<Made, Stop>
-    requires found { AreFound literals.now memory.old.variables.items scan.now found }
+    requires found { AreFound (constants_of code.now) memory.old.variables.items scan.now found }
     requires some { 1 ≤ n }
     requires few { n ≤ scan_limit }
     ensures { (text : List ℕ) (constants : Constants) (states : List Tap) (chosen : List ℕ) →
         IsMade result (record { text = text; constants = constants; states = states; shifted = memory.new.shifted })
         (state_in chosen memory.old) (state_in chosen memory.new)
-        (does (scan_asked (scan_resolved literals.now scan.now) (found_at literals.now memory.old.variables.items found)
+        (does (scan_asked (scan_resolved (constants_of code.now) scan.now) (found_at code.now.literals memory.old.variables.items found)
         (state_in chosen memory.old) n)) }
 {
     memory.shifted.captured.resize(n);
     fill_bits(
         &mut memory.shifted.data,
-        literals,
+        code,
         &memory.variables,
         found.source,
         n,
@@ -124,7 +124,7 @@ fn take_scan(
     take_compared(
         &mut memory.shifted.expected,
         &mut memory.shifted.mask,
-        literals,
+        code,
         &memory.variables,
         scan.compare,
         found.compare,
@@ -139,42 +139,42 @@ fn take_scan(
 
 // Takes the bits of a scan whose length is the first value.
 fn scan_first(
-    literals: &[Bits],
+    code: &CodeLists,
     scan: &Scan,
     first: Value,
     values: &[Value],
     memory: &mut Memory,
 ) -> Result<Made, Stop>
-    requires { is_scan_known literals.now scan.now ≡ true }
+    requires { is_scan_known code.now.literals scan.now ≡ true }
     ensures { (text : List ℕ) (constants : Constants) (states : List Tap) (chosen : List ℕ) →
         IsMade result (record { text = text; constants = constants; states = states; shifted = memory.new.shifted })
         (state_in chosen memory.old) (state_in chosen memory.new)
-        (does (scanned (scan_resolved literals.now scan.now) (first ∷ values.now) (state_in chosen memory.old))) }
+        (does (scanned (scan_resolved (constants_of code.now) scan.now) (first ∷ values.now) (state_in chosen memory.old))) }
 {
     match first {
         Value::Int(length) => {
-            let found = find_parts(literals, scan, values, &memory.variables)?;
+            let found = find_parts(code, scan, values, &memory.variables)?;
             let n = scan_length(length)?;
-            take_scan(literals, scan, found, n, memory)
+            take_scan(code, scan, found, n, memory)
         }
         Value::Bit(_) => Err(Stop::Wrong),
     }
 }
 
 fn scan_known(
-    literals: &[Bits],
+    code: &CodeLists,
     scan: &Scan,
     values: &[Value],
     memory: &mut Memory,
 ) -> Result<Made, Stop>
-    requires { is_scan_known literals.now scan.now ≡ true }
+    requires { is_scan_known code.now.literals scan.now ≡ true }
     ensures { (text : List ℕ) (constants : Constants) (states : List Tap) (chosen : List ℕ) →
         IsMade result (record { text = text; constants = constants; states = states; shifted = memory.new.shifted })
         (state_in chosen memory.old) (state_in chosen memory.new)
-        (does (scanned (scan_resolved literals.now scan.now) values.now (state_in chosen memory.old))) }
+        (does (scanned (scan_resolved (constants_of code.now) scan.now) values.now (state_in chosen memory.old))) }
 {
     match values.split_first() {
-        Some((first, rest)) => scan_first(literals, scan, *first, rest, memory),
+        Some((first, rest)) => scan_first(code, scan, *first, rest, memory),
         None => Err(Stop::Wrong),
     }
 }
@@ -182,7 +182,7 @@ fn scan_known(
 /// Takes the bits of a scan, which is still to be done.
 #[tactic(auto, using(crate::proofs::ScanLemmas::scan_known, crate::proofs::ScanLemmas::scan_unknown))]
 pub fn scan(
-    literals: &[Bits],
+    code: &CodeLists,
     scan: &Scan,
     values: &[Value],
     memory: &mut Memory,
@@ -190,12 +190,12 @@ pub fn scan(
     ensures { (text : List ℕ) (constants : Constants) (states : List Tap) (chosen : List ℕ) →
         IsMade result (record { text = text; constants = constants; states = states; shifted = memory.new.shifted })
         (state_in chosen memory.old) (state_in chosen memory.new)
-        (does (then_get (known_scan literals.now scan.now) (λ parts. scanned parts values.now (state_in chosen memory.old)))) }
+        (does (then_get (known_scan (constants_of code.now) scan.now) (λ parts. scanned parts values.now (state_in chosen memory.old)))) }
 {
-    if !is_scan_known(literals, scan) {
+    if !is_scan_known(code, scan) {
         return Err(Stop::Wrong);
     }
-    scan_known(literals, scan, values, memory)
+    scan_known(code, scan, values, memory)
 }
 
 // Takes so many ones.
@@ -216,20 +216,20 @@ fn ones_of(target: &mut ScanBits, values: &[Value], asked: i32) -> Result<(), St
 
 fn padding_of(
     target: &mut ScanBits,
-    literals: &[Bits],
+    code: &CodeLists,
     source: Source,
     values: &[Value],
     asked: i32,
     variables: &[Held],
 ) -> Result<(), Stop>
-    requires { is_known literals.now source ≡ true }
+    requires { is_known code.now.literals source ≡ true }
     ensures is { IsGot (λ done g. g ≡ Known target.new) result
-        (padding_bits variables.now (Some (resolved literals.now source)) values.now asked) }
+        (padding_bits variables.now (Some (resolved (constants_of code.now) source)) values.now asked) }
     ensures few { OnOk result (length target.new ≤ padding_limit) }
 {
-    let at = find_known(literals, source, values, variables)?;
+    let at = find_known(code, source, values, variables)?;
     let n = padding_length(asked)?;
-    fill_bits(target, literals, variables, at, n)
+    fill_bits(target, code, variables, at, n)
 }
 
 // Sets a padding to the bits that were taken.
@@ -248,43 +248,43 @@ fn set_padding(memory: &mut Memory, which: Padding)
 
 fn take_padding(
     target: &mut ScanBits,
-    literals: &[Bits],
+    code: &CodeLists,
     source: Option<Source>,
     values: &[Value],
     asked: i32,
     variables: &[Held],
 ) -> Result<(), Stop>
-    requires { is_given_known literals.now source ≡ true }
+    requires { is_given_known code.now.literals source ≡ true }
     ensures is { IsGot (λ done g. g ≡ Known target.new) result
-        (padding_bits variables.now (option_map (resolved literals.now) source) values.now asked) }
+        (padding_bits variables.now (option_map (resolved (constants_of code.now)) source) values.now asked) }
     ensures few { OnOk result (length target.new ≤ padding_limit) }
 {
     match source {
         None => ones_of(target, values, asked),
-        Some(source) => padding_of(target, literals, source, values, asked, variables),
+        Some(source) => padding_of(target, code, source, values, asked, variables),
     }
 }
 
 // A padding of the length that is the first value is set.
 fn pad_first(
-    literals: &[Bits],
+    code: &CodeLists,
     which: Padding,
     source: Option<Source>,
     first: Value,
     values: &[Value],
     memory: &mut Memory,
 ) -> Result<Made, Stop>
-    requires { is_given_known literals.now source ≡ true }
+    requires { is_given_known code.now.literals source ≡ true }
     ensures { (told : Told) (chosen : List ℕ) →
         IsMade result told (state_in chosen memory.old) (state_in chosen memory.new)
-        (does (surrounded which (option_map (resolved literals.now) source) (first ∷ values.now)
+        (does (surrounded which (option_map (resolved (constants_of code.now)) source) (first ∷ values.now)
         (state_in chosen memory.old))) }
 {
     match first {
         Value::Int(length) => {
             take_padding(
                 &mut memory.shifted.data,
-                literals,
+                code,
                 source,
                 values,
                 length,
@@ -298,19 +298,19 @@ fn pad_first(
 }
 
 fn pad_known(
-    literals: &[Bits],
+    code: &CodeLists,
     which: Padding,
     source: Option<Source>,
     values: &[Value],
     memory: &mut Memory,
 ) -> Result<Made, Stop>
-    requires { is_given_known literals.now source ≡ true }
+    requires { is_given_known code.now.literals source ≡ true }
     ensures { (told : Told) (chosen : List ℕ) →
         IsMade result told (state_in chosen memory.old) (state_in chosen memory.new)
-        (does (surrounded which (option_map (resolved literals.now) source) values.now (state_in chosen memory.old))) }
+        (does (surrounded which (option_map (resolved (constants_of code.now)) source) values.now (state_in chosen memory.old))) }
 {
     match values.split_first() {
-        Some((first, rest)) => pad_first(literals, which, source, *first, rest, memory),
+        Some((first, rest)) => pad_first(code, which, source, *first, rest, memory),
         None => Err(Stop::Wrong),
     }
 }
@@ -318,7 +318,7 @@ fn pad_known(
 /// A padding is set.
 #[tactic(auto, using(crate::proofs::ScanLemmas::given_known, crate::proofs::ScanLemmas::given_unknown))]
 pub fn pad(
-    literals: &[Bits],
+    code: &CodeLists,
     which: Padding,
     source: Option<Source>,
     values: &[Value],
@@ -326,13 +326,13 @@ pub fn pad(
 ) -> Result<Made, Stop>
     ensures { (told : Told) (chosen : List ℕ) →
         IsMade result told (state_in chosen memory.old) (state_in chosen memory.new)
-        (does (then_get (known_given literals.now source)
+        (does (then_get (known_given (constants_of code.now) source)
         (λ from. surrounded which from values.now (state_in chosen memory.old)))) }
 {
-    if !is_given_known(literals, source) {
+    if !is_given_known(code, source) {
         return Err(Stop::Wrong);
     }
-    pad_known(literals, which, source, values, memory)
+    pad_known(code, which, source, values, memory)
 }
 
 fn set_stop(memory: &mut Memory, register: Register, state: Tap)
@@ -368,14 +368,16 @@ pub fn stop(
     }
 }
 
-// Captured bits go to the lowest ones of a part of an array.
-fn put_captured(held: &mut Held, low: u32, bits: &ScanBits)
-    requires is_array { held.old ≡ arrays.Bits (bits_of held.old) }
-    requires inside { low + length bits.now ≤ length (bits_of held.old) }
-    ensures { held.new ≡ arrays.Bits (spliced low bits.now (bits_of held.old)) }
+// Captured bits go to the first places of a part of an array.
+fn put_captured(held: &mut Held, span: Span, bits: &ScanBits)
+    requires is_part { HasSpan held.old span }
+    requires room { length bits.now ≤ span.count }
+    ensures { held.new ≡ with_bits held.old span bits.now }
 {
     if let Held::Bits(own) = held {
-        own.copy_range(low, bits.as_bits(), 0, bits.len());
+        let n = bits.len();
+        let at = first_places(own, span, n);
+        copy_turned(own, at, bits.as_bits(), 0, n, span.falls);
     }
 }
 
@@ -385,7 +387,7 @@ fn catch(variables: &mut Vec<Held>, target: Option<Part>, bits: &ScanBits)
     ensures { variables.new.items ≡ caught (places_of target) bits.now variables.old.items }
 {
     if let Some(part) = target {
-        put_captured(&mut variables[part.array as usize], part.span.low, bits);
+        put_captured(&mut variables[part.array as usize], part.span, bits);
     }
 }
 

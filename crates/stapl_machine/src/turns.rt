@@ -319,7 +319,7 @@ fn try_at<L: Ledger>(
     ensures room { KeepsRoom work.old work.new }
 {
     let instr = &code.instrs.as_slice()[i];
-    match try_step(i as u32, instr, work) {
+    match try_step(code, i as u32, instr, work) {
         Tried::On => {
             count(instr, steps);
             Tried::On

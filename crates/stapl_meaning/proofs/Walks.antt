@@ -6,7 +6,6 @@ use Rattle.std.proofs.lemmas.List.{length-append, length-take, length-replicate}
 use Rattle.std.proofs.lemmas.Bool.{false≢true, leb-true}
 use Rattle.std.specs.Int.{int_wrap, w32}
 use Rattle.std.specs.Ordering.{int_eq}
-use Rattle.bit_list.specs.Ranges.{spliced}
 use Rattle.stapl_lexer.specs.declared.terminal.Padding.{Padding}
 use Rattle.stapl_lexer.specs.declared.terminal.Register.{Register}
 use Rattle.stapl_lexer.specs.declared.terminal.Register.TheVariants as registers
@@ -33,7 +32,7 @@ use Rattle.stapl_meaning.specs.Deeds.{Deed, Says, Goes, Stays}
 use Rattle.stapl_meaning.specs.SaidEvents.{is_no_clock}
 use Rattle.stapl_meaning.specs.declared.values.Held.{Held}
 use Rattle.stapl_meaning.specs.declared.values.Held.TheVariants as held
-use Rattle.stapl_meaning.specs.Values.{Got, Known, Faults, Stuck, then_get, passed, Span, Source, These, Whole, Range, OfInt, source_bits, asked, bits_held, span_of, source_of}
+use Rattle.stapl_meaning.specs.Values.{Got, Known, Faults, Stuck, then_get, passed, Span, Source, These, Whole, Range, OfInt, source_bits, asked, bits_held, span_of, span_put, whole_span, source_of, of_programs}
 use Rattle.stapl_meaning.specs.Operands.{given_kind, values_of}
 use Rattle.stapl_meaning.specs.States.{ScanSettings, State, Did, Falls, Captures, Jumps, Resumes, Returns, Ends, Turned, Leads, Over, Broken, Scanning, NoTurn, with_got, preceded, turn_of_piece, next_chosen, jumps_to, led}
 use Rattle.stapl_meaning.specs.Effects.{export_of, value_as, replaced, scalar_written, element_written, with_variables, written, assigned, element_assigned, Target, IntoWhole, IntoRange, span_written, copied, with_integers, integers_set, jumped, parted, record_limit, with_records, with_room, number_of, topmost, pushed, popped, called, returned_from, returned, with_loop, looped, nearest_loop, is_over, integer_held, went_round, repeated, exited, joined, printed, exported, bits_exported, moved_through, cycles_of, usec_of, hertz_of, waited_for, waited, tuned}
@@ -142,7 +141,7 @@ passed_long false n bits k h = tt
 asked_long : (source : Source) (n : ℕ) (bits : List Bool) → GotLong n (asked source n bits)
 asked_long (These own) n bits = omega (arith, length-take n (bits ++ replicate n false), length-append bits (replicate n false), length-replicate n false)
 asked_long (Whole v) n bits = passed_long (nat_le n (length bits)) n bits LengthMismatch (leb-true n (length bits))
-asked_long (Range v) n bits = passed_long (nat_le n (length bits)) n bits LengthMismatch (leb-true n (length bits))
+asked_long (Range profile v) n bits = passed_long (nat_le n (length bits)) n bits LengthMismatch (leb-true n (length bits))
 asked_long OfInt n bits = passed_long (nat_le n (length bits)) n bits LengthMismatch (leb-true n (length bits))
 
 module _ (w : WalkRule) where
@@ -232,22 +231,22 @@ module _ (w : WalkRule) where
   span_same : (n : ℕ) (old : List Bool) (source : Source) (vs : List Value) (s : State) (span : Span) → Fits s
       → SameGot (span_written n old source vs s span) (span_written n old source vs (changed s) span)
   span_same n old source vs s span h =
-      let put : State → List Bool → Got Did = λ t new. Known (Falls [] (with_variables t (slice_set s.store.variables n (held.Bits (spliced span.low new old))))) in
+      let put : State → List Bool → Got Did = λ t new. Known (Falls [] (with_variables t (slice_set s.store.variables n (held.Bits (span_put span new old))))) in
       let from : State → List Bool → Got Did = λ t bits. then_get (asked source span.count bits) (put t) in
       then_same (source_bits s.store.variables source vs) (from s) (from (changed s)) (λ bits.
-      then_same (asked source span.count bits) (put s) (put (changed s)) (λ new. falls_same (with_variables s (slice_set s.store.variables n (held.Bits (spliced span.low new old)))) h))
+      then_same (asked source span.count bits) (put s) (put (changed s)) (λ new. falls_same (with_variables s (slice_set s.store.variables n (held.Bits (span_put span new old)))) h))
 
   pub copied_same : (into : Target) (source : Source) → SameEffect (copied into source)
   copied_same (IntoWhole n) source vs s h =
-      let go : State → List Bool → Got Did = λ t old. span_written n old source vs t (record { low = 0; count = length old }) in
-      then_same (bits_held (slice_get s.store.variables n)) (go s) (go (changed s)) (λ old. span_same n old source vs s (record { low = 0; count = length old }) h)
-  copied_same (IntoRange n) source [] s h = stuck_same
-  copied_same (IntoRange n) source (high ∷ []) s h = stuck_same
-  copied_same (IntoRange n) source (high ∷ low ∷ vs) s h =
+      let go : State → List Bool → Got Did = λ t old. span_written n old source vs t (whole_span (length old)) in
+      then_same (bits_held (slice_get s.store.variables n)) (go s) (go (changed s)) (λ old. span_same n old source vs s (whole_span (length old)) h)
+  copied_same (IntoRange profile n) source [] s h = stuck_same
+  copied_same (IntoRange profile n) source (high ∷ []) s h = stuck_same
+  copied_same (IntoRange profile n) source (high ∷ low ∷ vs) s h =
       let t : State = changed s in
-      let go : State → List Bool → Got Did = λ t old. then_get (span_of (length old) high low) (span_written n old source vs t) in
+      let go : State → List Bool → Got Did = λ t old. then_get (span_of profile (length old) high low) (span_written n old source vs t) in
       then_same (bits_held (slice_get s.store.variables n)) (go s) (go t) (λ old.
-      then_same (span_of (length old) high low) (span_written n old source vs s) (span_written n old source vs t) (λ span. span_same n old source vs s span h))
+      then_same (span_of profile (length old) high low) (span_written n old source vs s) (span_written n old source vs t) (λ span. span_same n old source vs s span h))
 
   pub integers_same : (n : ℕ) (zs : List ℤ) → SameEffect (integers_set n zs)
   integers_same n zs [] s h = written_same s (replaced s.store.variables n (with_integers zs (slice_get s.store.variables n))) h
@@ -583,7 +582,7 @@ module _ (w : WalkRule) where
     effect_same (assign name x) e = assigned_same (scope.look.variable name)
     effect_same (assign_element name index x) e = element_same (scope.look.variable name)
     effect_same (assign_array name a) e = copied_same (IntoWhole (scope.look.variable name)) (source_of scope.look a)
-    effect_same (assign_range name high low a) e = copied_same (IntoRange (scope.look.variable name)) (source_of scope.look a)
+    effect_same (assign_range name high low a) e = copied_same (IntoRange of_programs (scope.look.variable name)) (source_of scope.look a)
     effect_same (goto name) e = jumped_same
     effect_same (if_then x body) e = parted_same
     effect_same (push x) e = pushed_same

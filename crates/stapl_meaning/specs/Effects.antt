@@ -3,10 +3,10 @@ use Rattle.std.specs.Prelude.{ℕ, ℤ, pos, ◌+◌, map, ◌+ℤ◌, int_lt, i
 use Rattle.std.specs.Int.{int_wrap, w32}
 use Rattle.std.specs.Ordering.{int_eq}
 use Rattle.std.specs.Fmt.{signed_decimal}
-use Rattle.bit_list.specs.Ranges.{spliced}
 use Rattle.stapl_syntax.specs.Trees.{PartTree, string, value, character}
 use Rattle.tap_states.specs.declared.Tap.{Tap}
 use Rattle.tap_states.specs.Tap.{is_stable_state}
+use Rattle.stapl_meaning.specs.declared.profiles.Profile.{Profile}
 use Rattle.stapl_meaning.specs.declared.events.Event.TheVariants.{Print, Export, Usec, Hertz}
 use Rattle.stapl_meaning.specs.declared.events.ExportValue.{ExportValue}
 use Rattle.stapl_meaning.specs.declared.events.ExportValue.TheVariants as exports
@@ -24,7 +24,7 @@ use Rattle.stapl_meaning.specs.declared.values.ValueKind.TheVariants as value_ki
 use Rattle.stapl_meaning.specs.declared.waits.WaitKind.{WaitKind}
 use Rattle.stapl_meaning.specs.declared.waits.WaitKind.TheVariants as waits
 use Rattle.stapl_meaning.specs.Deeds.{Deed, Says, Goes, Stays}
-use Rattle.stapl_meaning.specs.Values.{Got, Known, Faults, Stuck, then_get, is_index, passed, bits_held, Span, span_of, Source, source_bits, padded, asked, integer_of}
+use Rattle.stapl_meaning.specs.Values.{Got, Known, Faults, Stuck, then_get, is_index, passed, bits_held, Span, span_of, span_put, whole_span, Source, source_bits, padded, asked, integer_of}
 use Rattle.stapl_meaning.specs.Operands.{character_of, bit_number}
 use Rattle.stapl_meaning.specs.States.{State, Did, Falls, Jumps, Resumes, Returns, Ends}
 
@@ -72,27 +72,27 @@ abbrev pub element_assigned : ℕ → List Value → State → Got Did
 element_assigned n (Int i ∷ v ∷ []) s = written s (element_written s.store.variables n (slice_get s.store.variables n) i v)
 element_assigned n _ s = Stuck
 
--- Where bits go: into the whole of the BOOLEAN array of a number, or into a range of it by two indexes.
+-- Where bits go: into the whole of the BOOLEAN array of a number, or into a range of it by two indexes under a profile.
 pub data Target : Type 0 where
   IntoWhole : ℕ → Target
-  IntoRange : ℕ → Target
+  IntoRange : Profile → ℕ → Target
 
 -- As many bits of a source as a part of the array of number n has go there. All are read before the first is written.
 abbrev pub span_written : ℕ → List Bool → Source → List Value → State → Span → Got Did
 span_written n old source values s span =
     then_get (source_bits s.store.variables source values) (λ bits.
     then_get (asked source span.count bits) (λ new.
-    Known (Falls [] (with_variables s (slice_set s.store.variables n (held.Bits (spliced span.low new old)))))))
+    Known (Falls [] (with_variables s (slice_set s.store.variables n (held.Bits (span_put span new old)))))))
 
 -- bits are copied into an array, by the values of its indexes and of those of the source
 abbrev pub copied : Target → Source → List Value → State → Got Did
 copied (IntoWhole n) source values s =
     then_get (bits_held (slice_get s.store.variables n))
-    (λ old. span_written n old source values s (record { low = 0; count = length old }))
-copied (IntoRange n) source (high ∷ low ∷ values) s =
+    (λ old. span_written n old source values s (whole_span (length old)))
+copied (IntoRange profile n) source (first ∷ second ∷ values) s =
     then_get (bits_held (slice_get s.store.variables n))
-    (λ old. then_get (span_of (length old) high low) (span_written n old source values s))
-copied (IntoRange n) source _ s = Stuck
+    (λ old. then_get (span_of profile (length old) first second) (span_written n old source values s))
+copied (IntoRange profile n) source _ s = Stuck
 
 -- an INTEGER array with these elements from index 0 on, and 0 after them
 abbrev pub with_integers : List ℤ → Option Held → Got Held

@@ -13,10 +13,10 @@ use Rattle.stapl_meaning.specs.declared.values.ValueKind.TheVariants as kinds
 use Rattle.stapl_meaning.specs.declared.values.Value.{Value}
 use Rattle.stapl_meaning.specs.declared.values.Value.TheVariants.{Int, Bit}
 use Rattle.stapl_meaning.specs.declared.values.Held.{Held}
-use Rattle.stapl_meaning.specs.Values.{Got, Known, Stuck, then_get, is_index, passed, index_held, range_held, Lookup, value_of}
+use Rattle.stapl_meaning.specs.Values.{Got, Known, Stuck, then_get, is_index, passed, index_held, range_held, of_programs, Lookup, value_of}
 
 -- No test; that the value is the number of a character; that it is an index of the array of a number; or that it is the
--- low index of a range of such an array, whose high index stands before it.
+-- second index of a range of such an array, whose first index stands before it.
 pub data Test : Type 0 where
   Plain : Test
   Character : Test
@@ -45,9 +45,9 @@ a_character e = record { expr = e; kind = kinds.Int; test = Character }
 abbrev pub an_index : ℕ → ExprTree → Operand
 an_index n e = record { expr = e; kind = kinds.Int; test = Index n }
 
--- the high index and the low index of a range of the array of a number
+-- both indexes of a range of the array of a number
 abbrev pub a_range : ℕ → ExprTree → ExprTree → List Operand
-a_range n high low = an_integer high ∷ record { expr = low; kind = kinds.Int; test = Range n } ∷ []
+a_range n first second = an_integer first ∷ record { expr = second; kind = kinds.Int; test = Range n } ∷ []
 
 -- the number of a character
 abbrev pub character_of : Value → Got Value
@@ -61,7 +61,7 @@ module _ (look : Lookup) (variables : List Held) where
   tested Character before v = character_of v
   tested (Index n) before v = index_held (slice_get variables n) v
   tested (Range n) None v = Stuck
-  tested (Range n) (Some high) v = range_held (slice_get variables n) high v
+  tested (Range n) (Some first) v = range_held of_programs (slice_get variables n) first v
 
   -- the value of an operand
   abbrev pub operand_value : Option Value → Operand → Got Value

@@ -4,7 +4,7 @@ use Rattle.std.specs.Prelude.{Option, Some, None}
 use Rattle.std.specs.Option.{option_map}
 use Rattle.stapl_lexer.specs.declared.terminal.Register.{Register}
 use Rattle.stapl_syntax.specs.Trees.{scalar, element, ArrayTree, whole, range, CompareTree}
-use Rattle.stapl_meaning.specs.Values.{Source, Lookup, source_of}
+use Rattle.stapl_meaning.specs.Values.{Source, Lookup, source_of, of_programs}
 use Rattle.stapl_meaning.specs.Effects.{Target, IntoWhole, IntoRange}
 use Rattle.stapl_meaning.specs.Scans.{ScalarCell, ElementCell, CompareParts, ScanParts}
 
@@ -14,7 +14,7 @@ module _ (look : Lookup) where
 
   abbrev pub given_target : Option ArrayTree → Option Target
   given_target (Some (whole name)) = Some (IntoWhole (look.variable name))
-  given_target (Some (range name high low)) = Some (IntoRange (look.variable name))
+  given_target (Some (range name first second)) = Some (IntoRange of_programs (look.variable name))
   given_target _ = None
 
   abbrev pub compare_parts : Option CompareTree → Option CompareParts

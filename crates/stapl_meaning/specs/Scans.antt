@@ -2,7 +2,6 @@
 -- DRSTOP. The limits of lengths, and the order of the tests, are this profile's.
 use Rattle.std.specs.Prelude.{ℕ, ℤ, pos, nat_le, nat_abs, int_le, if◌then◌else◌, Bool, true, false, not, ◌&&◌, ◌||◌, List, [], ◌∷◌, length, take, drop, replicate, Option, Some, None, slice_get, slice_set}
 use Rattle.std.specs.Bool.{beq}
-use Rattle.bit_list.specs.Ranges.{spliced}
 use Rattle.stapl_lexer.specs.declared.terminal.Padding.{Padding}
 use Rattle.stapl_lexer.specs.declared.terminal.Padding.TheVariants as paddings
 use Rattle.stapl_lexer.specs.declared.terminal.Register.{Register}
@@ -15,7 +14,7 @@ use Rattle.stapl_meaning.specs.declared.values.Value.{Value}
 use Rattle.stapl_meaning.specs.declared.values.Value.TheVariants.{Int, Bit}
 use Rattle.stapl_meaning.specs.declared.values.Held.{Held}
 use Rattle.stapl_meaning.specs.declared.values.Held.TheVariants as held
-use Rattle.stapl_meaning.specs.Values.{Got, Known, Stuck, then_get, passed, index_held, bits_held, bits_in, Span, span_of, Source, These, Whole, Range, OfInt, source_bits, asked}
+use Rattle.stapl_meaning.specs.Values.{Got, Known, Stuck, then_get, passed, index_held, bits_held, bits_in, Span, span_of, span_put, whole_span, Source, These, Whole, Range, OfInt, source_bits, asked}
 use Rattle.stapl_meaning.specs.States.{ScanSettings, State, Did, Falls, Captures}
 use Rattle.stapl_meaning.specs.Effects.{Target, IntoWhole, IntoRange, with_variables, scalar_written, element_written}
 
@@ -84,13 +83,13 @@ pub record ScanParts : Type 0 where
 abbrev pub source_width : Source → ℕ
 source_width (These bits) = 0
 source_width (Whole n) = 0
-source_width (Range n) = 2
+source_width (Range profile n) = 2
 source_width OfInt = 1
 
 abbrev pub target_width : Option Target → ℕ
 target_width None = 0
 target_width (Some (IntoWhole n)) = 0
-target_width (Some (IntoRange n)) = 2
+target_width (Some (IntoRange profile n)) = 2
 
 -- ---- what the parts stand for: all are found and tested, in the written order, before the scan is
 
@@ -114,9 +113,9 @@ module _ (variables : List Held) where
   abbrev pub target_found : Option Target → List Value → Got (Option Place)
   target_found None [] = Known None
   target_found (Some (IntoWhole n)) [] =
-      then_get (bits_held (slice_get variables n)) (λ old. Known (Some (record { array = n; span = record { low = 0; count = length old } })))
-  target_found (Some (IntoRange n)) (high ∷ low ∷ []) =
-      then_get (bits_held (slice_get variables n)) (λ old. then_get (span_of (length old) high low) (λ span. Known (Some (record { array = n; span = span }))))
+      then_get (bits_held (slice_get variables n)) (λ old. Known (Some (record { array = n; span = whole_span (length old) })))
+  target_found (Some (IntoRange profile n)) (first ∷ second ∷ []) =
+      then_get (bits_held (slice_get variables n)) (λ old. then_get (span_of profile (length old) first second) (λ span. Known (Some (record { array = n; span = span }))))
   target_found _ _ = Stuck
 
   abbrev pub cell_found : CellPart → List Value → Got Cell
@@ -153,11 +152,11 @@ scan_found variables parts values =
 
 -- ---- what the captured bits do
 
--- they go to the lowest bits of a place
+-- they go to the first places of a part
 abbrev pub caught : Option Place → List Bool → List Held → List Held
 caught None bits variables = variables
 caught (Some place) bits variables =
-    slice_set variables place.array (held.Bits (spliced place.span.low bits (bits_in (slice_get variables place.array))))
+    slice_set variables place.array (held.Bits (span_put place.span bits (bits_in (slice_get variables place.array))))
 
 -- each bit under a mask bit 1 is the expected one
 abbrev pub agree : (mask expected bits : List Bool) → Bool

@@ -11,7 +11,7 @@ use Rattle.stapl_meaning.specs.Deeds.{Deed}
 use Rattle.stapl_meaning.specs.declared.events.RunFault.{RunFault}
 use Rattle.stapl_meaning.specs.declared.events.Ending.{Ending}
 use Rattle.stapl_meaning.specs.declared.values.Value.{Value}
-use Rattle.stapl_meaning.specs.Values.{Got, Known, Faults, Stuck, These, source_of}
+use Rattle.stapl_meaning.specs.Values.{Got, Known, Faults, Stuck, These, source_of, of_programs}
 use Rattle.stapl_meaning.specs.Scans.{scanned, surrounded, stopped}
 use Rattle.stapl_meaning.specs.Operands.{Operand, plain, an_integer, a_boolean, an_index, a_range, bit_number, given_kind, printed_kind, step_or_one, array_operands, given_operands, target_operands, compare_operands, part_operands, values_of}
 use Rattle.stapl_meaning.specs.ScanTrees.{scan_parts, given_source}
@@ -84,7 +84,7 @@ effect scope (assign name e) values s = assigned (scope.look.variable name) valu
 effect scope (assign_element name index e) values s = element_assigned (scope.look.variable name) values s
 effect scope (assign_array name a) values s = copied (IntoWhole (scope.look.variable name)) (source_of scope.look a) values s
 effect scope (assign_range name high low a) values s =
-    copied (IntoRange (scope.look.variable name)) (source_of scope.look a) values s
+    copied (IntoRange of_programs (scope.look.variable name)) (source_of scope.look a) values s
 effect scope (call name) values s = called scope.follow values s
 effect scope (goto name) values s = jumped values s
 effect scope (if_then e body) values s = parted values s

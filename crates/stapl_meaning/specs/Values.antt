@@ -1,12 +1,12 @@
 -- Values of expressions. Source: JESD71, expressions and Boolean arrays. That integers wrap modulo 2 to the power of
 -- 32, and what faults, are this profile's rules.
-use Rattle.std.specs.Prelude.{ℕ, zero, suc, ◌+◌, ◌-◌, ◌^◌, nat_lt, nat_le, nat_abs, if◌then◌else◌, Bool, true, false, not, ◌&&◌, ◌||◌, List, [], ◌∷◌, ◌++◌, length, take, replicate, Option, None, Some, slice_get}
+use Rattle.std.specs.Prelude.{ℕ, zero, suc, ◌+◌, ◌-◌, ◌^◌, nat_lt, nat_le, nat_abs, if◌then◌else◌, Bool, true, false, not, ◌&&◌, ◌||◌, List, [], ◌∷◌, ◌++◌, length, take, reverse, replicate, Option, None, Some, slice_get}
 use Rattle.std.specs.Prelude.{ℤ, pos, negsuc, ◌+ℤ◌, ◌-ℤ◌, ◌*ℤ◌, neg_ℤ, int_lt, int_le, int_div, int_rem, unsigned_abs}
 use Rattle.std.specs.Int.{int_wrap, int_div_euclid, w32}
 use Rattle.std.specs.Bool.{beq}
 use Rattle.std.specs.Ordering.{int_eq}
 use Rattle.bit_list.specs.Integers.{int_of, bits_of_int}
-use Rattle.bit_list.specs.Ranges.{taken}
+use Rattle.bit_list.specs.Ranges.{taken, spliced}
 use Rattle.stapl_lexer.specs.declared.terminal.BinOp.{BinOp}
 use Rattle.stapl_lexer.specs.declared.terminal.BinOp.TheVariants.{Multiply, Divide, Remainder, Add, Subtract}
 use Rattle.stapl_lexer.specs.declared.terminal.BinOp.TheVariants.{ShiftLeft, ShiftRight, BitAnd, BitXor, BitOr, And, Or}
@@ -16,6 +16,8 @@ use Rattle.stapl_syntax.specs.declared.signs.UnOp.TheVariants.{Negate, Complemen
 use Rattle.stapl_syntax.specs.declared.names.Kind.{Kind}
 use Rattle.stapl_syntax.specs.Kinds.{VarKinds, is_bit_alone, expr_kind}
 use Rattle.stapl_syntax.specs.Trees.{ExprTree, number, scalar, element, unary, binary, abs, int, ArrayTree, literal as bit_literal, whole, range, of_int}
+use Rattle.stapl_meaning.specs.declared.profiles.Profile.{Profile}
+use Rattle.stapl_meaning.specs.declared.profiles.Profile.TheVariants.{One, Two}
 use Rattle.stapl_meaning.specs.declared.events.RunFault.{RunFault}
 use Rattle.stapl_meaning.specs.declared.events.RunFault.TheVariants.{DivideByZero, IndexOutOfRange, RangeReversed, LengthMismatch, ShiftCount}
 use Rattle.stapl_meaning.specs.declared.values.ValueKind.{ValueKind}
@@ -170,43 +172,76 @@ abbrev pub bits_in : Option Held → List Bool
 bits_in (Some h) = bits_of h
 bits_in None = []
 
--- a part of an array: its lowest index, and how many bits it has
+-- A part of an array: its lowest index, how many bits it has, and whether these go from its highest index down and not
+-- from its lowest index up.
 pub record Span : Type 0 where
   pub low : ℕ
   pub count : ℕ
+  pub falls : Bool
 
--- The part from a high index down to a low one, of an array of so many bits. The high index is tested first.
-abbrev pub span_between : ℕ → ℤ → ℤ → Got Span
-span_between n high low =
-    if not (is_index high n && is_index low n) then Faults IndexOutOfRange
-    else passed (int_le low high) RangeReversed (record { low = nat_abs low; count = nat_abs high + 1 - nat_abs low })
+-- the whole of an array of so many bits
+abbrev pub whole_span : ℕ → Span
+whole_span n = record { low = 0; count = n; falls = false }
 
-abbrev pub span_of : ℕ → Value → Value → Got Span
-span_of n (Int high) (Int low) = span_between n high low
-span_of n _ _ = Stuck
+-- bits in this order, or in the other one
+abbrev pub turned : Bool → List Bool → List Bool
+turned false bits = bits
+turned true bits = reverse bits
 
--- the low index of a range whose high index is this one, if it is a range of the array
-abbrev pub range_held : Option Held → Value → Value → Got Value
-range_held array high low =
-    then_get (bits_held array) (λ bits. then_get (span_of (length bits) high low) (λ span. Known low))
+-- the bits of a part, in its order
+abbrev pub span_bits : Span → List Bool → List Bool
+span_bits span bits = turned span.falls (taken span.low span.count bits)
+
+-- the lowest index of the first n places of a part
+abbrev pub first_places : Span → ℕ → ℕ
+first_places span n = if span.falls then span.low + span.count - n else span.low
+
+-- an array with these bits in the first places of a part, in its order
+abbrev pub span_put : Span → List Bool → List Bool → List Bool
+span_put span new old = spliced (first_places span (length new)) (turned span.falls new) old
+
+-- a range whose first index is below its second, under a profile
+abbrev pub rising_span : Profile → ℕ → ℕ → Got Span
+rising_span One first second = Faults RangeReversed
+rising_span Two first second = Known (record { low = first; count = second + 1 - first; falls = true })
+
+-- The part that a range of an array of so many bits is. It begins with the second written index and goes to the first,
+-- upwards or downwards. The first index is tested first.
+abbrev pub span_between : Profile → ℕ → ℤ → ℤ → Got Span
+span_between profile n first second =
+    if not (is_index first n && is_index second n) then Faults IndexOutOfRange
+    else if int_le second first
+    then Known (record { low = nat_abs second; count = nat_abs first + 1 - nat_abs second; falls = false })
+    else rising_span profile (nat_abs first) (nat_abs second)
+
+abbrev pub span_of : Profile → ℕ → Value → Value → Got Span
+span_of profile n (Int first) (Int second) = span_between profile n first second
+span_of profile n _ _ = Stuck
+
+-- the second index of a range whose first index is this one, if it is a range of the array
+abbrev pub range_held : Profile → Option Held → Value → Value → Got Value
+range_held profile array first second =
+    then_get (bits_held array) (λ bits. then_get (span_of profile (length bits) first second) (λ span. Known second))
 
 -- the bits of a part of an array
-abbrev pub bits_between : Option Held → Value → Value → Got (List Bool)
-bits_between array high low =
-    then_get (bits_held array) (λ bits. then_get (span_of (length bits) high low) (λ span. Known (taken span.low span.count bits)))
+abbrev pub bits_between : Profile → Option Held → Value → Value → Got (List Bool)
+bits_between profile array first second =
+    then_get (bits_held array)
+    (λ bits. then_get (span_of profile (length bits) first second) (λ span. Known (span_bits span bits)))
 
--- Where bits come from: these bits, the whole of the variable of a number, a range of it by two indexes, an integer.
+-- Where bits come from: these bits, the whole of the variable of a number, a range of it by two indexes under a
+-- profile, an integer.
 pub data Source : Type 0 where
   These : List Bool → Source
   Whole : ℕ → Source
-  Range : ℕ → Source
+  Range : Profile → ℕ → Source
   OfInt : Source
 
 -- the bits of a source, by the values of its indexes or of its integer
 abbrev pub source_bits : List Held → Source → List Value → Got (List Bool)
 source_bits variables (These bits) [] = Known bits
 source_bits variables (Whole n) [] = bits_held (slice_get variables n)
-source_bits variables (Range n) (high ∷ low ∷ []) = bits_between (slice_get variables n) high low
+source_bits variables (Range profile n) (first ∷ second ∷ []) = bits_between profile (slice_get variables n) first second
 source_bits variables OfInt (Int z ∷ []) = Known (bits_of_int z)
 source_bits variables _ _ = Stuck
 
@@ -218,7 +253,7 @@ padded missing n xs = take n (xs ++ replicate n missing)
 abbrev pub asked : Source → ℕ → List Bool → Got (List Bool)
 asked (These own) n bits = Known (padded false n bits)
 asked (Whole v) n bits = passed (nat_le n (length bits)) LengthMismatch (take n bits)
-asked (Range v) n bits = passed (nat_le n (length bits)) LengthMismatch (take n bits)
+asked (Range profile v) n bits = passed (nat_le n (length bits)) LengthMismatch (take n bits)
 asked OfInt n bits = passed (nat_le n (length bits)) LengthMismatch (take n bits)
 
 -- the integer whose lowest bits these are: missing bits are 0, and those from index 32 on are dropped
@@ -264,11 +299,15 @@ pub record Lookup : Type 0 where
 abbrev pub sides : Lookup → BinOp → ExprTree → ExprTree → ValueKind
 sides look op a b = side op (expr_kind look.kind a) (expr_kind look.kind b)
 
+-- the profile of programs
+abbrev pub of_programs : Profile
+of_programs = Two
+
 -- where the bits of an array come from
 abbrev pub source_of : Lookup → ArrayTree → Source
 source_of look (bit_literal bits) = These bits
 source_of look (whole name) = Whole (look.variable name)
-source_of look (range name high low) = Range (look.variable name)
+source_of look (range name first second) = Range of_programs (look.variable name)
 source_of look (of_int e) = OfInt
 
 module _ (look : Lookup) (variables : List Held) where

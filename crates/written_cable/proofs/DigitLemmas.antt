@@ -1,28 +1,12 @@
 -- On the hexadecimal digits of bits.
 use Rattle.std.proofs.Common.{◌≡◌, ◌≤◌, ℕ, ◌+◌, ◌-◌, ◌%◌, Bool, List, [], ◌++◌, length, take, drop, sym, ap, ◌∙◌, append_assoc, arith, Option}
-use Rattle.std.proofs.lemmas.List.{drop-drop, append-nil}
-use Rattle.base.specs.Bits.{low_bits, number_of}
-use Rattle.bit_list.specs.Ranges.{taken}
-use Rattle.bit_list.proofs.Splices.{taken_of_first, length_taken}
+use Rattle.std.proofs.lemmas.List.{append-nil}
 use Rattle.bit_list.specs.Hexadecimal.{all_hex_digits}
-use Rattle.bit_list.proofs.HexDigits.{digits_down, none_left, all_left}
+use Rattle.bit_list.proofs.HexDigits.{none_left, all_left}
 use Rattle.tool_io.specs.declared.lines.Lines.{Lines}
 use Rattle.tool_io.specs.Lines.{Puts, PutsFront}
 use Rattle.tool_io.proofs.PutLemmas.{put_then, put_then_front, puts_nothing, front_with}
 use Rattle.written_cable.specs.HexTexts.{PutsDigits}
-
--- a part of a part of a list
-part_taken : (j low count n : ℕ) (bits : List Bool) → j + n ≤ count → taken (low + j) n bits ≡ taken j n (taken low count bits)
-part_taken j low count n bits h =
-    ap (take n) (sym (drop-drop j low bits)) ∙ sym (taken_of_first count j n (drop low bits) h)
-
--- the digits of the lowest bits of a part: those of a word, and then those below it
-pub digits_of_word : (left at word low count : ℕ) (bits : List Bool) → low + count ≤ length bits → at ≤ left → left ≤ count → at % 4 ≡ 0 →
-    word ≡ number_of (taken (low + at) (left - at) bits) →
-    all_hex_digits (take left (taken low count bits)) ≡ all_hex_digits (low_bits (left - at) word) ++ all_hex_digits (take at (taken low count bits))
-digits_of_word left at word low count bits inside below few aligned read =
-    digits_down left at word (taken low count bits) below (omega (arith, few, length_taken low count bits inside)) aligned
-    (read ∙ ap number_of (part_taken at low count (left - at) bits (omega (arith, below, few))))
 
 digits_more : (list : List Bool) (left at : ℕ) (part front whole : List ℕ) → all_hex_digits (take left list) ≡ part ++ all_hex_digits (take at list) →
     front ++ all_hex_digits (take left list) ≡ whole → (front ++ part) ++ all_hex_digits (take at list) ≡ whole

@@ -3,20 +3,22 @@ ghost use Rattle.std.specs.Prelude.{◌≡◌, ◌<◌, ◌≤◌, ◌+◌, ◌^
 ghost use Rattle.tool_io.specs.Lines.{IsWhole, HasPut, KeepsLines};
 ghost use Rattle.base.specs.Bits.{low_bits};
 ghost use Rattle.bit_list.specs.Integers.{bits_of_int};
-ghost use Rattle.bit_list.specs.Ranges.{taken};
 ghost use Rattle.bit_list.specs.Hexadecimal.{all_hex_digits};
 ghost use Rattle.stapl_meaning.specs.Effects.{export_of};
 ghost use Rattle.stapl_meaning.specs.Texts.{export_text, event_line, pin_line};
 ghost use Rattle.stapl_meaning.specs.declared.events.Event.TheVariants.{Print, Usec, Hertz};
 ghost use Rattle.stapl_meaning.specs.declared.events.Event.TheVariants as events;
 ghost use Rattle.stapl_code.specs.Safe.{constants_of};
-ghost use Rattle.stapl_meaning.specs.Values.{bits_in, bits_of};
+ghost use Rattle.stapl_meaning.specs.Values.{bits_in, bits_of, span_bits};
+ghost use Rattle.stapl_instructions.specs.Arrays.{span_in};
 ghost use Rattle.stapl_instructions.specs.Exports.{text_in, literal_in, bits_at, value_exported, export_event};
 ghost use Rattle.written_cable.specs.HexTexts.{hex_text};
 
 use bit_list::Bits;
 use stapl_code::CodeLists;
-use stapl_instructions::{BitsAt, Export, Exported, Part, Span, digit_of, held_at, literal_at};
+use stapl_instructions::{
+    BitsAt, Export, Exported, Part, Span, digit_of, held_at, literal_at, part_word,
+};
 use stapl_meaning::{Held, Text, Value};
 use tool_io::{Failed, Lines, Sink, put_count_line, put_escaped, put_hex};
 
@@ -39,13 +41,13 @@ fn put_digits<K: Sink>(out: &mut Lines<K>, bits: &Bits, span: Span) -> Result<()
     requires whole { IsWhole out.old }
     requires inside { span.low + span.count ≤ length bits.now }
     requires few { span.low + span.count + 3 < 2 ^ 32 }
-    ensures put { HasPut K.written out.old (all_hex_digits (taken span.low span.count bits.now)) out.new result }
+    ensures put { HasPut K.written out.old (all_hex_digits (span_bits (span_in span) bits.now)) out.new result }
     ensures kept { KeepsLines K.faults K.is_last out.old out.new result }
 {
     let mut left = span.count;
     'down: while left > 0 {
         let low = (left - 1) / 64 * 64;
-        put_hex(out, bits.word(span.low + low, left - low), left - low)?;
+        put_hex(out, part_word(bits, span, low, left - low), left - low)?;
         left = low;
     }
     Ok(())
@@ -56,7 +58,7 @@ fn put_inside<K: Sink>(out: &mut Lines<K>, bits: &Bits, span: Span) -> Result<()
     requires whole { IsWhole out.old }
     requires inside { span.low + span.count ≤ length bits.now }
     requires few { span.low + span.count + 3 < 2 ^ 32 }
-    ensures put { HasPut K.written out.old (hex_text (taken span.low span.count bits.now)) out.new result }
+    ensures put { HasPut K.written out.old (hex_text (span_bits (span_in span) bits.now)) out.new result }
     ensures kept { KeepsLines K.faults K.is_last out.old out.new result }
 {
     out.put(b"$")?;
@@ -68,18 +70,19 @@ fn put_inside<K: Sink>(out: &mut Lines<K>, bits: &Bits, span: Span) -> Result<()
 fn inside(span: Span, bits: &Bits) -> Span
     ensures inside { result.low + result.count ≤ length bits.now }
     ensures few { result.low + result.count + 3 < 2 ^ 32 }
-    ensures same { taken span.low span.count bits.now ≡ taken result.low result.count bits.now }
+    ensures same { span_bits (span_in span) bits.now ≡ span_bits (span_in result) bits.now }
 {
     let len = bits.len();
     let low = span.low.min(len);
     let count = span.count.min(len - low);
-    Span { low, count }
+    let falls = span.falls;
+    Span { low, count, falls }
 }
 
 // Puts the text of as much of a part as lies in a list of bits.
 fn put_part<K: Sink>(out: &mut Lines<K>, bits: &Bits, span: Span) -> Result<(), Failed>
     requires { IsWhole out.old }
-    ensures put { HasPut K.written out.old (hex_text (taken span.low span.count bits.now)) out.new result }
+    ensures put { HasPut K.written out.old (hex_text (span_bits (span_in span) bits.now)) out.new result }
     ensures kept { KeepsLines K.faults K.is_last out.old out.new result }
 {
     let there = inside(span, bits);
@@ -88,11 +91,12 @@ fn put_part<K: Sink>(out: &mut Lines<K>, bits: &Bits, span: Span) -> Result<(), 
 
 // The whole of a list of bits.
 fn whole_span(bits: &Bits) -> Span
-    ensures { taken result.low result.count bits.now ≡ bits.now }
+    ensures { span_bits (span_in result) bits.now ≡ bits.now }
 {
     Span {
         low: 0,
         count: bits.len(),
+        falls: false,
     }
 }
 
@@ -109,7 +113,7 @@ fn put_all<K: Sink>(out: &mut Lines<K>, bits: &Bits) -> Result<(), Failed>
 // Puts the text of a part of no bits.
 fn put_none<K: Sink>(out: &mut Lines<K>, span: Span) -> Result<(), Failed>
     requires { IsWhole out.old }
-    ensures put { HasPut K.written out.old (hex_text (taken span.low span.count [])) out.new result }
+    ensures put { HasPut K.written out.old (hex_text (span_bits (span_in span) [])) out.new result }
     ensures kept { KeepsLines K.faults K.is_last out.old out.new result }
 {
     out.put(b"$")
@@ -129,7 +133,7 @@ fn put_literal<K: Sink>(out: &mut Lines<K>, literals: &[Bits], n: u32) -> Result
 // Puts the text of a part of what a variable holds, which is no bits if it is no array of bits.
 fn put_held<K: Sink>(out: &mut Lines<K>, held: &Held, span: Span) -> Result<(), Failed>
     requires { IsWhole out.old }
-    ensures put { HasPut K.written out.old (hex_text (taken span.low span.count (bits_of held.now))) out.new result }
+    ensures put { HasPut K.written out.old (hex_text (span_bits (span_in span) (bits_of held.now))) out.new result }
     ensures kept { KeepsLines K.faults K.is_last out.old out.new result }
 {
     match held {
@@ -141,7 +145,7 @@ fn put_held<K: Sink>(out: &mut Lines<K>, held: &Held, span: Span) -> Result<(), 
 fn put_variable<K: Sink>(out: &mut Lines<K>, variables: &[Held], part: Part) -> Result<(), Failed>
     requires { IsWhole out.old }
     ensures put { HasPut K.written out.old
-        (hex_text (taken part.span.low part.span.count (bits_in (slice_get variables.now part.array)))) out.new result }
+        (hex_text (span_bits (span_in part.span) (bits_in (slice_get variables.now part.array)))) out.new result }
     ensures kept { KeepsLines K.faults K.is_last out.old out.new result }
 {
     match held_at(variables, part.array) {

@@ -1,12 +1,12 @@
 use Rattle.stapl_meaning.specs.declared.events.RunFault.TheVariants as faults
-use Rattle.fault_laws.proofs.NamedFaults.{part_table, short_table, length_table, count_table, step_table, record_table, full_table}
+use Rattle.fault_laws.proofs.NamedFaults.{part_table, never_reversed, short_table, length_table, count_table, step_table, record_table, full_table}
 use Rattle.fault_laws.proofs.laws.where_each_fault_comes.Goals as goal
 
 pub returns : goal.returns
 returns c = record {
   divide_by_zero = part_table faults.DivideByZero tt;
   index_out_of_range = part_table faults.IndexOutOfRange tt;
-  range_reversed = part_table faults.RangeReversed tt;
+  range_reversed = never_reversed;
   length_mismatch = short_table;
   bad_length = length_table;
   bad_count = count_table;

@@ -1,10 +1,8 @@
-use Rattle.std.proofs.Common.{rules, ◌≡◌, List, [], subst, slice_get, Bool, reverse}
+use Rattle.std.proofs.Common.{rules, ◌≡◌, List, [], subst, slice_get, reverse}
 use Rattle.stapl_meaning.specs.Values.{then_get}
-use Rattle.stapl_meaning.specs.Effects.{copied, IntoWhole}
-use Rattle.stapl_meaning.specs.Scans.{scanned, surrounded}
 use Rattle.stapl_meaning.specs.declared.values.Held.{Held}
 use Rattle.stapl_code.specs.declared.instr.Instr.TheVariants.{Print}
-use Rattle.stapl_code.specs.Machine.{does, known_source, known_literal, known_text, known_given, known_scan, part_exported, target_of}
+use Rattle.stapl_code.specs.Machine.{does, known_text, part_exported}
 use Rattle.stapl_code.specs.Safe.{constants_of}
 use Rattle.stapl_instructions.specs.Acts.{IsMade, Told, state_in, state_with}
 use Rattle.stapl_instructions.proofs.act.make.Goals as goal
@@ -17,20 +15,14 @@ returns-in-Print-clause-made c = λ entries chosen.
 pub returns-in-CopyBits-clause-made : goal.returns-in-CopyBits-clause-made
 returns-in-CopyBits-clause-made c = λ entries chosen.
     let old = c.args.memory.now in let told : Told = record { text = c.args.text.now.items; constants = constants_of c.args.code.now; states = []; shifted = old.shifted }
-    in let s = state_in chosen old in let records = reverse old.records.items in
-    rw c.in-CopyBits.is
-    (subst (λ (l : List (List Bool)). IsMade c.copy.result told s (state_with chosen records old.ir old.dr c.copy.new.variables.items)
-    (does (then_get (known_source l c.in-CopyBits.source) (λ from. copied (target_of c.in-CopyBits.dest) from c.args.values.now s))))
-    c.as_slice-in-CopyBits.ensures (c.copy.ensures told chosen records old.ir old.dr))
+    in let records = reverse old.records.items in
+    rw c.in-CopyBits.is (c.copy.ensures told chosen records old.ir old.dr)
 
 pub returns-in-SetBits-clause-made : goal.returns-in-SetBits-clause-made
 returns-in-SetBits-clause-made c = λ entries chosen.
     let old = c.args.memory.now in let told : Told = record { text = c.args.text.now.items; constants = constants_of c.args.code.now; states = []; shifted = old.shifted }
-    in let s = state_in chosen old in let records = reverse old.records.items in
-    rw c.in-SetBits.is
-    (subst (λ (l : List (List Bool)). IsMade c.copy-in-SetBits.result told s (state_with chosen records old.ir old.dr c.copy-in-SetBits.new.variables.items)
-    (does (then_get (known_literal (slice_get l c.in-SetBits.literal)) (λ from. copied (IntoWhole c.in-SetBits.n) from c.args.values.now s))))
-    c.as_slice-in-SetBits.ensures (c.copy-in-SetBits.ensures told chosen records old.ir old.dr))
+    in let records = reverse old.records.items in
+    rw c.in-SetBits.is (c.copy-in-SetBits.ensures told chosen records old.ir old.dr)
 
 pub returns-in-Export-clause-made : goal.returns-in-Export-clause-made
 returns-in-Export-clause-made c = λ entries chosen.
@@ -39,7 +31,7 @@ returns-in-Export-clause-made c = λ entries chosen.
     rw c.in-Export.is
     (subst (λ (v : List Held). IsMade c.export.result (record { text = c.args.text.now.items; constants = constants_of code; states = []; shifted = old.shifted })
     (state_with chosen records old.ir old.dr v) (state_with chosen records old.ir old.dr v)
-    (does (then_get (known_text (slice_get code.texts key)) (λ bytes. part_exported code.literals part bytes c.args.values.now (state_with chosen records old.ir old.dr v)))))
+    (does (then_get (known_text (slice_get code.texts key)) (λ bytes. part_exported (constants_of code) part bytes c.args.values.now (state_with chosen records old.ir old.dr v)))))
     c.deref-in-Export.ensures.value (c.export.ensures c.args.text.now.items chosen old.shifted records old.ir old.dr))
 
 pub returns-in-State-clause-made : goal.returns-in-State-clause-made
@@ -49,18 +41,9 @@ returns-in-State-clause-made c = λ entries chosen.
 
 pub returns-in-Scan-clause-made : goal.returns-in-Scan-clause-made
 returns-in-Scan-clause-made c = λ entries chosen.
-    let old = c.args.memory.now in let new = c.scan.new.memory in
-    rw c.in-Scan.is
-    (subst (λ (l : List (List Bool)). IsMade c.scan.result (record { text = c.args.text.now.items; constants = constants_of c.args.code.now; states = []; shifted = new.shifted })
-    (state_in chosen old) (state_in chosen new)
-    (does (then_get (known_scan l c.in-Scan.plan) (λ parts. scanned parts c.args.values.now (state_in chosen old)))))
-    c.as_slice-in-Scan.ensures (c.scan.ensures c.args.text.now.items (constants_of c.args.code.now) [] chosen))
+    rw c.in-Scan.is (c.scan.ensures c.args.text.now.items (constants_of c.args.code.now) [] chosen)
 
 pub returns-in-Pad-clause-made : goal.returns-in-Pad-clause-made
 returns-in-Pad-clause-made c = λ entries chosen.
-    let old = c.args.memory.now in let new = c.pad.new.memory in let which = c.in-Pad.which in
-    let told : Told = record { text = c.args.text.now.items; constants = constants_of c.args.code.now; states = []; shifted = new.shifted } in
-    rw c.in-Pad.is
-    (subst (λ (l : List (List Bool)). IsMade c.pad.result told (state_in chosen old) (state_in chosen new)
-    (does (then_get (known_given l c.in-Pad.source) (λ from. surrounded which from c.args.values.now (state_in chosen old)))))
-    c.as_slice-in-Pad.ensures (c.pad.ensures told chosen))
+    let told : Told = record { text = c.args.text.now.items; constants = constants_of c.args.code.now; states = []; shifted = c.pad.new.memory.shifted } in
+    rw c.in-Pad.is (c.pad.ensures told chosen)

@@ -1,4 +1,5 @@
-use Rattle.bit_list.specs.Ranges.{taken}
+use Rattle.stapl_meaning.specs.Values.{span_bits}
+use Rattle.stapl_instructions.specs.Arrays.{span_in}
 use Rattle.bit_list.specs.Hexadecimal.{all_hex_digits}
 use Rattle.tool_io.proofs.PutLemmas.{put_then, put_then_front, front_with, put_failed, put_done}
 use Rattle.written_cable.proofs.line_writer.put_inside.Goals as goal
@@ -6,7 +7,7 @@ use Rattle.written_cable.proofs.line_writer.put_inside.Goals as goal
 pub returns-in_err-put-clause-put : goal.returns-in_err-put-clause-put
 returns-in_err-put-clause-put g c =
     put_failed c.from_residual.result c.from_residual.ensures.0
-    (front_with (all_hex_digits (taken c.args.span.low c.args.span.count c.args.bits.now)) c.in_err-put.ensures.put.front)
+    (front_with (all_hex_digits (span_bits (span_in c.args.span) c.args.bits.now)) c.in_err-put.ensures.put.front)
 
 pub returns-in_err-put_digits-clause-put : goal.returns-in_err-put_digits-clause-put
 returns-in_err-put_digits-clause-put g c =
