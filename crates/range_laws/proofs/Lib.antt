@@ -1,0 +1,4 @@
+pub mod PlaceLemmas
+pub mod PartLemmas
+pub mod ReadLemmas
+pub mod WriteLemmas
