@@ -41,7 +41,7 @@ def file(variables=NONE, literals=NONE, texts=NONE, more=(), code=None):
     """A file of a code: its lists, the procedures besides P, and its instructions, if each is not an end alone."""
     procedures = counted([named(b"P") + bytes(4), *more])
     code = code or some(2 * (1 + len(more)), b"") + END * (1 + len(more))
-    return b"STAPLC\x00\x01" + variables + literals + texts + procedures + ACTIONS + code
+    return b"STAPLC\x00\x02" + variables + literals + texts + procedures + ACTIONS + code
 
 
 def exits(size):

@@ -4,7 +4,8 @@ A code is refused at an offset, by a reason, or it is read: its procedures with 
 instructions. A kind of an operand is I for an integer and B for a Boolean.
 """
 
-HEAD = bytes.fromhex("535441504C430001")
+# The heads of files of versions 1 and 2.
+HEADS = (bytes.fromhex("535441504C430001"), bytes.fromhex("535441504C430002"))
 MOST_BYTES = 268_435_520
 MOST_PIECES = 100_000
 MOST_INTEGERS, MOST_BOOLEANS, MOST_BITS = 1_048_576, 16_777_216, 4_194_304
@@ -306,7 +307,7 @@ def read(data):
     if len(data) > MOST_BYTES:
         raise Refused(MOST_BYTES, "TooLong")
     reader, code = Reader(data), Code()
-    reader.field(8, lambda found: found == HEAD)
+    reader.field(8, lambda found: found in HEADS)
     read_variables(reader, code)
     read_lists(reader, code)
     for _ in range(reader.number()):
