@@ -16,7 +16,8 @@ use Rattle.stapl_meaning.specs.declared.values.Held.TheVariants as held
 use Rattle.stapl_meaning.specs.Values.{Got, Known, Faults, Stuck, then_get, passed, bits_held, span_bits, Source, These, Whole, Range, OfInt, source_bits, asked, source_of, Lookup}
 use Rattle.stapl_meaning.specs.Scans.{source_width}
 use Rattle.fault_laws.specs.ExprFaults.{bit_count, held_by}
-use Rattle.fault_laws.specs.PartFaults.{array_part, ArrayIs, literal_is, whole_is, range_is, integer_is, RangeHas, PartsAre, no_parts, more_parts, array_is, HasBits, whole_has, range_has, integer_has, IsThere, literal_there, other_there, IsShort}
+use Rattle.fault_laws.specs.PartFaults.{array_part, ArrayIs, literal_is, whole_is, range_is, integer_is, RangeHas, PartsAre, no_parts, more_parts, array_is, HasBits, whole_has, range_has}
+use Rattle.fault_laws.specs.PartFaults.{integer_has, IsThere, literal_there, other_there, IsShort}
 use Rattle.fault_laws.proofs.Gets.{Gives, Breaks}
 use Rattle.fault_laws.proofs.LimitLemmas.{part_by, part_of, part_has, part_count}
 use Rattle.fault_laws.proofs.PartLemmas.{HoldsBits, holds_bits, some_same, span_known}

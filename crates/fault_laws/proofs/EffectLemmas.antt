@@ -1,5 +1,6 @@
 -- What the values of parts do breaks by the table alone
-use Rattle.std.proofs.Common.{◌≡◌, ◌≢◌, ℕ, ◌<◌, ◌≤◌, Bool, true, false, List, [], ◌∷◌, ◌++◌, length, Option, Some, None, ℤ, pos, negsuc, refl, sym, ap, subst, arith, nat_lt, nat_le, ◌==◌, ◌<ℤ◌, ◌+ℤ◌, slice_get, if◌then◌else◌, nat_abs}
+use Rattle.std.proofs.Common.{◌≡◌, ◌≢◌, ℕ, ◌<◌, ◌≤◌, Bool, true, false, List, [], ◌∷◌, ◌++◌, length, Option, Some, None, ℤ, pos, negsuc, refl, sym, ap}
+use Rattle.std.proofs.Common.{subst, arith, nat_lt, nat_le, ◌==◌, ◌<ℤ◌, ◌+ℤ◌, slice_get, if◌then◌else◌, nat_abs}
 use Rattle.std.specs.Prelude.{slice_set}
 use Rattle.std.specs.Int.{int_wrap, w32}
 use Rattle.std.specs.Ordering.{int_eq}
@@ -22,7 +23,8 @@ use Rattle.stapl_meaning.specs.declared.values.Value.{Value}
 use Rattle.stapl_meaning.specs.declared.values.Value.TheVariants.{Int, Bit}
 use Rattle.stapl_meaning.specs.declared.values.Held.{Held}
 use Rattle.stapl_meaning.specs.declared.values.Held.TheVariants as held
-use Rattle.stapl_meaning.specs.Values.{Got, Known, Faults, Stuck, then_get, is_index, passed, bits_held, Span, span_of, span_put, whole_span, source_bits, asked, of_programs, source_of, integer_of, Lookup}
+use Rattle.stapl_meaning.specs.Values.{Got, Known, Faults, Stuck, then_get, is_index, passed, bits_held, Span, span_of, span_put, whole_span, source_bits, asked, of_programs, source_of}
+use Rattle.stapl_meaning.specs.Values.{integer_of, Lookup}
 use Rattle.stapl_meaning.specs.Operands.{character_of}
 use Rattle.stapl_meaning.specs.States.{State, Did, Falls, Captures, Jumps, Resumes, Returns, Ends}
 use Rattle.stapl_meaning.specs.Effects.{replaced, scalar_written, with_variables, written, assigned, element_written, element_assigned, IntoWhole, IntoRange, span_written, copied, with_integers, integers_set, jumped, with_records, with_room, topmost, popped, pushed, called, returned_from, returned, with_loop, looped, nearest_loop, is_over, integer_held, went_round, repeated, exited, joined, shown, after_value, after_character, printed, exported, bits_exported, moved_through, cycles_of, usec_of, hertz_of}

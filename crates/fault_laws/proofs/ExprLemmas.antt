@@ -1,5 +1,6 @@
 -- Expressions break by the table exactly if their values are faults
-use Rattle.std.proofs.Common.{◌≡◌, ℕ, zero, suc, ◌<◌, Bool, true, false, List, [], ◌∷◌, length, Option, Some, None, ℤ, pos, negsuc, refl, ap, ◌∙◌, subst, arith, nat_lt, slice_get, get_or, if◌then◌else◌}
+use Rattle.std.proofs.Common.{◌≡◌, ℕ, zero, suc, ◌<◌, Bool, true, false, List, [], ◌∷◌, length, Option, Some, None, ℤ, pos, negsuc, refl, ap, ◌∙◌, subst, arith}
+use Rattle.std.proofs.Common.{nat_lt, slice_get, get_or, if◌then◌else◌}
 use Rattle.std.proofs.lemmas.Option.{slice_get_past, slice_get-get_or}
 use Rattle.std.proofs.lemmas.Bool.{ltb-true, ltb-false}
 use Rattle.stapl_lexer.specs.declared.terminal.BinOp.{BinOp}
@@ -17,9 +18,12 @@ use Rattle.stapl_meaning.specs.declared.values.Value.{Value}
 use Rattle.stapl_meaning.specs.declared.values.Value.TheVariants.{Int, Bit}
 use Rattle.stapl_meaning.specs.declared.values.Held.{Held}
 use Rattle.stapl_meaning.specs.declared.values.Held.TheVariants as held
-use Rattle.stapl_meaning.specs.Values.{Got, Known, Faults, Stuck, then_get, divided_by, shifted_by, combined, combined_integers, combined_booleans, signed, absolute, scalar_of, item_of, item_at, element_of, bits_held, Span, span_of, span_bits, span_between, bits_between, Range, OfInt, integer_from, source_integer, literal, unary_side, sides, of_programs, source_of, Lookup, value_of, source_values}
+use Rattle.stapl_meaning.specs.Values.{Got, Known, Faults, Stuck, then_get, divided_by, shifted_by, combined, combined_integers, combined_booleans, signed, absolute, scalar_of, item_of}
+use Rattle.stapl_meaning.specs.Values.{item_at, element_of, bits_held, Span, span_of, span_bits, span_between, bits_between, Range, OfInt, integer_from, source_integer, literal, unary_side}
+use Rattle.stapl_meaning.specs.Values.{sides, of_programs, source_of, Lookup, value_of, source_values}
 use Rattle.fault_laws.specs.Limits.{IsOutside, IsNoIndex}
-use Rattle.fault_laws.specs.ExprFaults.{size_of, bit_count, IsDivision, quotient, remainder, IsShift, to_left, to_right, RangeBreaks, held_by, ExprBreaks, of_index, index_outside, of_operand, of_absolute, of_array, of_left, of_right, divides_by_zero, shifts_too_far, ArrayBreaks, of_first, of_second, of_range, of_integer}
+use Rattle.fault_laws.specs.ExprFaults.{size_of, bit_count, IsDivision, quotient, remainder, IsShift, to_left, to_right, RangeBreaks, held_by, ExprBreaks, of_index, index_outside}
+use Rattle.fault_laws.specs.ExprFaults.{of_operand, of_absolute, of_array, of_left, of_right, divides_by_zero, shifts_too_far, ArrayBreaks, of_first, of_second, of_range, of_integer}
 use Rattle.fault_laws.proofs.Gets.{Gives, Breaks, then_gives, then_breaks, breaks_more, then_known, then_faults}
 use Rattle.fault_laws.proofs.LimitLemmas.{no_index, not_index, outside, not_outside, range_faults, part_of, range_gives}
 

@@ -1,5 +1,5 @@
 -- Each fault of the table comes from its own relation
-use Rattle.std.proofs.Common.{◌≡◌, ◌↔◌, ℕ, ◌+◌, ℤ, List, [], None, sym, ap, ◌∙◌, subst}
+use Rattle.std.proofs.Common.{◌≡◌, ◌≢◌, ◌↔◌, ℕ, ◌+◌, ℤ, List, [], None, sym, ap, ◌∙◌, subst}
 use Rattle.stapl_syntax.specs.Trees.{ExprTree, ArrayTree, BodyTree}
 use Rattle.stapl_meaning.specs.declared.events.RunFault.{RunFault}
 use Rattle.stapl_meaning.specs.declared.events.RunFault.TheVariants as faults
@@ -11,7 +11,8 @@ use Rattle.stapl_meaning.specs.Operands.{values_of}
 use Rattle.stapl_meaning.specs.States.{State}
 use Rattle.stapl_meaning.specs.Scopes.{Scope, Played, scope_at}
 use Rattle.stapl_meaning.specs.Turns.{operands, effect}
-use Rattle.fault_laws.specs.ExprFaults.{RangeBreaks, first_outside, second_outside, ExprBreaks, of_index, index_outside, of_operand, of_absolute, of_array, of_left, of_right, divides_by_zero, shifts_too_far, ArrayBreaks, of_first, of_second, of_range, of_integer}
+use Rattle.fault_laws.specs.ExprFaults.{RangeBreaks, first_outside, second_outside, ExprBreaks, of_index, index_outside, of_operand, of_absolute, of_array, of_left, of_right}
+use Rattle.fault_laws.specs.ExprFaults.{divides_by_zero, shifts_too_far, ArrayBreaks, of_first, of_second, of_range, of_integer}
 use Rattle.fault_laws.specs.PartFaults.{Part, IsPartFault, PartBreaks, of_value, of_character, no_character, of_target_index, target_outside, of_part_array, PartsBreak, first_part, later_part}
 use Rattle.fault_laws.specs.RowFaults.{HasShortArray, HasBadLength, HasBadCount, HasZeroStep, LacksRecord, LacksRoom, HasBrokenPart, RowBreaks, of_parts, length_mismatch, bad_length, bad_count, step_zero, no_record, records_full}
 use Rattle.fault_laws.specs.TurnFaults.{Reaches, TurnBreaks, EndsWith}
@@ -118,11 +119,19 @@ module _ (scope : Scope) (s : State) where
       let both : Known values ≡ Faults k = sym known ∙ breaks in
       absurd cc
 
+breaks_so : (scope : Scope) (s : State) (b : BodyTree) (values : List Value) (k : RunFault) →
+    values_of scope.look s.store.variables (operands scope b) ≡ Known values → effect scope b values s ≡ Faults k → RowBreaks scope s b k
+breaks_so scope s b values k known faults =
+    subst (Does (RowBreaks scope s b)) (ap (λ g. then_get g (λ values. effect scope b values s)) known ∙ faults) (row_does scope s b)
+
+pub not_reversed_then : (scope : Scope) (s : State) (b : BodyTree) (values : List Value) →
+    values_of scope.look s.store.variables (operands scope b) ≡ Known values → effect scope b values s ≢ Faults faults.RangeReversed
+not_reversed_then scope s b values known e = not_reversed scope s (breaks_so scope s b values faults.RangeReversed known e)
+
 pub tested_once : (scope : Scope) (s : State) (b : BodyTree) (values : List Value) (k : RunFault) →
     values_of scope.look s.store.variables (operands scope b) ≡ Known values → effect scope b values s ≡ Faults k → ¬ IsPartFault k
 tested_once scope s b values k known faults =
-    other_fault scope s b values known
-    (subst (Does (RowBreaks scope s b)) (ap (λ g. then_get g (λ values. effect scope b values s)) known ∙ faults) (row_does scope s b))
+    other_fault scope s b values known (breaks_so scope s b values k known faults)
 
 -- ---- turns
 

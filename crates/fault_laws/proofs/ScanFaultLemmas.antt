@@ -1,6 +1,7 @@
 -- A scan breaks if the table says so: its arrays are found, its length is tested, and then whether each array has as
 -- many bits
-use Rattle.std.proofs.Common.{◌≡◌, ℕ, ◌<◌, ◌≤◌, Bool, List, [], ◌∷◌, ◌++◌, map, length, take, drop, Option, Some, None, ℤ, pos, refl, sym, ap, ◌∙◌, ap₂, subst, arith, nat_le, ◌⊎◌, inl, inr}
+use Rattle.std.proofs.Common.{◌≡◌, ℕ, ◌<◌, ◌≤◌, Bool, List, [], ◌∷◌, ◌++◌, map, length, take, drop, Option, Some, None, ℤ, pos, refl, sym, ap, ◌∙◌, ap₂}
+use Rattle.std.proofs.Common.{subst, arith, nat_le, ◌⊎◌, inl, inr}
 use Rattle.std.proofs.lemmas.Bool.{lt-leb}
 use Rattle.stapl_lexer.specs.declared.terminal.Register.{Register}
 use Rattle.stapl_syntax.specs.Trees.{ExprTree, number, scalar, element, unary, binary, abs, int, ArrayTree, literal as bit_literal, whole, range, of_int, CompareTree}
@@ -16,7 +17,8 @@ use Rattle.stapl_meaning.specs.Scans.{CellPart, target_width, settings_of, lengt
 use Rattle.stapl_meaning.specs.ScanTrees.{given_target, compare_parts, scan_parts}
 use Rattle.fault_laws.specs.Limits.{IsOutside}
 use Rattle.fault_laws.specs.ExprFaults.{size_of, bit_count, held_by, IsInteger}
-use Rattle.fault_laws.specs.PartFaults.{Part, value_part, array_part, target_arrays, compared_arrays, scan_arrays, result_parts, whole_is, range_is, PartsAre, no_parts, more_parts, value_is, index_is, array_is, RangeHas, HasBits, whole_has, range_has, other_there, AreThere, no_array, more_arrays, OneIsShort, this_short, later_short}
+use Rattle.fault_laws.specs.PartFaults.{Part, value_part, array_part, target_arrays, compared_arrays, scan_arrays, result_parts, whole_is, range_is, PartsAre, no_parts, more_parts, value_is}
+use Rattle.fault_laws.specs.PartFaults.{index_is, array_is, RangeHas, HasBits, whole_has, range_has, other_there, AreThere, no_array, more_arrays, OneIsShort, this_short, later_short}
 use Rattle.fault_laws.proofs.Gets.{then_gives, then_known, then_faults}
 use Rattle.fault_laws.proofs.LimitLemmas.{part_of, part_count}
 use Rattle.fault_laws.proofs.PartLemmas.{HoldsBits, holds_bits, some_same, span_known, index_known}

@@ -1,5 +1,6 @@
 -- Scans and paddings break by the table alone, and always if the table says so
-use Rattle.std.proofs.Common.{◌≡◌, ℕ, ◌<◌, ◌≤◌, Bool, true, false, List, [], ◌∷◌, ◌++◌, map, length, take, drop, replicate, Option, Some, None, ℤ, pos, negsuc, refl, sym, ap, ◌∙◌, ap₂, subst, arith, append-nil, int_le, ◌&&◌, nat_le, nat_abs}
+use Rattle.std.proofs.Common.{◌≡◌, ℕ, ◌<◌, ◌≤◌, Bool, true, false, List, [], ◌∷◌, ◌++◌, map, length, take, drop, replicate, Option, Some, None, ℤ, pos, negsuc}
+use Rattle.std.proofs.Common.{refl, sym, ap, ◌∙◌, ap₂, subst, arith, append-nil, int_le, ◌&&◌, nat_le, nat_abs}
 use Rattle.std.proofs.lemmas.Bool.{leb-false}
 use Rattle.stapl_lexer.specs.declared.terminal.Register.{Register}
 use Rattle.stapl_syntax.specs.Trees.{number, scalar, element, unary, binary, abs, int, ArrayTree, literal as bit_literal, whole, range, of_int, CompareTree}

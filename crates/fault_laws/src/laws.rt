@@ -1,5 +1,5 @@
 //! Laws of the definitions.
-ghost use Rattle.std.specs.Prelude.{◌≡◌, ◌↔◌, ℕ, Bool, List, []};
+ghost use Rattle.std.specs.Prelude.{◌≡◌, ◌≢◌, ◌↔◌, ℕ, Bool, List, []};
 ghost use Rattle.stapl_syntax.specs.Trees.{ExprTree, BodyTree};
 ghost use Rattle.dev_card.specs.Scans.{BoardScan};
 ghost use Rattle.stapl_meaning.specs.Deeds.{Deed};
@@ -68,10 +68,13 @@ pub fn where_each_fault_comes()
         EndsWith program i s faults.BadChar ↔ ReachesBrokenPart program i s faults.BadChar }
 {}
 
-/// If all operands of a statement have values, what it does breaks with none of the faults of parts: an index, a range
-/// or a character that was tested is not found outside its limits again.
+/// If all operands of a statement have values, what it does breaks with none of the faults of parts, nor with
+/// RangeReversed: an index, a range or a character that was tested is not found outside its limits again.
 pub fn what_was_tested_never_breaks_again()
-    ensures { (scope : Scope) (s : State) (b : BodyTree) (values : List Value) (k : RunFault) →
+    ensures range_reversed { (scope : Scope) (s : State) (b : BodyTree) (values : List Value) →
+        values_of scope.look s.store.variables (operands scope b) ≡ Known values →
+        effect scope b values s ≢ Faults faults.RangeReversed }
+    ensures parts { (scope : Scope) (s : State) (b : BodyTree) (values : List Value) (k : RunFault) →
         values_of scope.look s.store.variables (operands scope b) ≡ Known values →
         effect scope b values s ≡ Faults k → ¬ IsPartFault k }
 {}
