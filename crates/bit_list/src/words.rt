@@ -351,12 +351,12 @@ pub fn reversed(word: u64, n: usize) -> u64
     ensures bits { low_bits n result ≡ reverse (low_bits n word) }
     ensures fits { result < 2 ^ n }
 {
-    turned_round(word) >> (WORD_SIZE - n)
+    reversed_whole(word) >> (WORD_SIZE - n)
 }
 
 /// The word with its bits in the other order. It goes by digits of four bits, where the kit goes bit by bit.
 #[inline(always)]
-fn turned_round(word: u64) -> u64
+fn reversed_whole(word: u64) -> u64
     ensures { low_bits word_size result ≡ reverse (low_bits word_size word) }
 {
     let (mut rest, mut turned) = (word, 0u64);

@@ -3,7 +3,7 @@ use Rattle.base.specs.Bits.{low_bits}
 use Rattle.bit_list.specs.Words.{word_size}
 use Rattle.bit_list.proofs.WordBits.{word_size_is}
 use Rattle.bit_list.proofs.ReversedBits.{digit_few, digit_below, digits_left, digit_joined, digit_fits}
-use Rattle.bit_list.proofs.words.turned_round.Goals as goal
+use Rattle.bit_list.proofs.words.reversed_whole.Goals as goal
 
 pub overflow_mul-turned : goal.overflow_mul-turned
 overflow_mul-turned c =

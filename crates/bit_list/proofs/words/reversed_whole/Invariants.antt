@@ -1,6 +1,6 @@
 use Rattle.std.proofs.Common.{◌≡◌, ◌<◌, ◌*◌, ◌/◌, ◌^◌, reverse}
 use Rattle.base.specs.Bits.{low_bits}
-use Rattle.bit_list.proofs.words.turned_round.Given as goal
+use Rattle.bit_list.proofs.words.reversed_whole.Given as goal
 
 abbrev pub invariant-loop : goal.invariant-loop
 invariant-loop l =
