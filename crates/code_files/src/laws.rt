@@ -1,14 +1,16 @@
 //! Laws of the definitions.
 ghost use Rattle.std.specs.Prelude.{◌≡◌, ◌++◌, ◌⊎◌, ◌<◌, ℕ, List, Ok, All};
+ghost use Rattle.stapl_meaning.specs.declared.profiles.Profile.{Profile};
 ghost use Rattle.stapl_code.specs.declared.raw.CodeLists.{CodeLists};
 ghost use Rattle.stapl_code.specs.Files.{file, example, example_bytes, HasFile};
 ghost use Rattle.code_files.specs.declared.fault.CodeReason.{CodeReason};
 ghost use Rattle.code_files.specs.ReadFiles.{code_at};
 ghost use Rattle.code_files.specs.CodeFaults.{IsFileOf, IsCodeFault};
 
-/// The file of the code of `ACTION A=P;PROCEDURE P;EXIT 0;ENDPROC;` has these 66 bytes.
+/// The file of the code of `ACTION A=P;PROCEDURE P;EXIT 0;ENDPROC;` has these 66 bytes: the eighth is 1 under profile
+/// One and 2 under Two, and the others are the same.
 pub fn example_has_its_bytes()
-    ensures { file example ≡ example_bytes }
+    ensures { (profile : Profile) → file (example profile) ≡ example_bytes profile }
 {}
 
 /// A file is of one code, and no file of a code begins another.

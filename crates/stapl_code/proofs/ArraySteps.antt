@@ -5,14 +5,15 @@ use Rattle.std.specs.List.{list_all}
 use Rattle.std.proofs.lemmas.Bool.{and_parts, leb-true, leb-false, ltb-true}
 use Rattle.std.proofs.lemmas.List.{length-append, length-drop, length-replicate, length-set, length-take-le}
 use Rattle.stapl_meaning.specs.declared.events.RunFault.{RunFault}
-use Rattle.stapl_meaning.specs.declared.events.RunFault.TheVariants.{IndexOutOfRange, RangeReversed, LengthMismatch}
+use Rattle.stapl_meaning.specs.declared.events.RunFault.TheVariants.{IndexOutOfRange, LengthMismatch}
 use Rattle.stapl_meaning.specs.declared.values.Held.{Held}
 use Rattle.stapl_meaning.specs.declared.values.Held.TheVariants as held
 use Rattle.stapl_meaning.specs.declared.values.Value.{Value}
 use Rattle.stapl_meaning.specs.declared.values.Value.TheVariants.{Int, Bit}
 use Rattle.stapl_meaning.specs.declared.values.ValueKind.{ValueKind}
 use Rattle.stapl_meaning.specs.declared.values.ValueKind.TheVariants as kinds
-use Rattle.stapl_meaning.specs.Values.{Got, Known, Faults, Stuck, then_get, is_index, passed, item_of, item_at, element_of, index_held, bits_held, Span, whole_span, turned, span_bits, first_places, span_put, rising_span, span_between, span_of, range_held, bits_between, source_bits, padded, asked, integer_from, source_integer}
+use Rattle.stapl_meaning.specs.Values.{Got, Known, Faults, Stuck, then_get, is_index, passed, item_of, item_at, element_of, index_held, bits_held, Span, whole_span, turned, span_bits}
+use Rattle.stapl_meaning.specs.Values.{first_places, span_put, rising_span, span_between, span_of, range_held, bits_between, source_bits, padded, asked, integer_from, source_integer}
 use Rattle.stapl_meaning.specs.Values as values
 use Rattle.stapl_meaning.specs.States.{State, Did}
 use Rattle.stapl_meaning.specs.States as did

@@ -35,13 +35,15 @@ use Rattle.stapl_code.specs.declared.instr.Cell as code
 use Rattle.stapl_code.specs.declared.instr.Cell.TheVariants as cells
 use Rattle.stapl_code.specs.declared.instr.Compare.{Compare}
 use Rattle.stapl_code.specs.declared.instr.Scan.{Scan}
-use Rattle.stapl_code.specs.Machine.{Constants, Of, Want, source_slots, source_wants, target_of, known_literal, known_source, known_given, given_slots, given_wants, target_slots, target_wants, cell_slots, cell_want, compare_slots, compare_wants, scan_slots, scan_wants, cell_part, known_compare, known_scan}
+use Rattle.stapl_code.specs.Machine.{Constants, Of, Want, source_slots, source_wants, target_of, known_literal, known_source, known_given, given_slots, given_wants, target_slots}
+use Rattle.stapl_code.specs.Machine.{target_wants, cell_slots, cell_want, compare_slots, compare_wants, scan_slots, scan_wants, cell_part, known_compare, known_scan}
 use Rattle.stapl_code.specs.Ranges.{IsSource, IsGiven, IsCompare, IsScan}
 use Rattle.stapl_code.specs.Kinds.{item_kind, element_kind, is_of_kind, is_met}
 use Rattle.stapl_code.specs.Safe.{AllFit}
 use Rattle.stapl_code.proofs.Fitting.{FitAt, fit_at, fit_set}
 use Rattle.stapl_code.proofs.Operands.{kind_of, Fill, each_at, filled_count, fill_parts}
-use Rattle.stapl_code.proofs.ArraySteps.{IsGot, IsAnswer, then_good, passed_good, EndsWithin, HasLength, asked_good, length-put, HoldsBits, holds_bits, span_between_good, source_good, Writes, element_stored}
+use Rattle.stapl_code.proofs.ArraySteps.{IsGot, IsAnswer, then_good, passed_good, EndsWithin, HasLength, asked_good, length-put, HoldsBits, holds_bits, span_between_good, source_good}
+use Rattle.stapl_code.proofs.ArraySteps.{Writes, element_stored}
 use Rattle.stapl_code.proofs.ScanKinds.{all_both}
 
 -- ---- captured bits

@@ -60,9 +60,9 @@ pub record IsCountable (code : CodeLists) : Type 0 where
   pub counts : All IsCountableInstr code.instrs
 
 -- the code of `ACTION A=P;PROCEDURE P;EXIT 0;ENDPROC;`
-abbrev pub example : CodeLists
-example = record {
-  profile = One;
+abbrev pub example : Profile → CodeLists
+example profile = record {
+  profile = profile;
   variables = [];
   literals = [];
   texts = [];
@@ -72,9 +72,9 @@ example = record {
 }
 
 -- the 66 bytes of its file
-abbrev pub example_bytes : List ℕ
-example_bytes =
-    83 ∷ 84 ∷ 65 ∷ 80 ∷ 76 ∷ 67 ∷ 0 ∷ 1 ∷ 0 ∷ 0 ∷ 0 ∷ 0 ∷ 0 ∷ 0 ∷ 0 ∷ 0 ∷ 0 ∷ 0 ∷ 0 ∷ 0
+abbrev pub example_bytes : Profile → List ℕ
+example_bytes profile =
+    83 ∷ 84 ∷ 65 ∷ 80 ∷ 76 ∷ 67 ∷ 0 ∷ version profile ∷ 0 ∷ 0 ∷ 0 ∷ 0 ∷ 0 ∷ 0 ∷ 0 ∷ 0 ∷ 0 ∷ 0 ∷ 0 ∷ 0
     ∷ 0 ∷ 0 ∷ 0 ∷ 1 ∷ 1 ∷ 80 ∷ 0 ∷ 0 ∷ 0 ∷ 0
     ∷ 0 ∷ 0 ∷ 0 ∷ 1 ∷ 1 ∷ 65 ∷ 0 ∷ 0 ∷ 0 ∷ 1 ∷ 0 ∷ 0 ∷ 0 ∷ 0 ∷ 0
     ∷ 0 ∷ 0 ∷ 0 ∷ 5 ∷ 1 ∷ 0 ∷ 0 ∷ 0 ∷ 3 ∷ 2 ∷ 0 ∷ 0 ∷ 0 ∷ 0 ∷ 27 ∷ 1 ∷ 0 ∷ 0 ∷ 0 ∷ 4 ∷ 23 ∷ []

@@ -309,13 +309,19 @@ abbrev pub known_compare : Constants → Option Compare → Got (Option CompareP
 known_compare constants None = Known None
 known_compare constants (Some c) =
     then_get (known_source constants c.expected) (λ expected.
-    then_get (known_source constants c.mask) (λ mask. Known (Some (record { expected = expected; mask = mask; cell = cell_part c.cell }))))
+    then_get (known_source constants c.mask) (λ mask.
+    Known (Some (record { expected = expected; mask = mask; cell = cell_part c.cell }))))
 
 abbrev pub known_scan : Constants → Scan → Got ScanParts
 known_scan constants scan =
     then_get (known_source constants scan.source) (λ source.
     then_get (known_compare constants scan.compare) (λ compare.
-    Known (record { register = scan.register; source = source; target = option_map (target_of constants.profile) scan.target; compare = compare })))
+    Known (record {
+      register = scan.register;
+      source = source;
+      target = option_map (target_of constants.profile) scan.target;
+      compare = compare;
+    })))
 
 -- what is exported under a key
 abbrev pub part_exported : Constants → ExportPart → List ℕ → List Value → State → Got Did
@@ -374,7 +380,8 @@ module _ (entries : List ℕ) (constants : Constants) where
   made here Exit vs s = does (exited vs s)
   made here (Scans scan) vs s = does (then_get (known_scan constants scan) (λ parts. scanned parts vs s))
   made here (Stop register tap) vs s = does (stopped register tap vs s)
-  made here (Pad which source) vs s = does (then_get (known_given constants source) (λ from. surrounded which from vs s))
+  made here (Pad which source) vs s =
+      does (then_get (known_given constants source) (λ from. surrounded which from vs s))
   made here (GoThrough states) vs s = does (moved_through states vs s)
   made here (Wait at kind last) vs s = does (waited kind at last vs s)
   made here (Frequency stated) vs s = does (tuned vs s)

@@ -26,7 +26,8 @@ use Rattle.stapl_code.specs.declared.instr.Instr.{Instr}
 use Rattle.stapl_code.specs.declared.instr.Instr.TheVariants.{Store, StoreAt, PopRecord, EndProc}
 use Rattle.stapl_code.specs.Machine.{Constants, Step, Does, does, two, unrecorded, export_slots, known_literal, known_source, known_text, part_exported, wait_slots, frequency_slots, takes, lands, made, on_taken, taken, on_made, continues, stretch, entry_of}
 use Rattle.stapl_code.proofs.Preceded.{with_nothing, happens_behind, scan_alike}
-use Rattle.stapl_codegen.specs.Emit.{program_constants, Firsts, last, between, source_code, export_part, row_texts, row_literals, behind_row, rows_items, body_texts, body_literals, row_code, rows_code, body_code}
+use Rattle.stapl_codegen.specs.Emit.{program_constants, Firsts, last, between, source_code, export_part, row_texts, row_literals, behind_row, rows_items, body_texts, body_literals, row_code}
+use Rattle.stapl_codegen.specs.Emit.{rows_code, body_code}
 use Rattle.stapl_codegen.specs.Correct.{falls, placed_record, placed_state}
 use Rattle.stapl_codegen.proofs.Constants.{HasConstants, row_has, others_have, item_known, source_known, source_count}
 use Rattle.stapl_codegen.proofs.Exprs.{got_on, with_known, operands_follow, one_each}

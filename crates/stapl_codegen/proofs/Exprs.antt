@@ -10,7 +10,8 @@ use Rattle.stapl_meaning.specs.declared.values.ValueKind.{ValueKind}
 use Rattle.stapl_meaning.specs.declared.values.ValueKind.TheVariants as kinds
 use Rattle.stapl_meaning.specs.declared.values.Value.{Value}
 use Rattle.stapl_meaning.specs.declared.values.Held.{Held}
-use Rattle.stapl_meaning.specs.Values.{Got, Known, Faults, Stuck, then_get, combined, signed, absolute, scalar_of, element_of, index_held, bits_held, range_held, of_programs, Span, span_of, Whole, Range, OfInt, source_integer, literal, unary_side, Lookup, sides, source_of, value_of, source_values}
+use Rattle.stapl_meaning.specs.Values.{Got, Known, Faults, Stuck, then_get, combined, signed, absolute, scalar_of, element_of, index_held, bits_held, range_held, of_programs, Span, span_of}
+use Rattle.stapl_meaning.specs.Values.{Whole, Range, OfInt, source_integer, literal, unary_side, Lookup, sides, source_of, value_of, source_values}
 use Rattle.stapl_meaning.specs.Operands.{Test, Plain, Character, Operand, character_of, tested, operand_value, values_behind, values_of}
 use Rattle.stapl_meaning.specs.Operands as tests
 use Rattle.stapl_meaning.specs.Deeds.{Chain}

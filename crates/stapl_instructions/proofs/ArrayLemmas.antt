@@ -29,7 +29,8 @@ use Rattle.stapl_instructions.specs.declared.parts.Part.{Part}
 use Rattle.stapl_instructions.specs.declared.parts.Span.{Span}
 use Rattle.stapl_instructions.specs.Found.{IsGot}
 use Rattle.stapl_instructions.proofs.PrintLemmas.{item_at}
-use Rattle.stapl_instructions.specs.Arrays.{with_bits, span_in, HasPart, part_held, whole_span, range_span, IsFound, array_of, dest_span, behind_dest, with_part, bits_put, first_bits, part_asked, integer_asked}
+use Rattle.stapl_instructions.specs.Arrays.{with_bits, span_in, HasPart, part_held, whole_span, range_span, IsFound, array_of, dest_span, behind_dest, with_part, bits_put, first_bits}
+use Rattle.stapl_instructions.specs.Arrays.{part_asked, integer_asked}
 use Rattle.stapl_instructions.proofs.SpanLemmas.{length_span}
 
 -- an integer of all its bits

@@ -1,8 +1,9 @@
 -- On the bits of parts of arrays, in the order of the parts.
-use Rattle.std.proofs.Common.{◌≡◌, ◌≤◌, ℕ, ◌+◌, ◌-◌, Bool, true, false, List, length, take, drop, reverse, refl, sym, ap, ◌∙◌, arith}
+use Rattle.std.proofs.Common.{◌≡◌, ◌≤◌, ℕ, ◌+◌, ◌-◌, Bool, true, false, List, length, take, drop, reverse, refl, sym, ap, subst, ◌∙◌, arith}
 use Rattle.std.specs.Prelude.{min, not, if◌then◌else◌}
 use Rattle.std.specs.Bool.{beq}
 use Rattle.std.proofs.lemmas.List.{drop-drop, drop_at, take_at, take_all, take-take, length-reverse, length-take-le, reverse-append, reverse-reverse}
+use Rattle.base.specs.Bits.{number_of}
 use Rattle.bit_list.specs.Ranges.{taken, spliced}
 use Rattle.bit_list.proofs.Padding.{first_of_first}
 use Rattle.bit_list.proofs.Splices.{length_taken, taken_joined, taken_of_first, taken_written, spliced_over}
@@ -43,10 +44,16 @@ falling_read low count at n bits few inside =
 rising_read : (low count at n : ℕ) (bits : List Bool) → at + n ≤ count → taken at n (taken low count bits) ≡ taken (low + at) n bits
 rising_read low count at n bits few = taken_of_first count at n (drop low bits) few ∙ ap (take n) (drop-drop at low bits)
 
-pub part_read : (falls : Bool) (low count at n : ℕ) (bits : List Bool) → at + n ≤ count → low + count ≤ length bits →
-    taken at n (turned falls (taken low count bits)) ≡ turned falls (taken (if falls then low + (count - at - n) else low + at) n bits)
-part_read true low count at n bits few inside = falling_read low count at n bits few inside
-part_read false low count at n bits few inside = rising_read low count at n bits few
+-- a number that was read of a part
+module _ (span : Span) (at n word : ℕ) (bits : List Bool) (few : at + n ≤ span.count) (inside : span.low + span.count ≤ length bits) where
+  abbrev Read : Bool → Type 0
+  Read falls = word ≡ number_of (taken at n (turned falls (taken span.low span.count bits)))
+
+  pub word_falls : span.falls ≡ true → word ≡ number_of (reverse (taken (span.low + (span.count - at - n)) n bits)) → Read span.falls
+  word_falls falls is = subst Read (sym falls) (is ∙ ap number_of (sym (falling_read span.low span.count at n bits few inside)))
+
+  pub word_rises : span.falls ≡ false → word ≡ number_of (taken (span.low + at) n bits) → Read span.falls
+  word_rises rises is = subst Read (sym rises) (is ∙ ap number_of (sym (rising_read span.low span.count at n bits few)))
 
 -- the first bits of a part lie in its first places
 first_read : (falls : Bool) (low count n : ℕ) (bits : List Bool) → n ≤ count → low + count ≤ length bits →

@@ -82,7 +82,8 @@ with_bits h span bits = held.Bits (span_put (span_in span) bits (bits_of h))
 
 abbrev pub with_part : List Held → Part → List Bool → List Held
 with_part variables part bits =
-    slice_set variables part.array (held.Bits (span_put (span_in part.span) bits (bits_in (slice_get variables part.array))))
+    slice_set variables part.array
+    (held.Bits (span_put (span_in part.span) bits (bits_in (slice_get variables part.array))))
 
 -- the first n bits of a part
 abbrev pub first_bits : ℕ → Span → List Bool → List Bool

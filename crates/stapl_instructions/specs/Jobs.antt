@@ -119,7 +119,8 @@ pub record AskAlike (constants : Constants) (c : Compare) (at : ComparedAt) : Ty
 
 abbrev pub IsCompareFound : Constants → List Held → Option Compare → Option ComparedAt → Type 0
 IsCompareFound constants variables None None = constants ≡ constants
-IsCompareFound constants variables (Some c) (Some at) = AreCompared constants.literals variables at × AskAlike constants c at
+IsCompareFound constants variables (Some c) (Some at) =
+    AreCompared constants.literals variables at × AskAlike constants c at
 IsCompareFound constants variables _ _ = ⊥
 
 -- the same of a scan

@@ -10,7 +10,7 @@ ghost use Rattle.stapl_code.specs.Machine.{puts, does, known_source, target_of};
 ghost use Rattle.stapl_code.specs.Safe.{constants_of};
 ghost use Rattle.stapl_instructions.specs.Found.{IsValue};
 ghost use Rattle.stapl_instructions.specs.Acts.{IsMade, Told, state_with};
-ghost use Rattle.stapl_instructions.specs.Arrays.{span_in, HasSpan, HasPart, IsPart, first_bits, with_bits, with_part, bits_put, part_asked, integer_asked};
+ghost use Rattle.stapl_instructions.specs.Arrays.{span_in, HasSpan, IsPart, first_bits, with_bits, with_part, bits_put, part_asked, integer_asked};
 
 use crate::effects::Made;
 use crate::operate::Stop;
@@ -238,7 +238,8 @@ fn copy_integer(
     ensures { (told : Told) (chosen : List ℕ) (records : List Record) (ir dr : ScanSettings) →
         IsMade result told (state_with chosen records ir dr variables.old.items)
         (state_with chosen records ir dr variables.new.items)
-        (does (copied (target_of profile dest) OfInt values.now (state_with chosen records ir dr variables.old.items))) }
+        (does (copied (target_of profile dest) OfInt values.now
+        (state_with chosen records ir dr variables.old.items))) }
 {
     let part = place(profile, variables, dest, values)?;
     match behind(dest, values) {

@@ -61,7 +61,7 @@ pub fn is_index(index: i32, count: u32) -> bool
     index >= 0 && index.cast_unsigned() < count
 }
 
-// The part that a range is whose first index is below its second, under a profile.
+// The part that a range is under a profile, if its first index is below its second.
 fn rising_span(profile: Profile, first: u32, second: u32) -> Result<Span, Stop>
     requires rises { first < second }
     requires room { second + 1 < 2 ^ 32 }
@@ -86,13 +86,13 @@ fn span_between(profile: Profile, count: u32, first: i32, second: i32) -> Result
     if !is_index(first, count) || !is_index(second, count) {
         return Err(Stop::Fault(RunFault::IndexOutOfRange));
     }
-    let (start, end) = (first.cast_unsigned(), second.cast_unsigned());
+    let (first, second) = (first.cast_unsigned(), second.cast_unsigned());
     if first < second {
-        return rising_span(profile, start, end);
+        return rising_span(profile, first, second);
     }
     Ok(Span {
-        low: end,
-        count: start + 1 - end,
+        low: second,
+        count: first + 1 - second,
         falls: false,
     })
 }

@@ -273,7 +273,8 @@ pub fn fill_bits(
 ) -> Result<(), Stop>
     requires few { n ≤ scan_limit }
     requires there { IsThere code.now.literals variables.now at }
-    ensures is { IsGot (λ done g. g ≡ Known target.new) result (asked_at at n (bits_at code.now.literals variables.now at)) }
+    ensures is { IsGot (λ done g. g ≡ Known target.new) result
+        (asked_at at n (bits_at code.now.literals variables.now at)) }
     ensures count { OnOk result (length target.new ≡ n) }
 {
     match at {

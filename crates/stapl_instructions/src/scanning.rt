@@ -76,7 +76,8 @@ fn take_compared(
     requires few { n ≤ scan_limit }
     requires found { IsCompareFound (constants_of code.now) variables.now compare at }
     ensures is { IsGot (λ done g. g ≡ Known (job_compare expected.new mask.new (cell_at at))) result
-        (compare_asked n (option_map (compare_resolved (constants_of code.now)) compare) (compare_at code.now.literals variables.now at)) }
+        (compare_asked n (option_map (compare_resolved (constants_of code.now)) compare)
+        (compare_at code.now.literals variables.now at)) }
     ensures expected { OnOk result (IsAsLong (cell_at at) n expected.new) }
     ensures mask { OnOk result (IsAsLong (cell_at at) n mask.new) }
 {
@@ -109,7 +110,8 @@ fn take_scan(
     ensures { (text : List ℕ) (constants : Constants) (states : List Tap) (chosen : List ℕ) →
         IsMade result (record { text = text; constants = constants; states = states; shifted = memory.new.shifted })
         (state_in chosen memory.old) (state_in chosen memory.new)
-        (does (scan_asked (scan_resolved (constants_of code.now) scan.now) (found_at code.now.literals memory.old.variables.items found)
+        (does (scan_asked (scan_resolved (constants_of code.now) scan.now)
+        (found_at code.now.literals memory.old.variables.items found)
         (state_in chosen memory.old) n)) }
 {
     memory.shifted.captured.resize(n);
@@ -149,7 +151,8 @@ fn scan_first(
     ensures { (text : List ℕ) (constants : Constants) (states : List Tap) (chosen : List ℕ) →
         IsMade result (record { text = text; constants = constants; states = states; shifted = memory.new.shifted })
         (state_in chosen memory.old) (state_in chosen memory.new)
-        (does (scanned (scan_resolved (constants_of code.now) scan.now) (first ∷ values.now) (state_in chosen memory.old))) }
+        (does (scanned (scan_resolved (constants_of code.now) scan.now) (first ∷ values.now)
+        (state_in chosen memory.old))) }
 {
     match first {
         Value::Int(length) => {
@@ -190,7 +193,8 @@ pub fn scan(
     ensures { (text : List ℕ) (constants : Constants) (states : List Tap) (chosen : List ℕ) →
         IsMade result (record { text = text; constants = constants; states = states; shifted = memory.new.shifted })
         (state_in chosen memory.old) (state_in chosen memory.new)
-        (does (then_get (known_scan (constants_of code.now) scan.now) (λ parts. scanned parts values.now (state_in chosen memory.old)))) }
+        (does (then_get (known_scan (constants_of code.now) scan.now)
+        (λ parts. scanned parts values.now (state_in chosen memory.old)))) }
 {
     if !is_scan_known(code, scan) {
         return Err(Stop::Wrong);
@@ -307,7 +311,8 @@ fn pad_known(
     requires { is_given_known code.now.literals source ≡ true }
     ensures { (told : Told) (chosen : List ℕ) →
         IsMade result told (state_in chosen memory.old) (state_in chosen memory.new)
-        (does (surrounded which (option_map (resolved (constants_of code.now)) source) values.now (state_in chosen memory.old))) }
+        (does (surrounded which (option_map (resolved (constants_of code.now)) source) values.now
+        (state_in chosen memory.old))) }
 {
     match values.split_first() {
         Some((first, rest)) => pad_first(code, which, source, *first, rest, memory),

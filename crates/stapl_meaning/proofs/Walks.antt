@@ -32,7 +32,8 @@ use Rattle.stapl_meaning.specs.Deeds.{Deed, Says, Goes, Stays}
 use Rattle.stapl_meaning.specs.SaidEvents.{is_no_clock}
 use Rattle.stapl_meaning.specs.declared.values.Held.{Held}
 use Rattle.stapl_meaning.specs.declared.values.Held.TheVariants as held
-use Rattle.stapl_meaning.specs.Values.{Got, Known, Faults, Stuck, then_get, passed, Span, Source, These, Whole, Range, OfInt, source_bits, asked, bits_held, span_of, span_put, whole_span, source_of, of_programs}
+use Rattle.stapl_meaning.specs.Values.{Got, Known, Faults, Stuck, then_get, passed, Span, Source, These, Whole, Range, OfInt, source_bits, asked, bits_held, span_of, span_put, whole_span}
+use Rattle.stapl_meaning.specs.Values.{source_of, of_programs}
 use Rattle.stapl_meaning.specs.Operands.{given_kind, values_of}
 use Rattle.stapl_meaning.specs.States.{ScanSettings, State, Did, Falls, Captures, Jumps, Resumes, Returns, Ends, Turned, Leads, Over, Broken, Scanning, NoTurn, with_got, preceded, turn_of_piece, next_chosen, jumps_to, led}
 use Rattle.stapl_meaning.specs.Effects.{export_of, value_as, replaced, scalar_written, element_written, with_variables, written, assigned, element_assigned, Target, IntoWhole, IntoRange, span_written, copied, with_integers, integers_set, jumped, parted, record_limit, with_records, with_room, number_of, topmost, pushed, popped, called, returned_from, returned, with_loop, looped, nearest_loop, is_over, integer_held, went_round, repeated, exited, joined, printed, exported, bits_exported, moved_through, cycles_of, usec_of, hertz_of, waited_for, waited, tuned}

@@ -113,9 +113,11 @@ module _ (variables : List Held) where
   abbrev pub target_found : Option Target → List Value → Got (Option Place)
   target_found None [] = Known None
   target_found (Some (IntoWhole n)) [] =
-      then_get (bits_held (slice_get variables n)) (λ old. Known (Some (record { array = n; span = whole_span (length old) })))
+      then_get (bits_held (slice_get variables n)) (λ old.
+      Known (Some (record { array = n; span = whole_span (length old) })))
   target_found (Some (IntoRange profile n)) (first ∷ second ∷ []) =
-      then_get (bits_held (slice_get variables n)) (λ old. then_get (span_of profile (length old) first second) (λ span. Known (Some (record { array = n; span = span }))))
+      then_get (bits_held (slice_get variables n)) (λ old.
+      then_get (span_of profile (length old) first second) (λ span. Known (Some (record { array = n; span = span }))))
   target_found _ _ = Stuck
 
   abbrev pub cell_found : CellPart → List Value → Got Cell

@@ -1,6 +1,7 @@
 -- Values of expressions. Source: JESD71, expressions and Boolean arrays. That integers wrap modulo 2 to the power of
 -- 32, and what faults, are this profile's rules.
-use Rattle.std.specs.Prelude.{ℕ, zero, suc, ◌+◌, ◌-◌, ◌^◌, nat_lt, nat_le, nat_abs, if◌then◌else◌, Bool, true, false, not, ◌&&◌, ◌||◌, List, [], ◌∷◌, ◌++◌, length, take, reverse, replicate, Option, None, Some, slice_get}
+use Rattle.std.specs.Prelude.{ℕ, zero, suc, ◌+◌, ◌-◌, ◌^◌, nat_lt, nat_le, nat_abs, if◌then◌else◌, Bool, true, false, not, ◌&&◌, ◌||◌, List, [], ◌∷◌}
+use Rattle.std.specs.Prelude.{◌++◌, length, take, reverse, replicate, Option, None, Some, slice_get}
 use Rattle.std.specs.Prelude.{ℤ, pos, negsuc, ◌+ℤ◌, ◌-ℤ◌, ◌*ℤ◌, neg_ℤ, int_lt, int_le, int_div, int_rem, unsigned_abs}
 use Rattle.std.specs.Int.{int_wrap, int_div_euclid, w32}
 use Rattle.std.specs.Bool.{beq}
@@ -241,7 +242,8 @@ pub data Source : Type 0 where
 abbrev pub source_bits : List Held → Source → List Value → Got (List Bool)
 source_bits variables (These bits) [] = Known bits
 source_bits variables (Whole n) [] = bits_held (slice_get variables n)
-source_bits variables (Range profile n) (first ∷ second ∷ []) = bits_between profile (slice_get variables n) first second
+source_bits variables (Range profile n) (first ∷ second ∷ []) =
+    bits_between profile (slice_get variables n) first second
 source_bits variables OfInt (Int z ∷ []) = Known (bits_of_int z)
 source_bits variables _ _ = Stuck
 

@@ -4,4 +4,4 @@ use Rattle.code_files.proofs.laws.example_has_its_bytes.Goals as goal
 
 pub returns : goal.returns
 unfolding file
-returns c = refl
+returns c = λ profile. refl
