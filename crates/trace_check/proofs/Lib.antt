@@ -1,0 +1,4 @@
+pub mod LineLemmas
+pub mod ClockLemmas
+pub mod TraceLemmas
+pub mod ExactLemmas

@@ -1,0 +1,9 @@
+//! Texts with lines of clocks, against a board: the lines are read, and the devices of a rack are clocked by their
+//! digits.
+#![tactic(auto)]
+
+mod clocks;
+mod lines;
+mod trace;
+
+pub use trace::{TraceRefused, check_trace};
