@@ -1,0 +1,6 @@
+pub mod WordLemmas
+pub mod OneAnswer
+pub mod EveryRequest
+pub mod RackLemmas
+pub mod RequestLemmas
+pub mod CompareLemmas

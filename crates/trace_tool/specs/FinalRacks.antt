@@ -1,0 +1,61 @@
+-- What the rack holds after a trace was compared with a board. The rules are this tool's own.
+use Rattle.std.specs.Prelude.{◌≡◌, ◌-◌, ℕ, List, [], map, take, Option, None, Some, Result, IfOk}
+use Rattle.dev_card.specs.declared.desc.Desc.{Desc}
+use Rattle.dev_card.specs.Sound.{SoundCard}
+use Rattle.chain_sim.specs.Places.{cards_at}
+use Rattle.chain_sim.specs.Rack.{places_of}
+use Rattle.named_files.specs.Boards.{HasBoard}
+use Rattle.pin_lines.specs.PinLines.{pins_in}
+use Rattle.pin_lines.specs.Traces.{board_led_to}
+use Rattle.tool_answers.specs.declared.no_answer.NoAnswer.{NoAnswer}
+use Rattle.trace_tool.specs.declared.status.TraceStatus.{TraceStatus}
+use Rattle.trace_tool.specs.declared.status.TraceStatus.TheVariants.{Good, Differs, BadLine, TooLong, BoardRefused, Usage, ReadFault, WriteFault, Memory}
+use Rattle.trace_tool.specs.Statuses.{IsCompared, ComesBeforeFitting}
+use Rattle.trace_tool.specs.Words.{TraceFiles, IsRequest}
+use Rattle.trace_tool.specs.Answers.{new_board, Contents}
+
+-- The clocks of a trace that were made, by how the comparison ended: all; those before the one that differs; and none
+-- if a line is bad.
+abbrev pub clocks_made : List ℕ → TraceStatus → List ℕ
+clocks_made text (Good n) = pins_in text
+clocks_made text (Differs i) = take (i - 1) (pins_in text)
+clocks_made text (BadLine n) = []
+clocks_made text TooLong = []
+clocks_made text (BoardRefused line reason) = []
+clocks_made text (Usage n) = []
+clocks_made text ReadFault = []
+clocks_made text WriteFault = []
+clocks_made text Memory = []
+
+-- The devices of a board, at their places in the rack, are as these clocks leave them from power-up on.
+abbrev pub HoldsLed : List Desc → List ℕ → TraceStatus → List (Option SoundCard) → Type 0
+HoldsLed devices text status rack =
+    cards_at rack (places_of devices) ≡ Some (board_led_to (new_board devices) (clocks_made text status))
+
+-- the same of a file, where it is held
+abbrev pub HeldLed : List Desc → Option (List ℕ) → TraceStatus → List (Option SoundCard) → Type 0
+HeldLed devices None status rack = ⊥
+HeldLed devices (Some text) status rack = HoldsLed devices text status rack
+
+-- the same of a request, with the board that it names
+pub record RequestHoldsLed (named : TraceFiles) (contents : Contents) (status : TraceStatus)
+    (rack : List (Option SoundCard)) : Type 0 where
+  pub devices : List Desc
+  pub board : HasBoard (Some named.board) contents.board devices
+  pub final : HeldLed devices contents.trace status rack
+
+-- the same of words
+pub record WordsHoldLed (words : List (List ℕ)) (contents : Contents) (status : TraceStatus)
+    (rack : List (Option SoundCard)) : Type 0 where
+  pub named : TraceFiles
+  pub asked : IsRequest words named
+  pub final : RequestHoldsLed named contents status rack
+
+-- What a call that answers leaves of the rack. The devices keep their kinds. They stay as they were if the cause of the
+-- status comes before the board is fitted, and after a comparison they are as it leaves them.
+pub record KeepsRack {D Kind : Type 0} (kind_of : D → Kind) (fitted : D → Option SoundCard)
+    (final : TraceStatus → List (Option SoundCard) → Type 0) (before after : List D)
+    (result : Result TraceStatus NoAnswer) : Type 0 where
+  pub kinds : map kind_of after ≡ map kind_of before
+  pub early : IfOk result (λ status. ComesBeforeFitting status → after ≡ before)
+  pub leaves : IfOk result (λ status. IsCompared status → final status (map fitted after))

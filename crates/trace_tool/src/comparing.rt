@@ -1,0 +1,85 @@
+//! A trace against a board.
+ghost use Rattle.std.specs.Prelude.{◌≡◌, ◌≤◌, length, map, Some};
+ghost use Rattle.tool_io.specs.Lines.{IsWhole};
+ghost use Rattle.tool_answers.specs.Answers.{Says, KeepsOutput};
+ghost use Rattle.board_text.specs.Boards.{CanBeFitted};
+ghost use Rattle.chain_sim.specs.Rack.{IsRack};
+ghost use Rattle.named_files.specs.Files.{OfFile, KeepsShelf};
+ghost use Rattle.trace_tool.specs.Answers.{TraceAnswer, FileAnswer};
+ghost use Rattle.trace_tool.specs.FinalRacks.{HoldsLed, HeldLed, KeepsRack};
+ghost use Rattle.trace_tool.specs.ReadContents.{Answers, IsUntouched};
+
+use crate::TraceStatus;
+use crate::lines::{put_bad_line, put_differs, put_good, put_too_long};
+use chain_sim::fit_board;
+use dev_card::{Desc, Device};
+use std::alloc::Global;
+use tool_answers::NoAnswer;
+use tool_io::{Lines, ReadRefused, Shelf, Sink, read_whole};
+use trace_check::{TraceRefused, check_trace};
+
+/// The most bytes of a trace.
+const TRACE_LIMIT: u32 = 67_108_864;
+
+// Compares a text with a board, which is fitted into the rack.
+fn compare<K: Sink>(
+    alloc: Global,
+    devices: &[Desc],
+    text: &[u8],
+    rack: &mut Vec<Box<dyn Device>>,
+    lines: &mut Lines<K>,
+) -> Result<TraceStatus, NoAnswer>
+    requires devices { CanBeFitted devices.now }
+    requires few { length text.now ≤ 67108864 }
+    requires rack { IsRack (map kind_of rack.old.items) }
+    requires whole { IsWhole lines.old }
+    ensures says { Says K.written (TraceAnswer devices.now text.now) ⊥ lines.old lines.new result }
+    ensures output { KeepsOutput K.faults K.is_last lines.old lines.new result }
+    ensures rack { KeepsRack kind_of fitted (HoldsLed devices.now text.now) rack.old.items rack.new.items result }
+{
+    let places = fit_board(alloc, rack, devices)?;
+    match check_trace(rack, &places, text) {
+        Ok(n) => {
+            put_good(lines, n, rack, &places, devices)?;
+            Ok(TraceStatus::Good(n))
+        }
+        Err(TraceRefused::Differs(i)) => {
+            put_differs(lines, i)?;
+            Ok(TraceStatus::Differs(i))
+        }
+        Err(TraceRefused::BadLine(n)) => {
+            put_bad_line(lines, n)?;
+            Ok(TraceStatus::BadLine(n))
+        }
+    }
+}
+
+/// Compares the trace in a file with a board of these devices, which is fitted into the rack. It is not fitted if the
+/// trace is too long, or could not be read.
+pub(crate) fn answer_file<S: Shelf, K: Sink>(
+    alloc: Global,
+    devices: &[Desc],
+    path: &str,
+    shelf: &mut S,
+    rack: &mut Vec<Box<dyn Device>>,
+    lines: &mut Lines<K>,
+) -> Result<TraceStatus, NoAnswer>
+    requires devices { CanBeFitted devices.now }
+    requires rack { IsRack (map kind_of rack.old.items) }
+    requires whole { IsWhole lines.old }
+    ensures answers { OfFile (S.told shelf.old) (Some path.now) (λ held. Answers K.written kind_of fitted
+        (FileAnswer devices.now held) (IsUntouched lines.old lines.new rack.old.items rack.new.items)
+        (HeldLed devices.now held) lines.old lines.new rack.old.items rack.new.items result) }
+    ensures shelf { KeepsShelf S.told S.faults S.is_last (λ read. read ≡ path.now) shelf.old shelf.new result }
+    ensures output { KeepsOutput K.faults K.is_last lines.old lines.new result }
+{
+    match read_whole(alloc, shelf, path, TRACE_LIMIT) {
+        Ok(bytes) => compare(alloc, devices, &bytes, rack, lines),
+        Err(ReadRefused::TooLong) => {
+            put_too_long(lines)?;
+            Ok(TraceStatus::TooLong)
+        }
+        Err(ReadRefused::ReadFault) => Err(NoAnswer::Read),
+        Err(ReadRefused::Memory) => Err(NoAnswer::Memory),
+    }
+}

@@ -1,0 +1,12 @@
+//! The tool that compares a trace with a board: its words, its answers, and its top call.
+#![tactic(auto)]
+
+mod comparing;
+pub mod laws;
+mod lines;
+mod status;
+mod top;
+mod words;
+
+pub use status::TraceStatus;
+pub use top::run_trace;
