@@ -1,12 +1,15 @@
 //! Tests of blocks against as many single clocks.
 ghost use Rattle.std.specs.Prelude.{IsSome};
+ghost use Rattle.stapl_lexer.specs.Names.{IsUpperName};
+ghost use Rattle.dev_card.specs.Descriptions.{IsGood};
 ghost use Rattle.dev_card.specs.Sound.{card_in};
 
 use crate::devices::{plain, registers};
 use crate::kinds::flash;
-use dev_card::Device;
+use dev_card::{Desc, Device, FitRefused};
 use dev_kinds::{Flash, Plain, Regs};
 use stapl_lexer::Name;
+use std::alloc::Global;
 use std::test::Fail;
 
 // TMS from reset to each state of the controller (IEEE 1149.1, TAP controller state diagram).
@@ -107,24 +110,52 @@ fn all_blocks<D: Device>(device: &mut D, twin: &mut D) -> Option<(usize, u32, bo
     None
 }
 
+// Fits both devices, and the first block of one that is not as many clocks of the other.
+fn wrong_block<D: Device>(
+    alloc: Global,
+    mut device: D,
+    mut twin: D,
+    desc: &Desc,
+) -> Result<Option<(usize, u32, bool)>, FitRefused>
+    requires { IsGood desc.now }
+{
+    device.fit(alloc, desc)?;
+    twin.fit(alloc, desc)?;
+    Ok(all_blocks(&mut device, &mut twin))
+}
+
+fn shifts_in_a_plain(alloc: Global, name: Name) -> bool
+    requires { IsUpperName name }
+{
+    let desc = plain(name, true, alloc);
+    let wrong = wrong_block(alloc, Plain::unfitted(), Plain::unfitted(), &desc);
+    drop(desc);
+    wrong == Ok(None)
+}
+
+fn shifts_in_registers(alloc: Global, name: Name) -> Result<bool, Fail>
+    requires { IsUpperName name }
+{
+    let desc = registers(name, alloc)?;
+    let wrong = wrong_block(alloc, Regs::unfitted(), Regs::unfitted(), &desc);
+    drop(desc);
+    Ok(wrong == Ok(None))
+}
+
+fn shifts_in_a_flash(alloc: Global, name: Name) -> bool
+    requires { IsUpperName name }
+{
+    let desc = flash(alloc, name);
+    let wrong = wrong_block(alloc, Flash::unfitted(), Flash::unfitted(), &desc);
+    drop(desc);
+    wrong == Ok(None)
+}
+
 #[test]
 fn shifts_blocks_as_single_clocks(rt: HostRuntime) -> Result<(), Fail> {
-    let alloc = rt.alloc();
-    let name = Name::read(b"U1").expect(&rt, "a name");
-    let (mut device, mut twin) = (Plain::unfitted(), Plain::unfitted());
-    let desc = plain(name, true, alloc);
-    device.fit(alloc, &desc).expect(&rt, "fitted");
-    twin.fit(alloc, &desc).expect(&rt, "fitted");
-    assert_eq!(rt; all_blocks(&mut device, &mut twin), None);
-    let (mut device, mut twin) = (Regs::unfitted(), Regs::unfitted());
-    let desc = registers(name, alloc)?;
-    device.fit(alloc, &desc).expect(&rt, "fitted");
-    twin.fit(alloc, &desc).expect(&rt, "fitted");
-    assert_eq!(rt; all_blocks(&mut device, &mut twin), None);
-    let (mut device, mut twin) = (Flash::unfitted(), Flash::unfitted());
-    let desc = flash(alloc, name);
-    device.fit(alloc, &desc).expect(&rt, "fitted");
-    twin.fit(alloc, &desc).expect(&rt, "fitted");
-    assert_eq!(rt; all_blocks(&mut device, &mut twin), None);
+    let name = Name::read(b"U1").ok_or("no name")?;
+    assert!(rt; shifts_in_a_plain(rt.alloc(), name));
+    assert!(rt; shifts_in_registers(rt.alloc(), name)?);
+    assert!(rt; shifts_in_a_flash(rt.alloc(), name));
     Ok(())
 }

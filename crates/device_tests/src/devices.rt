@@ -56,6 +56,34 @@ pub fn registers(name: Name, alloc: Global) -> Result<Desc, Fail>
     })
 }
 
+// Fits a device, and whether it answers these values at TDO from power-up on, and again after it is blanked.
+fn answers_twice<D: Device>(
+    alloc: Global,
+    mut device: D,
+    desc: &Desc,
+    tms: &str,
+    tdi: &str,
+    tdo: &str,
+) -> Result<bool, FitRefused>
+    requires { IsGood desc.now }
+{
+    device.fit(alloc, desc)?;
+    let first = answers(&mut device, tms, tdi, tdo);
+    device.blank();
+    let again = answers(&mut device, tms, tdi, tdo);
+    Ok(first && again)
+}
+
+// The same of a Plain.
+fn plain_answers(alloc: Global, name: Name, id: bool, tms: &str, tdi: &str, tdo: &str) -> bool
+    requires { IsUpperName name }
+{
+    let desc = plain(name, id, alloc);
+    let answered = answers_twice(alloc, Plain::unfitted(), &desc, tms, tdi, tdo);
+    drop(desc);
+    answered == Ok(true)
+}
+
 // Each row: whether the device has an identity, and from power-up on the values at TMS and TDI, a clock each, with TDO
 // before each clock, written out from IEEE 1149.1. Outside the shift states TDO is 1.
 #[test]
@@ -99,31 +127,58 @@ fn answers_as_the_standard_says(rt: HostRuntime) -> Result<(), Fail> {
             "111111000111111111111001",
         ),
     ];
-    let name = Name::read(b"U1").expect(&rt, "a name");
+    let name = Name::read(b"U1").ok_or("no name")?;
     for (id, tms, tdi, tdo) in table {
-        let mut device = Plain::unfitted();
-        let desc = plain(name, id, rt.alloc());
-        device.fit(rt.alloc(), &desc).expect(&rt, "fitted");
-        assert!(rt; answers(&mut device, tms, tdi, tdo), "at {tms}");
-        device.blank();
-        assert!(rt; answers(&mut device, tms, tdi, tdo), "at {tms}, blanked");
+        assert!(rt;
+            plain_answers(rt.alloc(), name, id, tms, tdi, tdo),
+            "at {tms}"
+        );
     }
     Ok(())
 }
 
+// Whether a Plain refuses a description of another kind, before and after it is fitted.
+fn refuses_another<D: Device>(
+    alloc: Global,
+    mut device: D,
+    good: &Desc,
+    other: &Desc,
+) -> Result<bool, FitRefused>
+    requires good { IsGood good.now }
+    requires other { IsGood other.now }
+{
+    let first = device.fit(alloc, other);
+    device.fit(alloc, good)?;
+    let is_fitted = device.kind() == Kind::Plain
+        && device.instruction() == 2
+        && device.cells() == 0;
+    let again = device.fit(alloc, other);
+    let refused = Err(FitRefused::WrongKind);
+    Ok(first == refused && is_fitted && again == refused)
+}
+
+fn plain_refuses(alloc: Global, name: Name, other: &Desc) -> bool
+    requires name { IsUpperName name }
+    requires other { IsGood other.now }
+{
+    let good = plain(name, true, alloc);
+    let refused = refuses_another(alloc, Plain::unfitted(), &good, other);
+    drop(good);
+    refused == Ok(true)
+}
+
+fn plain_refuses_registers(alloc: Global, name: Name) -> Result<bool, Fail>
+    requires { IsUpperName name }
+{
+    let other = registers(name, alloc)?;
+    let refused = plain_refuses(alloc, name, &other);
+    drop(other);
+    Ok(refused)
+}
+
 #[test]
 fn refuses_a_description_of_another_kind(rt: HostRuntime) -> Result<(), Fail> {
-    let name = Name::read(b"U1").expect(&rt, "a name");
-    let mut device = Plain::unfitted();
-    assert_eq!(rt; device.kind(), Kind::Plain);
-    let other = registers(name, rt.alloc())?;
-    let refused = device.fit(rt.alloc(), &other);
-    assert_eq!(rt; refused, Err(FitRefused::WrongKind));
-    let good = plain(name, true, rt.alloc());
-    device.fit(rt.alloc(), &good).expect(&rt, "fitted");
-    assert_eq!(rt; device.instruction(), 2);
-    assert_eq!(rt; device.cells(), 0);
-    let again = device.fit(rt.alloc(), &other);
-    assert_eq!(rt; again, Err(FitRefused::WrongKind));
+    let name = Name::read(b"U1").ok_or("no name")?;
+    assert!(rt; plain_refuses_registers(rt.alloc(), name)?);
     Ok(())
 }

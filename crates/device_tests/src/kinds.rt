@@ -1,13 +1,14 @@
 //! Tests of devices with registers and of flashes, by scans.
-ghost use Rattle.std.specs.Prelude.{◌≡◌, ◌≢◌, length, IfOk};
+ghost use Rattle.std.specs.Prelude.{◌≡◌, ◌≢◌, length, IfOk, IsSome};
 ghost use Rattle.stapl_lexer.specs.Names.{IsUpperName};
 ghost use Rattle.dev_card.specs.declared.desc.Kind.TheVariants as kinds;
 ghost use Rattle.dev_card.specs.Descriptions.{IsGood};
+ghost use Rattle.dev_card.specs.Sound.{card_in};
 
 use crate::scans::{answers, first_wrong, holds};
 use base::ItemList;
 use bit_list::Bits;
-use dev_card::{Desc, Device, FlashDesc, IdCode, Kind, RegDesc};
+use dev_card::{Desc, Device, FitRefused, FlashDesc, IdCode, Kind, RegDesc};
 use dev_kinds::{Flash, Regs};
 use stapl_lexer::Name;
 use std::alloc::Global;
@@ -72,19 +73,17 @@ pub fn flash(alloc: Global, name: Name) -> Desc
     }
 }
 
-// Each row is a scan of the instruction register or of the selected data register: what goes in, and what is seen.
-#[test]
-fn keeps_registers(rt: HostRuntime) -> Result<(), Fail> {
-    let alloc = rt.alloc();
-    let keep = Name::read(b"KEEP").expect(&rt, "a name");
-    let fixed = Name::read(b"FIXED").expect(&rt, "a name");
-    let constant = Bits::from_hex(alloc, b"A5")?;
-    assert!(rt; keep != fixed && constant.len() == 8);
-    let desc = registers(alloc, keep, fixed, constant)?;
-    let mut device = Regs::unfitted();
-    device.fit(alloc, &desc).expect(&rt, "fitted");
-    assert!(rt; answers(&mut device, "0", "0", "1"));
-    let table: [(bool, &str, &str); 9] = [
+// What a device does after power-up: its scans, of which each row says whether it is one of the instruction register,
+// what goes in, and what is seen; the instruction after them; and its cells, after the scans and after it is blanked.
+struct Course {
+    scans: &'static [(bool, &'static str, &'static str)],
+    instruction: u64,
+    cells: &'static [&'static str],
+    blanked: &'static [&'static str],
+}
+
+const OF_REGISTERS: Course = Course {
+    scans: &[
         (true, "0010", "1000"),
         (false, "11001", "00000"),
         (false, "00110", "11001"),
@@ -94,27 +93,15 @@ fn keeps_registers(rt: HostRuntime) -> Result<(), Fail> {
         (true, "0010", "1000"),
         (false, "10110", "00110"),
         (true, "0110", "1000"),
-    ];
-    assert_eq!(rt; first_wrong(&mut device, &table), None);
-    assert_eq!(rt; device.instruction(), 6);
-    assert!(rt;
-        holds(&device, 0, "10110") && holds(&device, 1, "11110001") && !holds(&device, 2, "")
-    );
-    device.blank();
-    assert!(rt; holds(&device, 0, "00000") && holds(&device, 1, "00000000"));
-    Ok(())
-}
+    ],
+    instruction: 6,
+    cells: &["10110", "11110001"],
+    blanked: &["00000", "00000000"],
+};
 
-// The same of a Flash in a box, whose busy count falls by one at the begin of each scan.
-#[test]
-fn erases_programs_and_reads(rt: HostRuntime) -> Result<(), Fail> {
-    let alloc = rt.alloc();
-    let name = Name::read(b"U1").expect(&rt, "a name");
-    let desc = flash(alloc, name);
-    let mut device: Box<dyn Device> = Box::new(alloc, Flash::unfitted())?;
-    device.fit(alloc, &desc).expect(&rt, "fitted");
-    assert!(rt; answers(&mut device, "0", "0", "1"));
-    let table: [(bool, &str, &str); 27] = [
+// The busy count of a Flash falls by one at the begin of each scan.
+const OF_A_FLASH: Course = Course {
+    scans: &[
         // the first word is zeros, and the address rises
         (true, "1110", "1000"),
         (false, "1111", "0000"),
@@ -148,11 +135,79 @@ fn erases_programs_and_reads(rt: HostRuntime) -> Result<(), Fail> {
         (false, "0000", "0001"),
         (false, "0000", "0011"),
         (false, "0000", "1111"),
-    ];
-    assert_eq!(rt; first_wrong(&mut device, &table), None);
-    assert!(rt; holds(&device, 0, "1100000000000000"));
-    assert!(rt; holds(&device, 1, "0001") && holds(&device, 2, "0011") && !holds(&device, 3, ""));
+    ],
+    instruction: 7,
+    cells: &["1100000000000000", "0001", "0011"],
+    blanked: &["0000000000000000", "0000", "0000"],
+};
+
+// Whether these are the cells of a device.
+fn has_cells<D: Device>(device: &D, cells: &[&str]) -> bool
+    requires { IsSome (card_in (D.fitted device.now)) }
+{
+    if device.cells() as usize != cells.len() {
+        return false;
+    }
+    for i in 0..device.cells() {
+        if !holds(device, i, cells[i as usize]) {
+            return false;
+        }
+    }
+    true
+}
+
+// Fits a device. The first scan that sees other bits than the course says, and whether all else is as it says.
+fn takes<D: Device>(
+    alloc: Global,
+    mut device: D,
+    desc: &Desc,
+    course: &Course,
+) -> Result<(Option<usize>, bool), FitRefused>
+    requires { IsGood desc.now }
+{
+    device.fit(alloc, desc)?;
+    let is_awake = answers(&mut device, "0", "0", "1");
+    let wrong = first_wrong(&mut device, course.scans);
+    let holds = device.instruction() == course.instruction && has_cells(&device, course.cells);
     device.blank();
-    assert!(rt; holds(&device, 0, "0000000000000000") && holds(&device, 1, "0000"));
+    let is_blank = has_cells(&device, course.blanked);
+    Ok((wrong, is_awake && holds && is_blank))
+}
+
+// The same of registers.
+fn registers_take(alloc: Global, course: &Course) -> Result<(Option<usize>, bool), Fail> {
+    let keep = Name::read(b"KEEP").ok_or("no name")?;
+    let fixed = Name::read(b"FIXED").ok_or("no name")?;
+    let constant = Bits::from_hex(alloc, b"A5")?;
+    if keep == fixed || constant.len() != 8 {
+        return Err("no constant".into());
+    }
+    let desc = registers(alloc, keep, fixed, constant)?;
+    let taken = takes(alloc, Regs::unfitted(), &desc, course);
+    drop(desc);
+    Ok(taken?)
+}
+
+// The same of a Flash in a box.
+fn flash_takes(alloc: Global, course: &Course) -> Result<(Option<usize>, bool), Fail> {
+    let name = Name::read(b"U1").ok_or("no name")?;
+    let device: Box<dyn Device> = Box::new(alloc, Flash::unfitted())?;
+    let desc = flash(alloc, name);
+    let taken = takes(alloc, device, &desc, course);
+    drop(desc);
+    Ok(taken?)
+}
+
+#[test]
+fn keeps_registers(rt: HostRuntime) -> Result<(), Fail> {
+    let (wrong, holds) = registers_take(rt.alloc(), &OF_REGISTERS)?;
+    assert!(rt; wrong.is_none() && holds, "{wrong:?}");
+    Ok(())
+}
+
+#[test]
+fn erases_programs_and_reads(rt: HostRuntime) -> Result<(), Fail> {
+    let (wrong, holds) = flash_takes(rt.alloc(), &OF_A_FLASH)?;
+    assert!(rt; wrong.is_none() && holds, "{wrong:?}");
     Ok(())
 }
