@@ -1,20 +1,12 @@
 -- Fitted devices are in reset.
 use Rattle.std.proofs.Common.{◌≡◌, ℕ, List, [], ◌∷◌, map, Option, Some, sym, ap, ◌∙◌, subst, refl}
-use Rattle.std.specs.Prelude.{IsSomeAnd}
 use Rattle.tap_states.specs.declared.Tap.TheVariants.{Reset}
 use Rattle.dev_card.specs.declared.desc.Desc.{Desc}
 use Rattle.dev_card.specs.Card.{Card, fresh}
 use Rattle.dev_card.specs.Board.{AllIn}
-use Rattle.dev_card.specs.PaddedScan.{descriptions_of}
 use Rattle.dev_card.specs.Sound.{SoundCard}
 use Rattle.chain_sim.specs.Places.{cards_at}
-use Rattle.chain_sim.proofs.Fitting.{fresh_described}
 use Rattle.std.proofs.lemmas.Option.{same_Some}
-
-pub fresh_board : (rack : List (Option SoundCard)) (ps qs : List ℕ) (ds : List Desc) → ps ≡ qs → cards_at rack qs ≡ Some (map fresh ds) →
-    IsSomeAnd (cards_at rack ps) (λ cs. descriptions_of cs ≡ ds)
-fresh_board rack ps qs ds e f =
-    subst (λ (o : Option (List Card)). IsSomeAnd o (λ cs. descriptions_of cs ≡ ds)) (sym (ap (cards_at rack) e ∙ f)) (fresh_described ds)
 
 all_fresh : (ds : List Desc) → AllIn Reset (map fresh ds)
 all_fresh [] = tt

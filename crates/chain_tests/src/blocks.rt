@@ -1,7 +1,8 @@
 //! Tests of blocks of a chain against as many single clocks.
-ghost use Rattle.std.specs.Prelude.{◌≡◌, ◌≤◌, map, length, All, OnOk};
+ghost use Rattle.std.specs.Prelude.{◌≡◌, ◌≤◌, map, length, All, IsTrue, OnOk};
 ghost use Rattle.dev_card.specs.Descriptions.{IsGood};
 ghost use Rattle.scan_paths.specs.Cables.{whole};
+ghost use Rattle.chain_sim.specs.Places.{is_chain};
 ghost use Rattle.chain_sim.specs.Rack.{IsRack};
 
 use crate::chain::board;
@@ -74,6 +75,16 @@ fn are_alike<C: Cable>(cable: &mut C, twin: &mut C) -> Result<bool, Failed>
     Ok(same)
 }
 
+// Brings a chain to reset, and by this way to a state.
+fn arrive<C: Cable>(cable: &mut C, way: &str) -> Result<(), Failed>
+    requires { C.breakage cable.old ≡ whole }
+    ensures { OnOk result (C.breakage cable.new ≡ whole) }
+{
+    reset_chain(cable)?;
+    clock_along(cable, OPCODES)?;
+    clock_along(cable, way)
+}
+
 // Whether a block of a chain is as many clocks of its twin, after this way from idle.
 fn is_block<C: Cable>(
     cable: &mut C,
@@ -87,12 +98,8 @@ fn is_block<C: Cable>(
     ensures own { OnOk result (C.breakage cable.new ≡ whole) }
     ensures twin { OnOk result (C.breakage twin.new ≡ whole) }
 {
-    reset_chain(cable)?;
-    reset_chain(twin)?;
-    clock_along(cable, OPCODES)?;
-    clock_along(twin, OPCODES)?;
-    clock_along(cable, way)?;
-    clock_along(twin, way)?;
+    arrive(cable, way)?;
+    arrive(twin, way)?;
     let (tdi, n) = (0x9E37_79B9_7F4A_7C15, n.max(1).min(64));
     let seen = cable.shift_block(tdi, n, last)?;
     let other = by_clocks(twin, tdi, n, last)?;
@@ -117,7 +124,22 @@ fn wrong_block<C: Cable>(cable: &mut C, twin: &mut C) -> Result<Option<(usize, u
     Ok(None)
 }
 
-// Fits the board twice, and the first block of its chain that is not as many clocks of the other one.
+// The first block of the chain of these devices of a rack that is not as many clocks of the other chain.
+fn wrong_block_of(
+    rack: &mut Vec<Box<dyn Device>>,
+    places: &[u32],
+    twin: &mut Vec<Box<dyn Device>>,
+    twin_places: &[u32],
+) -> Result<Option<(usize, u32, bool)>, Failed>
+    requires own { IsTrue (is_chain (map fitted rack.old.items) places.now) }
+    requires twin { IsTrue (is_chain (map fitted twin.old.items) twin_places.now) }
+{
+    let mut chain = Chain::over(rack, places);
+    let mut other = Chain::over(twin, twin_places);
+    wrong_block(&mut chain, &mut other)
+}
+
+// The same of a board that is fitted twice.
 fn fits_and_shifts(
     alloc: Global,
     rack: &mut Vec<Box<dyn Device>>,
@@ -132,24 +154,43 @@ fn fits_and_shifts(
 {
     let places = fit_board(alloc, rack, descs)?;
     let twin_places = fit_board(alloc, twin, descs)?;
-    let mut chain = Chain::over(rack, &places);
-    let mut other = Chain::over(twin, &twin_places);
-    Ok(wrong_block(&mut chain, &mut other)?)
+    Ok(wrong_block_of(rack, &places, twin, &twin_places)?)
 }
 
-// A chain with a device of each kind.
-#[test]
-fn shifts_blocks_as_single_clocks(rt: HostRuntime) -> Result<(), Fail> {
-    let alloc = rt.alloc();
-    let name = Name::read(b"U1").ok_or("no name")?;
+// The same on two new racks.
+fn shifts_on_racks(alloc: Global, descs: &[Desc]) -> Result<Option<(usize, u32, bool)>, Fail>
+    requires some { 1 ≤ length descs.now }
+    requires most { length descs.now ≤ 16 }
+    requires good { All IsGood descs.now }
+{
     let mut rack: Vec<Box<dyn Device>> = Vec::new(alloc);
     fill_rack!(alloc, rack);
-    assert!(rt; is_rack(&rack));
     let mut twin: Vec<Box<dyn Device>> = Vec::new(alloc);
     fill_rack!(alloc, twin);
-    assert!(rt; is_rack(&twin));
+    if !is_rack(&rack) || !is_rack(&twin) {
+        return Err("no rack".into());
+    }
+    let wrong = fits_and_shifts(alloc, &mut rack, &mut twin, descs);
+    drop(twin);
+    drop(rack);
+    wrong
+}
+
+// The same of a board with a device of each kind.
+fn shifts_on_a_board(alloc: Global) -> Result<Option<(usize, u32, bool)>, Fail> {
+    let name = Name::read(b"U1").ok_or("no name")?;
     let descs = board(alloc, name, &[0x8000_0003, 0, 0])?;
-    assert!(rt; !descs.is_empty() && descs.len() <= 16);
-    assert_eq!(rt; fits_and_shifts(alloc, &mut rack, &mut twin, &descs)?, None);
+    if descs.is_empty() || descs.len() > 16 {
+        return Err("no board".into());
+    }
+    let wrong = shifts_on_racks(alloc, &descs);
+    drop(descs);
+    wrong
+}
+
+#[test]
+fn shifts_blocks_as_single_clocks(rt: HostRuntime) -> Result<(), Fail> {
+    let wrong = shifts_on_a_board(rt.alloc())?;
+    assert!(rt; wrong == None);
     Ok(())
 }

@@ -1,13 +1,15 @@
 //! Tests of moves, stays and the reset over a cable that fails.
-ghost use Rattle.std.specs.Prelude.{◌≡◌, ◌++◌, ◌^◌, ◌-◌, not, None, OnOk, OnErr};
+ghost use Rattle.std.specs.Prelude.{◌≡◌, ◌++◌, ◌^◌, ◌-◌, not, None, IfOk, OnOk, OnErr};
 ghost use Rattle.std.proofs.lemmas.Option.{none-some};
 ghost use Rattle.tap_states.specs.declared.Tap.TheVariants.{Reset};
 ghost use Rattle.tap_states.specs.Path.{five_ones};
 ghost use Rattle.dev_card.specs.Clocks.{with_zero, move_inputs};
 ghost use Rattle.scan_paths.specs.Cables.{whole, whole_if, HasMade, HasMadeFront};
+ghost use Rattle.scan_paths.specs.Scans.{AreInside};
 
 use bit_list::Bits;
 use scan_paths::{BasePads, Cable, Pads, ScanPlan, move_to, reset_chain, scan, stay};
+use std::alloc::{AllocError, Global};
 use std::test::Fail;
 use tap_states::Tap;
 use tool_io::Failed;
@@ -98,50 +100,61 @@ fn restart<C: Cable>(cable: &mut C, to: Tap) -> Result<Tap, Failed>
     Ok(state)
 }
 
-#[test]
-fn stops_at_the_clock_that_fails(rt: HostRuntime) -> Result<(), Fail> {
-    // From the state diagram of IEEE 1149.1: from DRPAUSE to IRSHIFT there are six clocks.
-    for failing in 1..8u32 {
-        let mut cable = SilentCable::new(failing);
-        let moved = move_to(&mut cable, Tap::DrPause, Tap::IrShift);
-        assert_eq!(rt;
-            moved.ok(),
-            if failing > 6 {
-                Some(Tap::IrShift)
-            } else {
-                None
-            }
-        );
-        assert_eq!(rt; cable.clocks, failing.min(6));
-    }
-    for failing in 1..8u32 {
-        let mut cable = SilentCable::new(failing);
-        let stayed = stay(&mut cable, Tap::IrPause, 5);
-        assert_eq!(rt; stayed.is_ok(), failing > 5);
-        assert_eq!(rt; cable.clocks, failing.min(5));
-    }
-    // Five clocks to reset, and one to idle.
-    for failing in 1..8u32 {
-        let mut cable = SilentCable::new(failing);
-        let restarted = restart(&mut cable, Tap::Idle);
-        assert_eq!(rt; restarted.is_ok(), failing > 6);
-        assert_eq!(rt; cable.clocks, failing.min(6));
-    }
-    Ok(())
+// Where a move ends over a cable of which this call fails, and how many calls are made.
+fn moved(failing: u32) -> (Option<Tap>, u32) {
+    let mut cable = SilentCable::new(failing);
+    let state = move_to(&mut cable, Tap::DrPause, Tap::IrShift);
+    (state.ok(), cable.clocks)
 }
 
-// A scan of 4,096 bits takes a call for each 64 of them, and those of the moves before and after.
+// The same of five clocks in a state, and whether they are made.
+fn stayed(failing: u32) -> (bool, u32) {
+    let mut cable = SilentCable::new(failing);
+    let stayed = stay(&mut cable, Tap::IrPause, 5);
+    (stayed.is_ok(), cable.clocks)
+}
+
+// The same of two calls in a row.
+fn restarted(failing: u32) -> (bool, u32) {
+    let mut cable = SilentCable::new(failing);
+    let restarted = restart(&mut cable, Tap::Idle);
+    (restarted.is_ok(), cable.clocks)
+}
+
+// From the state diagram of IEEE 1149.1: from DRPAUSE to IRSHIFT there are six clocks, and five to reset and one to
+// idle.
 #[test]
-fn scans_by_blocks(rt: HostRuntime) -> Result<(), Fail> {
-    let alloc = rt.alloc();
-    let bits = Bits::zeros(alloc, 4096)?;
-    let mut captured = Bits::zeros(alloc, 4096)?;
-    let pads = Pads {
+fn stops_at_the_clock_that_fails(rt: HostRuntime) {
+    for failing in 1..8u32 {
+        let state = if failing > 6 {
+            Some(Tap::IrShift)
+        } else {
+            None
+        };
+        assert!(rt; moved(failing) == (state, failing.min(6)));
+        assert!(rt; stayed(failing) == (failing > 5, failing.min(5)));
+        assert!(rt; restarted(failing) == (failing > 6, failing.min(6)));
+    }
+}
+
+// No paddings of a program.
+fn no_pads(alloc: Global) -> Result<Pads, AllocError>
+    ensures { IfOk result AreInside }
+{
+    Ok(Pads {
         pre: 0,
         pre_bits: Bits::zeros(alloc, 0)?,
         post: 0,
         post_bits: Bits::zeros(alloc, 0)?,
-    };
+    })
+}
+
+// Where a scan of 4,096 bits ends, and how many calls it makes.
+fn scanned(alloc: Global, pads: &Pads) -> Result<(Option<Tap>, u32), AllocError>
+    requires { AreInside pads.now }
+{
+    let bits = Bits::zeros(alloc, 4096)?;
+    let mut captured = Bits::zeros(alloc, 4096)?;
     let plan = ScanPlan {
         ir: false,
         len: 4096,
@@ -149,8 +162,16 @@ fn scans_by_blocks(rt: HostRuntime) -> Result<(), Fail> {
         base: BasePads::none(),
     };
     let mut cable = SilentCable::new(0);
-    let scanned = scan(&mut cable, Tap::Idle, plan, &bits, &mut captured, &pads);
-    assert_eq!(rt; scanned.ok(), Some(Tap::Idle));
-    assert_eq!(rt; cable.clocks, 71);
+    let state = scan(&mut cable, Tap::Idle, plan, &bits, &mut captured, pads);
+    Ok((state.ok(), cable.clocks))
+}
+
+// A scan of 4,096 bits takes a call for each 64 of them, and those of the moves before and after.
+#[test]
+fn scans_by_blocks(rt: HostRuntime) -> Result<(), Fail> {
+    let pads = no_pads(rt.alloc())?;
+    let found = scanned(rt.alloc(), &pads);
+    drop(pads);
+    assert!(rt; found? == (Some(Tap::Idle), 71));
     Ok(())
 }

@@ -7,7 +7,3 @@ mod blocks;
 mod cable;
 #[cfg(test)]
 mod chain;
-#[cfg(test)]
-mod report;
-#[cfg(test)]
-mod scan;
