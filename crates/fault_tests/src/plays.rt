@@ -4,6 +4,7 @@ ghost use Rattle.dev_card.specs.Descriptions.{IsGood};
 ghost use Rattle.dev_card.specs.Board.{most_devices};
 ghost use Rattle.scan_paths.specs.Cables.{whole};
 ghost use Rattle.stapl_code.specs.Safe.{AllBelow};
+ghost use Rattle.stapl_machine.specs.Machines.{IsPrepared};
 
 use crate::cable::FailingCable;
 use base::Steps;
@@ -62,25 +63,26 @@ struct Play<'a> {
     base: BasePads,
 }
 
-// Whether a play over a cable exits with 0 and puts the lines of its case, or why it is broken off.
-fn plays_over<C: Cable, L: Ledger>(
+// Whether a play on a machine and over a cable exits with 0 and puts the lines of its case, or why it is broken off.
+fn plays_on<C: Cable, L: Ledger>(
     alloc: Global,
     played: &Play,
+    machine: &mut Machine,
     cable: &mut C,
     blank: Blank,
 ) -> Result<Result<bool, Trouble>, Fail>
+    requires prepared { IsPrepared played.now.code.now machine.old }
     requires below { AllBelow (length played.now.code.now.procedures) played.now.chosen.now }
     requires cable { C.breakage cable.old ≡ whole }
     requires name { blank.name ≡ L.name }
     requires parts { blank.parts ≡ L.parts }
     requires some { 0 < L.parts }
 {
-    let mut machine = Machine::prepare(alloc, played.code)?;
     let mut sink = MemSink::new(alloc, 1000, 100, Vec::new(alloc))?;
     let mut lines = Lines::new(&mut sink);
     let mut steps = Steps::<L>::none(blank);
     match play(
-        &mut machine,
+        machine,
         played.code,
         played.chosen,
         &played.base,
@@ -96,6 +98,25 @@ fn plays_over<C: Cable, L: Ledger>(
         }
         Err(trouble) => Ok(Err(trouble)),
     }
+}
+
+// The same on a new machine.
+fn plays_over<C: Cable, L: Ledger>(
+    alloc: Global,
+    played: &Play,
+    cable: &mut C,
+    blank: Blank,
+) -> Result<Result<bool, Trouble>, Fail>
+    requires below { AllBelow (length played.now.code.now.procedures) played.now.chosen.now }
+    requires cable { C.breakage cable.old ≡ whole }
+    requires name { blank.name ≡ L.name }
+    requires parts { blank.parts ≡ L.parts }
+    requires some { 0 < L.parts }
+{
+    let mut machine = Machine::prepare(alloc, played.code)?;
+    let answer = plays_on::<C, L>(alloc, played, &mut machine, cable, blank);
+    drop(machine);
+    answer
 }
 
 // The same with calls of the cable that fail; and whether the cable gets the waits and frequencies of the case.
@@ -169,37 +190,69 @@ fn faults_on_a_rack(alloc: Global, played: &Play) -> Result<u32, Fail>
 {
     let mut rack: Vec<Box<dyn Device>> = Vec::new(alloc);
     fill_rack!(alloc, rack);
-    faults_of(alloc, played, &mut rack)
+    let faults = faults_of(alloc, played, &mut rack);
+    drop(rack);
+    faults
 }
 
-// The same of a code, whose action is played for the second device of the board.
-fn faults_of_code(alloc: Global, case: &Case, code: &Code) -> Result<u32, Fail> {
-    let name = Name::read(b"A").ok_or("no name")?;
-    let chosen = choose(alloc, code, &name, &[], &[])?;
-    let devices = read_board(alloc, BOARD.as_bytes())?;
+// The same of these procedures of a code, for the second device of a board.
+fn faults_on_a_board(
+    alloc: Global,
+    case: &Case,
+    code: &Code,
+    chosen: &[u32],
+    devices: &[Desc],
+) -> Result<u32, Fail>
+    requires below { AllBelow (length code.now.procedures) chosen.now }
+    requires most { length devices.now ≤ most_devices }
+    requires good { All IsGood devices.now }
+{
     if devices.len() < 2 {
         return Err("no second device".into());
     }
     let played = Play {
         case,
         code,
-        chosen: &chosen,
-        devices: &devices,
-        base: base_pads(&devices, 2, 2),
+        chosen,
+        devices,
+        base: base_pads(devices, 2, 2),
     };
     faults_on_a_rack(alloc, &played)
+}
+
+// The same of the board above.
+fn faults_of_chosen(alloc: Global, case: &Case, code: &Code, chosen: &[u32]) -> Result<u32, Fail>
+    requires { AllBelow (length code.now.procedures) chosen.now }
+{
+    let devices = read_board(alloc, BOARD.as_bytes())?;
+    let faults = faults_on_a_board(alloc, case, code, chosen, &devices);
+    drop(devices);
+    faults
+}
+
+// The same of the action A of a code.
+fn faults_of_code(alloc: Global, case: &Case, code: &Code) -> Result<u32, Fail> {
+    let name = Name::read(b"A").ok_or("no name")?;
+    let chosen = choose(alloc, code, &name, &[], &[])?;
+    let faults = faults_of_chosen(alloc, case, code, &chosen);
+    drop(chosen);
+    faults
 }
 
 // The code of a program.
 fn code_of(alloc: Global, text: &str) -> Result<Code, Fail> {
     let program = check(alloc, text.as_bytes())?;
-    Ok(generate(alloc, &program)?)
+    let code = generate(alloc, &program);
+    drop(program);
+    Ok(code?)
 }
 
 // The same of a program.
 fn faults_of_case(alloc: Global, case: &Case) -> Result<u32, Fail> {
     let code = code_of(alloc, case.program)?;
-    faults_of_code(alloc, case, &code)
+    let faults = faults_of_code(alloc, case, &code);
+    drop(code);
+    faults
 }
 
 // A play has five clocks first, and here more than twenty calls of the cable in all.
