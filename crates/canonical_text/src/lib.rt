@@ -1,0 +1,4 @@
+//! Canonical program text: definitions and laws.
+#![tactic(auto)]
+
+pub mod laws;
