@@ -1,0 +1,6 @@
+pub mod WordLemmas
+pub mod AnswerLemmas
+pub mod OneAnswer
+pub mod EveryAnswer
+pub mod CanonicalLemmas
+pub mod CommandLemmas

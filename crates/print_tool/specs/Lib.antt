@@ -1,0 +1,5 @@
+pub mod Statuses
+pub mod Words
+pub mod Answers
+pub mod Canonical
+pub mod Commands

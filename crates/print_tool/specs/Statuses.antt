@@ -1,0 +1,23 @@
+-- How the program ends, by exit codes and groups. The rules are this tool's own.
+use Rattle.std.specs.Prelude.{ℕ}
+use Rattle.print_tool.specs.declared.status.PrintStatus.{PrintStatus}
+use Rattle.print_tool.specs.declared.status.PrintStatus.TheVariants.{Done, Refused, TooLarge, Usage, ReadFault, WriteFault, Memory}
+
+abbrev pub exit_code_of : PrintStatus → ℕ
+exit_code_of Done = 0
+exit_code_of (Refused piece reason) = 4
+exit_code_of TooLarge = 12
+exit_code_of (Usage n) = 7
+exit_code_of ReadFault = 9
+exit_code_of WriteFault = 10
+exit_code_of Memory = 11
+
+-- the status is a fault of reading or writing, or want of memory
+abbrev pub IsFault : PrintStatus → Type 0
+IsFault ReadFault = Unit {0}
+IsFault WriteFault = Unit {0}
+IsFault Memory = Unit {0}
+IsFault Done = ⊥
+IsFault (Refused piece reason) = ⊥
+IsFault TooLarge = ⊥
+IsFault (Usage n) = ⊥
