@@ -1,40 +1,53 @@
 // The store and the sink of the outside: over real files, and with calls that fail.
+use std::alloc::{AllocError, Global};
 use std::fs::File;
 use std::io::BufWriter;
 use std::test::Fail;
 use std::{fs, io};
-use tool_io::{Failed, FileShelf, Lines, MemShelf, MemSink, ReadRefused, StdSink, read_whole};
+use tool_io::{
+    Failed, FileShelf, Lines, MemShelf, MemSink, ReadRefused, Sink, StdSink, read_whole,
+};
+
+const BYTES: [u8; 5000] = [7; 5000];
+
+// Whether a file of the system holds the bytes above, or why it is refused.
+fn holds_the_bytes(rt: &HostRuntime, name: &str, limit: u32) -> Result<bool, ReadRefused> {
+    let mut shelf = FileShelf::new(rt);
+    let whole = read_whole(rt.alloc(), &mut shelf, name, limit)?;
+    Ok(whole.as_slice() == BYTES.as_slice())
+}
 
 #[test]
 fn reads_a_file_of_the_system(rt: HostRuntime) -> Result<(), Fail> {
-    let alloc = rt.alloc();
-    let bytes = vec![in alloc; 7u8; 5000]?;
-    fs::write(&rt, "read_whole.bin", bytes.as_slice())?;
-    let mut shelf = FileShelf::new(&rt);
-    let whole = read_whole(alloc, &mut shelf, "read_whole.bin", 5000)?;
-    assert!(rt; whole.as_slice() == bytes.as_slice());
-    let long = read_whole(alloc, &mut shelf, "read_whole.bin", 4999);
-    assert_eq!(rt; long.err(), Some(ReadRefused::TooLong));
-    let missing = read_whole(alloc, &mut shelf, "no_such_file.bin", 4999);
-    assert_eq!(rt; missing.err(), Some(ReadRefused::ReadFault));
+    fs::write(&rt, "read_whole.bin", BYTES.as_slice())?;
+    assert!(rt; holds_the_bytes(&rt, "read_whole.bin", 5000) == Ok(true));
+    assert!(rt; holds_the_bytes(&rt, "read_whole.bin", 4999) == Err(ReadRefused::TooLong));
+    assert!(rt; holds_the_bytes(&rt, "no_such_file.bin", 4999) == Err(ReadRefused::ReadFault));
     fs::remove_file(&rt, "read_whole.bin")?;
     Ok(())
 }
 
+// Puts a line with an integer into a sink.
+fn put_line<K: Sink>(sink: &mut K, label: &[u8], value: i64) -> Result<(), Failed> {
+    let mut lines = Lines::new(sink);
+    lines.put(label)?;
+    lines.put_int(value)?;
+    lines.put(b"\n")?;
+    lines.finish()
+}
+
+// The same into a file of the system.
+fn write_file(rt: &HostRuntime, name: &str) -> Result<(), Fail> {
+    let file = File::create(rt, name)?;
+    let mut sink = StdSink::new(BufWriter::new(rt.alloc(), file)?);
+    Ok(put_line(&mut sink, b"X N = ", i64::MIN)?)
+}
+
 #[test]
 fn writes_a_file_of_the_system(rt: HostRuntime) -> Result<(), Fail> {
-    let file = File::create(&rt, "lines.txt")?;
-    let mut sink = StdSink::new(BufWriter::new(rt.alloc(), file)?);
-    let mut lines = Lines::new(&mut sink);
-    lines.put(b"X N = ")?;
-    lines.put_int(-9223372036854775808)?;
-    lines.put(b"\n")?;
-    lines.finish()?;
+    write_file(&rt, "lines.txt")?;
     let written = fs::read(&rt, "lines.txt")?;
-    assert_eq!(rt;
-        written.as_slice(),
-        b"X N = -9223372036854775808\n".as_slice()
-    );
+    assert!(rt; written.as_slice() == b"X N = -9223372036854775808\n".as_slice());
     fs::remove_file(&rt, "lines.txt")?;
     Ok(())
 }
@@ -42,27 +55,29 @@ fn writes_a_file_of_the_system(rt: HostRuntime) -> Result<(), Fail> {
 #[test]
 fn writes_to_standard_output(rt: HostRuntime) -> Result<(), Fail> {
     let mut sink = StdSink::new(io::writer(&rt));
-    let mut lines = Lines::new(&mut sink);
-    lines.put(b"E exit ")?;
-    lines.put_int(0)?;
-    lines.put(b"\n")?;
-    lines.finish()?;
+    put_line(&mut sink, b"E exit ", 0)?;
     Ok(())
 }
 
-// What `read_whole` answers on a store of one file `p` of 5,000 bytes, of which the call of this number fails: the
-// number of bytes.
+// A store of one file `p` of the bytes above, of which the call of this number fails.
+fn store(alloc: Global, failing: u32) -> Result<MemShelf, AllocError> {
+    let failing = vec![in alloc; failing]?;
+    let names = vec![in alloc; String::from_str(alloc, "p")?]?;
+    let files = vec![in alloc; BYTES.to_vec(alloc)?]?;
+    MemShelf::new(alloc, names, files, failing)
+}
+
+// How many bytes `read_whole` answers on that store.
 fn read_of(
-    rt: &HostRuntime,
+    alloc: Global,
     name: &str,
     limit: u32,
     failing: u32,
 ) -> Result<Result<usize, ReadRefused>, Fail> {
-    let alloc = rt.alloc();
-    let names = vec![in alloc; String::from_str(alloc, "p")?]?;
-    let files = vec![in alloc; vec![in alloc; 7u8; 5000]?]?;
-    let mut shelf = MemShelf::new(alloc, names, files, vec![in alloc; failing]?)?;
-    Ok(read_whole(alloc, &mut shelf, name, limit).map(|bytes| bytes.len()))
+    let mut shelf = store(alloc, failing)?;
+    let whole = read_whole(alloc, &mut shelf, name, limit);
+    drop(shelf);
+    Ok(whole.map(|bytes| bytes.len()))
 }
 
 #[test]
@@ -80,28 +95,34 @@ fn reads_a_file_in_memory(rt: HostRuntime) -> Result<(), Fail> {
         ("p", 5000, 5, Ok(5000)),
     ];
     for (name, limit, failing, want) in cases {
-        assert_eq!(rt;
-            read_of(&rt, name, limit, failing)?,
-            want,
-            "{name} {limit} {failing}"
-        );
+        let found = read_of(rt.alloc(), name, limit, failing)?;
+        assert!(rt; found == want, "{name} {limit} {failing}");
     }
     Ok(())
 }
 
-// What a sink has that gets the two lines of a play, and what `finish` answers.
-fn play_in(
-    rt: &HostRuntime,
-    room: u32,
-    failing: u32,
-) -> Result<(Vec<u8>, Result<(), Failed>), Fail> {
-    let alloc = rt.alloc();
-    let mut sink = MemSink::new(alloc, room, 4, vec![in alloc; failing]?)?;
-    let mut lines = Lines::new(&mut sink);
+// What `finish` answers after the two lines of a play.
+fn put_play(sink: &mut MemSink) -> Result<Result<(), Failed>, Failed> {
+    let mut lines = Lines::new(sink);
     lines.put(b"P HELLO\n")?;
     lines.put(b"E exit 0\n")?;
-    let answer = lines.finish();
-    Ok((sink.written().to_vec(alloc)?, answer))
+    Ok(lines.finish())
+}
+
+// How many bytes a sink has that gets the two lines of a play, if they are a front of them, and what `finish` answers.
+fn play_in(
+    alloc: Global,
+    room: u32,
+    failing: u32,
+) -> Result<(Option<usize>, Result<(), Failed>), Fail> {
+    let failing = vec![in alloc; failing]?;
+    let mut sink = MemSink::new(alloc, room, 4, failing)?;
+    let answer = put_play(&mut sink);
+    let written = sink.written();
+    let is_front = b"P HELLO\nE exit 0\n".starts_with(written);
+    let many = if is_front { Some(written.len()) } else { None };
+    drop(sink);
+    Ok((many, answer?))
 }
 
 #[test]
@@ -115,29 +136,48 @@ fn keeps_a_front_where_a_write_fails(rt: HostRuntime) -> Result<(), Fail> {
         (10, 9, 10, Err(Failed)),
     ];
     for (room, failing, many, want) in cases {
-        let (written, answer) = play_in(&rt, room, failing)?;
-        assert_eq!(rt; answer, want, "room {room} failing {failing}");
-        assert_eq!(rt; written.len(), many, "room {room} failing {failing}");
-        assert!(rt; b"P HELLO\nE exit 0\n".starts_with(&written));
+        let found = play_in(rt.alloc(), room, failing)?;
+        assert!(rt;
+            found == (Some(many), want),
+            "room {room} failing {failing}"
+        );
     }
     Ok(())
 }
 
-#[test]
-fn writes_more_than_it_gathers(rt: HostRuntime) -> Result<(), Fail> {
-    let alloc = rt.alloc();
+// The numbers below 2,000, each with a semicolon.
+fn numbers(alloc: Global) -> Result<String, Fail> {
     let mut text = String::new(alloc);
     for n in 0..2000 {
         text.push_str(format!(in alloc; "{n};")?.as_str())?;
     }
-    assert_eq!(rt; text.len(), 8890);
-    let mut sink = MemSink::new(alloc, 100_000, 1000, Vec::new(alloc))?;
-    let mut lines = Lines::new(&mut sink);
+    Ok(text)
+}
+
+// Puts a text, an integer, and the text again.
+fn put_twice(sink: &mut MemSink, text: &str) -> Result<(), Failed> {
+    let mut lines = Lines::new(sink);
     lines.put(text.as_bytes())?;
     lines.put_int(-5)?;
     lines.put(text.as_bytes())?;
-    lines.finish()?;
+    lines.finish()
+}
+
+// Whether a sink has then these parts.
+fn puts_all(alloc: Global, text: &str) -> Result<bool, Fail> {
     let want = format!(in alloc; "{text}-5{text}")?;
-    assert!(rt; sink.written() == want.as_bytes());
+    let mut sink = MemSink::new(alloc, 100_000, 1000, Vec::new(alloc))?;
+    let answer = put_twice(&mut sink, text);
+    let is_written = sink.written() == want.as_bytes();
+    drop(sink);
+    drop(want);
+    Ok(answer.is_ok() && is_written)
+}
+
+#[test]
+fn writes_more_than_it_gathers(rt: HostRuntime) -> Result<(), Fail> {
+    let text = numbers(rt.alloc())?;
+    let is_written = puts_all(rt.alloc(), text.as_str())?;
+    assert!(rt; is_written && text.len() == 8890);
     Ok(())
 }
