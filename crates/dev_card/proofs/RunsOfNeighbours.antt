@@ -1,6 +1,6 @@
 -- A run of neighbours in a board, and what stands around it.
-use Rattle.std.proofs.Common.{◌≡◌, ◌≤◌, ◌+◌, ◌-◌, ℕ, suc, List, [], ◌∷◌, ◌++◌, take, drop, Some, slice_get, sym, ap, ◌∙◌, arith}
-use Rattle.std.proofs.lemmas.List.{take-append-drop, drop-drop, take-map, drop-map}
+use Rattle.std.proofs.Common.{◌≡◌, ◌≤◌, ◌+◌, ◌-◌, ℕ, suc, List, [], ◌∷◌, ◌++◌, length, take, drop, Some, slice_get, sym, ap, ◌∙◌, arith}
+use Rattle.std.proofs.lemmas.List.{take-append-drop, drop-drop, take-map, drop-map, length-take, length-drop}
 use Rattle.std.proofs.lemmas.Option.{get_or_from_slice_get, slice_get_within}
 use Rattle.std.proofs.Math.Seq.{drop-cons}
 use Rattle.dev_card.specs.Card.{Card}
@@ -17,6 +17,16 @@ around_run run xs one order =
     ∙ ap (λ z. before_run run xs ++ z) (sym (take-append-drop n (drop (run.first - 1) xs)))
     ∙ ap (λ z. before_run run xs ++ (in_run run xs ++ z)) (drop-drop n (run.first - 1) xs)
     ∙ ap (λ k. before_run run xs ++ (in_run run xs ++ drop k xs)) (omega (arith, all))
+
+-- how much stands before a run, in it, and after it
+pub before_counted : {A : Type 0} (run : Neighbours) (xs : List A) → 1 ≤ run.first → run.first ≤ run.last → run.last ≤ length xs →
+    length (before_run run xs) ≡ run.first - 1
+before_counted run xs one order within = omega (arith, length-take (run.first - 1) xs)
+
+pub run_counted : {A : Type 0} (run : Neighbours) (xs : List A) → 1 ≤ run.first → run.first ≤ run.last → run.last ≤ length xs →
+    length (in_run run xs) ≡ suc run.last - run.first
+run_counted run xs one order within =
+    omega (arith, length-take (suc run.last - run.first) (drop (run.first - 1) xs), length-drop (run.first - 1) xs)
 
 -- the run of a single place has what stands there
 pub run_of_place : {A : Type 0} (xs : List A) (place : ℕ) (x : A) → 1 ≤ place → slice_get xs (place - 1) ≡ Some x →

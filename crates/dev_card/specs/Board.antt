@@ -6,7 +6,7 @@ use Rattle.dev_card.specs.Card.{Card, step, tdo_of}
 
 -- the most devices of a board, which is this profile's limit
 abbrev pub most_devices : ℕ
-most_devices = 16
+most_devices = 64
 
 -- the TDO of the first card, or what comes in where there is none
 abbrev pub board_tdo : List Card → Bool → Bool

@@ -7,7 +7,7 @@ use stapl_lexer::Name;
 use std::alloc::{AllocError, Global};
 
 /// The most devices of a board.
-pub const MOST_DEVICES: usize = 16;
+pub const MOST_DEVICES: usize = 64;
 
 /// The kinds of device.
 #[derive(Clone, Copy, Debug, PartialEq, Eq)]

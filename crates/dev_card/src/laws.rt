@@ -1,5 +1,5 @@
 //! Laws of the definitions.
-ghost use Rattle.std.specs.Prelude.{◌≡◌, ◌≢◌, ◌<◌, ◌≤◌, ◌-◌, ◌^◌, ◌&&◌, ℕ, Bool, true, false, [], ◌∷◌, ◌++◌, All, List, Option, Some, length, take, drop, slice_get};
+ghost use Rattle.std.specs.Prelude.{◌≡◌, ◌≢◌, ◌<◌, ◌≤◌, ◌-◌, ◌^◌, ◌&&◌, ℕ, suc, Bool, true, false, [], ◌∷◌, ◌++◌, All, List, Option, Some, length, take, drop, slice_get};
 ghost use Rattle.tap_states.specs.declared.Tap.{Tap};
 ghost use Rattle.tap_states.specs.declared.Tap.TheVariants.{DrShift, Reset};
 ghost use Rattle.tap_states.specs.Path.{five_ones};
@@ -158,6 +158,19 @@ pub fn a_run_stands_between_the_cards_around_it()
         cs ≡ before_run run cs ++ (in_run run cs ++ after_run run cs) }
     ensures base { (cs : List Card) (run : Neighbours) →
         base_lengths (descriptions_of cs) (Some run) ≡ base_of_cards (before_run run cs) (after_run run cs) }
+{}
+
+/// A run of a board has as many cards before it as the place of its first one says, and as many as its places in it. So
+/// in scans of the data registers base PRE has one bit less than that place, and base POST one for each card after the
+/// last place.
+pub fn a_run_has_a_card_for_each_of_its_places()
+    ensures before { (cs : List Card) (run : Neighbours) → 1 ≤ run.first → run.first ≤ run.last →
+        run.last ≤ length cs → length (before_run run cs) ≡ run.first - 1 }
+    ensures run { (cs : List Card) (run : Neighbours) → 1 ≤ run.first → run.first ≤ run.last →
+        run.last ≤ length cs → length (in_run run cs) ≡ suc run.last - run.first }
+    ensures pads { (ds : List Desc) (run : Neighbours) → 1 ≤ run.first → run.first ≤ run.last →
+        run.last ≤ length ds → ((base_lengths ds (Some run)).dr_pre ≡ run.first - 1)
+        × ((base_lengths ds (Some run)).dr_post ≡ length ds - run.last) }
 {}
 
 /// A single place of a board is a run of the card there.
