@@ -208,7 +208,7 @@ fn is_unfinished(devices: &[Desc]) -> bool
 }
 
 /// The devices of a board, in the order of their lines: the first is nearest TDO. Each description is good; there are 1
-/// to 16 of them, with different names. The notation is this profile's.
+/// to 64 of them, with different names. The notation is this profile's.
 ///
 /// `At` has the first faulty line, counted from 1, and the smallest of its reasons. It is line 0 if the text has more
 /// than 1,048,576 bytes, and the line after the last if the end comes too early. `Memory` is want of memory. The time

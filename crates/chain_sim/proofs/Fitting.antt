@@ -33,13 +33,14 @@ at_next i x y z ks m =
     ap (slice_get (x ∷ y ∷ z ∷ ks)) e
 
 pub kind_in_rack : (n i : ℕ) (k : Kind) → i < n → slice_get (rack_kinds n) (3 * i + kind_number k) ≡ Some k
+unfolding rack_kinds
 kind_in_rack zero i k h = absurd (omega arith)
 kind_in_rack (suc n) zero Plain h = refl
 kind_in_rack (suc n) zero Regs h = refl
 kind_in_rack (suc n) zero Flash h = refl
 kind_in_rack (suc n) (suc i) k h = at_next i Plain Regs Flash (rack_kinds n) (kind_number k) ∙ kind_in_rack n i k (omega arith)
 
-kind_number_below : (k : Kind) → kind_number k < 3
+pub kind_number_below : (k : Kind) → kind_number k < 3
 kind_number_below Plain = omega arith
 kind_number_below Regs = omega arith
 kind_number_below Flash = omega arith

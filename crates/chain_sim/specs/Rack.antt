@@ -5,8 +5,9 @@ use Rattle.dev_card.specs.declared.desc.Kind.{Kind}
 use Rattle.dev_card.specs.declared.desc.Kind.TheVariants.{Plain, Regs, Flash}
 use Rattle.dev_card.specs.declared.desc.Desc.{Desc}
 
--- a rack has a device of each kind for each device of so many: these are their kinds
-abbrev pub rack_kinds : ℕ → List Kind
+-- A rack has a device of each kind for each device of so many: these are their kinds. It is unfolded by name alone,
+-- since a rack has many.
+unfoldable pub rack_kinds : ℕ → List Kind
 rack_kinds zero = []
 rack_kinds (suc n) = Plain ∷ Regs ∷ Flash ∷ rack_kinds n
 

@@ -76,11 +76,11 @@ fn fit_all<D: Device>(
     Ok(places)
 }
 
-/// Fits a device of the rack for each of 1 to 16 good descriptions, and answers their places in the rack, counted from
+/// Fits a device of the rack for each of 1 to 64 good descriptions, and answers their places in the rack, counted from
 /// 0. These devices are then as after power-up, and a chain can be laid over the places.
 ///
 /// The rack has a device of each kind for each device that a board may have: the device at place `3 * p + k`, where p
-/// is 0 to 15, is of kind k, with 0 for `Plain`, 1 for `Regs` and 2 for `Flash`. Device i of the board, counted from 1,
+/// is 0 to 63, is of kind k, with 0 for `Plain`, 1 for `Regs` and 2 for `Flash`. Device i of the board, counted from 1,
 /// of kind k, gets the place `3 * (i - 1) + k`.
 ///
 /// `AllocError` comes only for want of memory; then some of these devices may be fitted. Each device keeps its kind in

@@ -7,8 +7,8 @@ pub use chain_sim::is_rack;
 pub use dev_card::MOST_DEVICES;
 pub use dev_kinds::{Flash, Plain, Regs};
 
-/// Fills an empty `Vec<Box<dyn Device>>` with unfitted devices: a `Plain`, a `Regs` and a `Flash` for each of the 16
-/// devices that a board may have, 48 in all. It leaves the function with `AllocError` if there is no memory. `is_rack`
+/// Fills an empty `Vec<Box<dyn Device>>` with unfitted devices: a `Plain`, a `Regs` and a `Flash` for each of the 64
+/// devices that a board may have, 192 in all. It leaves the function with `AllocError` if there is no memory. `is_rack`
 /// says afterwards that they are a rack.
 #[macro_export]
 macro_rules! fill_rack {

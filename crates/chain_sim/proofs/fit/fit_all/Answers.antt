@@ -1,6 +1,13 @@
 use Rattle.std.proofs.Common.{ℕ, ◌<◌, ◌∙◌, length, rules, arith}
 use Rattle.chain_sim.proofs.Fitting.{fit_more, places_pushed, others_more, others_left, kind_at_place}
+use Rattle.chain_sim.proofs.Racks.{place_inside}
 use Rattle.chain_sim.proofs.fit.fit_all.Goals as goal
+
+pub fit_at-requires-clause-inside : goal.fit_at-requires-clause-inside
+fit_at-requires-clause-inside g c =
+    let inside = place_inside g.D.Device.kind_of c.args.rack.now.items c.loop-i.rack.items c.loop-i.i c.place_at-place.result c.index-descs-i.result c.requires.rack
+    c.loop-i.invariant.kinds (omega arith) c.place_at-place.ensures in
+    omega (arith, inside)
 
 pub returns-in-Err-Memory-clause-others : goal.returns-in-Err-Memory-clause-others
 returns-in-Err-Memory-clause-others g c =

@@ -1,8 +1,18 @@
 use Rattle.std.proofs.Common.{◌≡◌, ◌*◌, ◌+◌, sym, ◌∙◌, rules, arith}
 use Rattle.std.proofs.lemmas.Bool.{false≢true}
+use Rattle.std.proofs.lemmas.Bool.Decides.{nat_tests}
 use Rattle.dev_card.specs.declared.desc.Kind.TheVariants.{Plain, Regs, Flash}
-use Rattle.chain_sim.proofs.Racks.{three_more, rack_has}
+use Rattle.chain_sim.proofs.Racks.{none_yet, rack_counted, three_more, rack_has}
 use Rattle.chain_sim.proofs.kinds.is_rack.Goals as goal
+
+pub returns-then-rack : goal.returns-then-rack
+returns-then-rack g c = (
+  (λ is. absurd (false≢true is)),
+  λ rack. let all = rack_counted g.D.Device.kind_of c.args.rack.now rack in absurd (grind (arith, nat_tests, all, c.if-rack.true)),
+)
+
+pub loop-p-init : goal.loop-p-init
+loop-p-init g c = none_yet g.D.Device.kind_of c.args.rack.now
 
 pub loop-p-preserved : goal.loop-p-preserved
 loop-p-preserved g c =
