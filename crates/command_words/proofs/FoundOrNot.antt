@@ -1,14 +1,18 @@
 -- Each word, whatever numbers it is made of, gives a value under a key or gives none.
-use Rattle.std.proofs.Common.{◌≡◌, ◌≢◌, ◌<◌, ◌≤◌, ℕ, List, [], ◌∷◌, ◌++◌, map, refl, sym, ap, ◌∙◌, subst, arith, Bool, true, false, ◌⊎◌, inl, inr}
-use Rattle.std.proofs.lemmas.Bool.{cases_lt, cases_eq, false≢true}
+use Rattle.std.proofs.Common.{◌≡◌, ◌≢◌, ◌<◌, ◌≤◌, ℕ, List, [], ◌∷◌, ◌++◌, map, refl, sym, ap, ◌∙◌, subst, arith, codes, Bool, true, false, ◌&&◌, ◌⊎◌, inl, inr}
+use Rattle.std.proofs.lemmas.Bool.{and_parts, cases_lt, cases_eq, false≢true}
 use Rattle.std.proofs.lemmas.Slice.Eq.{bytes_eq-Decides}
+use Rattle.std.specs.Char.{is_ascii_digit}
 use Rattle.std.specs.List.{list_all}
 use Rattle.std.specs.Str.{bytes_eq, str_to_ascii_uppercase}
 use Rattle.std.specs.Str.Parse.{digits_value}
 use Rattle.base.specs.Decimals.{is_decimal}
 use Rattle.stapl_lexer.specs.ReservedWords.{is_free_name}
-use Rattle.command_words.specs.KeyedWords.{NamesPath, SpellsFreeName, NamesFreeName, parts_between_commas, SpellsNames, NamesList, SpellsNumber, NamesNumber, answer_word, SaysAnswer}
+use Rattle.command_words.specs.KeyedWords.{NamesPath, SpellsFreeName, NamesFreeName, parts_between_commas, SpellsNames, NamesList, SpellsNumber, NamesNumber, SpellsRun, of_one, of_two, NamesRun, answer_word, SaysAnswer}
+use Rattle.command_words.specs.declared.place_run.PlaceRun.{PlaceRun}
+use Rattle.command_words.proofs.NumberLemmas.{digits_of}
 use Rattle.command_words.proofs.ValueLemmas.{same_rest}
+use Rattle.command_words.proofs.RunLemmas.{no_first, no_last}
 
 -- one thing has the property, or none has it
 abbrev pub IsFoundOrNot : {A : Type 0} → (A → Type 0) → Type 0
@@ -96,12 +100,77 @@ number_spelled_so least most rest true e (inr enough) (inr few) = inl (
   },
 )
 
+spelled_or_not : (least most : ℕ) (rest : List ℕ) → IsFoundOrNot (SpellsNumber least most rest)
+spelled_or_not least most rest =
+    number_spelled_so least most rest (is_decimal rest) refl (cases_lt (digits_value 10 rest) least) (cases_lt most (digits_value 10 rest))
+
 pub number_or_not : (key : List ℕ) (least most : ℕ) (word : List ℕ) → IsFoundOrNot (NamesNumber key least most word)
 number_or_not key least most word =
     in_word key word (SpellsNumber least most) (NamesNumber key least most word)
     (λ rest n behind p. record { spelling = rest; keyed = behind; number = p }) (λ n p. (p.spelling, p.keyed, p.number))
-    (λ rest. number_spelled_so least most rest (is_decimal rest) refl (cases_lt (digits_value 10 rest) least) (cases_lt most (digits_value 10 rest)))
-    (behind_key key word)
+    (spelled_or_not least most) (behind_key key word)
+
+-- A run of places.
+
+-- two dots stand somewhere after digits
+record HasCut (rest : List ℕ) : Type 0 where
+  pub front : List ℕ
+  pub back : List ℕ
+  pub whole : rest ≡ front ++ (codes ".." ++ back)
+  pub digits : list_all is_ascii_digit front ≡ true
+
+no_cut : (front back : List ℕ) → [] ≡ front ++ (codes ".." ++ back) → ⊥
+no_cut [] back e = cc
+no_cut (x ∷ front) back e = cc
+
+-- if they do not begin a text, they stand so in its rest
+cut_later : (b : ℕ) (rest front back : List ℕ) → (b ∷ rest) ≡ front ++ (codes ".." ++ back) → list_all is_ascii_digit front ≡ true →
+    ((behind : List ℕ) → (b ∷ rest) ≡ codes ".." ++ behind → ⊥) → HasCut rest × (is_ascii_digit b ≡ true)
+cut_later b rest [] back e d none = absurd (none back e)
+cut_later b rest (x ∷ front) back e d none =
+    let both = and_parts (is_ascii_digit x) (list_all is_ascii_digit front) d in
+    let one : x ≡ b = cc in
+    let more : rest ≡ front ++ (codes ".." ++ back) = cc in
+    (record { front = front; back = back; whole = more; digits = both.1 }, subst (λ (z : ℕ). is_ascii_digit z ≡ true) one both.0)
+
+cut_or_not : (rest : List ℕ) → HasCut rest ⊎ (HasCut rest → ⊥)
+cut_or_not [] = inr (λ h. no_cut h.front h.back h.whole)
+cut_or_not (b ∷ rest) = by (behind_key (codes "..") (b ∷ rest)) (is_ascii_digit b) refl (cut_or_not rest)
+  where
+    by : IsFoundOrNot (λ (behind : List ℕ). (b ∷ rest) ≡ codes ".." ++ behind) → (digit : Bool) → is_ascii_digit b ≡ digit →
+        HasCut rest ⊎ (HasCut rest → ⊥) → HasCut (b ∷ rest) ⊎ (HasCut (b ∷ rest) → ⊥)
+    by (inl found) digit is later = inl (record { front = []; back = found.0; whole = found.1; digits = refl })
+    by (inr none) false is later = inr (λ h. false≢true (sym is ∙ (cut_later b rest h.front h.back h.whole h.digits none).1))
+    by (inr none) true is (inr never) = inr (λ h. never (cut_later b rest h.front h.back h.whole h.digits none).0)
+    by (inr none) true is (inl cut) = inl (record {
+      front = b ∷ cut.front;
+      back = cut.back;
+      whole = ap (λ (z : List ℕ). b ∷ z) cut.whole;
+      digits = ap (λ (z : Bool). z && list_all is_ascii_digit cut.front) is ∙ cut.digits;
+    })
+
+run_spelled_so : (most : ℕ) (rest : List ℕ) → IsFoundOrNot (SpellsNumber 1 most rest) → HasCut rest ⊎ (HasCut rest → ⊥) → IsFoundOrNot (SpellsRun most rest)
+run_spelled_so most rest (inl found) cut = inl (record { first = found.0; last = found.0 }, of_one found.1 refl)
+run_spelled_so most rest (inr none) (inr absent) = inr never
+  where
+    never : (run : PlaceRun) → SpellsRun most rest run → ⊥
+    never run (of_one x e) = none run.first x
+    never run (of_two front back e x y) = absent (record { front = front; back = back; whole = e; digits = (digits_of front x.spelled).0 })
+run_spelled_so most rest (inr none) (inl cut) = by_first (spelled_or_not 1 most cut.front)
+  where
+    by_last : (first : ℕ) → SpellsNumber 1 most cut.front first → IsFoundOrNot (SpellsNumber first most cut.back) → IsFoundOrNot (SpellsRun most rest)
+    by_last first x (inl last) = inl (record { first = first; last = last.0 }, of_two cut.front cut.back cut.whole x last.1)
+    by_last first x (inr never) = inr (no_last cut.front cut.back cut.whole x never)
+
+    by_first : IsFoundOrNot (SpellsNumber 1 most cut.front) → IsFoundOrNot (SpellsRun most rest)
+    by_first (inl first) = by_last first.0 first.1 (spelled_or_not first.0 most cut.back)
+    by_first (inr never) = inr (no_first cut.front cut.back cut.whole never)
+
+pub run_or_not : (key : List ℕ) (most : ℕ) (word : List ℕ) → IsFoundOrNot (NamesRun key most word)
+run_or_not key most word =
+    in_word key word (SpellsRun most) (NamesRun key most word)
+    (λ rest run behind p. record { spelling = rest; keyed = behind; spells = p }) (λ run p. (p.spelling, p.keyed, p.spells))
+    (λ rest. run_spelled_so most rest (spelled_or_not 1 most rest) (cut_or_not rest)) (behind_key key word)
 
 -- An answer.
 

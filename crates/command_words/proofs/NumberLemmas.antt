@@ -16,7 +16,7 @@ not_empty [] h = absurd cc
 not_empty (b ∷ bytes) h = omega arith
 
 -- what is spelled as a decimal number has digits alone, and one at least
-digits_of : (spelling : List ℕ) → is_decimal spelling ≡ true → (list_all is_ascii_digit spelling ≡ true) × (0 < length spelling)
+pub digits_of : (spelling : List ℕ) → is_decimal spelling ≡ true → (list_all is_ascii_digit spelling ≡ true) × (0 < length spelling)
 digits_of spelling h =
     let front = (and_parts (not (length spelling == 0) && list_all is_ascii_digit spelling) _ h).0 in
     let both = and_parts (not (length spelling == 0)) (list_all is_ascii_digit spelling) front in

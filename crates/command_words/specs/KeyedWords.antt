@@ -6,6 +6,7 @@ use Rattle.std.specs.Str.{str_to_ascii_uppercase}
 use Rattle.std.specs.Str.Parse.{digits_value}
 use Rattle.base.specs.Decimals.{is_decimal}
 use Rattle.stapl_lexer.specs.ReservedWords.{is_free_name}
+use Rattle.command_words.specs.declared.place_run.PlaceRun.{PlaceRun}
 
 -- the word names this file under this key
 abbrev pub NamesPath : List ℕ → List ℕ → List ℕ → Type 0
@@ -49,6 +50,19 @@ pub record NamesNumber (key : List ℕ) (least most : ℕ) (word : List ℕ) (n 
   pub spelling : List ℕ
   pub keyed : word ≡ key ++ spelling
   pub number : SpellsNumber least most spelling n
+
+-- The bytes spell this run of places, none of which lies above the most: a place, which is a run of one, or its first
+-- place, two dots, and its last place, which does not lie below the first.
+pub data SpellsRun (most : ℕ) (spelling : List ℕ) (run : PlaceRun) : Type 0 where
+  of_one : SpellsNumber 1 most spelling run.first → run.last ≡ run.first → SpellsRun most spelling run
+  of_two : (front back : List ℕ) → spelling ≡ front ++ (codes ".." ++ back) → SpellsNumber 1 most front run.first →
+      SpellsNumber run.first most back run.last → SpellsRun most spelling run
+
+-- the word names this run of places under this key
+pub record NamesRun (key : List ℕ) (most : ℕ) (word : List ℕ) (run : PlaceRun) : Type 0 where
+  pub spelling : List ℕ
+  pub keyed : word ≡ key ++ spelling
+  pub spells : SpellsRun most spelling run
 
 -- the word of a yes and of a no
 abbrev pub answer_word : Bool → List ℕ

@@ -1,8 +1,10 @@
 //! Words with a value under a key. The key is given with its equals sign.
 ghost use Rattle.std.specs.Prelude.{ℕ, Bool, List, IfSome, IfNone};
-ghost use Rattle.command_words.specs.KeyedWords.{NamesPath, NamesFreeName, names_in, NamesList, NamesNumber, SaysAnswer};
+ghost use Rattle.command_words.specs.KeyedWords.{NamesPath, NamesFreeName, names_in, NamesList, NamesNumber, NamesRun, SaysAnswer};
+ghost use Rattle.command_words.specs.declared.place_run.PlaceRun.{PlaceRun};
 
-use crate::spellings::{answer_spelled, spelled_number, spells_names};
+use crate::PlaceRun;
+use crate::spellings::{answer_spelled, spelled_number, spelled_run, spells_names};
 use stapl_lexer::Name;
 
 /// The path that a word gives under a key. It is not empty.
@@ -45,6 +47,18 @@ pub fn number_under(word: &str, key: &str, least: u32, most: u32) -> Option<u32>
 {
     match word.strip_prefix(key) {
         Some(spelling) => spelled_number(spelling, least, most),
+        None => None,
+    }
+}
+
+/// The run of places that a word gives under a key, as `2` or `2..3`, if none of them lies above the most. Places are
+/// counted from 1, and the last one does not lie below the first.
+pub fn run_under(word: &str, key: &str, most: u32) -> Option<PlaceRun>
+    ensures some { IfSome result (NamesRun key.now most word.now) }
+    ensures none { IfNone result ((run : PlaceRun) → NamesRun key.now most word.now run → ⊥) }
+{
+    match word.strip_prefix(key) {
+        Some(spelling) => spelled_run(spelling, most),
         None => None,
     }
 }

@@ -2,8 +2,10 @@
 ghost use Rattle.std.specs.Prelude.{◌≡◌, ℕ, Bool, IfSome, IfNone};
 ghost use Rattle.std.specs.List.{list_all};
 ghost use Rattle.stapl_lexer.specs.ReservedWords.{is_free_name};
-ghost use Rattle.command_words.specs.KeyedWords.{parts_between_commas, name_spelled, SpellsNumber, answer_word};
+ghost use Rattle.command_words.specs.KeyedWords.{parts_between_commas, name_spelled, SpellsNumber, SpellsRun, answer_word};
+ghost use Rattle.command_words.specs.declared.place_run.PlaceRun.{PlaceRun};
 
+use crate::PlaceRun;
 use base::is_decimal;
 use stapl_lexer::Name;
 
@@ -43,6 +45,20 @@ pub(crate) fn spelled_number(spelling: &str, least: u32, most: u32) -> Option<u3
         return None;
     }
     Some(number)
+}
+
+// The run of places that a text spells, if none of them lies above the most: a place, or two with two dots between them.
+pub(crate) fn spelled_run(spelling: &str, most: u32) -> Option<PlaceRun>
+    ensures some { IfSome result (SpellsRun most spelling.now) }
+    ensures none { IfNone result ((run : PlaceRun) → SpellsRun most spelling.now run → ⊥) }
+{
+    let Some((front, back)) = spelling.split_once("..") else {
+        let place = spelled_number(spelling, 1, most)?;
+        return Some(PlaceRun::only(place));
+    };
+    let first = spelled_number(front, 1, most)?;
+    let last = spelled_number(back, first, most)?;
+    Some(PlaceRun { first, last })
 }
 
 // Whether a text is a yes or a no.
