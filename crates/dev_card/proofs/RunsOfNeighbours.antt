@@ -37,12 +37,6 @@ run_of_place xs place x one e =
     ∙ ap (take 1) (drop-cons xs (place - 1) x (slice_get_within xs (place - 1) x e))
     ∙ ap (λ y. y ∷ []) (get_or_from_slice_get xs (place - 1) x x e)
 
-pub around_place : {A : Type 0} (xs : List A) (place : ℕ) (x : A) → 1 ≤ place → slice_get xs (place - 1) ≡ Some x →
-    xs ≡ take (place - 1) xs ++ ((x ∷ []) ++ drop place xs)
-around_place xs place x one e =
-    around_run (only place) xs one (omega arith)
-    ∙ ap (λ z. take (place - 1) xs ++ (z ++ drop place xs)) (run_of_place xs place x one e)
-
 -- base padding for a run is that around its cards
 pub base_of_run : (cs : List Card) (run : Neighbours) →
     base_lengths (descriptions_of cs) (Some run) ≡ base_of_cards (before_run run cs) (after_run run cs)

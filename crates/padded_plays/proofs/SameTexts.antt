@@ -1,14 +1,13 @@
 -- Plays that are the same have the same text, ending and report.
-use Rattle.std.proofs.Common.{◌≡◌, ◌<◌, ◌≤◌, ◌-◌, ℕ, false, All, List, [], ◌∷◌, ◌++◌, length, take, drop, Some, slice_get, refl, sym, ap, subst, ◌∙◌, arith}
-use Rattle.std.proofs.lemmas.List.{length-map, length-take}
-use Rattle.std.proofs.lemmas.Option.{slice_get_within}
+use Rattle.std.proofs.Common.{◌≡◌, ◌≤◌, ◌-◌, ℕ, suc, false, All, List, [], ◌∷◌, ◌++◌, length, take, drop, Some, refl, sym, ap, subst, ◌∙◌, arith}
+use Rattle.std.proofs.lemmas.List.{length-map}
 use Rattle.std.proofs.Math.Seq.{drop-append_seam, take-append_seam}
 use Rattle.dev_card.specs.declared.desc.Desc.{Desc}
 use Rattle.dev_card.specs.Descriptions.{IsGood}
 use Rattle.dev_card.specs.Card.{Card}
 use Rattle.dev_card.specs.FarEnds.{FarEnd, Told, Heard}
-use Rattle.dev_card.specs.Padding.{base_lengths, only}
-use Rattle.dev_card.proofs.RunsOfNeighbours.{around_place}
+use Rattle.dev_card.specs.Padding.{Neighbours, in_run, before_run, after_run, base_lengths}
+use Rattle.dev_card.proofs.RunsOfNeighbours.{around_run, before_counted, run_counted}
 use Rattle.dev_card.specs.PaddedScan.{descriptions_of}
 use Rattle.dev_card.specs.Reports.{report_of}
 use Rattle.padded_plays.specs.PaddedRuns.{fresh_board}
@@ -73,17 +72,26 @@ pub text_of_same : (program : Played) (chosen : List ℕ) (before run after : Li
     → IsSameText (length before) (length run) (padded_play program chosen k before run after) (play_alone program chosen k run)
 text_of_same program chosen before run after k h = text_of before run after (padded_play program chosen k before run after) (play_alone program chosen k run) h
 
-pub text_of_place : (program : Played) (chosen : List ℕ) (devices : List Desc) (place : ℕ) (device : Desc) (n k : ℕ) → All IsGood devices → 1 ≤ place
-    → slice_get devices (place - 1) ≡ Some device → IsQuietPlay program chosen n (device ∷ []) → k ≤ n
-    → IsSameText (place - 1) 1 (play program chosen k (base_lengths devices (Some (only place))) (Told (fresh_board devices))) (play_alone program chosen k (device ∷ []))
-text_of_place program chosen devices place device n k good one e q le =
-    let before : List Desc = take (place - 1) devices in
-    let after : List Desc = drop place devices in
-    let whole : devices ≡ before ++ ((device ∷ []) ++ after) = around_place devices place device one e in
-    let within : place - 1 < length devices = slice_get_within devices (place - 1) device e in
-    let count : length before ≡ place - 1 = omega (arith, length-take (place - 1) devices, within) in
-    let same = plays_are_same program chosen before (device ∷ []) after n k (subst (λ ds. All IsGood ds) whole good) (omega arith) q le in
-    let text : IsSameText (length before) 1 (padded_play program chosen k before (device ∷ []) after) (play_alone program chosen k (device ∷ [])) =
-    text_of_same program chosen before (device ∷ []) after k same in
-    subst (λ m. IsSameText m 1 (play program chosen k (base_lengths devices (Some (only place))) (Told (fresh_board devices))) (play_alone program chosen k (device ∷ []))) count
-    (subst (λ ds. IsSameText (length before) 1 (play program chosen k (base_lengths devices (Some (only place))) (Told (fresh_board ds))) (play_alone program chosen k (device ∷ []))) (sym whole) text)
+-- The same of a run of a board, by its places.
+module _ (program : Played) (chosen : List ℕ) (devices : List Desc) (run : Neighbours) (n k : ℕ) (good : All IsGood devices) (one : 1 ≤ run.first)
+    (order : run.first ≤ run.last) (within : run.last ≤ length devices) (quiet : IsQuietPlay program chosen n (in_run run devices)) (le : k ≤ n) where
+  count : length (in_run run devices) ≡ suc run.last - run.first
+  count = run_counted run devices one order within
+
+  pub same_for_run : IsSamePlay (before_run run devices) (in_run run devices) (after_run run devices)
+      (play program chosen k (base_lengths devices (Some run)) (Told (fresh_board devices))) (play_alone program chosen k (in_run run devices))
+  same_for_run =
+      let whole = around_run run devices one order in
+      subst (λ ds. IsSamePlay (before_run run devices) (in_run run devices) (after_run run devices)
+      (play program chosen k (base_lengths devices (Some run)) (Told (fresh_board ds))) (play_alone program chosen k (in_run run devices))) (sym whole)
+      (plays_are_same program chosen (before_run run devices) (in_run run devices) (after_run run devices) n k
+      (subst (λ ds. All IsGood ds) whole good) (omega (arith, count, order)) quiet le)
+
+  pub text_of_run : IsSameText (run.first - 1) (suc run.last - run.first) (play program chosen k (base_lengths devices (Some run)) (Told (fresh_board devices)))
+      (play_alone program chosen k (in_run run devices))
+  text_of_run =
+      let padded : Run = play program chosen k (base_lengths devices (Some run)) (Told (fresh_board devices)) in
+      let alone : Run = play_alone program chosen k (in_run run devices) in
+      subst (λ m. IsSameText m (suc run.last - run.first) padded alone) (before_counted run devices one order within)
+      (subst (λ m. IsSameText (length (before_run run devices)) m padded alone) count
+      (text_of (before_run run devices) (in_run run devices) (after_run run devices) padded alone same_for_run))

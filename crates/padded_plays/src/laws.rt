@@ -1,6 +1,5 @@
 //! Laws of the definitions.
-ghost use Rattle.std.specs.Prelude.{◌≡◌, ◌<◌, ℕ, Bool, true, false, List, ◌++◌, All, length, replicate, ◌≤◌, ◌-◌, []};
-ghost use Rattle.std.specs.Prelude.{◌∷◌, Option, Some, slice_get};
+ghost use Rattle.std.specs.Prelude.{◌≡◌, ◌<◌, ℕ, Bool, true, false, List, ◌++◌, All, length, replicate, ◌≤◌, ◌-◌, suc, Some};
 ghost use Rattle.tap_states.specs.declared.Tap.{Tap};
 ghost use Rattle.tap_states.specs.declared.Tap.TheVariants.{Reset};
 ghost use Rattle.tap_states.specs.Tap.{is_stable_state};
@@ -12,7 +11,7 @@ ghost use Rattle.dev_card.specs.Board.{board_after};
 ghost use Rattle.dev_card.specs.Clocks.{with_zero, rest_tms, move_inputs, stay_inputs, entry_inputs};
 ghost use Rattle.dev_card.specs.Scans.{BoardScan};
 ghost use Rattle.dev_card.specs.FarEnds.{FarEnd, Told};
-ghost use Rattle.dev_card.specs.Padding.{BaseLengths, base_lengths, only};
+ghost use Rattle.dev_card.specs.Padding.{BaseLengths, Neighbours, in_run, before_run, after_run, base_lengths};
 ghost use Rattle.padded_plays.specs.QuietClocks.{IsQuietWalk, IsQuietScan, loaded_after};
 ghost use Rattle.padded_plays.specs.PaddedRuns.{IsPaddedRun, IsPaddedFor, KeepsPaddedRun, fresh_board};
 ghost use Rattle.stapl_meaning.specs.Deeds.{Deed, Chain, deeds_events};
@@ -66,12 +65,19 @@ pub fn a_reset_run_is_padded()
 {}
 
 /// If the play on a run of devices alone is quiet for n turns, then after each number of turns up to n it is the same
-/// play in a board with base padding around the run, whatever devices stand before and after it. It has the same
-/// outcome, state and TAP state, the same events but for the clocks, and the same cards of the run.
+/// play in a board with base padding around the run, whatever devices are before and after it. It has the same outcome,
+/// state and TAP state, the same events but for the clocks, and the same cards of the run. This is said of the lists of
+/// devices before, in and after the run, and of a board and the places of the run in it.
 pub fn a_quiet_play_is_the_same_at_each_place()
-    ensures { (program : Played) (chosen : List ℕ) (before run after : List Desc) (n k : ℕ) →
+    ensures lists { (program : Played) (chosen : List ℕ) (before run after : List Desc) (n k : ℕ) →
         All IsGood (before ++ (run ++ after)) → 0 < length run → IsQuietPlay program chosen n run → k ≤ n →
         IsSamePlay before run after (padded_play program chosen k before run after) (play_alone program chosen k run) }
+    ensures places { (program : Played) (chosen : List ℕ) (devices : List Desc) (run : Neighbours) (n k : ℕ) →
+        All IsGood devices → 1 ≤ run.first → run.first ≤ run.last → run.last ≤ length devices →
+        IsQuietPlay program chosen n (in_run run devices) → k ≤ n →
+        IsSamePlay (before_run run devices) (in_run run devices) (after_run run devices)
+        (play program chosen k (base_lengths devices (Some run)) (Told (fresh_board devices)))
+        (play_alone program chosen k (in_run run devices)) }
 {}
 
 /// Plays that are the same have the same text without pins and the same ending, and the same cards of the run, so the
@@ -83,15 +89,15 @@ pub fn the_same_play_has_the_same_text()
         (padded_play program chosen k before run after) (play_alone program chosen k run) }
 {}
 
-/// A play that is quiet on the device of a place alone has the same text, ending and report of this device on the whole
-/// board, with base padding for the place, which is counted from 1.
-pub fn a_quiet_play_of_a_place_has_the_text_of_its_device()
-    ensures { (program : Played) (chosen : List ℕ) (devices : List Desc) (place : ℕ) (device : Desc) (n k : ℕ) →
-        All IsGood devices → 1 ≤ place → slice_get devices (place - 1) ≡ Some device →
-        IsQuietPlay program chosen n (device ∷ []) → k ≤ n →
-        IsSameText (place - 1) 1
-        (play program chosen k (base_lengths devices (Some (only place))) (Told (fresh_board devices)))
-        (play_alone program chosen k (device ∷ [])) }
+/// A play that is quiet on the devices of a run alone has the same text, ending and report of these devices, in their
+/// order, on the whole board, with base padding for the run.
+pub fn a_quiet_play_of_a_run_has_the_text_of_its_devices()
+    ensures { (program : Played) (chosen : List ℕ) (devices : List Desc) (run : Neighbours) (n k : ℕ) →
+        All IsGood devices → 1 ≤ run.first → run.first ≤ run.last → run.last ≤ length devices →
+        IsQuietPlay program chosen n (in_run run devices) → k ≤ n →
+        IsSameText (run.first - 1) (suc run.last - run.first)
+        (play program chosen k (base_lengths devices (Some run)) (Told (fresh_board devices)))
+        (play_alone program chosen k (in_run run devices)) }
 {}
 
 /// The events of a play are those of the five first clocks, and then those of its deeds.

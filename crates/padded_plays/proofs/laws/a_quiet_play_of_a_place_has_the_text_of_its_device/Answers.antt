@@ -1,5 +1,0 @@
-use Rattle.padded_plays.proofs.SameTexts.{text_of_place}
-use Rattle.padded_plays.proofs.laws.a_quiet_play_of_a_place_has_the_text_of_its_device.Goals as goal
-
-pub returns : goal.returns
-returns c = text_of_place
