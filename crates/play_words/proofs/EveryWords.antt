@@ -1,8 +1,8 @@
 -- Each list of words is a request or has a usage number: the first word is that of a mode or of none, and each word
 -- after it gives a part or gives none, whose key the mode takes or not, and which is given already or not.
 use Rattle.std.proofs.Common.{◌≡◌, ◌<◌, ◌+◌, ℕ, zero, suc, List, [], ◌∷◌, length, refl, sym, subst, arith, codes, Option, None, Some, Bool, true, false, ◌⊎◌, inl, inr}
-use Rattle.command_words.proofs.FoundOrNot.{IsFoundOrNot, path_or_not, free_name_or_not, list_or_not, number_or_not, answer_or_not, same_or_not}
-use Rattle.command_words.specs.KeyedWords.{NamesPath, NamesFreeName, NamesList, NamesNumber, SaysAnswer, names_or_none}
+use Rattle.command_words.proofs.FoundOrNot.{IsFoundOrNot, path_or_not, free_name_or_not, list_or_not, number_or_not, run_or_not, answer_or_not, same_or_not}
+use Rattle.command_words.specs.KeyedWords.{NamesPath, NamesFreeName, NamesList, NamesNumber, NamesRun, SaysAnswer, names_or_none}
 use Rattle.play_words.specs.declared.mode.Mode.{Mode}
 use Rattle.play_words.specs.declared.mode.Mode.TheVariants as modes
 use Rattle.play_words.specs.declared.words.Request.{Request}
@@ -15,7 +15,7 @@ use Rattle.play_words.proofs.WordLemmas.{gives_no_part, adds_part, adds_refused,
 part_among : (word : List ℕ) → IsFoundOrNot (NamesPath (codes "board=") word) → IsFoundOrNot (NamesPath (codes "program=") word) →
     IsFoundOrNot (NamesPath (codes "code=") word) → IsFoundOrNot (NamesFreeName (codes "action=") word) →
     IsFoundOrNot (NamesList (codes "do=") word) → IsFoundOrNot (NamesList (codes "skip=") word) →
-    IsFoundOrNot (NamesNumber (codes "place=") 1 most_place word) → IsFoundOrNot (NamesNumber (codes "turns=") 0 most_turns word) →
+    IsFoundOrNot (NamesRun (codes "place=") most_place word) → IsFoundOrNot (NamesNumber (codes "turns=") 0 most_turns word) →
     IsFoundOrNot (SaysAnswer (codes "pins=") word) → IsFoundOrNot (SaysAnswer (codes "report=") word) →
     IsFoundOrNot (NamesNumber (codes "seed=") 0 most_seed word) → IsFoundOrNot (GivesPart word)
 part_among word (inl x) p k a d s l t w r e = inl (BoardIn x.0, x.1)
@@ -35,7 +35,7 @@ part_or_not : (word : List ℕ) → IsFoundOrNot (GivesPart word)
 part_or_not word =
     part_among word (path_or_not (codes "board=") word) (path_or_not (codes "program=") word) (path_or_not (codes "code=") word)
     (free_name_or_not (codes "action=") word) (list_or_not (codes "do=") word) (list_or_not (codes "skip=") word)
-    (number_or_not (codes "place=") 1 most_place word) (number_or_not (codes "turns=") 0 most_turns word)
+    (run_or_not (codes "place=") most_place word) (number_or_not (codes "turns=") 0 most_turns word)
     (answer_or_not (codes "pins=") word) (answer_or_not (codes "report=") word) (number_or_not (codes "seed=") 0 most_seed word)
 
 -- A word is that of a mode or of none.

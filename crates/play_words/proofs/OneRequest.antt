@@ -3,6 +3,7 @@ use Rattle.std.proofs.Common.{◌≡◌, ℕ, Bool, List, [], length, refl, ap, 
 use Rattle.std.proofs.lemmas.Bool.{cases_lt}
 use Rattle.std.specs.Prelude.{is_some}
 use Rattle.std.specs.Option.{option_map}
+use Rattle.command_words.specs.declared.place_run.PlaceRun.{PlaceRun}
 use Rattle.play_words.specs.declared.mode.Mode.{Mode}
 use Rattle.play_words.specs.declared.mode.Mode.TheVariants as modes
 use Rattle.play_words.specs.declared.mode.WordKey.{WordKey}
@@ -38,7 +39,7 @@ same_code x y e = cc
 same_action : (x y : List ℕ) → ActionNamed x ≡ ActionNamed y → x ≡ y
 same_action x y e = cc
 
-same_place : (x y : ℕ) → PlaceAsked x ≡ PlaceAsked y → x ≡ y
+same_place : (x y : PlaceRun) → PlaceAsked x ≡ PlaceAsked y → x ≡ y
 same_place x y e = cc
 
 same_seed : (x y : ℕ) → SeedGiven x ≡ SeedGiven y → x ≡ y
@@ -83,7 +84,7 @@ same_asked x y e = cc
 same_skipped : (x y : List (List ℕ)) → NamesSkipped x ≡ NamesSkipped y → x ≡ y
 same_skipped x y e = cc
 
-same_parts : {m k : Mode} {b c p q x y n o : Option (List ℕ)} {d e s r : List (List ℕ)} {l h : Option ℕ} {t u : ℕ} {v w f g : Bool} {i j : Option ℕ} →
+same_parts : {m k : Mode} {b c p q x y n o : Option (List ℕ)} {d e s r : List (List ℕ)} {l h : Option PlaceRun} {t u : ℕ} {v w f g : Bool} {i j : Option ℕ} →
     m ≡ k → b ≡ c → p ≡ q → x ≡ y → n ≡ o → d ≡ e → s ≡ r → l ≡ h → t ≡ u → v ≡ w → f ≡ g → i ≡ j →
     ◌≡◌ {A = Request}
     (record { mode = m; board = b; program = p; code = x; action = n; todo = d; skip = s; place = l; turns = t; pins = v; report = f; seed = i })

@@ -5,8 +5,10 @@ use Rattle.std.proofs.lemmas.List.{get_or-map}
 use Rattle.std.proofs.lemmas.Bool.{cases_lt}
 use Rattle.std.specs.Option.{option_map}
 use Rattle.std.specs.Prelude.{is_some}
-use Rattle.command_words.specs.KeyedWords.{NamesPath, NamesFreeName, NamesList, NamesNumber, SaysAnswer, names_or_none}
+use Rattle.command_words.specs.declared.place_run.PlaceRun.{PlaceRun}
+use Rattle.command_words.specs.KeyedWords.{NamesPath, NamesFreeName, NamesList, NamesNumber, NamesRun, SaysAnswer, names_or_none}
 use Rattle.command_words.proofs.ValueLemmas.{one_path, one_free_name, one_number, one_list, one_answer}
+use Rattle.command_words.proofs.RunLemmas.{one_run}
 use Rattle.play_words.specs.declared.mode.Mode.{Mode}
 use Rattle.play_words.specs.declared.mode.Mode.TheVariants as modes
 use Rattle.play_words.specs.declared.mode.WordKey.{WordKey}
@@ -57,7 +59,7 @@ one_part word (ProgramIn p) (ProgramIn q) x y = ap ProgramIn (one_path (codes "p
 one_part word (ActionNamed p) (ActionNamed q) x y = ap ActionNamed (one_free_name (codes "action=") word p q x y)
 one_part word (NamesAsked p) (NamesAsked q) x y = ap NamesAsked (one_list (codes "do=") word p q x y)
 one_part word (NamesSkipped p) (NamesSkipped q) x y = ap NamesSkipped (one_list (codes "skip=") word p q x y)
-one_part word (PlaceAsked p) (PlaceAsked q) x y = ap PlaceAsked (one_number (codes "place=") 1 most_place word p q x y)
+one_part word (PlaceAsked p) (PlaceAsked q) x y = ap PlaceAsked (one_run (codes "place=") most_place word p q x y)
 one_part word (TurnsAtMost p) (TurnsAtMost q) x y = ap TurnsAtMost (one_number (codes "turns=") 0 most_turns word p q x y)
 one_part word (PinsWritten p) (PinsWritten q) x y = ap PinsWritten (one_answer (codes "pins=") word p q x y)
 one_part word (DevicesReported p) (DevicesReported q) x y = ap DevicesReported (one_answer (codes "report=") word p q x y)
@@ -81,7 +83,7 @@ GivesNone {A = A} P = (x : A) → P x → ⊥
 pub gives_no_part : {word : List ℕ} → GivesNone (NamesPath (codes "board=") word) → GivesNone (NamesPath (codes "program=") word) →
     GivesNone (NamesPath (codes "code=") word) → GivesNone (NamesFreeName (codes "action=") word) →
     GivesNone (NamesList (codes "do=") word) → GivesNone (NamesList (codes "skip=") word) →
-    GivesNone (NamesNumber (codes "place=") 1 most_place word) → GivesNone (NamesNumber (codes "turns=") 0 most_turns word) →
+    GivesNone (NamesRun (codes "place=") most_place word) → GivesNone (NamesNumber (codes "turns=") 0 most_turns word) →
     GivesNone (SaysAnswer (codes "pins=") word) → GivesNone (SaysAnswer (codes "report=") word) →
     GivesNone (NamesNumber (codes "seed=") 0 most_seed word) → GivesNoPart word
 gives_no_part {word = word} b p k a d s l t w r e = record { none = none_of }
@@ -456,7 +458,7 @@ request_read {words = words} {request = request} values r complete h = record {
   action_named = subst (λ (p : Option (List ℕ)). GiveOf words (length words) Action (option_map ActionNamed p)) (sym h.action_named) (r.give Action);
   todo_asked = subst (AskNames words NamesAsked) (sym h.todo_are) (names_read words NamesAsked Do values.todo (λ list. refl) (r.give Do));
   skip_asked = subst (AskNames words NamesSkipped) (sym h.skip_are) (names_read words NamesSkipped Skip values.skip (λ list. refl) (r.give Skip));
-  place = subst (λ (p : Option ℕ). GiveOf words (length words) Place (option_map PlaceAsked p)) (sym h.place) (r.give Place);
+  place = subst (λ (p : Option PlaceRun). GiveOf words (length words) Place (option_map PlaceAsked p)) (sym h.place) (r.give Place);
   turns_asked = subst (AskTurns words) (sym h.turns_are) (turns_read words values.turns (r.give Turns));
   pins_asked = subst (AskAnswer words PinsWritten) (sym h.pins_are) (answer_read words PinsWritten Pins values.pins (λ written. refl) (r.give Pins));
   report_asked = subst (AskAnswer words DevicesReported) (sym h.report_is)

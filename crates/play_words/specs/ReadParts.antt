@@ -1,6 +1,7 @@
 -- What the reader of words keeps of the words that it has read.
 use Rattle.std.specs.Prelude.{◌≡◌, ℕ, ◌+◌, ◌≤◌, Bool, true, false, ◌&&◌, not, List, Option, None, Some, is_some}
 use Rattle.std.specs.Option.{option_map}
+use Rattle.command_words.specs.declared.place_run.PlaceRun.{PlaceRun}
 use Rattle.command_words.specs.KeyedWords.{names_in, names_or_none}
 use Rattle.play_words.specs.declared.mode.Mode.{Mode}
 use Rattle.play_words.specs.declared.mode.WordKey.{WordKey}
@@ -20,7 +21,7 @@ pub record Values : Type 0 where
   pub action : Option (List ℕ)
   pub todo : Option (List (List ℕ))
   pub skip : Option (List (List ℕ))
-  pub place : Option ℕ
+  pub place : Option PlaceRun
   pub turns : Option ℕ
   pub pins : Option Bool
   pub report : Option Bool
@@ -50,7 +51,7 @@ part_of (given.Code path) = CodeIn path.now
 part_of (given.Action name) = ActionNamed name
 part_of (given.Do spelling) = NamesAsked (names_in spelling.now)
 part_of (given.Skip spelling) = NamesSkipped (names_in spelling.now)
-part_of (given.Place n) = PlaceAsked n
+part_of (given.Place run) = PlaceAsked run
 part_of (given.Turns n) = TurnsAtMost n
 part_of (given.Pins written) = PinsWritten written
 part_of (given.Report reported) = DevicesReported reported
@@ -78,7 +79,7 @@ with_part values (CodeIn path) = record values { code = Some path }
 with_part values (ActionNamed name) = record values { action = Some name }
 with_part values (NamesAsked names) = record values { todo = Some names }
 with_part values (NamesSkipped names) = record values { skip = Some names }
-with_part values (PlaceAsked n) = record values { place = Some n }
+with_part values (PlaceAsked run) = record values { place = Some run }
 with_part values (TurnsAtMost n) = record values { turns = Some n }
 with_part values (PinsWritten written) = record values { pins = Some written }
 with_part values (DevicesReported reported) = record values { report = Some reported }

@@ -2,7 +2,8 @@
 use Rattle.std.specs.Prelude.{◌≡◌, ◌≢◌, ℕ, ◌+◌, ◌<◌, List, [], ◌∷◌, Bool, true, false, length, codes, suc, zero, slice_index_or, Option, None, Some, is_some}
 use Rattle.std.specs.List.{list_any}
 use Rattle.std.specs.Option.{option_map}
-use Rattle.command_words.specs.KeyedWords.{NamesPath, NamesFreeName, NamesList, NamesNumber, SaysAnswer}
+use Rattle.command_words.specs.declared.place_run.PlaceRun.{PlaceRun}
+use Rattle.command_words.specs.KeyedWords.{NamesPath, NamesFreeName, NamesList, NamesNumber, NamesRun, SaysAnswer}
 use Rattle.play_words.specs.declared.mode.Mode.{Mode}
 use Rattle.play_words.specs.declared.mode.Mode.TheVariants as modes
 use Rattle.play_words.specs.declared.mode.WordKey.{WordKey}
@@ -89,7 +90,7 @@ pub data Part : Type 0 where
   ActionNamed : (name : List ℕ) → Part
   NamesAsked : (names : List (List ℕ)) → Part
   NamesSkipped : (names : List (List ℕ)) → Part
-  PlaceAsked : (n : ℕ) → Part
+  PlaceAsked : (run : PlaceRun) → Part
   TurnsAtMost : (n : ℕ) → Part
   PinsWritten : (written : Bool) → Part
   DevicesReported : (reported : Bool) → Part
@@ -102,7 +103,7 @@ key_of (CodeIn path) = Code
 key_of (ActionNamed name) = Action
 key_of (NamesAsked names) = Do
 key_of (NamesSkipped names) = Skip
-key_of (PlaceAsked n) = Place
+key_of (PlaceAsked run) = Place
 key_of (TurnsAtMost n) = Turns
 key_of (PinsWritten written) = Pins
 key_of (DevicesReported reported) = Report
@@ -139,7 +140,7 @@ GivesPart word (CodeIn path) = NamesPath (codes "code=") word path
 GivesPart word (ActionNamed name) = NamesFreeName (codes "action=") word name
 GivesPart word (NamesAsked names) = NamesList (codes "do=") word names
 GivesPart word (NamesSkipped names) = NamesList (codes "skip=") word names
-GivesPart word (PlaceAsked n) = NamesNumber (codes "place=") 1 most_place word n
+GivesPart word (PlaceAsked run) = NamesRun (codes "place=") most_place word run
 GivesPart word (TurnsAtMost n) = NamesNumber (codes "turns=") 0 most_turns word n
 GivesPart word (PinsWritten written) = SaysAnswer (codes "pins=") word written
 GivesPart word (DevicesReported reported) = SaysAnswer (codes "report=") word reported

@@ -5,5 +5,6 @@ pub mod laws;
 mod mode;
 mod words;
 
+pub use command_words::PlaceRun;
 pub use mode::{Mode, WordKey};
 pub use words::{Request, USUAL_TURNS, WordsRefused, read_words};

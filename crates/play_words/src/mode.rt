@@ -33,7 +33,7 @@ pub enum WordKey {
     Do,
     /// The names of RECOMMENDED procedures that are to be left out.
     Skip,
-    /// The place of the device that the program is for.
+    /// The place of the device that the program is for, or the places of a run of neighbours.
     Place,
     /// The most turns of the play.
     Turns,

@@ -8,8 +8,8 @@ use crate::Mode;
 use crate::mode::WordKey;
 use base::ItemList;
 use command_words::{
-    FileName, answer_under, file_named, free_name_under, names_given, names_under, number_under,
-    path_under,
+    FileName, PlaceRun, answer_under, file_named, free_name_under, names_given, names_under,
+    number_under, path_under, run_under,
 };
 use stapl_lexer::Name;
 use std::alloc::{AllocError, Global};
@@ -40,9 +40,9 @@ pub struct Request {
     pub todo: ItemList<Name>,
     /// The names of RECOMMENDED procedures of the action that are to be left out.
     pub skip: ItemList<Name>,
-    /// The place of the device that the program is for, counted from 1: the scans are padded for the other devices of
-    /// the board. Without one the program is for the whole board.
-    pub place: Option<u32>,
+    /// The run of devices that the program is for: the scans are padded for the other devices of the board. Without one
+    /// the program is for the whole board.
+    pub place: Option<PlaceRun>,
     /// The most turns that the play may take, or the usual number if the words say none.
     pub turns: u32,
     /// Whether the clocks are to be written, as the pins see them; no if the words do not say it.
@@ -74,7 +74,7 @@ enum GivenPart<'a> {
     Action(Name),
     Do(&'a str),
     Skip(&'a str),
-    Place(u32),
+    Place(PlaceRun),
     Turns(u32),
     Pins(bool),
     Report(bool),
@@ -111,7 +111,7 @@ struct Given<'a> {
     action: Option<Name>,
     todo: Option<&'a str>,
     skip: Option<&'a str>,
-    place: Option<u32>,
+    place: Option<PlaceRun>,
     turns: Option<u32>,
     pins: Option<bool>,
     report: Option<bool>,
@@ -178,8 +178,8 @@ impl<'a> Given<'a> {
                 skip: Some(*spelling),
                 ..*self
             },
-            GivenPart::Place(place) => Given {
-                place: Some(*place),
+            GivenPart::Place(run) => Given {
+                place: Some(*run),
                 ..*self
             },
             GivenPart::Turns(turns) => Given {
@@ -312,8 +312,8 @@ fn part_in<'a>(word: &'a str) -> Option<GivenPart<'a>>
     if let Some(spelling) = names_under(word, "skip=") {
         return Some(GivenPart::Skip(spelling));
     }
-    if let Some(place) = number_under(word, "place=", 1, MOST_PLACE) {
-        return Some(GivenPart::Place(place));
+    if let Some(run) = run_under(word, "place=", MOST_PLACE) {
+        return Some(GivenPart::Place(run));
     }
     if let Some(turns) = number_under(word, "turns=", 0, MOST_TURNS) {
         return Some(GivenPart::Turns(turns));
