@@ -1,5 +1,6 @@
 //! Base padding for a run of neighbours of a chain.
 ghost use Rattle.std.specs.Prelude.{◌≡◌, ◌<◌, ◌≤◌, ◌^◌, length, Some, All};
+ghost use Rattle.dev_card.specs.Board.{most_devices};
 ghost use Rattle.dev_card.specs.Descriptions.{IsGood};
 ghost use Rattle.dev_card.specs.Padding.{instruction_lengths, base_lengths};
 ghost use Rattle.scan_paths.specs.Scans.{lengths_of};
@@ -16,13 +17,13 @@ fn instruction_lengths(descs: &[Desc]) -> u32
 }
 
 /// The base padding for a run of neighbours of a chain, from its first device to its last one, which are the same for a
-/// single device. The descriptions of the chain are good and at most 16, nearest TDO first, and its devices are counted
+/// single device. The descriptions of the chain are good and at most 64, nearest TDO first, and its devices are counted
 /// from 1. What is shifted first ends nearest TDO, so ones before the program's bits stand for the devices before the
 /// run, and ones after them for the devices after it: in scans of the instruction registers as many as the instructions
 /// have bits, which selects BYPASS, and in scans of the data registers one for each device (IEEE 1149.1, BYPASS
 /// register).
 pub fn base_pads(descs: &[Desc], first: u32, last: u32) -> BasePads
-    requires most { length descs.now ≤ 16 }
+    requires most { length descs.now ≤ most_devices }
     requires good { All IsGood descs.now }
     requires counted { 1 ≤ first }
     requires in_order { first ≤ last }
