@@ -1,7 +1,10 @@
 -- On plays of a code.
-use Rattle.std.proofs.Common.{◌≡◌, ◌≢◌, ◌-◌, Bool, ℕ, zero, suc, List, [], ◌∷◌, ◌++◌, length, take, drop, map, refl, sym, ap, ◌∙◌, subst, arith, ◌<◌, ◌⊎◌, inl, inr, Option, None, Some}
+use Rattle.std.proofs.Common.{◌≡◌, ◌≢◌, ◌≤◌, ◌-◌, ◌&&◌, nat_le, true, Bool, ℕ, zero, suc, List, [], ◌∷◌, ◌++◌, length, take, drop, map, refl, sym, ap, ap₂, ◌∙◌, subst, arith, ◌<◌, ◌⊎◌, inl, inr, Option, None, Some}
 use Rattle.std.specs.Prelude.{IsSomeAnd, IsErrAnd, Result, Ok, Err, OnOk}
 use Rattle.std.specs.Option.{option_map}
+use Rattle.std.proofs.lemmas.Bool.{and_parts}
+use Rattle.std.proofs.lemmas.Bool.Decides.{nat_tests}
+use Rattle.std.proofs.lemmas.List.{take-map, drop-map}
 use Rattle.std.proofs.lemmas.Option.{same_Some}
 use Rattle.tool_io.specs.declared.lines.Lines.{Lines}
 use Rattle.tool_io.specs.Lines.{Puts, PutsFront}
@@ -35,8 +38,9 @@ use Rattle.written_cable.specs.declared.trouble.Trouble.TheVariants.{CableFault,
 use Rattle.written_cable.specs.Ports.{IfFault}
 use Rattle.play_status.specs.declared.status.Status.{Status}
 use Rattle.play_status.specs.Statuses.{IsPlayed, ComesBeforeFitting}
+use Rattle.command_words.specs.declared.place_run.PlaceRun.{PlaceRun}
 use Rattle.play_words.specs.declared.words.Request.{Request}
-use Rattle.code_plays.specs.Plays.{done_with, reported_far, asked_text, Plays, played}
+use Rattle.code_plays.specs.Plays.{done_with, has_place, reported_far, asked_text, Plays, played}
 use Rattle.code_plays.specs.CodePlays.{NeverRises, HasEnding, line_of, run_lines, Ends, IsPlayOf}
 use Rattle.code_plays.specs.Racks.{far_at, AreLeft, KeepsRack}
 
@@ -181,58 +185,75 @@ left_described {devices = devices} l = subst (λ (o : Option (List Card)). IsSom
 pub left_far : {rack : List (Option SoundCard)} {places : List ℕ} {devices : List Desc} {far : FarEnd} → AreLeft rack places devices far → far_at rack places ≡ far
 left_far l = ap (λ (o : Option (List Card)). far_end o []) l.there ∙ sym l.told
 
--- The report at a place is that of the card there.
+-- The report of a run is that of the cards there.
 
-cards_one : (rack : List (Option SoundCard)) (places : List ℕ) (cards : List Card) (i : ℕ) → cards_at rack places ≡ Some cards →
-    cards_at rack (take 1 (drop i places)) ≡ Some (take 1 (drop i cards))
-cards_one rack [] cards i e = let same = same_Some [] cards e in rw (← same) (none_left i)
+cards_taken : (rack : List (Option SoundCard)) (places : List ℕ) (cards : List Card) (n : ℕ) → cards_at rack places ≡ Some cards →
+    cards_at rack (take n places) ≡ Some (take n cards)
+cards_taken rack places cards zero e = refl
+cards_taken rack [] cards (suc n) e = let same = same_Some [] cards e in ap (λ (l : List Card). Some (take (suc n) l)) same
+cards_taken rack (p ∷ ps) cards (suc n) e = by (λ cs b. cards_taken rack ps cs n b) (card_at rack p) (cards_at rack ps) refl refl e
   where
-    none_left : (i : ℕ) → cards_at rack (take 1 (drop i [])) ≡ Some (take 1 (drop {A = Card} i []))
-    none_left zero = refl
-    none_left (suc i) = refl
-cards_one rack (p ∷ ps) cards i e = by (λ cs k b. cards_one rack ps cs k b) (card_at rack p) (cards_at rack ps) refl refl e i
+    by : ((cs : List Card) → cards_at rack ps ≡ Some cs → cards_at rack (take n ps) ≡ Some (take n cs)) →
+        (o : Option Card) (rest : Option (List Card)) → card_at rack p ≡ o → cards_at rack ps ≡ rest → joined o rest ≡ Some cards →
+        cards_at rack (take (suc n) (p ∷ ps)) ≡ Some (take (suc n) cards)
+    by more None rest a b e = absurd cc
+    by more (Some c) None a b e = absurd cc
+    by more (Some c) (Some cs) a b e =
+        ap₂ joined a (more cs b) ∙ ap (λ (l : List Card). Some (take (suc n) l)) (same_Some (c ∷ cs) cards e)
+
+cards_dropped : (rack : List (Option SoundCard)) (places : List ℕ) (cards : List Card) (i : ℕ) → cards_at rack places ≡ Some cards →
+    cards_at rack (drop i places) ≡ Some (drop i cards)
+cards_dropped rack places cards zero e = e
+cards_dropped rack [] cards (suc i) e = let same = same_Some [] cards e in ap (λ (l : List Card). Some (drop (suc i) l)) same
+cards_dropped rack (p ∷ ps) cards (suc i) e = by (λ cs b. cards_dropped rack ps cs i b) (card_at rack p) (cards_at rack ps) refl refl e
   where
-    by : ((cs : List Card) (k : ℕ) → cards_at rack ps ≡ Some cs → cards_at rack (take 1 (drop k ps)) ≡ Some (take 1 (drop k cs))) →
-        (o : Option Card) (rest : Option (List Card)) → card_at rack p ≡ o → cards_at rack ps ≡ rest → joined o rest ≡ Some cards → (i : ℕ) →
-        cards_at rack (take 1 (drop i (p ∷ ps))) ≡ Some (take 1 (drop i cards))
-    by more None rest a b e i = absurd cc
-    by more (Some c) None a b e i = absurd cc
-    by more (Some c) (Some cs) a b e zero =
-        let same : c ∷ cs ≡ cards = same_Some (c ∷ cs) cards e in
-        ap (λ (o : Option Card). joined o (Some [])) a ∙ ap (λ (l : List Card). Some (take 1 l)) same
-    by more (Some c) (Some cs) a b e (suc i) =
-        let same : c ∷ cs ≡ cards = same_Some (c ∷ cs) cards e in
-        more cs i b ∙ ap (λ (l : List Card). Some (take 1 (drop (suc i) l))) same
+    by : ((cs : List Card) → cards_at rack ps ≡ Some cs → cards_at rack (drop i ps) ≡ Some (drop i cs)) →
+        (o : Option Card) (rest : Option (List Card)) → card_at rack p ≡ o → cards_at rack ps ≡ rest → joined o rest ≡ Some cards →
+        cards_at rack (drop (suc i) (p ∷ ps)) ≡ Some (drop (suc i) cards)
+    by more None rest a b e = absurd cc
+    by more (Some c) None a b e = absurd cc
+    by more (Some c) (Some cs) a b e = more cs b ∙ ap (λ (l : List Card). Some (drop (suc i) l)) (same_Some (c ∷ cs) cards e)
 
-described_one : (cards : List Card) (i : ℕ) → descriptions_of (take 1 (drop i cards)) ≡ take 1 (drop i (descriptions_of cards))
-described_one [] zero = refl
-described_one [] (suc i) = refl
-described_one (c ∷ cs) zero = refl
-described_one (c ∷ cs) (suc i) = described_one cs i
+-- so many places from one on
+cards_from : (rack : List (Option SoundCard)) (places : List ℕ) (cards : List Card) (i n : ℕ) → cards_at rack places ≡ Some cards →
+    cards_at rack (take n (drop i places)) ≡ Some (take n (drop i cards))
+cards_from rack places cards i n e = cards_taken rack (drop i places) (drop i cards) n (cards_dropped rack places cards i e)
 
-pub one_described : (rack : List (Option SoundCard)) (places : List ℕ) (devices : List Desc) (i n : ℕ) → n ≡ 1 → IsSomeAnd (cards_at rack places) (λ cs. descriptions_of cs ≡ devices) →
+described_from : (cards : List Card) (i n : ℕ) → descriptions_of (take n (drop i cards)) ≡ take n (drop i (descriptions_of cards))
+described_from cards i n =
+    sym (take-map (λ (c : Card). c.desc) n (drop i cards)) ∙ ap (take n) (sym (drop-map (λ (c : Card). c.desc) i cards))
+
+pub run_described : (rack : List (Option SoundCard)) (places : List ℕ) (devices : List Desc) (i n : ℕ) →
+    IsSomeAnd (cards_at rack places) (λ cs. descriptions_of cs ≡ devices) →
     IsSomeAnd (cards_at rack (take n (drop i places))) (λ cs. descriptions_of cs ≡ take n (drop i devices))
-one_described rack places devices i n e described = by (cards_at rack places) refl described
+run_described rack places devices i n described = by (cards_at rack places) refl described
   where
     by : (o : Option (List Card)) → cards_at rack places ≡ o → IsSomeAnd o (λ cs. descriptions_of cs ≡ devices) →
         IsSomeAnd (cards_at rack (take n (drop i places))) (λ cs. descriptions_of cs ≡ take n (drop i devices))
     by None is h = absurd h
     by (Some cs) is h =
-        rw e (subst (λ (o : Option (List Card)). IsSomeAnd o (λ ks. descriptions_of ks ≡ take 1 (drop i devices))) (sym (cards_one rack places cs i is))
-        (described_one cs i ∙ ap (λ (ds : List Desc). take 1 (drop i ds)) h))
+        subst (λ (o : Option (List Card)). IsSomeAnd o (λ ks. descriptions_of ks ≡ take n (drop i devices))) (sym (cards_from rack places cs i n is))
+        (described_from cs i n ∙ ap (λ (ds : List Desc). take n (drop i ds)) h)
 
-pub one_reported : (rack : List (Option SoundCard)) (places : List ℕ) (devices : List Desc) (place n : ℕ) → n ≡ 1 →
+pub run_begins : (place : Option PlaceRun) (run : PlaceRun) (devices : List Desc) → has_place place devices ≡ true → place ≡ Some run → 1 ≤ run.first
+run_begins place run devices h e =
+    let p = subst (λ (o : Option PlaceRun). has_place o devices ≡ true) e h in
+    let ends = and_parts (nat_le 1 run.first && nat_le run.first run.last) (nat_le run.last (length devices)) p in
+    let least = (and_parts (nat_le 1 run.first) (nat_le run.first run.last) ends.0).0 in
+    grind (arith, nat_tests, least)
+
+pub run_reported : (rack : List (Option SoundCard)) (places : List ℕ) (devices : List Desc) (run : PlaceRun) (n : ℕ) → n ≡ suc run.last - run.first →
     IsSomeAnd (cards_at rack places) (λ cs. descriptions_of cs ≡ devices) →
-    report_in (cards_at rack (take n (drop (place - 1) places))) ≡ far_report (reported_far (Some place) (far_at rack places))
-one_reported rack places devices place n e described = by (cards_at rack places) refl described
+    report_in (cards_at rack (take n (drop (run.first - 1) places))) ≡ far_report (reported_far (Some run) (far_at rack places))
+run_reported rack places devices run n e described = by (cards_at rack places) refl described
   where
     by : (o : Option (List Card)) → cards_at rack places ≡ o → IsSomeAnd o (λ cs. descriptions_of cs ≡ devices) →
-        report_in (cards_at rack (take n (drop (place - 1) places))) ≡ far_report (reported_far (Some place) (far_at rack places))
+        report_in (cards_at rack (take n (drop (run.first - 1) places))) ≡ far_report (reported_far (Some run) (far_at rack places))
     by None is h = absurd h
     by (Some cs) is h =
-        ap (λ (k : ℕ). report_in (cards_at rack (take k (drop (place - 1) places)))) e
-        ∙ ap report_in (cards_one rack places cs (place - 1) is)
-        ∙ sym (ap (λ (o : Option (List Card)). far_report (reported_far (Some place) (far_end o []))) is)
+        ap (λ (k : ℕ). report_in (cards_at rack (take k (drop (run.first - 1) places)))) e
+        ∙ ap report_in (cards_from rack places cs (run.first - 1) (suc run.last - run.first) is)
+        ∙ sym (ap (λ (o : Option (List Card)). far_report (reported_far (Some run) (far_end o []))) is)
 
 -- each place has its device
 described_count : (cards : List Card) → length (descriptions_of cards) ≡ length cards

@@ -1,6 +1,6 @@
 -- What is written of a play, and the status. The rules are this tool's own.
 use Rattle.std.specs.Option.{option_map}
-use Rattle.std.specs.Prelude.{◌≡◌, ◌&&◌, ◌-◌, ℕ, Bool, true, false, nat_le, List, length, take, drop, map, codes, Option, None, Some}
+use Rattle.std.specs.Prelude.{◌≡◌, ◌&&◌, ℕ, Bool, true, false, nat_le, List, length, map, codes, Option, None, Some}
 use Rattle.stapl_meaning.specs.declared.events.Event.{Event}
 use Rattle.stapl_meaning.specs.declared.events.Ending.{Ending}
 use Rattle.stapl_meaning.specs.declared.events.Ending.TheVariants as endings
@@ -14,7 +14,8 @@ use Rattle.stapl_player.specs.Plays.{whole_play}
 use Rattle.dev_card.specs.declared.desc.Desc.{Desc}
 use Rattle.dev_card.specs.Card.{fresh}
 use Rattle.dev_card.specs.FarEnds.{FarEnd, Told, Heard}
-use Rattle.dev_card.specs.Padding.{BaseLengths, base_lengths, only}
+use Rattle.dev_card.specs.Padding.{BaseLengths, Neighbours, in_run, base_lengths}
+use Rattle.command_words.specs.declared.place_run.PlaceRun.{PlaceRun}
 use Rattle.play_words.specs.declared.words.Request.{Request}
 use Rattle.play_status.specs.declared.status.Status.{Status}
 use Rattle.play_status.specs.declared.status.Status.TheVariants.{Done, Fault, Spent, NoAction, BadChoice, BadPlace}
@@ -25,20 +26,24 @@ done_with (endings.Exit code) = Done code
 done_with (endings.Fault k piece) = Fault k piece
 done_with endings.Spent = Spent
 
--- the board has the place, counted from 1, if one is named
-abbrev pub has_place : Option ℕ → List Desc → Bool
+-- the board has the run of devices, counted from 1, if one is named
+abbrev pub has_place : Option PlaceRun → List Desc → Bool
 has_place None devices = true
-has_place (Some place) devices = nat_le 1 place && nat_le place (length devices)
+has_place (Some run) devices = nat_le 1 run.first && nat_le run.first run.last && nat_le run.last (length devices)
 
--- base padding around the device at the place if one is named, and none else
-abbrev pub base_at : List Desc → Option ℕ → BaseLengths
-base_at devices place = base_lengths devices (option_map only place)
+-- the devices of a run, as neighbours of a board
+abbrev pub neighbours : PlaceRun → Neighbours
+neighbours run = record { first = run.first; last = run.last }
 
--- what of a far end is reported: the device at the place if one is named, else all devices
-abbrev pub reported_far : Option ℕ → FarEnd → FarEnd
+-- base padding around the run of devices if one is named, and none else
+abbrev pub base_at : List Desc → Option PlaceRun → BaseLengths
+base_at devices place = base_lengths devices (option_map neighbours place)
+
+-- what of a far end is reported: the devices of the run, in order, if one is named, else all devices
+abbrev pub reported_far : Option PlaceRun → FarEnd → FarEnd
 reported_far None far = far
-reported_far (Some place) (Told cards) = Told (take 1 (drop (place - 1) cards))
-reported_far (Some place) (Heard answers) = Heard answers
+reported_far (Some run) (Told cards) = Told (in_run (neighbours run) cards)
+reported_far (Some run) (Heard answers) = Heard answers
 
 -- The text of a play as a request asks for it, by its events, what stands at the far end after them, and its ending:
 -- the clocks stand in it if they are asked for, and so does the report.
@@ -46,7 +51,7 @@ abbrev pub asked_text : Request → List Event → FarEnd → Ending → List �
 asked_text request events far ending = text_of request.pins events (asked_report request.report (reported_far request.place far)) ending
 
 -- What is written of a play, and the status, by what a choice came to: the program has no such action, a name cannot be
--- chosen, the board lacks the place, or the chosen procedures are played. A play that still goes on after its turns is
+-- chosen, the board lacks the run, or the chosen procedures are played. A play that still goes on after its turns is
 -- spent.
 pub data Plays (choice : Choice) (placed : Bool) (plays : List ℕ → Run) (request : Request) : List ℕ → Status → Type 0 where
   no_action : choice ≡ choices.no_action → Plays choice placed plays request (codes "R action\n") NoAction

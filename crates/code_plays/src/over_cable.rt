@@ -37,14 +37,14 @@ fn failed(trouble: Trouble) -> Failed
     }
 }
 
-// The base padding that a task asks for: around the device at its place, if it names one.
+// The base padding that a task asks for: around its run of devices, if it names one.
 fn base_of(task: &Task) -> BasePads
     requires placed { has_place task.now.request.now.place task.now.devices.now ≡ true }
     requires devices { CanBeFitted task.now.devices.now }
     ensures { lengths_of result ≡ task_base task.now }
 {
     match task.request.place {
-        Some(place) => base_pads(task.devices, place, place),
+        Some(run) => base_pads(task.devices, run.first, run.last),
         None => BasePads::none(),
     }
 }

@@ -145,8 +145,8 @@ fn play_on_chain<K: Sink>(
     play_over_chain(machine, task, code, chosen, &mut chain, lines)
 }
 
-// Puts the report of a task, whose devices stand at these places of the rack: of the device at the place that its
-// request names, or of all devices.
+// Puts the report of a task, whose devices stand at these places of the rack: of the devices of the run that its
+// request names, in order, or of all devices.
 fn put_reported<K: Sink>(
     lines: &mut Lines<K>,
     task: &Task,
@@ -163,9 +163,9 @@ fn put_reported<K: Sink>(
     ensures kept { KeepsLines K.faults K.is_last lines.old lines.new result }
 {
     match task.request.place {
-        Some(place) => {
-            let i = place as usize - 1;
-            put_report(lines, rack, &places[i..i + 1], &task.devices[i..i + 1])
+        Some(run) => {
+            let (from, to) = (run.first as usize - 1, run.last as usize);
+            put_report(lines, rack, &places[from..to], &task.devices[from..to])
         }
         None => put_report(lines, rack, places, task.devices),
     }
@@ -285,12 +285,14 @@ fn choose_asked(
     choose(alloc, code, action, asked, skipped)
 }
 
-// Whether the board of a task has the place that its request names, if it names one.
+// Whether the board of a task has the run of devices that its request names, if it names one.
 fn has_place(task: &Task) -> bool
     ensures { result ≡ has_place task.now.request.now.place task.now.devices.now }
 {
     match task.request.place {
-        Some(place) => 1 <= place && place as usize <= task.devices.len(),
+        Some(run) => {
+            1 <= run.first && run.first <= run.last && run.last as usize <= task.devices.len()
+        }
         None => true,
     }
 }
@@ -298,7 +300,7 @@ fn has_place(task: &Task) -> bool
 /// Plays an action of a code, as a task asks for it: on its board, which is fitted into the rack, the procedures that
 /// run by the choices of the request, for at most so many turns.
 ///
-/// If the code has no such action, or a name cannot be chosen in it, or the board lacks the place, the rack stays as it
+/// If the code has no such action, or a name cannot be chosen in it, or the board lacks the run, the rack stays as it
 /// was. If it is played, the devices of the board are as the play leaves them.
 pub fn play_code<K: Sink>(
     alloc: Global,
