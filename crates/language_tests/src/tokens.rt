@@ -1,27 +1,38 @@
 //! The tokens of pieces, and check words.
 
-use stapl_lexer::{
-    LexRefused, Name, Token, TokenKind, capped_digits, crc_of, cut, literal_digits, tokens,
-};
+use stapl_lexer::{Name, Token, TokenKind, capped_digits, crc_of, cut, literal_digits, tokens};
 use std::alloc::Global;
-use std::process::Abort;
 use std::test::Fail;
 
+// The kind, the start, the end and the value of a token.
+type Shape = (TokenKind, u32, u32, i32);
+
 // The tokens of the first piece of a text.
-fn first_tokens(rt: &impl Abort, alloc: Global, text: &[u8]) -> Result<Vec<Token>, LexRefused> {
-    assert!(rt; text.len() < 1000);
-    let Ok(pieces) = cut(alloc, text) else {
-        return Err(LexRefused::Memory);
-    };
-    assert!(rt; !pieces.is_empty());
-    tokens(alloc, text, &pieces[0])
+fn first_tokens(alloc: Global, text: &[u8]) -> Result<Vec<Token>, Fail> {
+    if text.len() >= 1000 {
+        return Err("a long text".into());
+    }
+    let pieces = cut(alloc, text)?;
+    if pieces.is_empty() {
+        return Err("no piece".into());
+    }
+    Ok(tokens(alloc, text, &pieces[0])?)
 }
 
-// Each text with the kind, the start, the end and the value of its tokens.
+// Whether the tokens of the first piece are of these shapes.
+fn has_tokens(alloc: Global, text: &str, want: &[Shape]) -> Result<bool, Fail> {
+    let found = first_tokens(alloc, text.as_bytes())?;
+    let mut same = found.len() == want.len();
+    for (token, want) in found.iter().zip(want) {
+        same = same && (token.kind, token.start, token.end, token.value) == *want;
+    }
+    Ok(same)
+}
+
 #[test]
 fn reads_tokens(rt: HostRuntime) -> Result<(), Fail> {
     use TokenKind::{Binary, Hex4, Hexadecimal, Mark, Number, Text, Word};
-    let table: [(&str, &[(TokenKind, u32, u32, i32)]); 5] = [
+    let table: [(&str, &[Shape]); 5] = [
         (
             "PRINT CHR$(65);",
             &[
@@ -44,46 +55,45 @@ fn reads_tokens(rt: HostRuntime) -> Result<(), Fail> {
         ("crc 9 '@\n06E;", &[(Word, 0, 3, 0), (Hex4, 4, 12, 0)]),
     ];
     for (text, want) in table {
-        let found = first_tokens(&rt, rt.alloc(), text.as_bytes()).ok();
-        let found = found.expect(&rt, "tokens");
-        assert!(rt; found.len() == want.len(), "at {text:?}");
-        for (token, want) in found.iter().zip(want) {
-            let found = (token.kind, token.start, token.end, token.value);
-            assert!(rt; found == *want, "at {text:?}");
-        }
+        assert!(rt; has_tokens(rt.alloc(), text, want)?, "at {text}");
     }
     Ok(())
+}
+
+// Whether a spelling is of this free name.
+fn is_free(spelling: &str, want: Option<&str>) -> bool {
+    let name = Name::read_free(spelling.as_bytes());
+    let found = name.as_ref().map(|name| name.bytes());
+    found == want.map(|want| want.as_bytes())
 }
 
 #[test]
 fn reads_free_names(rt: HostRuntime) {
     let names: [(&str, Option<&str>); 3] = [("q_1", Some("Q_1")), ("crc", None), ("1a", None)];
     for (spelling, want) in names {
-        let name = Name::read_free(spelling.as_bytes());
-        let found = name.as_ref().map(|name| name.bytes());
-        assert!(rt;
-            found == want.map(|want| want.as_bytes()),
-            "at {spelling:?}"
-        );
+        assert!(rt; is_free(spelling, want), "at {spelling}");
     }
 }
 
-// What stands between quotes.
+// Whether this stands between the quotes of a token that is a whole text.
+fn holds(text: &str, want: &str) -> bool {
+    if text.is_empty() || text.len() >= 100 {
+        return false;
+    }
+    let token = Token {
+        kind: TokenKind::Text,
+        start: 0,
+        end: text.len() as u32,
+        value: 0,
+        terminal: None,
+    };
+    token.inside(text.as_bytes()) == want.as_bytes()
+}
+
 #[test]
 fn reads_what_strings_hold(rt: HostRuntime) {
     for (text, want) in [("\"a;'b\"", "a;'b"), ("\"\"", "")] {
-        assert!(rt; !text.is_empty() && text.len() < 100);
-        let token = Token {
-            kind: TokenKind::Text,
-            start: 0,
-            end: text.len() as u32,
-            value: 0,
-            terminal: None,
-        };
-        assert!(rt;
-            token.inside(text.as_bytes()) == want.as_bytes(),
-            "at {text:?}"
-        );
+        assert!(rt; holds(text, want), "at {text}");
     }
 }
 
