@@ -66,7 +66,7 @@ slice_more (x ∷ all) front back (suc n) m d e f =
 
 -- ---- the digits of a line
 
-digits_short : (line : List ℕ) → length (line_digits line) ≤ length line
+pub digits_short : (line : List ℕ) → length (line_digits line) ≤ length line
 digits_short [] = omega arith
 digits_short (a ∷ []) = omega arith
 digits_short (a ∷ b ∷ rest) = by (a == 67 && b == 32)

@@ -6,4 +6,5 @@ mod clocks;
 mod lines;
 mod trace;
 
+pub use lines::{digits_of, first_bad_line, first_line};
 pub use trace::{TraceRefused, check_trace};

@@ -16,7 +16,7 @@ fn line_feed_at(bytes: &[u8]) -> Option<usize>
 
 /// The first line of some bytes, without its end, and how many bytes it has with its end. The last line may lack its
 /// line feed.
-pub(crate) fn first_line(bytes: &[u8]) -> (&[u8], usize)
+pub fn first_line(bytes: &[u8]) -> (&[u8], usize)
     requires { 0 < length bytes.now }
     ensures some { 0 < result.1 }
     ensures within { result.1 ≤ length bytes.now }
@@ -60,7 +60,7 @@ fn is_bad_line(line: &[u8]) -> bool
 }
 
 /// The digits of a line of clocks, and none of another line.
-pub(crate) fn digits_of(line: &[u8]) -> &[u8]
+pub fn digits_of(line: &[u8]) -> &[u8]
     ensures { result.now ≡ line_digits line.now }
 {
     match line {
@@ -70,7 +70,7 @@ pub(crate) fn digits_of(line: &[u8]) -> &[u8]
 }
 
 /// The number of the first bad line of a text, counted from 1. The time is linear in the length of the text.
-pub(crate) fn first_bad_line(text: &[u8]) -> Option<u32>
+pub fn first_bad_line(text: &[u8]) -> Option<u32>
     requires few { length text.now ≤ 67108864 }
     ensures none { result ≡ None → has_bad_line text.now ≡ false }
     ensures some { (n : ℕ) → result ≡ Some n → IsFirstBadLine text.now n }

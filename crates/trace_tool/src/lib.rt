@@ -8,5 +8,6 @@ mod status;
 mod top;
 mod words;
 
+pub use lines::{put_bad_line, put_too_long};
 pub use status::TraceStatus;
 pub use top::run_trace;

@@ -45,7 +45,7 @@ pub(crate) fn put_differs<K: Sink>(lines: &mut Lines<K>, i: u32) -> Result<(), F
 /// Puts the first bad line, counted from 1.
 ///
 /// `Failed` as of the sink.
-pub(crate) fn put_bad_line<K: Sink>(lines: &mut Lines<K>, n: u32) -> Result<(), Failed>
+pub fn put_bad_line<K: Sink>(lines: &mut Lines<K>, n: u32) -> Result<(), Failed>
     requires { IsWhole lines.old }
     ensures put { HasPut K.written lines.old (bad_line_text n) lines.new result }
     ensures kept { KeepsLines K.faults K.is_last lines.old lines.new result }
@@ -58,7 +58,7 @@ pub(crate) fn put_bad_line<K: Sink>(lines: &mut Lines<K>, n: u32) -> Result<(), 
 /// Puts that a trace is too long.
 ///
 /// `Failed` as of the sink.
-pub(crate) fn put_too_long<K: Sink>(lines: &mut Lines<K>) -> Result<(), Failed>
+pub fn put_too_long<K: Sink>(lines: &mut Lines<K>) -> Result<(), Failed>
     requires { IsWhole lines.old }
     ensures put { HasPut K.written lines.old too_long_line lines.new result }
     ensures kept { KeepsLines K.faults K.is_last lines.old lines.new result }
