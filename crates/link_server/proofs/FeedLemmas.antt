@@ -42,7 +42,7 @@ put_behind front old buffer (a ∷ []) lt few e =
     ∙ ap (λ k. (front ++ a ∷ []) ++ drop k old) (sym n)
 put_behind front old buffer (a ∷ b ∷ more) lt few e = absurd (omega (arith, few))
 
-one_at_most : (at : LinkAt) (b : ℕ) → length (answer_to_byte at b) ≤ 1
+pub one_at_most : (at : LinkAt) (b : ℕ) → length (answer_to_byte at b) ≤ 1
 one_at_most at b = by_state (is_open at.link.state) (order_of b)
   where
     by_order : (o : Order) → length (answer_to at o) ≤ 1

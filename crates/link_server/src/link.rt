@@ -115,8 +115,8 @@ impl Link {
         fed.taken += 1;
     }
 
-    // The bytes one after another.
-    fn feed_devices<D: Device>(
+    /// As `feed`, over a rack of devices of any one type: the places differ, and each has a fitted device.
+    pub fn feed_devices<D: Device>(
         &mut self,
         rack: &mut Vec<D>,
         places: &[u32],
@@ -127,6 +127,9 @@ impl Link {
         requires apart { AreApart places.now }
         requires room { length bytes.now ≤ length answers.old }
         requires few { length bytes.now < 2 ^ 32 }
+        ensures taken { result.taken ≤ length bytes.now }
+        ensures answered { result.answered ≤ length bytes.now }
+        ensures room { length answers.new ≡ length answers.old }
         ensures kinds { map D.kind_of rack.new.items ≡ map D.kind_of rack.old.items }
         ensures others { (k : ℕ) → IsAbsent k places.now → slice_get rack.new.items k ≡ slice_get rack.old.items k }
         ensures fed { (cs : List Card) → cards_at (map D.fitted rack.old.items) places.now ≡ Some cs →
@@ -172,6 +175,10 @@ impl Link {
         // A session that is not open takes nothing, and nothing changes.
         ensures closed { is_open self.old.state ≡ false →
             IsUnfed self.old rack.old answers.old self.new rack.new answers.new result }
+
+        // No more is taken or answered than was fed.
+        ensures taken { result.taken ≤ length bytes.now }
+        ensures answered { result.answered ≤ length bytes.now }
 
         // In any case each device keeps its kind, and those at other places stay as they were.
         ensures kinds { map kind_of rack.new.items ≡ map kind_of rack.old.items }

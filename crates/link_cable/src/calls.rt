@@ -1,0 +1,151 @@
+//! Bytes to a wire and answers from it, until all are through.
+ghost use Rattle.std.specs.Prelude.{◌≡◌, ◌≢◌, ◌+◌, ◌<◌, ◌≤◌, ◌⊎◌, ◌*◌, ◌^◌, ◌==◌, ◌&&◌, ℕ, Bool, true, length, IfSome, IfNone, IfOk, IsOk, OnOk};
+ghost use Rattle.tool_io.specs.Causes.{IsSaturated, CountKept, CountRose, CountCause, raised_count};
+ghost use Rattle.base.specs.Bits.{bit_value};
+ghost use Rattle.dev_card.specs.Blocks.{block_inputs};
+ghost use Rattle.link_server.specs.Runs.{digit_of};
+ghost use Rattle.link_cable.specs.Wires.{told_sent, HasRoom, AnswerWaits, HasGiven, bytes_of_clock, IsClockedOver, IsShiftedOver, IsGoodWire};
+
+use crate::wire::Wire;
+use tool_io::Failed;
+
+/// Counts one fault more, up to the last value of the type.
+pub(crate) fn raise(count: &mut u64)
+    ensures raised { count.new ≡ raised_count count.old }
+    ensures kept { CountKept count.old count.new (IsSaturated count.old) (IsSaturated count.new) }
+    ensures rose { CountRose count.old count.new (IsSaturated count.new) }
+{
+    *count = count.saturating_add(1);
+}
+
+// Sends all of the bytes. A send that takes none of them is a fault.
+fn send_all<W: Wire>(wire: &mut W, bytes: &[u8], faults: &mut u64) -> Result<(), Failed>
+    requires { W.is_ready wire.old ≡ true }
+    ensures sent { OnOk result (W.told wire.new ≡ told_sent (W.told wire.old) bytes.now) }
+    ensures room { HasRoom (W.told wire.old) (W.is_steady wire.old) (length bytes.now) → IsOk result }
+    ensures steady { OnOk result (W.is_steady wire.old ≡ true → W.is_steady wire.new ≡ true) }
+    ensures ready { W.is_ready wire.new ≡ true }
+    ensures cause { CountCause (W.faults wire.old + faults.old) (W.faults wire.new + faults.new)
+        (W.is_last wire.old ⊎ IsSaturated faults.old) (W.is_last wire.new ⊎ IsSaturated faults.new) result }
+{
+    let mut rest = bytes;
+    'turns: while !rest.is_empty() {
+        let n = wire.send(rest)?;
+        if n == 0 {
+            raise(faults);
+            return Err(Failed);
+        }
+        rest = &rest[n as usize..];
+    }
+    Ok(())
+}
+
+// Receives one answer. To receive none is a fault.
+fn receive_one<W: Wire>(wire: &mut W, faults: &mut u64) -> Result<u8, Failed>
+    requires { W.is_ready wire.old ≡ true }
+    ensures given { IfOk result (λ answer. HasGiven (W.told wire.old) answer (W.told wire.new)) }
+    ensures waits { AnswerWaits (W.told wire.old) (W.is_steady wire.old) → IsOk result }
+    ensures steady { OnOk result (W.is_steady wire.old ≡ true → W.is_steady wire.new ≡ true) }
+    ensures ready { W.is_ready wire.new ≡ true }
+    ensures cause { CountCause (W.faults wire.old + faults.old) (W.faults wire.new + faults.new)
+        (W.is_last wire.old ⊎ IsSaturated faults.old) (W.is_last wire.new ⊎ IsSaturated faults.new) result }
+{
+    let mut answer = [0u8; 1];
+    let n = wire.receive(&mut answer)?;
+    if n == 0 {
+        raise(faults);
+        return Err(Failed);
+    }
+    Ok(answer[0])
+}
+
+// The bytes of one clock: TCK low, a question for TDO, and TCK high.
+fn clock_bytes(tms: bool, tdi: bool) -> [u8; 3]
+    ensures { result ≡ bytes_of_clock tms tdi }
+{
+    let levels = b'0' + if tms { 2 } else { 0 } + if tdi { 1 } else { 0 };
+    [levels, b'R', levels + 4]
+}
+
+// The bit of a digit.
+fn bit_of(answer: u8) -> Option<bool>
+    ensures some { IfSome result (λ bit. answer ≡ digit_of bit) }
+    ensures none { IfNone result ((bit : Bool) → answer ≢ digit_of bit) }
+{
+    match answer {
+        b'0' => Some(false),
+        b'1' => Some(true),
+        _ => None,
+    }
+}
+
+// One clock over a wire. An answer that is no digit of a bit is a fault.
+pub(crate) fn clock_wire<W: Wire>(
+    wire: &mut W,
+    tms: bool,
+    tdi: bool,
+    faults: &mut u64,
+) -> Result<bool, Failed>
+    requires { W.is_ready wire.old ≡ true }
+    ensures clocked { IfOk result (λ tdo. IsClockedOver (W.told wire.old) tms tdi tdo (W.told wire.new)) }
+    ensures good { IsGoodWire (W.told wire.old) (W.is_steady wire.old) →
+        IsOk result × IsGoodWire (W.told wire.new) (W.is_steady wire.new) }
+    ensures ready { W.is_ready wire.new ≡ true }
+    ensures cause { CountCause (W.faults wire.old + faults.old) (W.faults wire.new + faults.new)
+        (W.is_last wire.old ⊎ IsSaturated faults.old) (W.is_last wire.new ⊎ IsSaturated faults.new) result }
+{
+    let bytes = clock_bytes(tms, tdi);
+    send_all(wire, &bytes, faults)?;
+    let answer = receive_one(wire, faults)?;
+    match bit_of(answer) {
+        Some(bit) => Ok(bit),
+        None => {
+            raise(faults);
+            Err(Failed)
+        }
+    }
+}
+
+// One bit more at the lowest place of a number of n bits.
+fn with_bit(rest: u64, bit: bool, n: u32) -> u64
+    requires few { n < 64 }
+    requires small { rest < 2 ^ n }
+    ensures value { result ≡ bit_value bit + 2 * rest }
+    ensures small { result < 2 ^ (n + 1) }
+{
+    let double = rest * 2;
+    if bit { double + 1 } else { double }
+}
+
+// n clocks over a wire, with the lowest bits of a number, and TMS 1 at the last of them if it is so marked.
+pub(crate) fn shift_wire<W: Wire>(
+    wire: &mut W,
+    tdi: u64,
+    n: u32,
+    last: bool,
+    faults: &mut u64,
+) -> Result<u64, Failed>
+    requires ready { W.is_ready wire.old ≡ true }
+    requires most { n ≤ 64 }
+    ensures shifted { IfOk result (λ tdo. IsShiftedOver (W.told wire.old) (block_inputs tdi n last) tdo (W.told wire.new)) }
+    ensures small { IfOk result (λ tdo. tdo < 2 ^ n) }
+    ensures good { IsGoodWire (W.told wire.old) (W.is_steady wire.old) →
+        IsOk result × IsGoodWire (W.told wire.new) (W.is_steady wire.new) }
+    ensures ready { W.is_ready wire.new ≡ true }
+    ensures cause { CountCause (W.faults wire.old + faults.old) (W.faults wire.new + faults.new)
+        (W.is_last wire.old ⊎ IsSaturated faults.old) (W.is_last wire.new ⊎ IsSaturated faults.new) result }
+{
+    if n == 0 {
+        return Ok(0);
+    }
+    let bit = clock_wire(wire, is_last(last, n), tdi % 2 == 1, faults)?;
+    let rest = shift_wire(wire, tdi / 2, n - 1, last, faults)?;
+    Ok(with_bit(rest, bit, n - 1))
+}
+
+// Whether TMS is 1 at the first of n clocks.
+fn is_last(last: bool, n: u32) -> bool
+    ensures { result ≡ (last && (n == 1)) }
+{
+    last && n == 1
+}
