@@ -1,15 +1,16 @@
--- Words make at most one request, or have one first fault, and not both.
-use Rattle.std.proofs.Common.{◌≡◌, ℕ, Bool, List, [], length, refl, ap, ◌∙◌, arith, subst, true, Option, None, Some, inl, inr}
+-- Words make at most one request, or have one first fault, and not both; and the run that a request names is in order.
+use Rattle.std.proofs.Common.{◌≡◌, ◌≤◌, ℕ, Bool, List, [], length, refl, ap, ◌∙◌, arith, sym, subst, true, Option, None, Some, inl, inr}
 use Rattle.std.proofs.lemmas.Bool.{cases_lt}
 use Rattle.std.specs.Prelude.{is_some}
 use Rattle.std.specs.Option.{option_map}
 use Rattle.command_words.specs.declared.place_run.PlaceRun.{PlaceRun}
+use Rattle.command_words.specs.KeyedWords.{SpellsRun, of_one, of_two}
 use Rattle.play_words.specs.declared.mode.Mode.{Mode}
 use Rattle.play_words.specs.declared.mode.Mode.TheVariants as modes
 use Rattle.play_words.specs.declared.mode.WordKey.{WordKey}
 use Rattle.play_words.specs.declared.mode.WordKey.TheVariants.{Board, Program, Code, Action, Do, Skip, Place, Turns, Pins, Report, Seed}
 use Rattle.play_words.specs.declared.words.Request.{Request}
-use Rattle.play_words.specs.Words.{HasMode, needs, Part, BoardIn, ProgramIn, CodeIn, ActionNamed, NamesAsked, NamesSkipped, PlaceAsked, TurnsAtMost, PinsWritten, DevicesReported, SeedGiven, key_of, IsGiven, GiveOf, IsKeyGiven, AskNames, names_given, names_missing, AskTurns, turns_given, turns_usual, AskAnswer, answer_given, answer_missing, AreRead, IsRequest, Lack, lack_mode, lack_key, IsUsage, is_unread, is_missing}
+use Rattle.play_words.specs.Words.{HasMode, needs, Part, BoardIn, ProgramIn, CodeIn, ActionNamed, NamesAsked, NamesSkipped, PlaceAsked, TurnsAtMost, PinsWritten, DevicesReported, SeedGiven, key_of, most_place, IsGiven, GiveOf, IsKeyGiven, AskNames, names_given, names_missing, AskTurns, turns_given, turns_usual, AskAnswer, answer_given, answer_missing, AreRead, IsRequest, Lack, lack_mode, lack_key, IsUsage, is_unread, is_missing}
 use Rattle.play_words.proofs.WordLemmas.{one_mode, one_given, not_needed}
 
 one_of : (words : List (List ℕ)) (key : WordKey) (a b : Option Part) → AreRead words → GiveOf words (length words) key a →
@@ -159,3 +160,16 @@ no_lack {words = words} {request = request} r (lack_key mode key has needed miss
 pub no_usage : {words : List (List ℕ)} {request : Request} {n : ℕ} → IsRequest words request → IsUsage words n → ⊥
 no_usage r (is_unread i f) = f.unread (r.read i f.within)
 no_usage r (is_missing read lack) = no_lack r lack
+
+-- The run of places that a request names is in order.
+
+in_order : {spelling : List ℕ} {run : PlaceRun} → SpellsRun most_place spelling run → (1 ≤ run.first) × (run.first ≤ run.last) × (run.last ≤ most_place)
+in_order {run = run} (of_one x e) = (x.enough, omega (arith, e), subst (λ (n : ℕ). n ≤ most_place) (sym e) x.few)
+in_order (of_two front back e x y) = (x.enough, y.enough, y.few)
+
+pub named_run : (words : List (List ℕ)) (request : Request) (run : PlaceRun) → IsRequest words request → request.place ≡ Some run →
+    (1 ≤ run.first) × (run.first ≤ run.last) × (run.last ≤ most_place)
+named_run words request run is e =
+    let given : GiveOf words (length words) Place (Some (PlaceAsked run)) =
+    subst (λ (p : Option PlaceRun). GiveOf words (length words) Place (option_map PlaceAsked p)) e is.place in
+    in_order given.1.gives.spells

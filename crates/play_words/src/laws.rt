@@ -1,7 +1,8 @@
 //! Laws of the definitions.
-ghost use Rattle.std.specs.Prelude.{◌≡◌, ◌⊎◌, ℕ, List};
+ghost use Rattle.std.specs.Prelude.{◌≡◌, ◌≤◌, ◌⊎◌, ℕ, List, Some};
+ghost use Rattle.command_words.specs.declared.place_run.PlaceRun.{PlaceRun};
 ghost use Rattle.play_words.specs.declared.words.Request.{Request};
-ghost use Rattle.play_words.specs.Words.{IsRequest, IsUsage};
+ghost use Rattle.play_words.specs.Words.{IsRequest, IsUsage, most_place};
 
 /// Words are one request at most.
 pub fn one_request()
@@ -16,6 +17,13 @@ pub fn one_usage()
 /// Words that are a request have no usage number.
 pub fn no_request_has_a_usage()
     ensures { (words : List (List ℕ)) (request : Request) (n : ℕ) → IsRequest words request → IsUsage words n → ⊥ }
+{}
+
+/// The run of places that words name is in order, from 1 on. So a board lacks it exactly if its last place is above the
+/// number of devices.
+pub fn a_named_run_is_in_order()
+    ensures { (words : List (List ℕ)) (request : Request) (run : PlaceRun) → IsRequest words request →
+        request.place ≡ Some run → (1 ≤ run.first) × (run.first ≤ run.last) × (run.last ≤ most_place) }
 {}
 
 /// Each list of words is a request, or has a usage number.
