@@ -1,5 +1,5 @@
--- A play for one device of a chain has the answer of the play on that device alone, if this is quiet.
-use Rattle.std.proofs.Common.{◌≡◌, ◌≤◌, ◌-◌, ℕ, true, false, Bool, List, [], ◌∷◌, length, map, zero, suc, take, drop, ◌++◌, ◌&&◌, All, Option, None, Some, slice_get, nat_le, refl, sym, ap, ◌∙◌, subst, arith}
+-- A play for a run of devices of a chain has the answer of the play on that run alone, if this is quiet.
+use Rattle.std.proofs.Common.{◌≡◌, ◌≤◌, ◌-◌, ℕ, true, false, Bool, List, [], length, map, zero, suc, take, drop, ◌++◌, ◌&&◌, All, Option, None, Some, nat_le, refl, sym, ap, ◌∙◌, subst, arith}
 use Rattle.std.proofs.lemmas.Bool.{and_parts}
 use Rattle.std.proofs.lemmas.Bool.Decides.{nat_tests}
 use Rattle.std.proofs.lemmas.Option.{same_Some}
@@ -14,6 +14,8 @@ use Rattle.stapl_meaning.specs.Plays.{Run, play}
 use Rattle.stapl_meaning.specs.Texts.{events_text, ending_line, far_report, asked_report, text_of}
 use Rattle.dev_card.specs.declared.desc.Desc.{Desc}
 use Rattle.dev_card.specs.Card.{fresh}
+use Rattle.dev_card.specs.Padding.{in_run}
+use Rattle.command_words.specs.declared.place_run.PlaceRun.{PlaceRun}
 use Rattle.dev_card.specs.Descriptions.{IsGood}
 use Rattle.dev_card.specs.FarEnds.{FarEnd, Told, Heard}
 use Rattle.dev_card.specs.Reports.{report_of}
@@ -23,7 +25,7 @@ use Rattle.board_text.proofs.Faultless.{AreBegun}
 use Rattle.board_text.proofs.BoardLemmas.{good_at_end}
 use Rattle.padded_plays.specs.QuietPlays.{IsQuietPlay}
 use Rattle.padded_plays.specs.SamePlays.{cards_from, IsSameText}
-use Rattle.padded_plays.proofs.SameTexts.{text_of_place}
+use Rattle.padded_plays.proofs.SameTexts.{text_of_run}
 use Rattle.play_words.specs.declared.mode.Mode.{Mode}
 use Rattle.play_words.specs.declared.mode.Mode.TheVariants.{Play}
 use Rattle.play_status.specs.declared.status.Status.{Status}
@@ -35,7 +37,7 @@ use Rattle.play_tool.specs.Alone.{alone_request, IsQuietAlone, PlaysAlone}
 use Rattle.play_tool.proofs.AnswerLemmas.{answers_work, asked_plays, source_to_text}
 use Rattle.play_tool.proofs.RequestLemmas.{words_request, mode_of_request, the_file}
 use Rattle.tool_answers.proofs.AnswerLemmas.{IsWithin}
-use Rattle.code_plays.specs.Plays.{done_with, has_place, reported_far, asked_text, Plays, no_action, bad_choice, bad_place, played, base_at}
+use Rattle.code_plays.specs.Plays.{done_with, has_place, neighbours, reported_far, asked_text, Plays, no_action, bad_choice, bad_place, played, base_at}
 
 -- the devices of a board are good
 board_good : (text : List ℕ) (devices : List Desc) → IsBoard text devices → All IsGood devices
@@ -49,28 +51,34 @@ has_good None held devices none = subst (λ (ds : List Desc). All IsGood ds) (sy
 has_good (Some path) None devices h = absurd h
 has_good (Some path) (Some bytes) devices b = board_good bytes devices b
 
--- the report at a place
-place_report : (place : ℕ) (far : FarEnd) → far_report (reported_far (Some place) far) ≡ report_of (cards_from (place - 1) 1 far)
-place_report place (Told cards) = refl
-place_report place (Heard answers) = none_left (place - 1)
-  where
-    none_left : (i : ℕ) → [] ≡ report_of (take 1 (drop i []))
-    none_left zero = refl
-    none_left (suc i) = refl
+-- how many places a run has
+abbrev count_of : PlaceRun → ℕ
+count_of run = suc run.last - run.first
+
+-- the report of a run
+none_left : (i n : ℕ) → [] ≡ report_of (take n (drop i []))
+none_left zero zero = refl
+none_left zero (suc n) = refl
+none_left (suc i) zero = refl
+none_left (suc i) (suc n) = refl
+
+run_report : (run : PlaceRun) (far : FarEnd) → far_report (reported_far (Some run) far) ≡ report_of (cards_from (run.first - 1) (count_of run) far)
+run_report run (Told cards) = refl
+run_report run (Heard answers) = none_left (run.first - 1) (count_of run)
 
 same_asked : (asked : Bool) (a b : FarEnd) → far_report a ≡ far_report b → asked_report asked a ≡ asked_report asked b
 same_asked false a b e = refl
 same_asked true a b e = e
 
 -- the texts of both plays
-module _ (request : Request) (place : ℕ) (padded alone : Run) (same : IsSameText (place - 1) 1 padded alone) where
-  same_reports : far_report (reported_far (Some place) padded.chain.far) ≡ far_report alone.chain.far
-  same_reports = place_report place padded.chain.far ∙ same.same_report
+module _ (request : Request) (run : PlaceRun) (padded alone : Run) (same : IsSameText (run.first - 1) (count_of run) padded alone) where
+  same_reports : far_report (reported_far (Some run) padded.chain.far) ≡ far_report alone.chain.far
+  same_reports = run_report run padded.chain.far ∙ same.same_report
 
-  same_texts : (ending : Ending) → text_of false padded.events (asked_report request.report (reported_far (Some place) padded.chain.far)) ending
+  same_texts : (ending : Ending) → text_of false padded.events (asked_report request.report (reported_far (Some run) padded.chain.far)) ending
       ≡ text_of false alone.events (asked_report request.report alone.chain.far) ending
   same_texts ending =
-      ap (λ (front : List ℕ). front ++ asked_report request.report (reported_far (Some place) padded.chain.far) ++ ending_line ending) same.same_text
+      ap (λ (front : List ℕ). front ++ asked_report request.report (reported_far (Some run) padded.chain.far) ++ ending_line ending) same.same_text
       ∙ ap (λ (report : List ℕ). events_text false [] alone.events ++ report ++ ending_line ending) (same_asked request.report _ _ same_reports)
 
 one_choice : {choice : Choice} {a b : List ℕ} → choice ≡ chosen a → choice ≡ chosen b → a ≡ b
@@ -85,39 +93,52 @@ bad_choice_chosen e f = cc
 true_and_false : {b : Bool} → b ≡ true → b ≡ false → ⊥
 true_and_false e f = cc
 
-is_counted : (place n : ℕ) → (nat_le 1 place && nat_le place n) ≡ true → 1 ≤ place
-is_counted place n h = let least = (and_parts (nat_le 1 place) (nat_le place n) h).0 in grind (arith, nat_tests, least)
+-- a run that a board has begins at its first device or later, is in order, and ends at its last device or earlier
+record IsInside (run : PlaceRun) (n : ℕ) : Type 0 where
+  pub one : 1 ≤ run.first
+  pub order : run.first ≤ run.last
+  pub within : run.last ≤ n
 
--- the play of the action for one device is that on the device alone
-module _ (request : Request) (place : ℕ) (devices : List Desc) (device : Desc) (program : Played) (choice : Choice) (procedures : List ℕ) (no_pins : request.pins ≡ false)
-    (for_one : request.place ≡ Some place) (placed : has_place (Some place) devices ≡ true) (good : All IsGood devices) (at_place : slice_get devices (place - 1) ≡ Some device)
-    (is_chosen : choice ≡ chosen procedures) (quiet : IsQuietPlay program procedures request.turns (device ∷ [])) where
+is_inside : (run : PlaceRun) (n : ℕ) → (nat_le 1 run.first && nat_le run.first run.last && nat_le run.last n) ≡ true → IsInside run n
+is_inside run n h =
+    let ends = and_parts (nat_le 1 run.first && nat_le run.first run.last) (nat_le run.last n) h in
+    let begins = and_parts (nat_le 1 run.first) (nat_le run.first run.last) ends.0 in
+    record { one = grind (arith, nat_tests, begins.0); order = grind (arith, nat_tests, begins.1); within = grind (arith, nat_tests, ends.1) }
+
+-- the play of the action for a run is that on the run alone
+module _ (request : Request) (run : PlaceRun) (devices : List Desc) (program : Played) (choice : Choice) (procedures : List ℕ) (no_pins : request.pins ≡ false)
+    (for_run : request.place ≡ Some run) (placed : has_place (Some run) devices ≡ true) (good : All IsGood devices)
+    (is_chosen : choice ≡ chosen procedures) (quiet : IsQuietPlay program procedures request.turns (in_run (neighbours run) devices)) where
+  abbrev targets : List Desc
+  targets = in_run (neighbours run) devices
+
   abbrev PlaysPadded : List ℕ → Status → Type 0
   PlaysPadded = Plays choice (has_place request.place devices) (play_on program request devices) request
 
   abbrev PlaysOne : List ℕ → Status → Type 0
-  PlaysOne = Plays choice true (play_on program (alone_request request) (device ∷ [])) (alone_request request)
+  PlaysOne = Plays choice true (play_on program (alone_request request) targets) (alone_request request)
 
   same_run : (chosen_now : List ℕ) → chosen_now ≡ procedures →
-      IsSameText (place - 1) 1 (play_on program request devices chosen_now) (play_on program (alone_request request) (device ∷ []) chosen_now)
+      IsSameText (run.first - 1) (count_of run) (play_on program request devices chosen_now) (play_on program (alone_request request) targets chosen_now)
   same_run chosen_now e =
-      subst (λ (p : Option ℕ). IsSameText (place - 1) 1 (play program chosen_now request.turns (base_at devices p) (Told (map fresh devices)))
-      (play_on program (alone_request request) (device ∷ []) chosen_now)) (sym for_one)
-      (text_of_place program chosen_now devices place device request.turns request.turns good (is_counted place (length devices) placed) at_place
-      (subst (λ (ps : List ℕ). IsQuietPlay program ps request.turns (device ∷ [])) (sym e) quiet) (omega arith))
+      subst (λ (p : Option PlaceRun). IsSameText (run.first - 1) (count_of run) (play program chosen_now request.turns (base_at devices p) (Told (map fresh devices)))
+      (play_on program (alone_request request) targets chosen_now)) (sym for_run)
+      (let inside = is_inside run (length devices) placed in
+      text_of_run program chosen_now devices (neighbours run) request.turns request.turns good inside.one inside.order inside.within
+      (subst (λ (ps : List ℕ). IsQuietPlay program ps request.turns targets) (sym e) quiet) (omega arith))
 
-  text_alone : (padded alone : Run) (ending : Ending) → IsSameText (place - 1) 1 padded alone →
+  text_alone : (padded alone : Run) (ending : Ending) → IsSameText (run.first - 1) (count_of run) padded alone →
       asked_text request padded.events padded.chain.far ending ≡ asked_text (alone_request request) alone.events alone.chain.far ending
   text_alone padded alone ending same =
       ap (λ (pins : Bool). text_of pins padded.events (asked_report request.report (reported_far request.place padded.chain.far)) ending) no_pins
-      ∙ ap (λ (p : Option ℕ). text_of false padded.events (asked_report request.report (reported_far p padded.chain.far)) ending) for_one
-      ∙ same_texts request place padded alone same ending
+      ∙ ap (λ (p : Option PlaceRun). text_of false padded.events (asked_report request.report (reported_far p padded.chain.far)) ending) for_run
+      ∙ same_texts request run padded alone same ending
       ∙ sym (ap (λ (pins : Bool). text_of pins alone.events (asked_report request.report alone.chain.far) ending) no_pins)
 
   alone_plays : (text : List ℕ) (status : Status) → PlaysPadded text status → PlaysOne text status
   alone_plays text status (no_action e) = absurd (no_action_chosen e is_chosen)
   alone_plays text status (bad_choice e) = absurd (bad_choice_chosen e is_chosen)
-  alone_plays text status (bad_place other e lacks) = absurd (true_and_false (ap (λ (p : Option ℕ). has_place p devices) for_one ∙ placed) lacks)
+  alone_plays text status (bad_place other e lacks) = absurd (true_and_false (ap (λ (p : Option PlaceRun). has_place p devices) for_run ∙ placed) lacks)
   alone_plays text status (played other ending e has ended) =
       let same = same_run other (one_choice e is_chosen) in
       subst (λ (bytes : List ℕ). PlaysOne bytes (done_with ending)) (sym (text_alone _ _ ending same))
@@ -137,8 +158,8 @@ mode_work {request = request} {devices = devices} bytes {program = program} {tex
 action_alone : {words : List (List ℕ)} {contents_of : Request → Contents} (q : IsQuietAlone words contents_of) (text : List ℕ) (status : Status) →
     PlaysAction q.program q.action q.request q.devices text status → PlaysAlone q text status
 action_alone {contents_of = contents_of} q text status a =
-    alone_plays q.request q.place q.devices q.device (as_played q.program) (choice_of (as_played q.program) q.action q.request.todo q.request.skip) q.procedures q.no_pins q.for_one q.placed
-    (has_good q.request.board (contents_of q.request).board q.devices q.board) q.at_place q.choice q.quiet text status a
+    alone_plays q.request q.run q.devices (as_played q.program) (choice_of (as_played q.program) q.action q.request.todo q.request.skip) q.procedures q.no_pins q.for_run q.placed
+    (has_good q.request.board (contents_of q.request).board q.devices q.board) q.choice q.quiet text status a
 
 -- each answer is that of the play alone
 pub answers_alone : {words : List (List ℕ)} {contents_of : Request → Contents} (q : IsQuietAlone words contents_of) → IsWithin (WordsAnswer words contents_of) (PlaysAlone q)

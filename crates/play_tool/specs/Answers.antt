@@ -33,7 +33,7 @@ use Rattle.code_plays.specs.Plays.{has_place, base_at, Plays, PlaysCodeAction}
 use Rattle.play_tool.specs.Texts.{code_refusal_line, soak_line}
 
 -- The play of chosen procedures that a request asks for, on a board of these devices after power-up: for at most its
--- turns, and with base padding around the device at its place, if it names one.
+-- turns, and with base padding around its run of devices, if it names one.
 abbrev pub play_on : Played → Request → List Desc → List ℕ → Run
 play_on program request devices chosen = play program chosen request.turns (base_at devices request.place) (Told (map fresh devices))
 
@@ -132,7 +132,7 @@ request_at place = record {
   action = Some (codes "A");
   todo = [];
   skip = [];
-  place = Some place;
+  place = Some (record { first = place; last = place });
   turns = usual_turns;
   pins = false;
   report = true;

@@ -82,9 +82,9 @@ pub record Ran {D Kind : Type 0} (kind_of : D → Kind) (fitted : D → Option S
 -- What the tool has done for words, with these contents of their files: it has written the answer, and nothing else, and
 -- its status is the answer's. After a play, to its ending or for all its turns, the rack holds the board that the play
 -- leaves: device i of the board, counted from 0, stands at the place of its kind among the three places from 3 * i on.
--- What is written of a play for one device of a board, and its status, are those of the play on that device alone, if
--- this is quiet for all its turns and no clocks are asked for; and those of a play of a code that a program was compiled
--- to are those of the play of that program.
+-- What is written of a play for a run of devices of a board, and its status, are those of the play on that run alone,
+-- if this is quiet for all its turns and no clocks are asked for; and those of a play of a code that a program was
+-- compiled to are those of the play of that program.
 pub record Answered (answers : List ℕ → Status → Type 0) (words : List (List ℕ)) (contents : Contents)
     (before after : Option (List ℕ)) (status : Status) (rack : List (Option SoundCard)) : Type 0 where
   pub wrote : Wrote answers before after status

@@ -53,8 +53,9 @@ pub fn told_files_are_answered()
         Answer words files text status }
 {}
 
-/// What is answered to a play for one device of a board, without the clocks, is what is answered to the play on that
-/// device alone, if this is quiet for all its turns: the text, which has the report of that device, and the status.
+/// What is answered to a play for a run of devices of a board, without the clocks, is what is answered to the play on
+/// that run alone, if this is quiet for all its turns: the text, which has the report of these devices in order, and the
+/// status.
 pub fn quiet_plays_are_as_alone()
     ensures { (words : List (List ℕ)) (contents_of : Request → Contents) (q : IsQuietAlone words contents_of)
         (text : List ℕ) (status : Status) → WordsAnswer words contents_of text status → PlaysAlone q text status }

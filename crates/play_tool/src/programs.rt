@@ -27,7 +27,7 @@ use tool_io::{Lines, Sink};
 
 /// Plays an action of a program, as a task asks for it: that of its code.
 ///
-/// If the program has no such action, or a name cannot be chosen in it, or the board lacks the place, the rack stays as
+/// If the program has no such action, or a name cannot be chosen in it, or the board lacks the run, the rack stays as
 /// it was. If it is played, the devices of the board are as the play leaves them.
 pub fn play_program<K: Sink>(
     alloc: Global,

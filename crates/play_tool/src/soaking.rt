@@ -17,7 +17,7 @@ use command_words::FileName;
 use dev_card::Device;
 use named_files::{BoardNotRead, board_of, put_board_refusal};
 use play_status::Status;
-use play_words::{Mode, Request, USUAL_TURNS};
+use play_words::{Mode, PlaceRun, Request, USUAL_TURNS};
 use soak_texts::soak_texts;
 use stapl_lexer::Name;
 use std::alloc::{AllocError, Global};
@@ -41,7 +41,7 @@ fn request_at(alloc: Global, place: u32) -> Result<Request, AllocError>
         action: Some(action),
         todo: ItemList::of(Vec::new(alloc)),
         skip: ItemList::of(Vec::new(alloc)),
-        place: Some(place),
+        place: Some(PlaceRun::only(place)),
         turns: USUAL_TURNS,
         pins: false,
         report: true,

@@ -366,9 +366,9 @@ fn run<S: Shelf, K: Sink>(
 /// A play reads its board first, and then its program; `check`, `list` and `compile` read a program alone, and
 /// `compile` writes the file of its code. `run` plays such a code in place of a program. `soak` reads nothing: it plays
 /// a program on a board that are both made from a number, and tells first which these are. If both are right, the board
-/// is fitted into the rack, its devices in order, and then the chosen procedures are played. If the words name a place,
-/// each scan is padded for the other devices of the board. After the play the devices are as it leaves them, and a
-/// report tells what they hold, if the words ask for one; with a place, what the device there holds.
+/// is fitted into the rack, its devices in order, and then the chosen procedures are played. If the words name a run
+/// of devices, each scan is padded for the others of the board. After the play the devices are as it leaves them, and a
+/// report tells what they hold, if the words ask for one; with a run, what its devices hold, in order.
 ///
 /// All memory is taken before the first byte is written.
 pub fn run_tool<S: Shelf, K: Sink>(
