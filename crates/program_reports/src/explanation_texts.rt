@@ -32,7 +32,7 @@ Range, of a board: a const that has not just the digits of its length. Do this: 
 Duplicate, of a board: two devices or two registers of one name, or an opcode twice in a device. Do this: rename, or drop one.
 Misplaced, of a board: a reg line that stands after a plain or a flash. Do this: put it after its regs.
 Empty, of a board: a regs without a reg line, or no device at all. Do this: add one, or write plain.
-TooMany, of a board: more than 16 devices, or more than 64 registers in one. Do this: leave out what the file does not use.
+TooMany, of a board: more than 64 devices, or more than 64 registers in one. Do this: leave out what the file does not use.
 TooLong, of a board: more than 1,048,576 bytes: another file. Do this: name the board.
 TooLong, of a code: more than 268,435,520 bytes: another file. Do this: name the file that compile wrote.
 Cut, of a code: the copy is not whole, or the disk was full. Do this: compile the program again, and copy the file as bytes.
