@@ -1,0 +1,5 @@
+use Rattle.wave_tool.proofs.OneAnswer.{one_words}
+use Rattle.wave_tool.proofs.laws.one_answer.Goals as goal
+
+pub returns : goal.returns
+returns c = one_words

@@ -1,0 +1,51 @@
+-- What the tool answers: a text and a status, by the words and the contents of the file that they name. It is defined
+-- where that file is held.
+use Rattle.std.specs.Prelude.{◌≡◌, ◌<◌, ◌≤◌, ℕ, false, List, length, Option, IfSome, IsSomeAnd}
+use Rattle.named_files.specs.Files.{OfFile}
+use Rattle.named_files.specs.Texts.{usage_line}
+use Rattle.pin_lines.specs.PinLines.{has_bad_line}
+use Rattle.pin_lines.specs.FirstFaults.{IsFirstBadLine}
+use Rattle.trace_tool.specs.Texts.{bad_line_text, too_long_line}
+use Rattle.pin_waves.specs.Items.{items_in}
+use Rattle.pin_waves.specs.Waves.{wave_text}
+use Rattle.wave_tool.specs.declared.status.WaveStatus.{WaveStatus}
+use Rattle.wave_tool.specs.declared.status.WaveStatus.TheVariants.{Written, BadLine, TooLong, Usage}
+use Rattle.wave_tool.specs.Words.{IsRequest, IsUsage}
+
+-- the most bytes of a trace
+abbrev pub most_bytes : ℕ
+most_bytes = 67108864
+
+-- What is written of the text of a trace, and the status: it is too long, or it has a first bad line, or its clocks and
+-- waits are written as a wave.
+pub data WaveAnswer (text : List ℕ) : List ℕ → WaveStatus → Type 0 where
+  too_long : most_bytes < length text → WaveAnswer text too_long_line TooLong
+  bad_line : (n : ℕ) → length text ≤ most_bytes → IsFirstBadLine text n → WaveAnswer text (bad_line_text n) (BadLine n)
+  written : length text ≤ most_bytes → has_bad_line text ≡ false → WaveAnswer text (wave_text (items_in text)) Written
+
+-- The same for a file, where it is held.
+abbrev pub FileAnswer : Option (List ℕ) → List ℕ → WaveStatus → Type 0
+FileAnswer held said status = IsSomeAnd held (λ text. WaveAnswer text said status)
+
+-- the refusal of a trace that is too long, and of a word, counted from 1
+pub record IsLongAnswer (said : List ℕ) (status : WaveStatus) : Type 0 where
+  pub said_is : said ≡ too_long_line
+  pub status_is : status ≡ TooLong
+
+pub record IsRefusal (n : ℕ) (said : List ℕ) (status : WaveStatus) : Type 0 where
+  pub said_is : said ≡ usage_line n
+  pub status_is : status ≡ Usage n
+
+-- The answer to the words, if the file that they name holds this: they are refused, or their file is answered.
+pub data WordsAnswer (held : Option (List ℕ)) (words : List (List ℕ)) : List ℕ → WaveStatus → Type 0 where
+  usage : (n : ℕ) (said : List ℕ) (status : WaveStatus) → IsUsage words n → IsRefusal n said status →
+      WordsAnswer held words said status
+  asked : (path said : List ℕ) (status : WaveStatus) → IsRequest words path → FileAnswer held said status →
+      WordsAnswer held words said status
+
+-- This stands of the bytes of the file that the words name, as they were read, if they name one.
+pub record OfWords (told : Option (List (List ℕ × List ℕ))) (words : List (List ℕ)) (stands : Option (List ℕ) → Type 0)
+    : Type 0 where
+  pub named : Option (List ℕ)
+  pub asked : IfSome named (IsRequest words)
+  pub file : OfFile told named stands
