@@ -1,5 +1,6 @@
 //! Tests of blocks of a chain against as many single clocks.
 ghost use Rattle.std.specs.Prelude.{◌≡◌, ◌≤◌, map, length, All, IsTrue, OnOk};
+ghost use Rattle.dev_card.specs.Board.{most_devices};
 ghost use Rattle.dev_card.specs.Descriptions.{IsGood};
 ghost use Rattle.scan_paths.specs.Cables.{whole};
 ghost use Rattle.chain_sim.specs.Places.{is_chain};
@@ -8,7 +9,7 @@ ghost use Rattle.chain_sim.specs.Rack.{IsRack};
 use crate::chain::board;
 use chain_sim::{Chain, fit_board};
 use dev_card::{Desc, Device};
-use device_rack::{fill_rack, is_rack};
+use device_rack::{MOST_DEVICES, fill_rack, is_rack};
 use scan_paths::{Cable, reset_chain};
 use stapl_lexer::Name;
 use std::alloc::Global;
@@ -149,7 +150,7 @@ fn fits_and_shifts(
     requires rack { IsRack (map kind_of rack.old.items) }
     requires twin { IsRack (map kind_of twin.old.items) }
     requires some { 1 ≤ length descs.now }
-    requires most { length descs.now ≤ 16 }
+    requires most { length descs.now ≤ most_devices }
     requires good { All IsGood descs.now }
 {
     let places = fit_board(alloc, rack, descs)?;
@@ -160,7 +161,7 @@ fn fits_and_shifts(
 // The same on two new racks.
 fn shifts_on_racks(alloc: Global, descs: &[Desc]) -> Result<Option<(usize, u32, bool)>, Fail>
     requires some { 1 ≤ length descs.now }
-    requires most { length descs.now ≤ 16 }
+    requires most { length descs.now ≤ most_devices }
     requires good { All IsGood descs.now }
 {
     let mut rack: Vec<Box<dyn Device>> = Vec::new(alloc);
@@ -180,7 +181,7 @@ fn shifts_on_racks(alloc: Global, descs: &[Desc]) -> Result<Option<(usize, u32, 
 fn shifts_on_a_board(alloc: Global) -> Result<Option<(usize, u32, bool)>, Fail> {
     let name = Name::read(b"U1").ok_or("no name")?;
     let descs = board(alloc, name, &[0x8000_0003, 0, 0])?;
-    if descs.is_empty() || descs.len() > 16 {
+    if descs.is_empty() || descs.len() > MOST_DEVICES {
         return Err("no board".into());
     }
     let wrong = shifts_on_racks(alloc, &descs);

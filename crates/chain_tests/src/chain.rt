@@ -5,7 +5,7 @@ ghost use Rattle.stapl_lexer.specs.Names.{IsUpperName};
 ghost use Rattle.tap_states.specs.declared.Tap.TheVariants.{Reset, Idle};
 ghost use Rattle.tap_states.specs.Path.{five_ones};
 ghost use Rattle.dev_card.specs.Descriptions.{IsGood};
-ghost use Rattle.dev_card.specs.Board.{AllIn, board_after};
+ghost use Rattle.dev_card.specs.Board.{AllIn, board_after, most_devices};
 ghost use Rattle.dev_card.specs.Clocks.{move_inputs, with_zero};
 ghost use Rattle.scan_paths.specs.Cables.{whole, WhereTold};
 ghost use Rattle.chain_sim.specs.Places.{cards_at, IsAbsent, is_chain};
@@ -14,7 +14,7 @@ ghost use Rattle.chain_sim.specs.Rack.{IsRack};
 use base::ItemList;
 use chain_sim::{Chain, fit_board};
 use dev_card::{Desc, Device, FlashDesc, IdCode, Kind, RegDesc};
-use device_rack::{fill_rack, is_rack};
+use device_rack::{MOST_DEVICES, fill_rack, is_rack};
 use scan_paths::{Cable, move_to, reset_chain};
 use stapl_lexer::Name;
 use std::alloc::{AllocError, Global};
@@ -198,7 +198,7 @@ fn fits_and_gives(
 ) -> Result<bool, Fail>
     requires rack { IsRack (map kind_of rack.old.items) }
     requires some { 1 ≤ length descs.now }
-    requires most { length descs.now ≤ 16 }
+    requires most { length descs.now ≤ most_devices }
     requires good { All IsGood descs.now }
 {
     let places = fit_board(alloc, rack, descs)?;
@@ -210,7 +210,7 @@ fn fits_and_gives(
 // The same on a new rack.
 fn gives_on_a_rack(alloc: Global, descs: &[Desc], clocks: &[u8]) -> Result<bool, Fail>
     requires some { 1 ≤ length descs.now }
-    requires most { length descs.now ≤ 16 }
+    requires most { length descs.now ≤ most_devices }
     requires good { All IsGood descs.now }
 {
     let mut rack: Vec<Box<dyn Device>> = Vec::new(alloc);
@@ -227,7 +227,7 @@ fn gives_on_a_rack(alloc: Global, descs: &[Desc], clocks: &[u8]) -> Result<bool,
 fn gives_on_a_board(alloc: Global, identities: &[u32], clocks: &[u8]) -> Result<bool, Fail> {
     let name = Name::read(b"U1").ok_or("no name")?;
     let descs = board(alloc, name, identities)?;
-    if descs.is_empty() || descs.len() > 16 {
+    if descs.is_empty() || descs.len() > MOST_DEVICES {
         return Err("no board".into());
     }
     let same = gives_on_a_rack(alloc, &descs, clocks);

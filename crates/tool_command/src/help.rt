@@ -11,24 +11,24 @@ const HELP: &[u8] = b"zanutero: checks, lists, compiles and plays STAPL programs
   zanutero list program=PATH
       lists the notes of the program, and its actions with their procedures
   zanutero play board=PATH program=PATH action=NAME [do=NAME,..] [skip=NAME,..]
-      [place=N] [turns=N] [pins=yes|no] [report=yes|no]
+      [place=N..N] [turns=N] [pins=yes|no] [report=yes|no]
       plays the action NAME of the program on the board in the file board=PATH,
       and writes what it prints and how it ends
       board=PATH    the devices of the chain, a line for each, as plain U1 4;
                     the first is nearest TDO
       do=NAME,..    runs these OPTIONAL procedures, too
       skip=NAME,..  leaves out these RECOMMENDED procedures
-      place=N       plays the program for device N of the board, from 1: pads
-                    each scan for the other devices
+      place=N..N    plays the program for these neighbours on the board, from 1,
+                    or for one device, as place=2: pads each scan for the others
       turns=N       the most turns of the play, 0 to 1000000000, or 100000000 if
                     it is missing; each statement that is played takes one
       pins=yes      writes the clocks of the chain, too
       report=yes    writes what the devices hold after the play, too; with a
-                    place, what that device holds
+                    place, what its devices hold
   zanutero compile program=PATH
       writes the program as the file of its code
   zanutero run board=PATH code=PATH action=NAME [do=NAME,..] [skip=NAME,..]
-      [place=N] [turns=N] [pins=yes|no] [report=yes|no]
+      [place=N..N] [turns=N] [pins=yes|no] [report=yes|no]
       plays the action NAME of the code in the file code=PATH, as play does
   zanutero soak seed=N
       makes a large board and program from N, 0 to 4294967295, and plays them
@@ -54,7 +54,7 @@ Exit codes:
   5  the board is refused: the line R board LINE REASON
   6  the program has no such action: the line R action; or a name of do or skip
      is not that of such a procedure of the action: the line R choice; or the
-     board has no device at the place: the line R place
+     board lacks a device of the place: the line R place
   7  the words are refused: the line R usage WORD
   8  the code is refused: the line R code OFFSET REASON
   9  the board, the program or the code could not be read
