@@ -1,5 +1,5 @@
 #!/usr/bin/env python3
-"""Times scans of 1, 2 and 4 Mbit on boards of 1, 4 and 16 devices, and tells the memory that the longest ones take.
+"""Times scans of 1, 2 and 4 Mbit on boards of 1, 4, 16 and 64 devices, and tells the memory that the longest ones take.
 
 Each play is one DRSCAN of zeros through the bypass registers of the board. The shortest time of some plays counts, less
 that of an empty text. If the time is linear in the bits, the ratios are near 2, and if it is linear in the devices, so
@@ -13,7 +13,7 @@ import measure
 
 MOST_BITS = 4_194_304
 SIZES = (MOST_BITS // 4, MOST_BITS // 2, MOST_BITS)
-DEVICES = (1, 4, 16)
+DEVICES = (1, 4, 16, 64)
 
 
 def program(body, *arrays):
