@@ -1,6 +1,7 @@
 //! What the tool answers if a call of the store or of the sink fails: each of them in turn.
 use crate::plays::{Outside, answer};
 use play_status::Status;
+use std::alloc::Global;
 use std::test::Fail;
 
 const WORDS: [&str; 5] = [
@@ -64,20 +65,20 @@ CRC 0000;
 const TEXT: &[u8] = b"W 10\nP VERIFIED 2 WORDS\nD U1 ir=13 addr=0002 0=C3 1=5A\nE exit 0\n";
 
 // The status and the text of the play, of which the write and the pick or read with these numbers fail.
-fn played(rt: &HostRuntime, write: u32, read: u32) -> Result<(Status, Vec<u8>), Fail> {
+fn played(alloc: Global, write: u32, read: u32) -> Result<(Status, Vec<u8>), Fail> {
     let outside = Outside {
         bite: 16,
         write,
         read,
     };
-    answer(rt, &WORDS, [BOARD, PROGRAM], outside)
+    answer(alloc, &WORDS, [BOARD, PROGRAM], outside)
 }
 
 // The text has 64 bytes, and a write takes 16 of them.
 #[test]
 fn writes_a_prefix_if_a_write_fails(rt: HostRuntime) -> Result<(), Fail> {
     for number in 1..1000u32 {
-        let (status, written) = played(&rt, number, 0)?;
+        let (status, written) = played(rt.alloc(), number, 0)?;
         if status == Status::Done(0) {
             assert!(rt; number > 4 && written.as_slice() == TEXT);
             return Ok(());
@@ -92,7 +93,7 @@ fn writes_a_prefix_if_a_write_fails(rt: HostRuntime) -> Result<(), Fail> {
 #[test]
 fn writes_nothing_if_a_pick_or_a_read_fails(rt: HostRuntime) -> Result<(), Fail> {
     for number in 1..1000u32 {
-        let (status, written) = played(&rt, 0, number)?;
+        let (status, written) = played(rt.alloc(), 0, number)?;
         if status == Status::Done(0) {
             assert!(rt; number > 6 && written.as_slice() == TEXT);
             return Ok(());

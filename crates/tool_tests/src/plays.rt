@@ -1,13 +1,16 @@
-//! What the tool answers to its words, over a store and a sink in memory.
+//! What the tool answers to its words, over a store and a sink in memory. What it answers if nothing fails is shown by
+//! cases of tests/.
+ghost use Rattle.std.specs.Prelude.{◌≡◌, length, IfOk};
+
 use board_text::BoardReason;
 use code_files::CodeReason;
 use dev_card::Device;
 use device_rack::{fill_rack, is_rack};
 use play_status::Status;
 use play_tool::run_tool;
-use play_words::{Mode, read_words};
 use stapl_lexer::Reason;
 use stapl_meaning::RunFault;
+use std::alloc::{AllocError, Global};
 use std::test::Fail;
 use tool_io::{MemShelf, MemSink};
 
@@ -20,51 +23,98 @@ pub struct Outside {
     pub read: u32,
 }
 
-// Nothing fails.
-const SOUND: Outside = Outside {
-    bite: 100,
-    write: 0,
-    read: 0,
-};
+fn owned_words(alloc: Global, words: &[&str]) -> Result<Vec<String>, AllocError> {
+    let mut list = Vec::new(alloc);
+    for word in words {
+        list.push(String::from_str(alloc, word)?)?;
+    }
+    Ok(list)
+}
 
-// What the tool writes, and its status, for these words, where the store has this board in the file `b` and this
-// program in `p`.
+fn file_names(alloc: Global) -> Result<Vec<String>, AllocError>
+    ensures { IfOk result (λ v. length v.items ≡ 2) }
+{
+    let board = String::from_str(alloc, "b")?;
+    let program = String::from_str(alloc, "p")?;
+    Ok(vec![in alloc; board, program]?)
+}
+
+fn file_contents(alloc: Global, files: [&str; 2]) -> Result<Vec<Vec<u8>>, AllocError>
+    ensures { IfOk result (λ v. length v.items ≡ 2) }
+{
+    let board = files[0].as_bytes().to_vec(alloc)?;
+    let program = files[1].as_bytes().to_vec(alloc)?;
+    Ok(vec![in alloc; board, program]?)
+}
+
+// A store with a board in the file `b` and a program in `p`.
+fn store_of(alloc: Global, files: [&str; 2], read: u32) -> Result<MemShelf, AllocError> {
+    let failing = vec![in alloc; read]?;
+    let names = file_names(alloc)?;
+    let contents = file_contents(alloc, files)?;
+    MemShelf::new(alloc, names, contents, failing)
+}
+
+fn sink_of(alloc: Global, outside: Outside) -> Result<MemSink, AllocError> {
+    let failing = vec![in alloc; outside.write]?;
+    MemSink::new(alloc, 1000, outside.bite.max(1), failing)
+}
+
+// The status of the tool over a store and a sink, on a new rack.
+fn status_over(
+    alloc: Global,
+    words: &[String],
+    shelf: &mut MemShelf,
+    out: &mut MemSink,
+) -> Result<Status, Fail> {
+    let mut rack: Vec<Box<dyn Device>> = Vec::new(alloc);
+    fill_rack!(alloc, rack);
+    if !is_rack(&rack) {
+        return Err("no rack".into());
+    }
+    let status = run_tool(alloc, words, shelf, &mut rack, out);
+    drop(rack);
+    Ok(status)
+}
+
+// The same with what the tool writes.
+fn answered(
+    alloc: Global,
+    words: &[String],
+    shelf: &mut MemShelf,
+    outside: Outside,
+) -> Result<(Status, Vec<u8>), Fail> {
+    let mut out = sink_of(alloc, outside)?;
+    let status = status_over(alloc, words, shelf, &mut out);
+    let written = out.written().to_vec(alloc);
+    drop(out);
+    Ok((status?, written?))
+}
+
+fn answered_to(
+    alloc: Global,
+    words: &[String],
+    files: [&str; 2],
+    outside: Outside,
+) -> Result<(Status, Vec<u8>), Fail> {
+    let mut shelf = store_of(alloc, files, outside.read)?;
+    let answer = answered(alloc, words, &mut shelf, outside);
+    drop(shelf);
+    answer
+}
+
+/// What the tool writes, and its status, for these words, where the store has this board in the file `b` and this
+/// program in `p`.
 pub fn answer(
-    rt: &HostRuntime,
+    alloc: Global,
     words: &[&str],
     files: [&str; 2],
     outside: Outside,
 ) -> Result<(Status, Vec<u8>), Fail> {
-    let alloc = rt.alloc();
-    let mut owned = Vec::new(alloc);
-    for word in words {
-        owned.push(String::from_str(alloc, word)?)?;
-    }
-    let names = vec![in alloc;
-        String::from_str(alloc, "b")?,
-        String::from_str(alloc, "p")?,
-    ]?;
-    let board = files[0].as_bytes().to_vec(alloc)?;
-    let program = files[1].as_bytes().to_vec(alloc)?;
-    let mut shelf = MemShelf::new(
-        alloc,
-        names,
-        vec![in alloc; board, program]?,
-        vec![in alloc; outside.read]?,
-    )?;
-    let mut out = MemSink::new(
-        alloc,
-        1000,
-        outside.bite.max(1),
-        vec![in alloc; outside.write]?,
-    )?;
-    let mut rack: Vec<Box<dyn Device>> = Vec::new(alloc);
-    fill_rack!(alloc, rack);
-    if !is_rack(&rack) {
-        return Err(Fail::from("no rack"));
-    }
-    let status = run_tool(alloc, &owned, &mut shelf, &mut rack, &mut out);
-    Ok((status, out.written().to_vec(alloc)?))
+    let words = owned_words(alloc, words)?;
+    let answer = answered_to(alloc, &words, files, outside);
+    drop(words);
+    answer
 }
 
 const BOARD: &str = "plain U1 4\n";
@@ -74,95 +124,21 @@ const HELLO: &str = "ACTION A=P;PROCEDURE P;PRINT \"HELLO\";EXIT 0;ENDPROC;";
 const PLAY: [&str; 4] = ["play", "board=b", "program=p", "action=A"];
 
 #[test]
-fn prints_and_exits(rt: HostRuntime) -> Result<(), Fail> {
-    let (status, written) = answer(&rt, &PLAY, [BOARD, HELLO], SOUND)?;
-    assert_eq!(rt; status, Status::Done(0));
-    assert_eq!(rt; written.as_slice(), b"P HELLO\nE exit 0\n".as_slice());
-    assert_eq!(rt; status.exit_code(), 0);
-    Ok(())
-}
-
-#[test]
-fn writes_the_clocks(rt: HostRuntime) -> Result<(), Fail> {
-    let program =
-        "ACTION A=P;PROCEDURE P;STATE IRPAUSE,RESET;WAIT 2 CYCLES,5 USEC;FREQUENCY 1E6 HZ;ENDPROC;";
-    let words = ["play", "board=b", "program=p", "action=A", "pins=yes"];
-    let (status, written) = answer(&rt, &words, [BOARD, program], SOUND)?;
-    assert_eq!(rt; status, Status::Done(0));
-    let text = b"C 5555515515155555111\nW 5\nF 1000000\nE exit 0\n".as_slice();
-    assert_eq!(rt; written.as_slice(), text);
-    Ok(())
-}
-
-#[test]
 fn keeps_a_prefix_where_the_third_write_fails(rt: HostRuntime) -> Result<(), Fail> {
-    let (status, written) = answer(
-        &rt,
-        &PLAY,
-        [BOARD, HELLO],
-        Outside {
-            bite: 4,
-            write: 3,
-            read: 0,
-        },
-    )?;
-    assert_eq!(rt; status, Status::WriteFault);
-    assert_eq!(rt; written.as_slice(), b"P HELLO\n".as_slice());
-    assert_eq!(rt; status.exit_code(), 10);
-    Ok(())
-}
-
-#[test]
-fn refuses_a_board(rt: HostRuntime) -> Result<(), Fail> {
-    let (status, written) = answer(&rt, &PLAY, ["plain U1 4\nplain U1 4\n", HELLO], SOUND)?;
-    assert_eq!(rt; status, Status::BoardRefused(2, BoardReason::Duplicate));
-    assert_eq!(rt; written.as_slice(), b"R board 2 Duplicate\n".as_slice());
-    assert_eq!(rt; status.exit_code(), 5);
-    Ok(())
-}
-
-#[test]
-fn reads_words(rt: HostRuntime) -> Result<(), Fail> {
-    let alloc = rt.alloc();
-    let mut words = Vec::new(alloc);
-    for word in [
-        "play",
-        "turns=7",
-        "action=a",
-        "do=b,c",
-        "program=p",
-        "pins=yes",
-        "skip=d",
-        "board=q",
-    ] {
-        words.push(String::from_str(alloc, word)?)?;
-    }
-    let Ok(request) = read_words(alloc, &words) else {
-        panic!(rt; "the words are refused");
+    let outside = Outside {
+        bite: 4,
+        write: 3,
+        read: 0,
     };
-    assert_eq!(rt; request.mode, Mode::Play);
-    assert_eq!(rt; request.turns, 7);
-    assert!(rt; request.pins);
-    assert_eq!(rt; request.todo.len(), 2);
-    assert_eq!(rt; request.skip.len(), 1);
-    match &request.board {
-        Some(board) => assert_eq!(rt; board.as_str(), "q"),
-        None => panic!(rt; "no board"),
-    }
-    match &request.program {
-        Some(program) => assert_eq!(rt; program.as_str(), "p"),
-        None => panic!(rt; "no program"),
-    }
-    match &request.action {
-        Some(action) => assert_eq!(rt; action.bytes(), b"A".as_slice()),
-        None => panic!(rt; "no action"),
-    }
+    let (status, written) = answer(rt.alloc(), &PLAY, [BOARD, HELLO], outside)?;
+    assert!(rt; status == Status::WriteFault && status.exit_code() == 10);
+    assert!(rt; written.as_slice() == b"P HELLO\n".as_slice());
     Ok(())
 }
 
 // The exit code of each status.
 #[test]
-fn gives_exit_codes(rt: HostRuntime) -> Result<(), Fail> {
+fn gives_exit_codes(rt: HostRuntime) {
     let table: [(Status, u8); 14] = [
         (Status::Done(0), 0),
         (Status::Done(-1), 1),
@@ -180,7 +156,6 @@ fn gives_exit_codes(rt: HostRuntime) -> Result<(), Fail> {
         (Status::Memory, 11),
     ];
     for (status, code) in table {
-        assert_eq!(rt; status.exit_code(), code);
+        assert!(rt; status.exit_code() == code, "the status of {code}");
     }
-    Ok(())
 }
