@@ -11,7 +11,7 @@
 #include <stdlib.h>
 #include <time.h>
 
-enum { MOST_DEVICES = 16, INSTRUCTION_BITS = 4, ALL_ONES = 15 };
+enum { MOST_DEVICES = 64, INSTRUCTION_BITS = 4, ALL_ONES = 15 };
 
 enum state {
     RESET, IDLE, DR_SELECT, DR_CAPTURE, DR_SHIFT, DR_EXIT1, DR_PAUSE, DR_EXIT2, DR_UPDATE,
