@@ -1,5 +1,5 @@
--- The words of a command on a board and one more file: `board=PATH`, and after it the other file under a key of its own.
--- A key is its bytes with the equals sign. The rules are these tools' own.
+-- The words of a command on a board and one more file: `board=PATH`, and after it the other file under a key of its
+-- own. A key is its bytes with the equals sign. The rules are these tools' own.
 use Rattle.std.specs.Prelude.{◌≡◌, ◌<◌, ℕ, List, length, codes, slice_get, IsSomeAnd}
 use Rattle.command_words.specs.KeyedWords.{NamesPath}
 
