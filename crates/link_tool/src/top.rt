@@ -85,7 +85,8 @@ fn run<S: Shelf, K: Sink>(
 ) -> Result<LinkStatus, NoAnswer>
     requires { IsRack (map kind_of rack.old.items) }
     ensures answers { OfWords link_key (S.told shelf.old) (map string_bytes words.now) (λ contents. Answers
-        kind_of fitted (WordsAnswer (map string_bytes words.now) (λ named. contents)) (WordsDue (map string_bytes words.now) contents)
+        kind_of fitted (WordsAnswer (map string_bytes words.now) (λ named. contents))
+        (WordsDue (map string_bytes words.now) contents)
         (WordsHoldLeft (map string_bytes words.now) contents)
         (K.written out.old) (K.written out.new) rack.old.items rack.new.items result) }
     ensures shelf { KeepsShelf S.told S.faults S.is_last
