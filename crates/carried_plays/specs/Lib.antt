@@ -1,0 +1,4 @@
+pub mod CarriedPrograms
+pub mod PadNames
+pub mod OwnPaddings
+pub mod CarriedTexts

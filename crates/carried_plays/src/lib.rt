@@ -1,0 +1,2 @@
+//! Programs that carry their own padding: definitions and laws.
+#![tactic(auto)]
