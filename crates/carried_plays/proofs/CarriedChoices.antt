@@ -36,24 +36,25 @@ module _ (name : List ℕ) where
   first_if true items x y e = refl
   first_if false items x y e = e
 
-  first_before : (b : BodyTree) (nm : List ℕ) (x y : Option (List ItemTree)) → x ≡ with_first name y
-      → items_before (body_with_item name b) nm x ≡ with_first name (items_before b nm y)
-  first_before (action own text items) nm x y e = first_if (bytes_eq nm own) items x y e
-  first_before _ nm x y e = e
+  first_before : (b : BodyTree) (sought : List ℕ) (x y : Option (List ItemTree)) → x ≡ with_first name y
+      → items_before (body_with_item name b) sought x ≡ with_first name (items_before b sought y)
+  first_before (action own text items) sought x y e = first_if (bytes_eq sought own) items x y e
+  first_before _ sought x y e = e
 
-  no_items : (b : BodyTree) (nm : List ℕ) (x : Option (List ItemTree)) → is_action b ≡ false → items_before b nm x ≡ x
-  no_items (action own text items) nm x e = absurd (true≢false e)
-  no_items _ nm x e = refl
+  no_items : (b : BodyTree) (sought : List ℕ) (x : Option (List ItemTree)) → is_action b ≡ false → items_before b sought x ≡ x
+  no_items (action own text items) sought x e = absurd (true≢false e)
+  no_items _ sought x e = refl
 
-  none_apart : (tail : List StmtTree) (nm : List ℕ) → EachBody IsApart tail → items_from tail nm ≡ None
-  none_apart [] nm h = refl
-  none_apart (x ∷ tail) nm h = no_items x.body nm (items_from tail nm) h.0.no_action ∙ none_apart tail nm h.1
+  none_apart : (tail : List StmtTree) (sought : List ℕ) → EachBody IsApart tail → items_from tail sought ≡ None
+  none_apart [] sought h = refl
+  none_apart (x ∷ tail) sought h = no_items x.body sought (items_from tail sought) h.0.no_action ∙ none_apart tail sought h.1
 
-  items_same : (base : BaseLengths) (front tail end : List StmtTree) (nm : List ℕ) → EachBody IsApart tail → EachBody IsApart end
-      → items_from (map (with_item name) front ++ (padding_procedure name base ++ end)) nm ≡ with_first name (items_from (front ++ tail) nm)
-  items_same base [] tail end nm h k = none_apart end nm k ∙ sym (ap (with_first name) (none_apart tail nm h))
-  items_same base (x ∷ front) tail end nm h k =
-      first_before x.body nm (items_from (map (with_item name) front ++ (padding_procedure name base ++ end)) nm) (items_from (front ++ tail) nm) (items_same base front tail end nm h k)
+  items_same : (base : BaseLengths) (front tail end : List StmtTree) (sought : List ℕ) → EachBody IsApart tail → EachBody IsApart end
+      → items_from (map (with_item name) front ++ (padding_procedure name base ++ end)) sought ≡ with_first name (items_from (front ++ tail) sought)
+  items_same base [] tail end sought h k = none_apart end sought k ∙ sym (ap (with_first name) (none_apart tail sought h))
+  items_same base (x ∷ front) tail end sought h k =
+      first_before x.body sought (items_from (map (with_item name) front ++ (padding_procedure name base ++ end)) sought) (items_from (front ++ tail) sought)
+      (items_same base front tail end sought h k)
 
 -- ---- what items name
 
@@ -66,15 +67,15 @@ module _ (program : Played) where
   named_if true items o h k = h
   named_if false items o h k = k
 
-  named_before : (b : BodyTree) (nm : List ℕ) (o : Option (List ItemTree)) → NamesProcedures program b → AreNamed o → AreNamed (items_before b nm o)
-  named_before (action own text items) nm o h k = named_if (bytes_eq nm own) items o h k
-  named_before _ nm o h k = k
+  named_before : (b : BodyTree) (sought : List ℕ) (o : Option (List ItemTree)) → NamesProcedures program b → AreNamed o → AreNamed (items_before b sought o)
+  named_before (action own text items) sought o h k = named_if (bytes_eq sought own) items o h k
+  named_before _ sought o h k = k
 
-  items_named : (xs : List StmtTree) (nm : List ℕ) → All (λ (st : StmtTree). NamesProcedures program st.body) xs → AreNamed (items_from xs nm)
-  items_named [] nm h = tt
-  items_named (x ∷ xs) nm h =
-      named_before x.body nm (items_from xs nm) (All-head (λ (st : StmtTree). NamesProcedures program st.body) x xs h)
-      (items_named xs nm (All-tail (λ (st : StmtTree). NamesProcedures program st.body) x xs h))
+  items_named : (xs : List StmtTree) (sought : List ℕ) → All (λ (st : StmtTree). NamesProcedures program st.body) xs → AreNamed (items_from xs sought)
+  items_named [] sought h = tt
+  items_named (x ∷ xs) sought h =
+      named_before x.body sought (items_from xs sought) (All-head (λ (st : StmtTree). NamesProcedures program st.body) x xs h)
+      (items_named xs sought (All-tail (λ (st : StmtTree). NamesProcedures program st.body) x xs h))
 
   below_if : (t : Bool) (item : ItemTree) (items : List ItemTree) → NamesProcedure program item → AreBelow (procedures_in program.pieces) (map (item_procedure program) items)
       → AreBelow (procedures_in program.pieces) (map (item_procedure program) (cond t (item ∷ items) items))
@@ -102,11 +103,11 @@ module _ (program : Played) where
   known_among (Some items) asked skipped h =
       known_if (are_choices Optional items asked && are_choices Recommended items skipped) (procedures_run program asked skipped items) (below_items items (item_runs asked skipped) h)
 
-pub known_choice : (program : Played) → IsTyped program → (nm : List ℕ) (asked skipped : List (List ℕ)) (procedures : List ℕ)
-    → choice_of program nm asked skipped ≡ chosen procedures → AreBelow (procedures_in program.pieces) procedures
-known_choice program typed nm asked skipped procedures e =
+pub known_choice : (program : Played) → IsTyped program → (sought : List ℕ) (asked skipped : List (List ℕ)) (procedures : List ℕ)
+    → choice_of program sought asked skipped ≡ chosen procedures → AreBelow (procedures_in program.pieces) procedures
+known_choice program typed sought asked skipped procedures e =
     subst (IsKnownChoice program) e
-    (known_among program (items_from program.pieces nm) asked skipped (items_named program program.pieces nm typed.items))
+    (known_among program (items_from program.pieces sought) asked skipped (items_named program program.pieces sought typed.items))
 
 -- ---- the choices of both programs
 
@@ -149,14 +150,14 @@ module _ (name : List ℕ) (base : BaseLengths) (old new : Played) (h : IsCarrie
       (procedures_run new asked skipped ((name, None) ∷ items)) (procedures_run old asked skipped items)
       (ap (λ p. p ∷ procedures_run new asked skipped items) last_number ∙ ap (λ t. procedures_in old.pieces ∷ t) (same_procedures items (item_runs asked skipped) k))
 
-  pub choices_same : (nm : List ℕ) (asked skipped : List (List ℕ))
-      → choice_of new nm asked skipped ≡ choice_with (procedures_in old.pieces) (choice_of old nm asked skipped)
-  choices_same nm asked skipped =
-      let items : items_from new.pieces nm ≡ with_first name (items_from old.pieces nm) =
-      ap (λ (ps : List StmtTree). items_from ps nm) h.new_is ∙ items_same name base h.front h.tail h.end nm h.apart h.end_apart
-      ∙ ap (λ (ps : List StmtTree). with_first name (items_from ps nm)) (sym h.old_is) in
+  pub choices_same : (sought : List ℕ) (asked skipped : List (List ℕ))
+      → choice_of new sought asked skipped ≡ choice_with (procedures_in old.pieces) (choice_of old sought asked skipped)
+  choices_same sought asked skipped =
+      let items : items_from new.pieces sought ≡ with_first name (items_from old.pieces sought) =
+      ap (λ (ps : List StmtTree). items_from ps sought) h.new_is ∙ items_same name base h.front h.tail h.end sought h.apart h.end_apart
+      ∙ ap (λ (ps : List StmtTree). with_first name (items_from ps sought)) (sym h.old_is) in
       ap (λ o. choice_among new o asked skipped) items
-      ∙ among_same (items_from old.pieces nm) asked skipped (items_named old old.pieces nm typed.items)
+      ∙ among_same (items_from old.pieces sought) asked skipped (items_named old old.pieces sought typed.items)
 
 -- ---- the whole
 
@@ -180,7 +181,7 @@ carries text end program name base typed is bare free closes short =
     let others : AreOthers name (given old.presets) = are_others name base end program ends closes unknown in
     record {
       choices = choices_same name base old new h typed b (front_part (NotNamed name) h.front h.tail h.fresh);
-      plays = λ nm asked skipped procedures e n far live.
+      plays = λ sought asked skipped procedures e n far live.
           plays_same name base old new h typed b others short.ir_pre short.ir_post short.dr_pre short.dr_post procedures n
-          (known_choice old typed nm asked skipped procedures e) far live;
+          (known_choice old typed sought asked skipped procedures e) far live;
     }

@@ -196,9 +196,9 @@ module _ (names : Names) (more : List (List ℕ × Block)) where
   abbrev names2 : Names
   names2 = record names { blocks = more }
 
-  in_blocks : (blocks : List (List ℕ)) (nm : List ℕ) → found_in names2 blocks nm ≡ found_in names blocks nm
-  in_blocks [] nm = refl
-  in_blocks (b ∷ blocks) nm = ap (option_map_or found.Variable (variable_number names b nm)) (in_blocks blocks nm)
+  in_blocks : (blocks : List (List ℕ)) (sought : List ℕ) → found_in names2 blocks sought ≡ found_in names blocks sought
+  in_blocks [] sought = refl
+  in_blocks (b ∷ blocks) sought = ap (option_map_or found.Variable (variable_number names b sought)) (in_blocks blocks sought)
 
   pub same_kind : (f : Found) → kind_of_found names2 f ≡ kind_of_found names f
   same_kind (found.Variable n) = refl
@@ -215,27 +215,27 @@ pub seen_same : (names : Names) (name : List ℕ) (b : Block) (o : Option (List 
 seen_same names name b None h = refl
 seen_same names name b (Some own) h = ap (λ o. own ∷ option_map_or (λ (b : Block). b.uses) o []) (lookup_more own name names.blocks b (turned_round name own h))
 
-pub found_same : (names : Names) (name : List ℕ) (b : Block) (inside : Option (List ℕ)) → IsOther name inside → (nm : List ℕ)
-    → found_from (record names { blocks = names.blocks ++ ((name, b) ∷ []) }) inside nm ≡ found_from names inside nm
-found_same names name b inside other nm =
+pub found_same : (names : Names) (name : List ℕ) (b : Block) (inside : Option (List ℕ)) → IsOther name inside → (sought : List ℕ)
+    → found_from (record names { blocks = names.blocks ++ ((name, b) ∷ []) }) inside sought ≡ found_from names inside sought
+found_same names name b inside other sought =
     let more : List (List ℕ × Block) = names.blocks ++ ((name, b) ∷ []) in
-    ap (λ bs. found_in (record names { blocks = more }) bs nm) (seen_same names name b inside other) ∙ in_blocks names more (blocks_seen names inside) nm
+    ap (λ bs. found_in (record names { blocks = more }) bs sought) (seen_same names name b inside other) ∙ in_blocks names more (blocks_seen names inside) sought
 
 looks_same : (names : Names) (name : List ℕ) (b : Block) (inside : Option (List ℕ)) → IsOther name inside
     → lookup_from (record names { blocks = names.blocks ++ ((name, b) ∷ []) }) inside ≡ lookup_from names inside
-looks_same names name b inside other = λ j. record { kind = λ nm. kinds nm j; variable = λ nm. numbers nm j }
+looks_same names name b inside other = λ j. record { kind = λ sought. kinds sought j; variable = λ sought. numbers sought j }
   where
-    kinds : (nm : List ℕ) → kind_of_found (record names { blocks = names.blocks ++ ((name, b) ∷ []) }) (found_from (record names { blocks = names.blocks ++ ((name, b) ∷ []) }) inside nm)
-        ≡ kind_of_found names (found_from names inside nm)
-    kinds nm =
-        ap (kind_of_found (record names { blocks = names.blocks ++ ((name, b) ∷ []) })) (found_same names name b inside other nm)
-        ∙ same_kind names (names.blocks ++ ((name, b) ∷ [])) (found_from names inside nm)
+    kinds : (sought : List ℕ) → kind_of_found (record names { blocks = names.blocks ++ ((name, b) ∷ []) }) (found_from (record names { blocks = names.blocks ++ ((name, b) ∷ []) }) inside sought)
+        ≡ kind_of_found names (found_from names inside sought)
+    kinds sought =
+        ap (kind_of_found (record names { blocks = names.blocks ++ ((name, b) ∷ []) })) (found_same names name b inside other sought)
+        ∙ same_kind names (names.blocks ++ ((name, b) ∷ [])) (found_from names inside sought)
 
-    numbers : (nm : List ℕ) → number_found (record names { blocks = names.blocks ++ ((name, b) ∷ []) }) (found_from (record names { blocks = names.blocks ++ ((name, b) ∷ []) }) inside nm)
-        ≡ number_found names (found_from names inside nm)
-    numbers nm =
-        ap (number_found (record names { blocks = names.blocks ++ ((name, b) ∷ []) })) (found_same names name b inside other nm)
-        ∙ same_number names (names.blocks ++ ((name, b) ∷ [])) (found_from names inside nm)
+    numbers : (sought : List ℕ) → number_found (record names { blocks = names.blocks ++ ((name, b) ∷ []) }) (found_from (record names { blocks = names.blocks ++ ((name, b) ∷ []) }) inside sought)
+        ≡ number_found names (found_from names inside sought)
+    numbers sought =
+        ap (number_found (record names { blocks = names.blocks ++ ((name, b) ∷ []) })) (found_same names name b inside other sought)
+        ∙ same_number names (names.blocks ++ ((name, b) ∷ [])) (found_from names inside sought)
 
 -- ---- the new name is new
 

@@ -46,9 +46,9 @@ module _ (name : List ℕ) where
   inside_stays now (action own text items) = refl
   inside_stays now _ = refl
 
-  before_stays : (b : BodyTree) (nm : List ℕ) (others : ℕ) → procedure_before (body_with_item name b) nm others ≡ procedure_before b nm others
-  before_stays (action own text items) nm others = refl
-  before_stays _ nm others = refl
+  before_stays : (b : BodyTree) (sought : List ℕ) (others : ℕ) → procedure_before (body_with_item name b) sought others ≡ procedure_before b sought others
+  before_stays (action own text items) sought others = refl
+  before_stays _ sought others = refl
 
   none_inner : (tail : List StmtTree) (i : ℕ) (st : StmtTree) → EachBody IsApart tail → slice_get tail i ≡ Some st → is_outer st.body ≡ false → ⊥
   none_inner [] i st h e f = none-some st e
@@ -139,23 +139,23 @@ module _ (name : List ℕ) where
   number_if true n m k lt f = refl
   number_if false n m k lt f = ap suc (f (omega arith))
 
-  number_by : (b : BodyTree) (nm : List ℕ) (n m k : ℕ) → procedure_before b nm m < cond (begins_procedure b) (suc k) k → (m < k → n ≡ m)
-      → procedure_before b nm n ≡ procedure_before b nm m
-  number_by (procedure p uses) nm n m k lt f = number_if (bytes_eq nm p) n m k lt f
-  number_by _ nm n m k lt f = f lt
+  number_by : (b : BodyTree) (sought : List ℕ) (n m k : ℕ) → procedure_before b sought m < cond (begins_procedure b) (suc k) k → (m < k → n ≡ m)
+      → procedure_before b sought n ≡ procedure_before b sought m
+  number_by (procedure p uses) sought n m k lt f = number_if (bytes_eq sought p) n m k lt f
+  number_by _ sought n m k lt f = f lt
 
-  pub number_kept : (front tail rest : List StmtTree) (nm : List ℕ) → EachBody IsApart tail → procedure_number (front ++ tail) nm < procedures_in (front ++ tail)
-      → procedure_number (map (with_item name) front ++ rest) nm ≡ procedure_number (front ++ tail) nm
-  number_kept [] tail rest nm h lt = absurd (none_below tail (procedure_number tail nm) h lt)
-  number_kept (x ∷ front) tail rest nm h lt =
+  pub number_kept : (front tail rest : List StmtTree) (sought : List ℕ) → EachBody IsApart tail → procedure_number (front ++ tail) sought < procedures_in (front ++ tail)
+      → procedure_number (map (with_item name) front ++ rest) sought ≡ procedure_number (front ++ tail) sought
+  number_kept [] tail rest sought h lt = absurd (none_below tail (procedure_number tail sought) h lt)
+  number_kept (x ∷ front) tail rest sought h lt =
       let new : List StmtTree = map (with_item name) front ++ rest in
       let old : List StmtTree = front ++ tail in
-      before_stays x.body nm (procedure_number new nm)
-      ∙ number_by x.body nm (procedure_number new nm) (procedure_number old nm) (procedures_in old) lt (λ l. number_kept front tail rest nm h l)
+      before_stays x.body sought (procedure_number new sought)
+      ∙ number_by x.body sought (procedure_number new sought) (procedure_number old sought) (procedures_in old) lt (λ l. number_kept front tail rest sought h l)
 
   -- the new procedure
-  same_name : (nm : List ℕ) → bytes_eq nm nm ≡ true
-  same_name nm = (bytes_eq-Decides nm nm).1 refl
+  same_name : (sought : List ℕ) → bytes_eq sought sought ≡ true
+  same_name sought = (bytes_eq-Decides sought sought).1 refl
 
   one_more : (b : BodyTree) (n k : ℕ) → NotNamed name b → n ≡ k → procedure_before b name n ≡ cond (begins_procedure b) (suc k) k
   one_more (procedure p uses) n k h e = ap (λ t. cond t 0 (suc n)) h ∙ ap suc e
@@ -192,8 +192,8 @@ label_found : (o : Option ℕ) (f : ℕ → ℕ) (n m : ℕ) → option_map_or f
 label_found None f n m lt = absurd (omega arith)
 label_found (Some k) f n m lt = refl
 
-pub label_kept : (old new : Names) (n m : ℕ) (block nm : List ℕ) → new.labels ≡ old.labels → label_from old n (Some block) nm < n
-    → label_from new m (Some block) nm ≡ label_from old n (Some block) nm
-label_kept old new n m block nm e lt =
-    ap (λ (ls : List (Key × ℕ)). option_map_or (λ piece. piece - 1) (lookup (key_eq (key_in block nm)) ls) m) e
-    ∙ label_found (lookup (key_eq (key_in block nm)) old.labels) (λ piece. piece - 1) n m lt
+pub label_kept : (old new : Names) (n m : ℕ) (block sought : List ℕ) → new.labels ≡ old.labels → label_from old n (Some block) sought < n
+    → label_from new m (Some block) sought ≡ label_from old n (Some block) sought
+label_kept old new n m block sought e lt =
+    ap (λ (ls : List (Key × ℕ)). option_map_or (λ piece. piece - 1) (lookup (key_eq (key_in block sought)) ls) m) e
+    ∙ label_found (lookup (key_eq (key_in block sought)) old.labels) (λ piece. piece - 1) n m lt

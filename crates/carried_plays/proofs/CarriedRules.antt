@@ -120,7 +120,7 @@ module _ (name : List ℕ) where
 
 -- ---- one block more
 
-none_kept : (f g : List ℕ → Bool) → ((nm : List ℕ) → f nm ≡ false → g nm ≡ false) → (xs : List (List ℕ)) → list_any f xs ≡ false → list_any g xs ≡ false
+none_kept : (f g : List ℕ → Bool) → ((sought : List ℕ) → f sought ≡ false → g sought ≡ false) → (xs : List (List ℕ)) → list_any f xs ≡ false → list_any g xs ≡ false
 none_kept f g k [] e = refl
 none_kept f g k (x ∷ xs) e =
     let p = or_parts (f x) (list_any f xs) e in
@@ -131,9 +131,9 @@ module _ (name : List ℕ) (b : Block) (plain : b.is_data ≡ false) where
   found_if true x o p k e = refl
   found_if false x o p k e = k e
 
-  still_found : (es : List (List ℕ × Block)) (nm : List ℕ) → is_none (lookup (bytes_eq nm) es) ≡ false → is_none (lookup (bytes_eq nm) (es ++ ((name, b) ∷ []))) ≡ false
-  still_found [] nm e = absurd (true≢false e)
-  still_found (e ∷ es) nm h = found_if (bytes_eq nm e.0) e.1 (lookup (bytes_eq nm) es) (lookup (bytes_eq nm) (es ++ ((name, b) ∷ []))) (still_found es nm) h
+  still_found : (es : List (List ℕ × Block)) (sought : List ℕ) → is_none (lookup (bytes_eq sought) es) ≡ false → is_none (lookup (bytes_eq sought) (es ++ ((name, b) ∷ []))) ≡ false
+  still_found [] sought e = absurd (true≢false e)
+  still_found (e ∷ es) sought h = found_if (bytes_eq sought e.0) e.1 (lookup (bytes_eq sought) es) (lookup (bytes_eq sought) (es ++ ((name, b) ∷ []))) (still_found es sought) h
 
   new_found : (es : List (List ℕ × Block)) → is_none (lookup (bytes_eq name) (es ++ ((name, b) ∷ []))) ≡ false
   new_found [] = ap (λ t. is_none (cond t (Some b) None)) ((bytes_eq-Decides name name).1 refl)
@@ -151,9 +151,9 @@ module _ (name : List ℕ) (b : Block) (plain : b.is_data ≡ false) where
   no_new_data true = plain
   no_new_data false = refl
 
-  data_same : (es : List (List ℕ × Block)) (nm : List ℕ) → is_data_block (lookup (bytes_eq nm) (es ++ ((name, b) ∷ []))) ≡ is_data_block (lookup (bytes_eq nm) es)
-  data_same [] nm = no_new_data (bytes_eq nm name)
-  data_same (e ∷ es) nm = data_if (bytes_eq nm e.0) e.1 (lookup (bytes_eq nm) (es ++ ((name, b) ∷ []))) (lookup (bytes_eq nm) es) (data_same es nm)
+  data_same : (es : List (List ℕ × Block)) (sought : List ℕ) → is_data_block (lookup (bytes_eq sought) (es ++ ((name, b) ∷ []))) ≡ is_data_block (lookup (bytes_eq sought) es)
+  data_same [] sought = no_new_data (bytes_eq sought name)
+  data_same (e ∷ es) sought = data_if (bytes_eq sought e.0) e.1 (lookup (bytes_eq sought) (es ++ ((name, b) ∷ []))) (lookup (bytes_eq sought) es) (data_same es sought)
 
 no_data : (o : Option Block) → is_some o ≡ false → is_data_block o ≡ false
 no_data None e = refl
@@ -167,67 +167,68 @@ module _ (name : List ℕ) (names : Names) (b : Block) (plain : b.is_data ≡ fa
   in_data_same None = refl
   in_data_same (Some own) = data_same name b plain names.blocks own
 
-  label_same : (o : Option (List ℕ)) (nm : List ℕ) → has_label more o nm ≡ has_label names o nm
-  label_same None nm = refl
-  label_same (Some block) nm = refl
+  label_same : (o : Option (List ℕ)) (sought : List ℕ) → has_label more o sought ≡ has_label names o sought
+  label_same None sought = refl
+  label_same (Some block) sought = refl
 
   kind_same : (f : Found) → kind_of_found more f ≡ kind_of_found names f
   kind_same f = same_kind names (names.blocks ++ ((name, b) ∷ [])) f
 
   module _ (inside : Option (List ℕ)) (other : IsOther name inside) where
-    abbrev K : Known
-    K = known_from names inside
+    abbrev known_old : Known
+    known_old = known_from names inside
 
-    abbrev M : Known
-    M = known_from more inside
+    abbrev known_new : Known
+    known_new = known_from more inside
 
-    found_is : M.found ≡ K.found
-    found_is = λ j nm. found_same names name b inside other nm j
+    found_is : known_new.found ≡ known_old.found
+    found_is = λ j sought. found_same names name b inside other sought j
 
-    kind_is : M.kind ≡ K.kind
-    kind_is = λ j nm. (ap (kind_of_found more) (found_same names name b inside other nm) ∙ kind_same (found_from names inside nm)) j
+    kind_is : known_new.kind ≡ known_old.kind
+    kind_is = λ j sought. (ap (kind_of_found more) (found_same names name b inside other sought) ∙ kind_same (found_from names inside sought)) j
 
-    undefined_kept : (body : BodyTree) → names_undefined K body ≡ false → names_undefined M (body_with_item name body) ≡ false
+    undefined_kept : (body : BodyTree) → names_undefined known_old body ≡ false → names_undefined known_new (body_with_item name body) ≡ false
     undefined_kept body e =
-        let absent : Bool = list_any (λ nm. is_absent (K.found nm)) (variables_named body) in
-        let unknown : Bool = list_any (λ nm. is_none (K.block nm)) (procedures_named body ++ blocks_used body) in
-        let p = or_parts (absent || unknown) (list_any (λ nm. not (K.label nm)) (labels_named body)) e in
+        let absent : Bool = list_any (λ sought. is_absent (known_old.found sought)) (variables_named body) in
+        let unknown : Bool = list_any (λ sought. is_none (known_old.block sought)) (procedures_named body ++ blocks_used body) in
+        let p = or_parts (absent || unknown) (list_any (λ sought. not (known_old.label sought)) (labels_named body)) e in
         let q = or_parts absent unknown p.0 in
-        let vs : list_any (λ nm. is_absent (M.found nm)) (variables_named (body_with_item name body)) ≡ false =
-        ap (list_any (λ nm. is_absent (M.found nm))) (variables_same name body) ∙ ap (λ (f : List ℕ → Found). list_any (λ nm. is_absent (f nm)) (variables_named body)) found_is ∙ q.0 in
-        let ls : list_any (λ nm. not (M.label nm)) (labels_named (body_with_item name body)) ≡ false =
-        ap (list_any (λ nm. not (M.label nm))) (labels_same name body)
-        ∙ (λ j. list_any (λ nm. not (label_same inside nm j)) (labels_named body)) ∙ p.1 in
-        let bs : list_any (λ nm. is_none (M.block nm)) (procedures_named (body_with_item name body) ++ blocks_used (body_with_item name body)) ≡ false = by body q.1 in
-        ap (λ t. (t || list_any (λ nm. is_none (M.block nm)) (procedures_named (body_with_item name body) ++ blocks_used (body_with_item name body)))
-        || list_any (λ nm. not (M.label nm)) (labels_named (body_with_item name body))) vs
-        ∙ ap (λ t. t || list_any (λ nm. not (M.label nm)) (labels_named (body_with_item name body))) bs ∙ ls
+        let vs : list_any (λ sought. is_absent (known_new.found sought)) (variables_named (body_with_item name body)) ≡ false =
+        ap (list_any (λ sought. is_absent (known_new.found sought))) (variables_same name body)
+        ∙ ap (λ (f : List ℕ → Found). list_any (λ sought. is_absent (f sought)) (variables_named body)) found_is ∙ q.0 in
+        let ls : list_any (λ sought. not (known_new.label sought)) (labels_named (body_with_item name body)) ≡ false =
+        ap (list_any (λ sought. not (known_new.label sought))) (labels_same name body)
+        ∙ (λ j. list_any (λ sought. not (label_same inside sought j)) (labels_named body)) ∙ p.1 in
+        let bs : list_any (λ sought. is_none (known_new.block sought)) (procedures_named (body_with_item name body) ++ blocks_used (body_with_item name body)) ≡ false = by body q.1 in
+        ap (λ t. (t || list_any (λ sought. is_none (known_new.block sought)) (procedures_named (body_with_item name body) ++ blocks_used (body_with_item name body)))
+        || list_any (λ sought. not (known_new.label sought)) (labels_named (body_with_item name body))) vs
+        ∙ ap (λ t. t || list_any (λ sought. not (known_new.label sought)) (labels_named (body_with_item name body))) bs ∙ ls
       where
-        kept : (xs : List (List ℕ)) → list_any (λ nm. is_none (block_named names nm)) xs ≡ false → list_any (λ nm. is_none (block_named more nm)) xs ≡ false
-        kept xs e = none_kept (λ nm. is_none (block_named names nm)) (λ nm. is_none (block_named more nm)) (λ nm. still_found name b plain names.blocks nm) xs e
+        kept : (xs : List (List ℕ)) → list_any (λ sought. is_none (block_named names sought)) xs ≡ false → list_any (λ sought. is_none (block_named more sought)) xs ≡ false
+        kept xs e = none_kept (λ sought. is_none (block_named names sought)) (λ sought. is_none (block_named more sought)) (λ sought. still_found name b plain names.blocks sought) xs e
 
-        by : (body : BodyTree) → list_any (λ nm. is_none (block_named names nm)) (procedures_named body ++ blocks_used body) ≡ false
-            → list_any (λ nm. is_none (block_named more nm)) (procedures_named (body_with_item name body) ++ blocks_used (body_with_item name body)) ≡ false
+        by : (body : BodyTree) → list_any (λ sought. is_none (block_named names sought)) (procedures_named body ++ blocks_used body) ≡ false
+            → list_any (λ sought. is_none (block_named more sought)) (procedures_named (body_with_item name body) ++ blocks_used (body_with_item name body)) ≡ false
         by (action own text items) e =
-            ap (λ t. t || list_any (λ nm. is_none (block_named more nm)) (map item_name items ++ [])) (new_found name b plain names.blocks) ∙ kept (map item_name items ++ []) e
+            ap (λ t. t || list_any (λ sought. is_none (block_named more sought)) (map item_name items ++ [])) (new_found name b plain names.blocks) ∙ kept (map item_name items ++ []) e
         by body e = kept (procedures_named body ++ blocks_used body) e
 
-    hidden_same : (body : BodyTree) → names_hidden M (body_with_item name body) ≡ names_hidden K body
+    hidden_same : (body : BodyTree) → names_hidden known_new (body_with_item name body) ≡ names_hidden known_old body
     hidden_same body =
-        ap (list_any (λ nm. is_hidden (M.found nm))) (variables_same name body) ∙ ap (λ (f : List ℕ → Found). list_any (λ nm. is_hidden (f nm)) (variables_named body)) found_is
+        ap (list_any (λ sought. is_hidden (known_new.found sought))) (variables_same name body) ∙ ap (λ (f : List ℕ → Found). list_any (λ sought. is_hidden (f sought)) (variables_named body)) found_is
 
-    procedures_kinded : (body : BodyTree) → list_all (λ nm. not (is_data_block (block_named names nm))) (procedures_named (body_with_item name body))
-        ≡ list_all (λ nm. not (is_data_block (block_named names nm))) (procedures_named body)
+    procedures_kinded : (body : BodyTree) → list_all (λ sought. not (is_data_block (block_named names sought))) (procedures_named (body_with_item name body))
+        ≡ list_all (λ sought. not (is_data_block (block_named names sought))) (procedures_named body)
     procedures_kinded (action own text items) =
-        ap (λ t. not t && list_all (λ nm. not (is_data_block (block_named names nm))) (map item_name items)) (no_data (block_named names name) free)
+        ap (λ t. not t && list_all (λ sought. not (is_data_block (block_named names sought))) (map item_name items)) (no_data (block_named names name) free)
     procedures_kinded _ = refl
 
-    kinded_same : (body : BodyTree) → is_well_kinded M (body_with_item name body) ≡ is_well_kinded K body
+    kinded_same : (body : BodyTree) → is_well_kinded known_new (body_with_item name body) ≡ is_well_kinded known_old body
     kinded_same body =
-        (λ j. list_all (λ nm. not (data_same name b plain names.blocks nm j)) (procedures_named (body_with_item name body)) && operands_suit M.kind (body_with_item name body))
-        ∙ ap (λ t. t && operands_suit M.kind (body_with_item name body)) (procedures_kinded body)
-        ∙ ap (λ (k : List ℕ → Option VarKind). list_all (λ nm. not (is_data_block (block_named names nm))) (procedures_named body) && operands_suit k (body_with_item name body)) kind_is
-        ∙ ap (λ t. list_all (λ nm. not (is_data_block (block_named names nm))) (procedures_named body) && t) (suits_same name K.kind body)
+        (λ j. list_all (λ sought. not (data_same name b plain names.blocks sought j)) (procedures_named (body_with_item name body)) && operands_suit known_new.kind (body_with_item name body))
+        ∙ ap (λ t. t && operands_suit known_new.kind (body_with_item name body)) (procedures_kinded body)
+        ∙ ap (λ (k : List ℕ → Option VarKind). list_all (λ sought. not (is_data_block (block_named names sought))) (procedures_named body) && operands_suit k (body_with_item name body)) kind_is
+        ∙ ap (λ t. list_all (λ sought. not (is_data_block (block_named names sought))) (procedures_named body) && t) (suits_same name known_old.kind body)
 
   -- a statement with its new items, behind statements with theirs
   module _ (before : List StmtTree) (other : IsOther name (inside_after (numbered_from 1 (map Some before)))) where
@@ -382,11 +383,11 @@ end_opens_none (st ∷ []) n h = by st.body h
 -- ---- the whole
 
 module _ (name : List ℕ) (base : BaseLengths) (end program : List StmtTree) (h : EndsWell program) (closes : IsEnd end) (free : IsUnknown name program) (holds : IsSound program) where
-  abbrev P : List StmtTree
-  P = before_crc program
+  abbrev front : List StmtTree
+  front = before_crc program
 
-  abbrev W : List StmtTree
-  W = map (with_item name) P
+  abbrev front_with : List StmtTree
+  front_with = map (with_item name) front
 
   abbrev six : List StmtTree
   six = padding_procedure name base
@@ -404,77 +405,80 @@ module _ (name : List ℕ) (base : BaseLengths) (end program : List StmtTree) (h
   names2 = record names { blocks = names.blocks ++ ((name, fresh_block) ∷ []) }
 
   -- the facts behind these statements
-  abbrev F : List StmtTree → Facts
-  F before = facts_after names2 (numbered_from 1 (map Some before))
+  abbrev facts_behind : List StmtTree → Facts
+  facts_behind before = facts_after names2 (numbered_from 1 (map Some before))
 
   -- behind the program, and some statements of the new procedure
-  abbrev X : List StmtTree → Facts
-  X ys = F (W ++ ys)
+  abbrev facts_in_new : List StmtTree → Facts
+  facts_in_new ys = facts_behind (front_with ++ ys)
 
-  opens : (ys : List StmtTree) → (X ys).inside ≡ inside_from None (numbered_from (1 + length W) (map Some ys))
+  opens : (ys : List StmtTree) → (facts_in_new ys).inside ≡ inside_from None (numbered_from (1 + length front_with) (map Some ys))
   opens ys =
-      inside_join W ys None 1 ∙ ap (λ o. inside_from o (numbered_from (1 + length W) (map Some ys))) (inside_with name P None 1 ∙ h.no_block)
+      inside_join front_with ys None 1 ∙ ap (λ o. inside_from o (numbered_from (1 + length front_with) (map Some ys))) (inside_with name front None 1 ∙ h.no_block)
 
-  no_crc : (ys : List StmtTree) → any_body is_crc (numbered_from (1 + length W) (map Some ys)) ≡ false → (X ys).place.after_crc ≡ false
+  no_crc : (ys : List StmtTree) → any_body is_crc (numbered_from (1 + length front_with) (map Some ys)) ≡ false → (facts_in_new ys).place.after_crc ≡ false
   no_crc ys e =
-      any_join is_crc W ys 1 ∙ ap (λ t. t || any_body is_crc (numbered_from (1 + length W) (map Some ys))) (any_same name is_crc (crc_same name) P 1 ∙ no_crc_before program 1) ∙ e
+      any_join is_crc front_with ys 1
+      ∙ ap (λ t. t || any_body is_crc (numbered_from (1 + length front_with) (map Some ys))) (any_same name is_crc (crc_same name) front 1 ∙ no_crc_before program 1) ∙ e
 
-  in_new : (ys : List StmtTree) → inside_from None (numbered_from (1 + length W) (map Some ys)) ≡ Some name → (X ys).place.in_procedure ≡ true
+  in_new : (ys : List StmtTree) → inside_from None (numbered_from (1 + length front_with) (map Some ys)) ≡ Some name → (facts_in_new ys).place.in_procedure ≡ true
   in_new ys e =
       ap (λ o. is_some o && not (in_data_block names2 o)) (opens ys ∙ e)
       ∙ ap (λ t. true && not t) (data_same name fresh_block refl names.blocks name ∙ no_data (block_named names name) free)
 
-  outside_procedure : (ys : List StmtTree) → inside_from None (numbered_from (1 + length W) (map Some ys)) ≡ None → (X ys).place.in_procedure ≡ false
+  outside_procedure : (ys : List StmtTree) → inside_from None (numbered_from (1 + length front_with) (map Some ys)) ≡ None → (facts_in_new ys).place.in_procedure ≡ false
   outside_procedure ys e = ap (λ o. is_some o && not (in_data_block names2 o)) (opens ys ∙ e)
 
-  outside_data : (ys : List StmtTree) → inside_from None (numbered_from (1 + length W) (map Some ys)) ≡ None → (X ys).place.in_data ≡ false
+  outside_data : (ys : List StmtTree) → inside_from None (numbered_from (1 + length front_with) (map Some ys)) ≡ None → (facts_in_new ys).place.in_data ≡ false
   outside_data ys e = ap (in_data_block names2) (opens ys ∙ e)
 
-  not_yet : (X []).earlier.block name ≡ false
+  not_yet : (facts_in_new []).earlier.block name ≡ false
   not_yet =
-      ap (λ (xs : List StmtTree). is_some (lookup (bytes_eq name) (names_of (numbered_from 1 (map Some xs))).blocks)) (append-nil W)
-      ∙ ap (λ (ns : Names). is_some (lookup (bytes_eq name) ns.blocks)) (earlier_same name P)
+      ap (λ (xs : List StmtTree). is_some (lookup (bytes_eq name) (names_of (numbered_from 1 (map Some xs))).blocks)) (append-nil front_with)
+      ∙ ap (λ (ns : Names). is_some (lookup (bytes_eq name) ns.blocks)) (earlier_same name front)
       ∙ ap (λ es. is_some (lookup (bytes_eq name) (firsts bytes_eq es))) (sym (declared_old name base end program h closes free block_of (λ n k label. refl)))
       ∙ free
 
   -- the statement at a place behind the program
-  behind : (i : ℕ) (st : StmtTree) (reason : Reason) → slice_get (six ++ end) i ≡ Some st → breaks (X (take i (six ++ end))) st reason ≡ false
+  behind : (i : ℕ) (st : StmtTree) (reason : Reason) → slice_get (six ++ end) i ≡ Some st → breaks (facts_in_new (take i (six ++ end))) st reason ≡ false
   behind zero st reason at =
-      subst (λ (s : StmtTree). breaks (X []) s reason ≡ false) (same_Some (bare_statement (procedure name None)) st at)
-      (new_keeps (X []) name reason (outside_procedure [] refl) (outside_data [] refl) (no_crc [] refl) not_yet)
+      subst (λ (s : StmtTree). breaks (facts_in_new []) s reason ≡ false) (same_Some (bare_statement (procedure name None)) st at)
+      (new_keeps (facts_in_new []) name reason (outside_procedure [] refl) (outside_data [] refl) (no_crc [] refl) not_yet)
   behind (suc zero) st reason at =
       let ys : List StmtTree = take 1 (six ++ end) in
-      subst (λ (s : StmtTree). breaks (X ys) s reason ≡ false) (same_Some (ones_padding paddings.PreInstruction base.ir_pre) st at)
-      (pad_keeps (X ys) paddings.PreInstruction base.ir_pre reason (in_new ys refl))
+      subst (λ (s : StmtTree). breaks (facts_in_new ys) s reason ≡ false) (same_Some (ones_padding paddings.PreInstruction base.ir_pre) st at)
+      (pad_keeps (facts_in_new ys) paddings.PreInstruction base.ir_pre reason (in_new ys refl))
   behind (suc (suc zero)) st reason at =
       let ys : List StmtTree = take 2 (six ++ end) in
-      subst (λ (s : StmtTree). breaks (X ys) s reason ≡ false) (same_Some (ones_padding paddings.PostInstruction base.ir_post) st at)
-      (pad_keeps (X ys) paddings.PostInstruction base.ir_post reason (in_new ys refl))
+      subst (λ (s : StmtTree). breaks (facts_in_new ys) s reason ≡ false) (same_Some (ones_padding paddings.PostInstruction base.ir_post) st at)
+      (pad_keeps (facts_in_new ys) paddings.PostInstruction base.ir_post reason (in_new ys refl))
   behind (suc (suc (suc zero))) st reason at =
       let ys : List StmtTree = take 3 (six ++ end) in
-      subst (λ (s : StmtTree). breaks (X ys) s reason ≡ false) (same_Some (ones_padding paddings.PreData base.dr_pre) st at) (pad_keeps (X ys) paddings.PreData base.dr_pre reason (in_new ys refl))
+      subst (λ (s : StmtTree). breaks (facts_in_new ys) s reason ≡ false) (same_Some (ones_padding paddings.PreData base.dr_pre) st at)
+      (pad_keeps (facts_in_new ys) paddings.PreData base.dr_pre reason (in_new ys refl))
   behind (suc (suc (suc (suc zero)))) st reason at =
       let ys : List StmtTree = take 4 (six ++ end) in
-      subst (λ (s : StmtTree). breaks (X ys) s reason ≡ false) (same_Some (ones_padding paddings.PostData base.dr_post) st at) (pad_keeps (X ys) paddings.PostData base.dr_post reason (in_new ys refl))
+      subst (λ (s : StmtTree). breaks (facts_in_new ys) s reason ≡ false) (same_Some (ones_padding paddings.PostData base.dr_post) st at)
+      (pad_keeps (facts_in_new ys) paddings.PostData base.dr_post reason (in_new ys refl))
   behind (suc (suc (suc (suc (suc zero))))) st reason at =
       let ys : List StmtTree = take 5 (six ++ end) in
-      subst (λ (s : StmtTree). breaks (X ys) s reason ≡ false) (same_Some (bare_statement end_procedure) st at) (end_keeps (X ys) reason (in_new ys refl))
+      subst (λ (s : StmtTree). breaks (facts_in_new ys) s reason ≡ false) (same_Some (bare_statement end_procedure) st at) (end_keeps (facts_in_new ys) reason (in_new ys refl))
   behind (suc (suc (suc (suc (suc (suc i)))))) st reason at = at_end end i closes at
     where
-      at_end : (tail : List StmtTree) (i : ℕ) → IsEnd tail → slice_get tail i ≡ Some st → breaks (X (six ++ take i tail)) st reason ≡ false
+      at_end : (tail : List StmtTree) (i : ℕ) → IsEnd tail → slice_get tail i ≡ Some st → breaks (facts_in_new (six ++ take i tail)) st reason ≡ false
       at_end [] i e at = absurd (none-some st at)
       at_end (x ∷ y ∷ rest) i e at = absurd e
       at_end (x ∷ []) (suc i) e at = absurd (none-some st at)
       at_end (x ∷ []) zero e at =
           let is : is_crc st.body ≡ true = subst (λ (s : StmtTree). is_crc s.body ≡ true) (same_Some x st at) e in
-          crc_keeps (X (six ++ [])) st reason is (outside_procedure (six ++ []) refl) (outside_data (six ++ []) refl) (no_crc (six ++ []) refl) (opens (six ++ []))
+          crc_keeps (facts_in_new (six ++ [])) st reason is (outside_procedure (six ++ []) refl) (outside_data (six ++ []) refl) (no_crc (six ++ []) refl) (opens (six ++ []))
 
   -- each statement, where the program is cut
-  each : (before rest : List StmtTree) → P ≡ before ++ rest → (i : ℕ) (st : StmtTree) (reason : Reason) → slice_get (map (with_item name) rest ++ (six ++ end)) i ≡ Some st
-      → breaks (F (map (with_item name) before ++ take i (map (with_item name) rest ++ (six ++ end)))) st reason ≡ false
+  each : (before rest : List StmtTree) → front ≡ before ++ rest → (i : ℕ) (st : StmtTree) (reason : Reason) → slice_get (map (with_item name) rest ++ (six ++ end)) i ≡ Some st
+      → breaks (facts_behind (map (with_item name) before ++ take i (map (with_item name) rest ++ (six ++ end)))) st reason ≡ false
   each before [] e i st reason at =
-      let all : P ≡ before = e ∙ append-nil before in
-      subst (λ (xs : List StmtTree). breaks (F (map (with_item name) xs ++ take i (six ++ end))) st reason ≡ false) all (behind i st reason at)
+      let all : front ≡ before = e ∙ append-nil before in
+      subst (λ (xs : List StmtTree). breaks (facts_behind (map (with_item name) xs ++ take i (six ++ end))) st reason ≡ false) all (behind i st reason at)
   each before (x ∷ rest) e zero st reason at =
       let whole : program ≡ before ++ (x ∷ (rest ++ from_crc program)) =
       split_at_crc program ∙ ap (λ t. t ++ from_crc program) e ∙ append_assoc before (x ∷ rest) (from_crc program) in
@@ -485,13 +489,13 @@ module _ (name : List ℕ) (base : BaseLengths) (end program : List StmtTree) (h
       subst (λ t. IsOther name (inside_after (numbered_from 1 t))) here (other_block name program n (not_named_old name base end program h closes free)) in
       let old : breaks (facts_after names (numbered_from 1 (map Some before))) x reason ≡ false =
       subst (λ t. breaks (facts_after names (numbered_from 1 t)) x reason ≡ false) here (holds.keeps n x reason found) in
-      subst (λ (s : StmtTree). breaks (F (map (with_item name) before ++ [])) s reason ≡ false) (same_Some (with_item name x) st at)
-      (subst (λ (xs : List StmtTree). breaks (F xs) (with_item name x) reason ≡ false) (sym (append-nil (map (with_item name) before)))
+      subst (λ (s : StmtTree). breaks (facts_behind (map (with_item name) before ++ [])) s reason ≡ false) (same_Some (with_item name x) st at)
+      (subst (λ (xs : List StmtTree). breaks (facts_behind xs) (with_item name x) reason ≡ false) (sym (append-nil (map (with_item name) before)))
       (still_keeps name names fresh_block refl free before other x reason old))
   each before (x ∷ rest) e (suc i) st reason at =
       let y : StmtTree = with_item name x in
       let more : List StmtTree = take i (map (with_item name) rest ++ (six ++ end)) in
-      subst (λ (xs : List StmtTree). breaks (F xs) st reason ≡ false)
+      subst (λ (xs : List StmtTree). breaks (facts_behind xs) st reason ≡ false)
       (ap (λ t. t ++ more) (map-append (with_item name) before (x ∷ [])) ∙ append_assoc (map (with_item name) before) (y ∷ []) more)
       (each (before ++ (x ∷ [])) rest (e ∙ sym (append_assoc before (x ∷ []) rest)) i st reason at)
 
@@ -499,20 +503,21 @@ module _ (name : List ℕ) (base : BaseLengths) (end program : List StmtTree) (h
   keeps_rules i st reason at =
       ap (λ t. breaks (facts_after (program_names new) (numbered t)) st reason) (take_map i new)
       ∙ ap (λ (ns : Names). breaks (facts_after ns (numbered_from 1 (map Some (take i new)))) st reason) (names_new name base end program h closes free)
-      ∙ each [] P refl i st reason at
+      ∙ each [] front refl i st reason at
 
   closed_new : is_some (inside_after (numbered (take (length new) (map Some new)))) ≡ false
-  closed_new = ap (λ t. is_some (inside_after (numbered t))) (take_all new) ∙ ap is_some (opens (six ++ end) ∙ end_opens_none end (1 + length W + 1 + 1 + 1 + 1 + 1 + 1) closes)
+  closed_new = ap (λ t. is_some (inside_after (numbered t))) (take_all new) ∙ ap is_some (opens (six ++ end) ∙ end_opens_none end (1 + length front_with + 1 + 1 + 1 + 1 + 1 + 1) closes)
 
   acts_new : any_body is_action (numbered (take (length new) (map Some new))) ≡ true
   acts_new =
-      let P1 : Bool = any_body is_action (numbered_from 1 (map Some P)) in
-      let old : (P1 || any_body is_action (numbered_from (1 + length P) (map Some (from_crc program)))) ≡ true =
-      sym (any_join is_action P (from_crc program) 1) ∙ ap (λ ps. any_body is_action (numbered_from 1 (map Some ps))) (sym (split_at_crc program))
+      let some_front : Bool = any_body is_action (numbered_from 1 (map Some front)) in
+      let old : (some_front || any_body is_action (numbered_from (1 + length front) (map Some (from_crc program)))) ≡ true =
+      sym (any_join is_action front (from_crc program) 1) ∙ ap (λ ps. any_body is_action (numbered_from 1 (map Some ps))) (sym (split_at_crc program))
       ∙ ap (λ t. any_body is_action (numbered t)) (sym (take_all program)) ∙ holds.acts in
-      let some : P1 ≡ true = or_none P1 (any_body is_action (numbered_from (1 + length P) (map Some (from_crc program)))) (end_has_no_action (from_crc program) (1 + length P) h.end) old in
-      ap (λ t. any_body is_action (numbered t)) (take_all new) ∙ any_join is_action W (six ++ end) 1
-      ∙ ap (λ t. t || any_body is_action (numbered_from (1 + length W) (map Some (six ++ end)))) (any_same name is_action (action_same name) P 1 ∙ some)
+      let some : some_front ≡ true =
+      or_none some_front (any_body is_action (numbered_from (1 + length front) (map Some (from_crc program)))) (end_has_no_action (from_crc program) (1 + length front) h.end) old in
+      ap (λ t. any_body is_action (numbered t)) (take_all new) ∙ any_join is_action front_with (six ++ end) 1
+      ∙ ap (λ t. t || any_body is_action (numbered_from (1 + length front_with) (map Some (six ++ end)))) (any_same name is_action (action_same name) front 1 ∙ some)
     where
       or_none : (a b : Bool) → b ≡ false → (a || b) ≡ true → a ≡ true
       or_none true b e f = refl

@@ -62,13 +62,13 @@ module _ (name : List ℕ) (base : BaseLengths) (old new : Played) (h : IsCarrie
       ∙ entries_kept name h.front h.tail (padding_procedure name base ++ h.end) p h.apart lt1
       ∙ ap (λ (ps : List StmtTree). entry_from ps p) (sym h.old_is)
 
-  pub same_number : (nm : List ℕ) → IsProcedure old nm → procedure_number new.pieces nm ≡ procedure_number old.pieces nm
-  same_number nm lt =
-      let lt1 : procedure_number (h.front ++ h.tail) nm < procedures_in (h.front ++ h.tail) =
-      subst (λ (ps : List StmtTree). procedure_number ps nm < procedures_in ps) h.old_is lt in
-      ap (λ (ps : List StmtTree). procedure_number ps nm) h.new_is
-      ∙ number_kept name h.front h.tail (padding_procedure name base ++ h.end) nm h.apart lt1
-      ∙ ap (λ (ps : List StmtTree). procedure_number ps nm) (sym h.old_is)
+  pub same_number : (sought : List ℕ) → IsProcedure old sought → procedure_number new.pieces sought ≡ procedure_number old.pieces sought
+  same_number sought lt =
+      let lt1 : procedure_number (h.front ++ h.tail) sought < procedures_in (h.front ++ h.tail) =
+      subst (λ (ps : List StmtTree). procedure_number ps sought < procedures_in ps) h.old_is lt in
+      ap (λ (ps : List StmtTree). procedure_number ps sought) h.new_is
+      ∙ number_kept name h.front h.tail (padding_procedure name base ++ h.end) sought h.apart lt1
+      ∙ ap (λ (ps : List StmtTree). procedure_number ps sought) (sym h.old_is)
 
   module _ (i : ℕ) (st : StmtTree) (at : slice_get old.pieces i ≡ Some st) (inner : is_outer st.body ≡ false) where
     at_front : slice_get (h.front ++ h.tail) i ≡ Some st
@@ -94,33 +94,33 @@ module _ (name : List ℕ) (base : BaseLengths) (old new : Played) (h : IsCarrie
     abbrev look : Lookup
     look = lookup_from old.names (block_at old.pieces i)
 
-    abbrev l1 : List ℕ → ℕ
-    l1 nm = label_from old.names (length old.pieces) (block_at old.pieces i) nm
+    abbrev old_label : List ℕ → ℕ
+    old_label sought = label_from old.names (length old.pieces) (block_at old.pieces i) sought
 
-    abbrev l2 : List ℕ → ℕ
-    l2 nm = label_from new.names (length new.pieces) (block_at new.pieces i) nm
+    abbrev new_label : List ℕ → ℕ
+    new_label sought = label_from new.names (length new.pieces) (block_at new.pieces i) sought
 
     abbrev Rows : List BodyTree → Type 0
     Rows bs = SameRows base count (scope_at old i) (scope_at new i) same_entries bs
 
-    same_label : (block nm : List ℕ) → block_at old.pieces i ≡ Some block → l1 nm < length old.pieces → l2 nm ≡ l1 nm
-    same_label block nm inside lt =
-        let lt1 : label_from old.names (length old.pieces) (Some block) nm < length old.pieces =
-        subst (λ o. label_from old.names (length old.pieces) o nm < length old.pieces) inside lt in
-        ap (λ o. label_from new.names (length new.pieces) o nm) (same_block ∙ inside)
-        ∙ label_kept old.names new.names (length old.pieces) (length new.pieces) block nm h.labels lt1
-        ∙ ap (λ o. label_from old.names (length old.pieces) o nm) (sym inside)
+    same_label : (block sought : List ℕ) → block_at old.pieces i ≡ Some block → old_label sought < length old.pieces → new_label sought ≡ old_label sought
+    same_label block sought inside lt =
+        let lt1 : label_from old.names (length old.pieces) (Some block) sought < length old.pieces =
+        subst (λ o. label_from old.names (length old.pieces) o sought < length old.pieces) inside lt in
+        ap (λ o. label_from new.names (length new.pieces) o sought) (same_block ∙ inside)
+        ∙ label_kept old.names new.names (length old.pieces) (length new.pieces) block sought h.labels lt1
+        ∙ ap (λ o. label_from old.names (length old.pieces) o sought) (sym inside)
 
     same_rows : (block : List ℕ) → block_at old.pieces i ≡ Some block → (b : BodyTree) → sets_padding b ≡ false
-        → AllByRecursion (λ nm. IsInBlock old block (l1 nm)) (labels_named b) → NamesProcedures old b → Rows (rows b)
+        → AllByRecursion (λ sought. IsInBlock old block (old_label sought)) (labels_named b) → NamesProcedures old b → Rows (rows b)
     same_rows block inside (pad which size bits) np ls ps = absurd (true≢false np)
-    same_rows block inside (boolean nm None) np ls ps = tt
-    same_rows block inside (boolean_array nm size None) np ls ps = tt
-    same_rows block inside (integer nm None) np ls ps = tt
-    same_rows block inside (integer_array nm size None) np ls ps = tt
-    same_rows block inside (goto nm) np ls ps = (refl, ap Some (same_label block nm inside ls.0.within), tt)
-    same_rows block inside (call nm) np ls ps =
-        (refl, ap (λ p. Some (entry_from new.pieces p)) (same_number nm ps) ∙ ap Some (same_entries (procedure_number old.pieces nm) ps), tt)
+    same_rows block inside (boolean sought None) np ls ps = tt
+    same_rows block inside (boolean_array sought size None) np ls ps = tt
+    same_rows block inside (integer sought None) np ls ps = tt
+    same_rows block inside (integer_array sought size None) np ls ps = tt
+    same_rows block inside (goto sought) np ls ps = (refl, ap Some (same_label block sought inside ls.0.within), tt)
+    same_rows block inside (call sought) np ls ps =
+        (refl, ap (λ p. Some (entry_from new.pieces p)) (same_number sought ps) ∙ ap Some (same_entries (procedure_number old.pieces sought) ps), tt)
     same_rows block inside (if_then e body) np ls ps = (np, refl, same_rows block inside body np ls ps)
     same_rows block inside _ np ls ps = (np, refl, tt)
 
@@ -131,16 +131,16 @@ module _ (name : List ℕ) (base : BaseLengths) (old new : Played) (h : IsCarrie
         let t : IsTypedAt old i st.body = typed.statements i st at inner in
         let ps : NamesProcedures old st.body = all_at (λ (st : StmtTree). NamesProcedures old st.body) old.pieces i st typed.items at in
         let np : sets_padding st.body ≡ false = bare_at old.pieces i bare at in
-        let u : State = padded_state base s in
-        let A : Scope = scope_at old i in
-        let B : Lookup → Scope = λ look. record (scope_at new i) { look = look } in
-        let r : SameTurned base count (rows_done A (rows st.body) s) (rows_done (B look) (rows st.body) u) =
-        rows_same base count A (scope_at new i) same_entries (rows st.body) (same_rows t.block t.inside st.body np t.leads ps) s fits in
-        let q : SameTurned base count (turn_of A (i + 1) s (Some st)) (turn_of (B look) (i + 1) u (Some st)) =
-        piece_same base count (i + 1) (rows_done A (rows st.body) s) (rows_done (B look) (rows st.body) u) r in
-        subst (λ o. SameTurned base count (turn_of (scope_at old i) (i + 1) s o) (turn new i u)) (sym at)
-        (subst (λ o. SameTurned base count (turn_of (scope_at old i) (i + 1) s (Some st)) (turn_of (scope_at new i) (i + 1) u o)) (sym same_piece)
-        (subst (λ look. SameTurned base count (turn_of A (i + 1) s (Some st)) (turn_of (B look) (i + 1) u (Some st))) (sym same_look) q))
+        let padded : State = padded_state base s in
+        let here : Scope = scope_at old i in
+        let there : Lookup → Scope = λ look. record (scope_at new i) { look = look } in
+        let r : SameTurned base count (rows_done here (rows st.body) s) (rows_done (there look) (rows st.body) padded) =
+        rows_same base count here (scope_at new i) same_entries (rows st.body) (same_rows t.block t.inside st.body np t.leads ps) s fits in
+        let q : SameTurned base count (turn_of here (i + 1) s (Some st)) (turn_of (there look) (i + 1) padded (Some st)) =
+        piece_same base count (i + 1) (rows_done here (rows st.body) s) (rows_done (there look) (rows st.body) padded) r in
+        subst (λ o. SameTurned base count (turn_of (scope_at old i) (i + 1) s o) (turn new i padded)) (sym at)
+        (subst (λ o. SameTurned base count (turn_of (scope_at old i) (i + 1) s (Some st)) (turn_of (scope_at new i) (i + 1) padded o)) (sym same_piece)
+        (subst (λ look. SameTurned base count (turn_of here (i + 1) s (Some st)) (turn_of (there look) (i + 1) padded (Some st))) (sym same_look) q))
       where
         bare_at : (xs : List StmtTree) (i : ℕ) → EachBody (λ b. sets_padding b ≡ false) xs → slice_get xs i ≡ Some st → sets_padding st.body ≡ false
         bare_at [] i h e = absurd (none-some st e)

@@ -101,11 +101,11 @@ module _ (base : BaseLengths) (count : ℕ) where
 
   -- the entries of these procedures are the same
   abbrev pub SameEntries : (ℕ → ℕ) → (ℕ → ℕ) → Type 0
-  SameEntries e1 e2 = (p : ℕ) → p < count → e2 p ≡ e1 p
+  SameEntries old_entry new_entry = (p : ℕ) → p < count → new_entry p ≡ old_entry p
 
-  pub chosen_same : (e1 e2 : ℕ → ℕ) → SameEntries e1 e2 → (s : State) → Fits s → (ps : List ℕ) → AreBelow count ps →
-      SameTurned (next_chosen e1 s ps) (next_chosen e2 (padded_state base s) ps)
-  chosen_same e1 e2 e s h ps b = walks.chosen_same (carrying base count) e1 e2 (λ p ps k. (e p k.0, k.1)) s h ps b
+  pub chosen_same : (old_entry new_entry : ℕ → ℕ) → SameEntries old_entry new_entry → (s : State) → Fits s → (ps : List ℕ) → AreBelow count ps →
+      SameTurned (next_chosen old_entry s ps) (next_chosen new_entry (padded_state base s) ps)
+  chosen_same old_entry new_entry e s h ps b = walks.chosen_same (carrying base count) old_entry new_entry (λ p ps k. (e p k.0, k.1)) s h ps b
 
   module _ (scope other : Scope) (e : SameEntries scope.entry other.entry) where
     -- the other scope, with the variables and the next place of the first one

@@ -88,40 +88,40 @@ unfolding symbol_terminal sign_terminal is_opening
 text_opens_none None s e = ap (weight opens) e
 text_opens_none (Some bytes) s e = ap (weight opens) e
 
-module _ (nm : List ℕ) (spells : is_printed_name nm ≡ true) (own : List ℕ) (text : Option (List ℕ)) (items : List ItemTree)
+module _ (new_name : List ℕ) (spells : is_printed_name new_name ≡ true) (own : List ℕ) (text : Option (List ℕ)) (items : List ItemTree)
     (can : CanBePrinted (bare_statement (action own text items))) where
   w : ActionWriting own text items can.writing
   w = parts_of own text items can.writing can.means
 
   -- the writing with the new item
   abbrev longer : List Symbol
-  longer = outer outers.Action ∷ name own ∷ (w.said ++ (equals ∷ name nm ∷ comma ∷ w.listed))
+  longer = outer outers.Action ∷ name own ∷ (w.said ++ (equals ∷ name new_name ∷ comma ∷ w.listed))
 
   abbrev shorter : List Symbol
   shorter = outer outers.Action ∷ name own ∷ (w.said ++ (equals ∷ w.listed))
 
-  weighs : (f : Symbol → Bool) → f (name nm) ≡ false → f comma ≡ false → weight f longer ≡ weight f can.writing
+  weighs : (f : Symbol → Bool) → f (name new_name) ≡ false → f comma ≡ false → weight f longer ≡ weight f can.writing
   weighs f e c =
-      let a : one_if (f (name nm)) ≡ 0 = ap one_if e in
+      let a : one_if (f (name new_name)) ≡ 0 = ap one_if e in
       let b : one_if (f comma) ≡ 0 = ap one_if c in
       let whole : weight f can.writing ≡ weight f shorter = ap (weight f) w.whole in
-      omega (arith, a, b, whole, weight-append f w.said (equals ∷ w.listed), weight-append f w.said (equals ∷ name nm ∷ comma ∷ w.listed))
+      omega (arith, a, b, whole, weight-append f w.said (equals ∷ w.listed), weight-append f w.said (equals ∷ name new_name ∷ comma ∷ w.listed))
 
   items_are : (items : List ItemTree) (s : List Symbol) → Separated (IsPart item_part) comma items s →
-      Separated (IsPart item_part) comma ((nm, None) ∷ items) (name nm ∷ comma ∷ s)
+      Separated (IsPart item_part) comma ((new_name, None) ∷ items) (name new_name ∷ comma ∷ s)
   items_are [] s is = absurd is
-  items_are (x ∷ xs) s is = (name nm ∷ [], s, refl, (name nm ∷ [], [], refl, refl, refl), is)
+  items_are (x ∷ xs) s is = (name new_name ∷ [], s, refl, (name new_name ∷ [], [], refl, refl, refl), is)
 
-  means_longer : IsBody longer (action own text ((nm, None) ∷ items))
+  means_longer : IsBody longer (action own text ((new_name, None) ∷ items))
   means_longer = (
-    name own ∷ (w.said ++ (equals ∷ name nm ∷ comma ∷ w.listed)),
+    name own ∷ (w.said ++ (equals ∷ name new_name ∷ comma ∷ w.listed)),
     refl,
     (
       name own ∷ [],
-      w.said ++ (equals ∷ name nm ∷ comma ∷ w.listed),
+      w.said ++ (equals ∷ name new_name ∷ comma ∷ w.listed),
       refl,
       refl,
-      (w.said, equals ∷ name nm ∷ comma ∷ w.listed, refl, w.has_text, (name nm ∷ comma ∷ w.listed, refl, items_are items w.listed w.has_items)),
+      (w.said, equals ∷ name new_name ∷ comma ∷ w.listed, refl, w.has_text, (name new_name ∷ comma ∷ w.listed, refl, items_are items w.listed w.has_items)),
     ),
   )
 
@@ -132,26 +132,26 @@ module _ (nm : List ℕ) (spells : is_printed_name nm ≡ true) (own : List ℕ)
       let all : (is_printed_name own && list_all is_spellable (said ++ (equals ∷ w.listed))) ≡ true = sym (ap (list_all is_spellable) w.whole) ∙ can.spelled in
       let p = and_parts (is_printed_name own) (list_all is_spellable (said ++ (equals ∷ w.listed))) all in
       let q = and_parts (list_all is_spellable said) (list_all is_spellable w.listed) (sym (list_all-append is_spellable said (equals ∷ w.listed)) ∙ p.1) in
-      let back : list_all is_spellable (said ++ (equals ∷ name nm ∷ comma ∷ w.listed)) ≡ true =
-      list_all-append is_spellable said (equals ∷ name nm ∷ comma ∷ w.listed)
-      ∙ and_from (list_all is_spellable said) (is_printed_name nm && list_all is_spellable w.listed) q.0 (and_from (is_printed_name nm) (list_all is_spellable w.listed) spells q.1) in
-      and_from (is_printed_name own) (list_all is_spellable (said ++ (equals ∷ name nm ∷ comma ∷ w.listed))) p.0 back
+      let back : list_all is_spellable (said ++ (equals ∷ name new_name ∷ comma ∷ w.listed)) ≡ true =
+      list_all-append is_spellable said (equals ∷ name new_name ∷ comma ∷ w.listed)
+      ∙ and_from (list_all is_spellable said) (is_printed_name new_name && list_all is_spellable w.listed) q.0 (and_from (is_printed_name new_name) (list_all is_spellable w.listed) spells q.1) in
+      and_from (is_printed_name own) (list_all is_spellable (said ++ (equals ∷ name new_name ∷ comma ∷ w.listed))) p.0 back
 
   opens_longer : weight opens longer ≡ 0
   unfolding symbol_terminal sign_terminal is_opening
   opens_longer =
-      let mark : 0 + (0 + (0 + weight opens w.listed)) ≡ weight opens (equals ∷ name nm ∷ comma ∷ w.listed) = refl in
-      let head : 0 + (0 + weight opens (w.said ++ (equals ∷ name nm ∷ comma ∷ w.listed))) ≡ weight opens longer = refl in
+      let mark : 0 + (0 + (0 + weight opens w.listed)) ≡ weight opens (equals ∷ name new_name ∷ comma ∷ w.listed) = refl in
+      let head : 0 + (0 + weight opens (w.said ++ (equals ∷ name new_name ∷ comma ∷ w.listed))) ≡ weight opens longer = refl in
       omega (
         arith,
         head,
         mark,
-        weight-append opens w.said (equals ∷ name nm ∷ comma ∷ w.listed),
+        weight-append opens w.said (equals ∷ name new_name ∷ comma ∷ w.listed),
         text_opens_none text w.said w.has_text,
         items_open_none items w.listed w.has_items,
       )
 
-  pub action_with_item : CanBePrinted (bare_statement (action own text ((nm, None) ∷ items)))
+  pub action_with_item : CanBePrinted (bare_statement (action own text ((new_name, None) ∷ items)))
   unfolding symbol_terminal sign_terminal is_condition is_operator
   action_with_item = record {
     writing = longer;
@@ -162,23 +162,23 @@ module _ (nm : List ℕ) (spells : is_printed_name nm ≡ true) (own : List ℕ)
     operators_few = λ e. subst (λ n. n ≤ 256) (sym (weighs operators refl refl)) (can.operators_few refl);
   }
 
-pub printed_with_item : (nm : List ℕ) → is_printed_name nm ≡ true → (st : StmtTree) → CanBePrinted st → CanBePrinted (with_item nm st)
-printed_with_item nm spells st can = by st.label st.body can
+pub printed_with_item : (new_name : List ℕ) → is_printed_name new_name ≡ true → (st : StmtTree) → CanBePrinted st → CanBePrinted (with_item new_name st)
+printed_with_item new_name spells st can = by st.label st.body can
   where
-    by : (label : Option (List ℕ)) (b : BodyTree) → CanBePrinted (record { label = label; body = b }) → CanBePrinted (record { label = label; body = body_with_item nm b })
-    by None (action own text items) can = action_with_item nm spells own text items can
+    by : (label : Option (List ℕ)) (b : BodyTree) → CanBePrinted (record { label = label; body = b }) → CanBePrinted (record { label = label; body = body_with_item new_name b })
+    by None (action own text items) can = action_with_item new_name spells own text items can
     by (Some v) (action own text items) can = absurd (true≢false can.means.2)
     by label _ can = can
 
 -- ---- the new procedure
 
-procedure_printed : (nm : List ℕ) → is_printed_name nm ≡ true → CanBePrinted (bare_statement (procedure nm None))
+procedure_printed : (new_name : List ℕ) → is_printed_name new_name ≡ true → CanBePrinted (bare_statement (procedure new_name None))
 unfolding symbol_terminal sign_terminal is_opening is_condition is_operator is_spellable is_spellable_sign
-procedure_printed nm spells = record {
-  writing = outer outers.Procedure ∷ name nm ∷ [];
-  means = (name nm ∷ [], refl, (name nm ∷ [], [], refl, refl, refl));
+procedure_printed new_name spells = record {
+  writing = outer outers.Procedure ∷ name new_name ∷ [];
+  means = (name new_name ∷ [], refl, (name new_name ∷ [], [], refl, refl, refl));
   spelled = ap (λ t. t && true) spells;
-  shallow = opens_none (outer outers.Procedure ∷ name nm ∷ []) refl;
+  shallow = opens_none (outer outers.Procedure ∷ name new_name ∷ []) refl;
   conditions_few = omega arith;
   operators_few = λ e. omega arith;
 }
@@ -210,15 +210,15 @@ end_printed = record {
 
 -- ---- the whole program
 
-front_printed : (nm : List ℕ) → is_printed_name nm ≡ true → (xs : List StmtTree) → AllByRecursion CanBePrinted xs → (ys : List StmtTree) →
-    AllByRecursion CanBePrinted ys → AllByRecursion CanBePrinted (map (with_item nm) (before_crc xs) ++ ys)
-front_printed nm spells [] all ys h = h
-front_printed nm spells (x ∷ xs) all ys h = by (is_crc x.body) (front_printed nm spells xs all.1 ys h)
+front_printed : (new_name : List ℕ) → is_printed_name new_name ≡ true → (xs : List StmtTree) → AllByRecursion CanBePrinted xs → (ys : List StmtTree) →
+    AllByRecursion CanBePrinted ys → AllByRecursion CanBePrinted (map (with_item new_name) (before_crc xs) ++ ys)
+front_printed new_name spells [] all ys h = h
+front_printed new_name spells (x ∷ xs) all ys h = by (is_crc x.body) (front_printed new_name spells xs all.1 ys h)
   where
-    by : (b : Bool) → AllByRecursion CanBePrinted (map (with_item nm) (before_crc xs) ++ ys) →
-        AllByRecursion CanBePrinted (map (with_item nm) (if b then [] else x ∷ before_crc xs) ++ ys)
+    by : (b : Bool) → AllByRecursion CanBePrinted (map (with_item new_name) (before_crc xs) ++ ys) →
+        AllByRecursion CanBePrinted (map (with_item new_name) (if b then [] else x ∷ before_crc xs) ++ ys)
     by true k = h
-    by false k = (printed_with_item nm spells x all.0, k)
+    by false k = (printed_with_item new_name spells x all.0, k)
 
 end_of : (xs : List StmtTree) → AllByRecursion CanBePrinted xs → AllByRecursion CanBePrinted (from_crc xs)
 end_of [] all = tt
@@ -228,11 +228,11 @@ end_of (x ∷ xs) all = by (is_crc x.body) (end_of xs all.1)
     by true k = all
     by false k = k
 
-pub carried_printed : (nm : List ℕ) (base : BaseLengths) (program : List StmtTree) → is_printed_name nm ≡ true → AreShort base →
-    AllByRecursion CanBePrinted program → AllByRecursion CanBePrinted (carried_program nm base program)
-carried_printed nm base program spells short all =
-    front_printed nm spells program all (padding_procedure nm base ++ from_crc program) (
-      procedure_printed nm spells,
+pub carried_printed : (new_name : List ℕ) (base : BaseLengths) (program : List StmtTree) → is_printed_name new_name ≡ true → AreShort base →
+    AllByRecursion CanBePrinted program → AllByRecursion CanBePrinted (carried_program new_name base program)
+carried_printed new_name base program spells short all =
+    front_printed new_name spells program all (padding_procedure new_name base ++ from_crc program) (
+      procedure_printed new_name spells,
       (
         padding_printed paddings.PreInstruction base.ir_pre short.ir_pre,
         (

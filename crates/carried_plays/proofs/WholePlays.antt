@@ -163,18 +163,18 @@ module _ (name : List ℕ) (base : BaseLengths) (old new : Played) (h : IsCarrie
         → run new (n + 5) (entry_from new.pieces count) (with_variables s0 vs) (unbased k)
         ≡ carried_run base (goes_on (happens k (next_chosen (entry_from old.pieces) (with_variables s0 vs) chosen)) s0 k (run old n))
     begun_same vs k own live =
-        let A : State = with_variables s0 vs in
-        let e1 : ℕ → ℕ = entry_from old.pieces in
-        let e2 : ℕ → ℕ = entry_from new.pieces in
+        let first : State = with_variables s0 vs in
+        let old_entry : ℕ → ℕ = entry_from old.pieces in
+        let entry_in_new : ℕ → ℕ = entry_from new.pieces in
         let five : n + 5 ≡ suc (suc (suc (suc (suc n)))) = omega arith in
-        let fits : Fits base count A = ((refl, refl), (refl, refl), below) in
-        let same : goes_on (happens k (next_chosen e1 A chosen)) s0 k (run old n) ≡ goes_on (happens k (next_chosen e1 A chosen)) A k (run old n) =
-        first_state e1 A s0 A chosen k (run old n) in
-        let live1 : (goes_on (happens k (next_chosen e1 A chosen)) A k (run old n)).outcome ≢ Stopped = subst (λ (r : Run). r.outcome ≢ Stopped) same live in
-        ap (λ m. run new m (e2 count) A (unbased k)) five
-        ∙ five_turns name base new h.front h.end h.new_is a b c d n (e2 count) A (unbased k) new_first refl
-        ∙ turn_then_same base count (next_chosen e1 A chosen) (next_chosen e2 (padded_state base A) chosen) A k (run old n) (run new n)
-        (chosen_same base count e1 e2 (same_entries name base old new h typed bare) A fits chosen below) own live1
+        let fits : Fits base count first = ((refl, refl), (refl, refl), below) in
+        let same : goes_on (happens k (next_chosen old_entry first chosen)) s0 k (run old n) ≡ goes_on (happens k (next_chosen old_entry first chosen)) first k (run old n) =
+        first_state old_entry first s0 first chosen k (run old n) in
+        let live1 : (goes_on (happens k (next_chosen old_entry first chosen)) first k (run old n)).outcome ≢ Stopped = subst (λ (r : Run). r.outcome ≢ Stopped) same live in
+        ap (λ m. run new m (entry_in_new count) first (unbased k)) five
+        ∙ five_turns name base new h.front h.end h.new_is a b c d n (entry_in_new count) first (unbased k) new_first refl
+        ∙ turn_then_same base count (next_chosen old_entry first chosen) (next_chosen entry_in_new (padded_state base first) chosen) first k (run old n) (run new n)
+        (chosen_same base count old_entry entry_in_new (same_entries name base old new h typed bare) first fits chosen below) own live1
         (λ place t l p q r. runs_same base count old new (same_turns name base old new h typed bare) n place t l p q r)
         ∙ ap (carried_run base) (sym same)
 
@@ -199,15 +199,16 @@ module _ (name : List ℕ) (base : BaseLengths) (old new : Played) (h : IsCarrie
             → goes_on (happens (unbased k) (begun (entry_from new.pieces) u)) (start (count ∷ chosen) (zeros_of old)) (unbased k) (run new (n + 5))
             ≡ carried_run base (goes_on (happens k (begun (entry_from old.pieces) t)) s0 k (run old n))
         by (Leads ds place x) u p live =
-            let e1 : ℕ → ℕ = entry_from old.pieces in
-            let e2 : ℕ → ℕ = entry_from new.pieces in
+            let old_entry : ℕ → ℕ = entry_from old.pieces in
+            let entry_in_new : ℕ → ℕ = entry_from new.pieces in
             let vs : List Held = x.store.variables in
-            let A : State = with_variables s0 vs in
-            let old_is : begun e1 (Leads ds place x) ≡ next_chosen e1 A chosen =
-            ap (λ ds. preceded ds (next_chosen e1 x x.chosen)) p.0 ∙ ap (λ (x : State). preceded [] (next_chosen e1 x x.chosen)) p.2 ∙ preceded_none (next_chosen e1 A chosen) in
-            let new_is : begun e2 u ≡ Leads [] (e2 count) A =
-            ap (begun e2) p.1 ∙ ap (λ (x : State). begun e2 (Leads [] place (record x { chosen = count ∷ chosen }))) p.2 in
-            let live1 : (goes_on (happens k (next_chosen e1 A chosen)) s0 k (run old n)).outcome ≢ Stopped =
+            let first : State = with_variables s0 vs in
+            let old_is : begun old_entry (Leads ds place x) ≡ next_chosen old_entry first chosen =
+            ap (λ ds. preceded ds (next_chosen old_entry x x.chosen)) p.0
+            ∙ ap (λ (x : State). preceded [] (next_chosen old_entry x x.chosen)) p.2 ∙ preceded_none (next_chosen old_entry first chosen) in
+            let new_is : begun entry_in_new u ≡ Leads [] (entry_in_new count) first =
+            ap (begun entry_in_new) p.1 ∙ ap (λ (x : State). begun entry_in_new (Leads [] place (record x { chosen = count ∷ chosen }))) p.2 in
+            let live1 : (goes_on (happens k (next_chosen old_entry first chosen)) s0 k (run old n)).outcome ≢ Stopped =
             subst (λ t. (goes_on (happens k t) s0 k (run old n)).outcome ≢ Stopped) old_is live in
             ap (λ t. goes_on (happens (unbased k) t) (start (count ∷ chosen) (zeros_of old)) (unbased k) (run new (n + 5))) new_is
             ∙ begun_same vs k own live1
