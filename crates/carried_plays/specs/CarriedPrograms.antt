@@ -1,6 +1,6 @@
 -- A program that carries its own padding (JESD71, PREIR, POSTIR, PREDR, POSTDR): a procedure that sets it, which each
 -- action runs first. The form is this profile's.
-use Rattle.std.specs.Prelude.{◌≡◌, ℕ, pos, Unit, Bool, true, if◌then◌else◌, List, [], ◌∷◌, ◌++◌, map, None}
+use Rattle.std.specs.Prelude.{◌≡◌, ℕ, pos, true, if◌then◌else◌, List, [], ◌∷◌, ◌++◌, map, None}
 use Rattle.stapl_lexer.specs.declared.terminal.Padding.{Padding}
 use Rattle.stapl_lexer.specs.declared.terminal.Padding.TheVariants as paddings
 use Rattle.stapl_syntax.specs.Trees.{number, BodyTree, action, procedure, end_procedure, pad, StmtTree}

@@ -22,4 +22,5 @@ pub record IsCarriedText (base : BaseLengths) (program : List StmtTree) (text : 
 -- bytes.
 pub data IsTooLarge (base : BaseLengths) (program : List StmtTree) : Type 0 where
   too_many_pieces : piece_limit < length program + 6 → IsTooLarge base program
-  too_many_bytes : (n : ℕ) → IsPadNumber program n → text_limit < length (carried_text n base program) → IsTooLarge base program
+  too_many_bytes : (n : ℕ) → IsPadNumber program n → text_limit < length (carried_text n base program) →
+      IsTooLarge base program
