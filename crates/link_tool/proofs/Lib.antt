@@ -1,0 +1,4 @@
+pub mod EndLemmas
+pub mod ServingLemmas
+pub mod FileLemmas
+pub mod AnswerLemmas

@@ -1,0 +1,413 @@
+-- A session piece by piece, and what it comes to.
+use Rattle.std.proofs.Common.{◌≡◌, ◌∙◌, ◌+◌, ◌-◌, ◌<◌, ◌≤◌, ◌==◌, ℕ, zero, suc, min, ltb, List, [], ◌++◌, length, take, drop}
+use Rattle.std.proofs.Common.{Bool, true, false, cond, Option, None, Some, Result, Ok, Err, IfSome, refl, sym, ap, subst, arith, append_assoc, length-append}
+use Rattle.std.specs.Prelude.{IsErr, IsErrAnd, IsSome}
+use Rattle.std.proofs.Math.Seq.{take-append_seam, take-append-add}
+use Rattle.std.proofs.Math.ListN.{drop_of_length-le}
+use Rattle.std.proofs.lemmas.Bool.{false≢true}
+use Rattle.std.proofs.lemmas.Bool.Decides.{nat_tests}
+use Rattle.std.proofs.lemmas.List.{append-nil, length-take-le, length-drop}
+use Rattle.std.proofs.lemmas.Option.{none-some, same_Some}
+use Rattle.tool_io.specs.declared.lines.Lines.{Lines}
+use Rattle.tool_io.specs.Bytes.{then_bytes, MovesFront}
+use Rattle.tool_io.specs.Files.{Gives}
+use Rattle.tool_io.specs.Lines.{gathered, taken, Puts, PutsFront}
+use Rattle.tool_io.proofs.BytesLemmas.{then_bytes-twice, then_bytes-nothing, moves_of_all, moves_then_front, moves_with, moves_front_with}
+use Rattle.tool_io.proofs.PutLemmas.{all_written, front_written, finish_front, puts_same, front_same}
+use Rattle.dev_card.specs.Card.{Card}
+use Rattle.link_server.specs.declared.link.LinkState.{LinkState}
+use Rattle.link_server.specs.declared.link.LinkState.TheVariants as states
+use Rattle.link_server.specs.declared.link.Link.{Link}
+use Rattle.link_server.specs.declared.link.Fed.{Fed}
+use Rattle.link_server.specs.Runs.{LinkAt, LinkRun, new_link, link_run, is_open, HasFed}
+use Rattle.link_server.proofs.Cuts.{end_joined, answers_joined, taken_joined}
+use Rattle.link_server.proofs.FeedLemmas.{closed_after, closed_answers, closed_taken}
+use Rattle.tool_answers.specs.declared.no_answer.NoAnswer.{NoAnswer}
+use Rattle.tool_answers.specs.declared.no_answer.NoAnswer.TheVariants.{Read, Write}
+use Rattle.link_tool.specs.declared.status.LinkStatus.{LinkStatus}
+use Rattle.link_tool.specs.declared.status.LinkStatus.TheVariants.{Done, BadByte, TooLong}
+use Rattle.link_tool.specs.declared.session.Session.{Session}
+use Rattle.link_tool.specs.Sessions.{most_bytes, session_bytes, link_to, first_answers, EndsWith, at_end, at_limit}
+use Rattle.link_tool.specs.Pieces.{session_at, HasTaken, status_after, HasServed}
+use Rattle.link_tool.proofs.EndLemmas.{all_taken, open_end, quit_end, bad_end}
+
+-- ---- one piece
+
+-- what the buffer of answers has at its front
+front_of_buffer : (answers buffer rest : List ℕ) (n : ℕ) → buffer ≡ answers ++ rest → n ≡ length answers → take n buffer ≡ answers
+front_of_buffer answers buffer rest n e f = ap (take n) e ∙ ap (λ k. take k (answers ++ rest)) f ∙ take-append_seam answers rest
+
+front_is : (at : LinkAt) (bytes old_buffer buffer : List ℕ) (now : Link) (told : Option (List Card)) (fed : Fed) → HasFed at bytes old_buffer now told buffer fed →
+    take fed.answered buffer ≡ (link_run at bytes).answers
+front_is at bytes old_buffer buffer now told fed f = front_of_buffer (link_run at bytes).answers buffer (drop fed.answered old_buffer) fed.answered f.answers f.answered
+
+module _ {K : Type 0} {written : K → Option (List ℕ)} {old new : Session} {cs : List Card} {bytes old_buffer buffer : List ℕ} {told : Option (List Card)} {before : Lines K}
+    {fed : Fed} (empty : gathered before ≡ []) (f : HasFed (session_at old cs) bytes old_buffer new.link told buffer fed) (count : new.taken ≡ old.taken + fed.taken) where
+  -- its answers were written
+  pub taken_all : {T E : Type 0} {mid after : Lines K} (x : T) → Puts written before (take fed.answered buffer) mid → taken written after ≡ then_bytes (taken written mid) (gathered mid) →
+      HasTaken {E = E} written old cs bytes new told before after (Ok x)
+  taken_all x put e = record {
+    link = f.link;
+    leaves = f.board;
+    count = count ∙ ap (λ k. old.taken + k) f.taken;
+    wrote = all_written empty (puts_same (front_is (session_at old cs) bytes old_buffer buffer new.link told fed f) put) e;
+    front = tt;
+  }
+
+  -- or a front of them
+  torn : {T E : Type 0} {after : Lines K} (r : Result T E) → IsErr r → PutsFront written before (take fed.answered buffer) after → HasTaken written old cs bytes new told before after r
+  torn (Ok x) is front = absurd cc
+  torn (Err e) is front = record {
+    link = f.link;
+    leaves = f.board;
+    count = count ∙ ap (λ k. old.taken + k) f.taken;
+    wrote = tt;
+    front = front_written empty (front_same (front_is (session_at old cs) bytes old_buffer buffer new.link told fed f) front);
+  }
+
+  pub taken_unput : {T E : Type 0} {after : Lines K} (r : Result T E) → IsErr r → PutsFront written before (take fed.answered buffer) after →
+      HasTaken written old cs bytes new told before after r
+  taken_unput r is front = torn r is front
+
+  pub taken_unfinished : {T E : Type 0} {mid after : Lines K} (r : Result T E) → IsErr r → Puts written before (take fed.answered buffer) mid → PutsFront written mid [] after →
+      HasTaken written old cs bytes new told before after r
+  taken_unfinished r is put front = torn r is (finish_front put front)
+
+-- the devices are still fitted
+pub still_fitted : (o p : Option (List Card)) → IsSome o → ((cs : List Card) → o ≡ Some cs → (x : List Card) × (p ≡ Some x)) → IsSome p
+still_fitted None p h f = absurd (false≢true h)
+still_fitted (Some cs) p h f = subst (λ (o : Option (List Card)). IsSome o) (sym (f cs refl).1) refl
+
+-- what holds of the board at some places, where there is one
+pub of_board : {P : Type 0} (o : Option (List Card)) → IsSome o → ((cs : List Card) → o ≡ Some cs → P) → P
+of_board None h f = absurd (false≢true h)
+of_board (Some cs) h f = f cs refl
+
+-- the session goes on
+pub goes_on : (state : LinkState) (n : ℕ) (more : Bool) → status_after state n more ≡ None → (is_open state ≡ true) × (more ≡ false)
+goes_on states.Quit n more e = absurd (none-some Done (sym e))
+goes_on states.Bad n more e = absurd (none-some (BadByte n) (sym e))
+goes_on states.Open n true e = absurd (none-some TooLong (sym e))
+goes_on states.Open n false e = (refl, refl)
+
+-- ---- fronts of a file
+
+fronts : (most : ℕ) (xs ys : List ℕ) → length xs ≤ most → take most (xs ++ ys) ≡ xs ++ take (most - length xs) ys
+fronts most xs ys le =
+    let e : most ≡ length xs + (most - length xs) = omega (arith, le) in
+    ap (λ k. take k (xs ++ ys)) e ∙ take-append-add xs ys (most - length xs)
+
+take_none : (n : ℕ) → take {A = ℕ} n [] ≡ []
+take_none zero = refl
+take_none (suc n) = refl
+
+all_in : (most : ℕ) (xs : List ℕ) → length xs ≤ most → take most xs ≡ xs
+all_in most xs le = ap (take most) (sym (append-nil xs)) ∙ fronts most xs [] le ∙ ap (λ ys. xs ++ ys) (take_none (most - length xs)) ∙ append-nil xs
+
+full_in : (most : ℕ) (xs ys : List ℕ) → length xs ≡ most → take most (xs ++ ys) ≡ xs
+full_in most xs ys e = ap (λ k. take k (xs ++ ys)) (sym e) ∙ take-append_seam xs ys
+
+-- ---- a session up to a place of its file
+
+pub record IsServing {F : Type 0} (board : List Card) (told : Option F) (first left : List ℕ) (before now : Option (List ℕ)) (session : Session) (cards : Option (List Card)) : Type 0 where
+  pub so_far : List ℕ
+  pub read : IfSome told (λ files. first ≡ so_far ++ left)
+  pub within : length so_far ≤ most_bytes
+  pub link : session.link ≡ (link_run (link_to board) so_far).end.link
+  pub leaves : cards ≡ Some (link_run (link_to board) so_far).end.board
+  pub count : session.taken ≡ (link_run (link_to board) so_far).taken
+  pub wrote : now ≡ then_bytes before (first_answers board so_far)
+
+pub begins : {F : Type 0} (board : List Card) (told : Option F) (left : List ℕ) (before : Option (List ℕ)) (cards : Option (List Card)) → cards ≡ Some board →
+    IsServing board told left left before before (record { link = new_link; taken = 0 }) cards
+begins board told left before cards e = record {
+  so_far = [];
+  read = same told;
+  within = omega arith;
+  link = refl;
+  leaves = e;
+  count = refl;
+  wrote = sym (then_bytes-nothing before);
+}
+  where
+    same : {F : Type 0} (told : Option F) → IfSome told (λ files. left ≡ [] ++ left)
+    same None = tt
+    same (Some files) = refl
+
+module _ {F : Type 0} {board : List Card} {told : Option F} {first : List ℕ} {before now : Option (List ℕ)} {session : Session} {cards : Option (List Card)} where
+  -- n bytes were read, of which some are a front
+  pub after_read : {left : List ℕ} (rest into : List ℕ) (n : ℕ) (front more : List ℕ) → IfSome told (λ files. Gives left rest n into) → take n into ≡ front ++ more →
+      IsServing board told first left before now session cards → IsServing board told first (front ++ (more ++ rest)) before now session cards
+  after_read {left = left} rest into n front more gives parts s = record {
+    so_far = s.so_far;
+    read = by told gives s.read;
+    within = s.within;
+    link = s.link;
+    leaves = s.leaves;
+    count = s.count;
+    wrote = s.wrote;
+  }
+    where
+      by : {F : Type 0} (told : Option F) → IfSome told (λ files. Gives left rest n into) → IfSome told (λ files. first ≡ s.so_far ++ left) →
+          IfSome told (λ files. first ≡ s.so_far ++ (front ++ (more ++ rest)))
+      by None g e = tt
+      by (Some files) g e =
+          e ∙ ap (λ xs. s.so_far ++ xs) (g.next ∙ ap (λ xs. xs ++ rest) parts ∙ append_assoc front more rest)
+
+  -- the same of what is left
+  pub with_left : {left other : List ℕ} → left ≡ other → IsServing board told first left before now session cards → IsServing board told first other before now session cards
+  with_left e s = subst (λ (xs : List ℕ). IsServing board told first xs before now session cards) e s
+
+  -- the file is at its end
+  pub after_all : {left : List ℕ} (rest into : List ℕ) (n : ℕ) → n ≡ 0 → IfSome told (λ files. Gives left rest n into) →
+      IsServing board told first left before now session cards → IsServing board told first [] before now session cards
+  after_all {left = left} rest into n none gives s = record {
+    so_far = s.so_far;
+    read = by told gives s.read;
+    within = s.within;
+    link = s.link;
+    leaves = s.leaves;
+    count = s.count;
+    wrote = s.wrote;
+  }
+    where
+      by : {F : Type 0} (told : Option F) → IfSome told (λ files. Gives left rest n into) → IfSome told (λ files. first ≡ s.so_far ++ left) →
+          IfSome told (λ files. first ≡ s.so_far ++ [])
+      by None g e = tt
+      by (Some files) g e = e ∙ ap (λ xs. s.so_far ++ xs) (g.only_end none)
+
+  -- the link and the board are those of the run
+  here : {left : List ℕ} (s : IsServing board told first left before now session cards) →
+      session_at session (link_run (link_to board) s.so_far).end.board ≡ (link_run (link_to board) s.so_far).end
+  here s = ap (λ (l : Link). record { link = l; board = (link_run (link_to board) s.so_far).end.board }) s.link
+
+  -- as many bytes were read as the count says, while the session is open
+  pub open_count : {left : List ℕ} (s : IsServing board told first left before now session cards) → is_open session.link.state ≡ true → session.taken ≡ length s.so_far
+  open_count s open_now = s.count ∙ all_taken (link_to board) s.so_far refl (ap (λ (l : Link). is_open l.state) (sym s.link) ∙ open_now)
+
+  -- ---- a piece was fed
+
+  module _ {K T E : Type 0} {written : K → Option (List ℕ)} {lines new_lines : Lines K} {front more : List ℕ} {new : Session} {new_cards : Option (List Card)} where
+    pub after_feed : (r : Result T E) (x : T) → r ≡ Ok x → is_open session.link.state ≡ true → session.taken + length front ≤ most_bytes → now ≡ taken written lines →
+        ((cs : List Card) → cards ≡ Some cs → HasTaken written session cs front new new_cards lines new_lines r) →
+        IsServing board told first (front ++ more) before now session cards → IsServing board told first more before (taken written new_lines) new new_cards
+    after_feed r x ok open_now few at_now f s =
+        let at = (link_run (link_to board) s.so_far).end in
+        let t : HasTaken {E = E} written session at.board front new new_cards lines new_lines (Ok x) =
+        subst (λ (r : Result T E). HasTaken written session at.board front new new_cards lines new_lines r) ok (f at.board s.leaves) in
+        record {
+          so_far = s.so_far ++ front;
+          read = by told s.read;
+          within = omega (arith, few, open_count s open_now, length-append s.so_far front);
+          link = t.link ∙ ap (λ a. (link_run a front).end.link) (here s) ∙ ap (λ (a : LinkAt). a.link) (sym (end_joined s.so_far front (link_to board)));
+          leaves = t.leaves ∙ ap (λ a. Some (link_run a front).end.board) (here s) ∙ ap (λ (a : LinkAt). Some a.board) (sym (end_joined s.so_far front (link_to board)));
+          count = t.count ∙ ap (λ k. k + (link_run (session_at session at.board) front).taken) s.count
+              ∙ ap (λ a. (link_run (link_to board) s.so_far).taken + (link_run a front).taken) (here s) ∙ sym (taken_joined s.so_far front (link_to board));
+          wrote = t.wrote ∙ ap (λ o. then_bytes o (link_run (session_at session at.board) front).answers) (sym at_now ∙ s.wrote)
+              ∙ ap (λ a. then_bytes (then_bytes before (first_answers board s.so_far)) (link_run a front).answers) (here s)
+              ∙ then_bytes-twice before (first_answers board s.so_far) (link_run at front).answers
+              ∙ ap (then_bytes before) (sym (answers_joined s.so_far front (link_to board)));
+        }
+      where
+        by : {F : Type 0} (told : Option F) → IfSome told (λ files. first ≡ s.so_far ++ (front ++ more)) → IfSome told (λ files. first ≡ (s.so_far ++ front) ++ more)
+        by None e = tt
+        by (Some files) e = e ∙ sym (append_assoc s.so_far front more)
+
+-- an open session counts what it was fed
+pub taken_more : {K T E : Type 0} {written : K → Option (List ℕ)} {old new : Session} {cs : List Card} {front : List ℕ} {told : Option (List Card)} {before after : Lines K}
+    {r : Result T E} → HasTaken written old cs front new told before after r → is_open old.link.state ≡ true → is_open new.link.state ≡ true → new.taken ≡ old.taken + length front
+taken_more {old = old} {cs = cs} {front = front} h first last =
+    h.count ∙ ap (λ k. old.taken + k) (all_taken (session_at old cs) front first (ap (λ (l : Link). is_open l.state) (sym h.link) ∙ last))
+
+-- nothing is behind a piece that was fed whole
+pub none_left : (n : ℕ) (xs rest : List ℕ) → length xs ≤ n → drop n xs ++ rest ≡ rest
+none_left n xs rest le = ap (λ (ys : List ℕ). ys ++ rest) (drop_of_length-le xs le)
+
+-- no byte was read
+pub none_read : (n : ℕ) (into : List ℕ) (b : Bool) → n ≤ length into → b ≡ (length (take n into) == 0) → b ≡ true → n ≡ 0
+none_read n into b le e t =
+    let len : length (take n into) ≡ n = length-take-le n into le in
+    let h : (length (take n into) == 0) ≡ true = sym e ∙ t in
+    grind (arith, nat_tests)
+
+-- how much of a piece is fed: what the session has room for, or all
+module _ (taken most left room : ℕ) (piece : List ℕ) (is : room ≡ min left (length piece)) (left_is : left ≡ most - taken) (few : taken ≤ most) where
+  fed_length : length (take room piece) ≡ room
+  fed_length = length-take-le room piece (omega (arith, is))
+
+  pub fits : taken + length (take room piece) ≤ most
+  fits = let len = fed_length in omega (arith, len, is, left_is, few)
+
+  -- there was more, so the session is full
+  pub is_full : (now : ℕ) (rest : List ℕ) → now ≡ taken + length (take room piece) → ltb room (length piece) ≡ true → (now ≡ most) × (0 < length (drop room piece ++ rest))
+  is_full now rest count more =
+      let len = fed_length in
+      let lt : room < length piece = grind (arith, nat_tests) in
+      (omega (arith, len, is, left_is, few, count, lt), omega (arith, lt, length-append (drop room piece) rest, length-drop room piece))
+
+  pub fed_whole : ltb room (length piece) ≡ false → length piece ≤ room
+  fed_whole none = grind (arith, nat_tests)
+
+  -- there was no more, and so some
+  pub is_fewer : (now : ℕ) (b : Bool) → now ≡ taken + length (take room piece) → ltb room (length piece) ≡ false → b ≡ (length piece == 0) → b ≡ false → most - now < most - taken
+  is_fewer now b count none e f =
+      let len = fed_length in
+      let le : length piece ≤ room = fed_whole none in
+      let test : (length piece == 0) ≡ false = sym e ∙ f in
+      let some : 0 < length piece = grind (arith, nat_tests) in
+      omega (arith, len, is, left_is, few, count, le, some)
+
+-- ---- how it stops
+
+module _ {F : Type 0} {board : List Card} {told : Option F} {first left : List ℕ} {before now : Option (List ℕ)} {session : Session} {cards : Option (List Card)}
+    (s : IsServing board told first left before now session cards) where
+  -- the session of the whole file goes on from here
+  abbrev bytes : List ℕ
+  bytes = s.so_far ++ left
+
+  abbrev rest : List ℕ
+  rest = take (most_bytes - length s.so_far) left
+
+  cut : session_bytes bytes ≡ s.so_far ++ rest
+  cut = fronts most_bytes s.so_far left s.within
+
+  -- a front was read, and no more can be
+  pub stop_read : {after : Option (List ℕ)} {told_cards : Option (List Card)} → after ≡ now → HasServed told first board before after told_cards (Err Read)
+  stop_read same = record {
+    bytes = bytes;
+    read = s.read;
+    does = record {
+      count = length s.so_far;
+      wrote = same ∙ s.wrote ∙ ap (λ xs. then_bytes before (first_answers board xs)) (sym (ap (take (length s.so_far)) cut ∙ take-append_seam s.so_far rest));
+    };
+  }
+
+  -- a session that is not open is over
+  over : is_open session.link.state ≡ false → (link_run (link_to board) (session_bytes bytes)) ≡ link_run (link_to board) s.so_far
+  over closed =
+      let at = (link_run (link_to board) s.so_far).end in
+      let shut : is_open at.link.state ≡ false = ap (λ (l : Link). is_open l.state) (sym s.link) ∙ closed in
+      ap (link_run (link_to board)) cut
+      ∙ ap (λ (a : LinkAt). record { end = a; answers = first_answers board (s.so_far ++ rest); taken = (link_run (link_to board) (s.so_far ++ rest)).taken })
+      (end_joined s.so_far rest (link_to board) ∙ closed_after at rest shut)
+      ∙ ap (λ (xs : List ℕ). record { end = at; answers = xs; taken = (link_run (link_to board) (s.so_far ++ rest)).taken })
+      (answers_joined s.so_far rest (link_to board) ∙ ap (λ (xs : List ℕ). first_answers board s.so_far ++ xs) (closed_answers at rest shut) ∙ append-nil (first_answers board s.so_far))
+      ∙ ap (λ k. record { end = at; answers = first_answers board s.so_far; taken = k })
+      (taken_joined s.so_far rest (link_to board) ∙ ap (λ k. (link_run (link_to board) s.so_far).taken + k) (closed_taken at rest shut) ∙ add_none (link_run (link_to board) s.so_far).taken)
+    where
+      add_none : (n : ℕ) → n + 0 ≡ n
+      add_none n = omega arith
+
+  closed_served : (status : LinkStatus) → is_open session.link.state ≡ false → EndsWith bytes status → HasServed told first board before now cards (Ok status)
+  closed_served status closed ends = record {
+    bytes = bytes;
+    read = s.read;
+    does = record {
+      wrote = s.wrote ∙ ap (λ (r : LinkRun). then_bytes before r.answers) (sym (over closed));
+      leaves = s.leaves ∙ ap (λ (r : LinkRun). Some r.end.board) (sym (over closed));
+      ends = ends;
+    };
+  }
+
+  stop_quit : session.link.state ≡ states.Quit → HasServed told first board before now cards (Ok Done)
+  stop_quit e =
+      let closed : is_open session.link.state ≡ false = ap is_open e in
+      closed_served Done closed (quit_end board bytes (ap (λ (r : LinkRun). r.end.link.state) (over closed) ∙ ap (λ (l : Link). l.state) (sym s.link) ∙ e))
+
+  stop_bad : session.link.state ≡ states.Bad → HasServed told first board before now cards (Ok (BadByte session.taken))
+  stop_bad e =
+      let closed : is_open session.link.state ≡ false = ap is_open e in
+      let at_taken : (link_run (link_to board) (session_bytes bytes)).taken ≡ session.taken = ap (λ (r : LinkRun). r.taken) (over closed) ∙ sym s.count in
+      closed_served (BadByte session.taken) closed
+      (subst (λ n. EndsWith bytes (BadByte n)) at_taken
+      (bad_end board bytes (ap (λ (r : LinkRun). r.end.link.state) (over closed) ∙ ap (λ (l : Link). l.state) (sym s.link) ∙ e)))
+
+  -- what was read is the session, which is open
+  open_served : (all : List ℕ) (status : LinkStatus) → IfSome told (λ files. first ≡ all) → session_bytes all ≡ s.so_far → is_open session.link.state ≡ true →
+      ((list_all_go_on : is_open (link_run (link_to board) (session_bytes all)).end.link.state ≡ true) → EndsWith all status) → HasServed told first board before now cards (Ok status)
+  open_served all status read same open_now ends = record {
+    bytes = all;
+    read = read;
+    does = record {
+      wrote = s.wrote ∙ ap (λ xs. then_bytes before (first_answers board xs)) (sym same);
+      leaves = s.leaves ∙ ap (λ xs. Some (link_run (link_to board) xs).end.board) (sym same);
+      ends = ends (ap (λ xs. is_open (link_run (link_to board) xs).end.link.state) same ∙ ap (λ (l : Link). is_open l.state) (sym s.link) ∙ open_now);
+    };
+  }
+
+  stop_long : is_open session.link.state ≡ true → session.taken ≡ most_bytes → 0 < length left → HasServed told first board before now cards (Ok TooLong)
+  stop_long open_now full some =
+      let n : session.taken ≡ length s.so_far = open_count s open_now in
+      open_served bytes TooLong s.read (full_in most_bytes s.so_far left (sym n ∙ full)) open_now
+      (λ e. at_limit (omega (arith, n, full, some, length-append s.so_far left)) (open_end board bytes e))
+
+  -- by the status that was told
+  pub stops : (more : Bool) (status : LinkStatus) → (more ≡ true → is_open session.link.state ≡ true → (session.taken ≡ most_bytes) × (0 < length left)) →
+      status_after session.link.state session.taken more ≡ Some status → HasServed told first board before now cards (Ok status)
+  stops more status long e = by session.link.state refl
+    where
+      is : (state : LinkState) → session.link.state ≡ state → status_after state session.taken more ≡ Some status
+      is state same = ap (λ t. status_after t session.taken more) (sym same) ∙ e
+
+      by_more : (m : Bool) → more ≡ m → session.link.state ≡ states.Open → cond m (Some TooLong) None ≡ Some status → HasServed told first board before now cards (Ok status)
+      by_more true m same f =
+          let fact = long m (ap is_open same) in
+          subst (λ (t : LinkStatus). HasServed told first board before now cards (Ok t)) (same_Some TooLong status f) (stop_long (ap is_open same) fact.0 fact.1)
+      by_more false m same f = absurd (none-some status f)
+
+      by : (state : LinkState) → session.link.state ≡ state → HasServed told first board before now cards (Ok status)
+      by states.Quit same = subst (λ (t : LinkStatus). HasServed told first board before now cards (Ok t)) (same_Some Done status (is states.Quit same)) (stop_quit same)
+      by states.Bad same = subst (λ (t : LinkStatus). HasServed told first board before now cards (Ok t)) (same_Some (BadByte session.taken) status (is states.Bad same)) (stop_bad same)
+      by states.Open same = by_more more refl same (is states.Open same)
+
+-- the file was read to its end
+pub stop_end : {F : Type 0} {board : List Card} {told : Option F} {first : List ℕ} {before now : Option (List ℕ)} {session : Session} {cards : Option (List Card)} →
+    IsServing board told first [] before now session cards → is_open session.link.state ≡ true → HasServed told first board before now cards (Ok Done)
+stop_end {board = board} {told = told} {first = first} s open_now =
+    let same : session_bytes s.so_far ≡ s.so_far = all_in most_bytes s.so_far s.within in
+    open_served s s.so_far Done (by told s.read) same open_now (λ e. at_end s.within (open_end board s.so_far e))
+  where
+    by : {F : Type 0} (told : Option F) → IfSome told (λ files. first ≡ s.so_far ++ []) → IfSome told (λ files. first ≡ s.so_far)
+    by None e = tt
+    by (Some files) e = e ∙ append-nil s.so_far
+
+-- a piece was fed, and its answers could not be written
+pub stop_write : {F K T E : Type 0} {board : List Card} {told : Option F} {first front : List ℕ} {before now : Option (List ℕ)} {session new : Session}
+    {cards new_cards told_cards : Option (List Card)} {written : K → Option (List ℕ)} {lines new_lines : Lines K} (more : List ℕ) (r : Result T E) (x : E) → r ≡ Err x →
+    is_open session.link.state ≡ true → session.taken + length front ≤ most_bytes → now ≡ taken written lines →
+    ((cs : List Card) → cards ≡ Some cs → HasTaken written session cs front new new_cards lines new_lines r) →
+    IsServing board told first (front ++ more) before now session cards → HasServed told first board before (taken written new_lines) told_cards (Err Write)
+stop_write {T = T} {E = E} {board = board} {front = front} {before = before} {now = now} {session = session} {new = new} {new_cards = new_cards} {written = written}
+    {lines = lines} {new_lines = new_lines} more r x err open_now few at_now f s =
+    let at = (link_run (link_to board) s.so_far).end in
+    let t : HasTaken {T = T} written session at.board front new new_cards lines new_lines (Err x) =
+    subst (λ (r : Result T E). HasTaken written session at.board front new new_cards lines new_lines r) err (f at.board s.leaves) in
+    let front_is : (link_run (session_at session at.board) front).answers ≡ (link_run at front).answers = ap (λ a. (link_run a front).answers) (here s) in
+    let part : MovesFront now (link_run at front).answers (taken written new_lines) =
+    subst (λ (xs : List ℕ). MovesFront now xs (taken written new_lines)) front_is
+    (subst (λ (o : Option (List ℕ)). MovesFront o (link_run (session_at session at.board) front).answers (taken written new_lines)) (sym at_now) t.front) in
+    let all : List ℕ = s.so_far ++ front in
+    let few_all : length all ≤ most_bytes = omega (arith, few, open_count s open_now, length-append s.so_far front) in
+    let cut_all : session_bytes (all ++ more) ≡ all ++ take (most_bytes - length all) more = fronts most_bytes all more few_all in
+    let joined : MovesFront before (first_answers board s.so_far ++ (link_run at front).answers) (taken written new_lines) =
+    moves_then_front (moves_with (link_run at front).answers (moves_of_all s.wrote)) part in
+    let last : MovesFront before (first_answers board all) (taken written new_lines) =
+    subst (λ (xs : List ℕ). MovesFront before xs (taken written new_lines)) (sym (answers_joined s.so_far front (link_to board))) joined in
+    record {
+      bytes = s.so_far ++ (front ++ more);
+      read = s.read;
+      does = subst (λ (xs : List ℕ). MovesFront before xs (taken written new_lines))
+          (sym (ap (first_answers board) (ap session_bytes (sym (append_assoc s.so_far front more)) ∙ cut_all) ∙ answers_joined all (take (most_bytes - length all) more) (link_to board)))
+          (moves_front_with (link_run (link_run (link_to board) all).end (take (most_bytes - length all) more)).answers last);
+    }
+
+-- a write fault at the exit of a `?`
+pub failed_as : {F : Type 0} {told : Option F} {left : List ℕ} {board : List Card} {before after : Option (List ℕ)} {now : Option (List Card)} (r : Result LinkStatus NoAnswer) →
+    IsErrAnd r (λ e. e ≡ Write) → HasServed told left board before after now (Err Write) → HasServed told left board before after now r
+failed_as (Ok status) is h = absurd is
+failed_as (Err e) is h = rw is h
+
+-- the lines are gone, and what they wrote is what their sink has taken
+pub from_lines : {F : Type 0} {told : Option F} {left : List ℕ} {board : List Card} {before after first last : Option (List ℕ)} {now : Option (List Card)}
+    {r : Result LinkStatus NoAnswer} → before ≡ first → after ≡ last → HasServed told left board first last now r → HasServed told left board before after now r
+from_lines e f h = rw (e, f) h

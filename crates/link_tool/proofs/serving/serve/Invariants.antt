@@ -1,0 +1,31 @@
+use Rattle.std.proofs.Common.{◌≡◌, ◌≤◌, ◌-◌, ℕ, List, [], map, true, Some}
+use Rattle.std.specs.Prelude.{IsSome}
+use Rattle.tool_io.specs.Causes.{NoneFalls}
+use Rattle.tool_io.specs.Lines.{gathered, taken, IsWhole, IsOverSame, SinkNeverFalls}
+use Rattle.dev_card.specs.Card.{Card}
+use Rattle.chain_sim.specs.Places.{cards_at}
+use Rattle.link_server.specs.Runs.{is_open}
+use Rattle.link_tool.specs.Sessions.{most_bytes}
+use Rattle.link_tool.proofs.ServingLemmas.{IsServing}
+use Rattle.link_tool.proofs.serving.serve.Given as goal
+
+abbrev pub invariant-pieces : goal.invariant-pieces
+invariant-pieces g l = record {
+  told : g.S.Shelf.told l.shelf ≡ g.S.Shelf.told l.fn.shelf;
+  reads : (name : List ℕ) → g.S.Shelf.reads l.fn.shelf name → g.S.Shelf.reads l.shelf name;
+  kept : NoneFalls g.S.Shelf.faults g.S.Shelf.is_last l.fn.shelf l.shelf;
+  fitted : IsSome (cards_at (map g.D.Device.fitted l.rack.items) l.places);
+  kinds : map g.D.Device.kind_of l.rack.items ≡ map g.D.Device.kind_of l.fn.rack.items;
+  open_now : is_open l.session.link.state ≡ true;
+  few : l.session.taken ≤ most_bytes;
+  whole : IsWhole l.lines;
+  empty : gathered l.lines ≡ [];
+  same_sink : IsOverSame l.fn.lines l.lines;
+  later : SinkNeverFalls g.K.Sink.faults g.K.Sink.is_last l.fn.lines l.lines;
+  serving : (cs : List Card) → cards_at (map g.D.Device.fitted l.fn.rack.items) l.places ≡ Some cs →
+      IsServing cs (g.S.Shelf.told l.fn.shelf) (g.S.Shelf.left l.fn.shelf) (g.S.Shelf.left l.shelf)
+      (taken g.K.Sink.written l.fn.lines) (taken g.K.Sink.written l.lines) l.session (cards_at (map g.D.Device.fitted l.rack.items) l.places);
+}
+
+abbrev pub decreases-pieces : goal.decreases-pieces
+decreases-pieces g l = most_bytes - l.session.taken

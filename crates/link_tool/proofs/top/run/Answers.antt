@@ -1,0 +1,20 @@
+use Rattle.board_and_file.specs.Named.{files_named}
+use Rattle.board_and_file.proofs.ContentLemmas.{reached_by}
+use Rattle.link_tool.proofs.AnswerLemmas.{words_of_request, words_refused}
+use Rattle.link_tool.proofs.top.run.Goals as goal
+
+pub returns-in-Ok-clause-answers : goal.returns-in-Ok-clause-answers
+returns-in-Ok-clause-answers g c =
+    words_of_request _ _ (g.K.Sink.written c.args.out.now) _ c.args.rack.now.items c.answer_request.new.rack.items (g.S.Shelf.told c.args.shelf.now)
+    (files_named c.in-Ok.named) c.answer_request.result c.in-Ok.ensures.request c.answer_request.ensures.answers
+
+pub returns-in-Ok-clause-shelf : goal.returns-in-Ok-clause-shelf
+returns-in-Ok-clause-shelf g c = record {
+  keeps = c.answer_request.ensures.shelf.keeps;
+  later = c.answer_request.ensures.shelf.later;
+  read = λ e. reached_by c.in-Ok.ensures.request (c.answer_request.ensures.shelf.read e);
+}
+
+pub returns-in-Err-clause-answers : goal.returns-in-Err-clause-answers
+returns-in-Err-clause-answers g c =
+    words_refused _ _ (g.K.Sink.written c.args.out.now) c.args.rack.now.items (g.S.Shelf.told c.args.shelf.now) c.in-Err.n c.in-Err.ensures.usage

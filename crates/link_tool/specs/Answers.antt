@@ -1,0 +1,71 @@
+-- What the tool answers: a text and a status, by the words and the contents of the files that they name. It is defined
+-- where the files are held that are read before the answer is found: the board first, and the bytes of the link after a
+-- board that is right. Words and boards that are refused are answered by the status alone.
+use Rattle.std.specs.Prelude.{◌≡◌, ℕ, List, [], Option, Some, map, take, codes, IsSomeAnd}
+use Rattle.dev_card.specs.declared.desc.Desc.{Desc}
+use Rattle.dev_card.specs.Card.{Card, fresh}
+use Rattle.board_text.specs.declared.reason.BoardReason.{BoardReason}
+use Rattle.named_files.specs.Boards.{HasBoard, HasBoardFault}
+use Rattle.board_and_file.specs.Words.{FileNames, IsRequest, IsUsage}
+use Rattle.board_and_file.specs.Contents.{Contents, contents_in}
+use Rattle.link_tool.specs.declared.status.LinkStatus.{LinkStatus}
+use Rattle.link_tool.specs.declared.status.LinkStatus.TheVariants.{BoardRefused, Usage}
+use Rattle.link_tool.specs.Sessions.{session_bytes, first_answers, session_answers, EndsWith}
+
+-- the key of the word that names the bytes of the link
+abbrev pub link_key : List ℕ
+link_key = codes "link="
+
+-- a board of these devices after power-up
+abbrev pub new_board : List Desc → List Card
+new_board devices = map fresh devices
+
+-- What is written for the bytes of a link, and the status: the answers of a board of these devices, and how the session
+-- ends.
+pub record LinkAnswer (devices : List Desc) (bytes text : List ℕ) (status : LinkStatus) : Type 0 where
+  pub text_is : text ≡ session_answers (new_board devices) bytes
+  pub ends : EndsWith bytes status
+
+-- The same for a file, where it is held.
+abbrev pub FileAnswer : List Desc → Option (List ℕ) → List ℕ → LinkStatus → Type 0
+FileAnswer devices held text status = IsSomeAnd held (λ bytes. LinkAnswer devices bytes text status)
+
+-- The answer to a request: its board is refused at its first fault, or is of these devices, and the answer is that for
+-- the bytes of its link.
+pub data RequestAnswer (named : FileNames) (contents : Contents) : List ℕ → LinkStatus → Type 0 where
+  board_refused : (line : ℕ) (reason : BoardReason) → HasBoardFault (Some named.board) contents.board line reason →
+      RequestAnswer named contents [] (BoardRefused line reason)
+  board_read : (devices : List Desc) (text : List ℕ) (status : LinkStatus) →
+      HasBoard (Some named.board) contents.board devices →
+      FileAnswer devices contents.file text status → RequestAnswer named contents text status
+
+-- The answer to the words, with these contents of the files of each request: they are refused, or what they ask is
+-- answered.
+pub data WordsAnswer (words : List (List ℕ)) (contents_of : FileNames → Contents) : List ℕ → LinkStatus → Type 0 where
+  usage : (n : ℕ) → IsUsage link_key words n → WordsAnswer words contents_of [] (Usage n)
+  asked : (named : FileNames) (text : List ℕ) (status : LinkStatus) → IsRequest link_key words named →
+      RequestAnswer named (contents_of named) text status →
+      WordsAnswer words contents_of text status
+
+-- The answer to the words and the files of a store.
+abbrev pub Answer : List (List ℕ) → List (List ℕ × List ℕ) → (List ℕ → LinkStatus → Type 0)
+Answer words files = WordsAnswer words (contents_in files)
+
+-- What is written if the bytes of a link could not be read to the end of the session: the answers to those in front
+-- that were read, and nothing if none was.
+pub data FileDue (devices : List Desc) (held : Option (List ℕ)) (text : List ℕ) : Type 0 where
+  nothing : text ≡ [] → FileDue devices held text
+  up_to : (bytes : List ℕ) (n : ℕ) → held ≡ Some bytes →
+      text ≡ first_answers (new_board devices) (take n (session_bytes bytes)) → FileDue devices held text
+
+-- the same of a request, whose board may have been what could not be read
+pub data RequestDue (named : FileNames) (contents : Contents) (text : List ℕ) : Type 0 where
+  before_session : text ≡ [] → RequestDue named contents text
+  in_session : (devices : List Desc) → HasBoard (Some named.board) contents.board devices →
+      FileDue devices contents.file text → RequestDue named contents text
+
+-- the same of words
+pub record WordsDue (words : List (List ℕ)) (contents : Contents) (text : List ℕ) : Type 0 where
+  pub named : FileNames
+  pub asked : IsRequest link_key words named
+  pub due : RequestDue named contents text

@@ -1,0 +1,6 @@
+pub mod Statuses
+pub mod Sessions
+pub mod Pieces
+pub mod Answers
+pub mod FinalRacks
+pub mod Written
