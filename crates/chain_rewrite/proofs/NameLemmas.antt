@@ -1,15 +1,13 @@
 -- The names of the blocks of a program, and the name of the new one.
-use Rattle.std.proofs.Common.{◌≡◌, ℕ, ◌+◌, ◌<◌, ◌≤◌, ◌||◌, Bool, true, false, cond, List, [], ◌∷◌, length, drop, get_or, Option, Some, None, refl, sym, ap, ◌∙◌, arith}
+use Rattle.std.proofs.Common.{◌≡◌, ℕ, ◌+◌, ◌<◌, ◌≤◌, ◌||◌, Bool, true, false, cond, List, length, drop, get_or, refl, sym, ap, ◌∙◌, arith}
 use Rattle.std.specs.List.{list_any}
-use Rattle.std.specs.Option.{option_map_or}
 use Rattle.std.specs.Str.{bytes_eq, str_to_ascii_uppercase}
 use Rattle.std.proofs.lemmas.Bool.{and_parts, true≢false}
-use Rattle.std.proofs.lemmas.List.{drop_all, length-map}
+use Rattle.std.proofs.lemmas.List.{drop_all}
 use Rattle.std.proofs.lemmas.Slice.Eq.{bytes_eq-Decides}
 use Rattle.stapl_lexer.specs.Names.{is_name}
 use Rattle.stapl_lexer.specs.ReservedWords.{is_free_name}
 use Rattle.stapl_syntax.specs.declared.statement.Stmt.{Stmt}
-use Rattle.stapl_syntax.specs.Programs.{IsProgram}
 use Rattle.stapl_syntax.specs.Trees.{StmtTree, body_tree, stmt_tree, trees}
 use Rattle.stapl_print.proofs.LineLemmas.{next_of}
 use Rattle.carried_plays.specs.PadNames.{pad_name, begins_block, has_block, IsPadNumber}

@@ -1,5 +1,5 @@
 -- What becomes of a program that is to carry its padding.
-use Rattle.std.proofs.Common.{◌≡◌, ℕ, ◌+◌, ◌<◌, ◌≤◌, ◌⊎◌, inl, inr, Bool, true, false, List, length, refl, sym, ap, subst, ◌∙◌, arith}
+use Rattle.std.proofs.Common.{◌≡◌, ℕ, ◌+◌, ◌<◌, ◌≤◌, ◌⊎◌, inl, inr, Bool, true, false, List, length, refl, sym, ap, ◌∙◌, arith}
 use Rattle.std.proofs.lemmas.Bool.{cases_lt}
 use Rattle.stapl_lexer.specs.Pieces.{text_limit}
 use Rattle.stapl_syntax.specs.Programs.{piece_limit, IsProgram}
@@ -9,7 +9,7 @@ use Rattle.carried_plays.specs.OwnPaddings.{has_own_padding, IsFirstPadding}
 use Rattle.carried_plays.specs.PadNames.{pad_name, IsPadNumber}
 use Rattle.carried_plays.specs.CarriedPrograms.{carried_program}
 use Rattle.canonical_text.specs.CanonicalText.{canonical_text}
-use Rattle.carried_plays.specs.CarriedTexts.{carried_text, IsCarriedText, IsTooLarge, too_many_pieces, too_many_bytes}
+use Rattle.carried_plays.specs.CarriedTexts.{carried_text, IsTooLarge, too_many_pieces, too_many_bytes}
 use Rattle.carried_plays.proofs.CarriedTexts.{one_text}
 use Rattle.carried_plays.proofs.FirstPaddings.{first_padding}
 use Rattle.carried_plays.proofs.PadNumbers.{a_number, one_number}

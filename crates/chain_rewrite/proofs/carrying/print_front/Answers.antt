@@ -1,4 +1,4 @@
-use Rattle.std.proofs.Common.{List, ℕ, ◌∙◌, ◌+◌, drop, map, length, arith}
+use Rattle.std.proofs.Common.{List, ◌+◌, drop, map, arith}
 use Rattle.std.proofs.lemmas.List.{length-map}
 use Rattle.stapl_syntax.specs.Trees.{StmtTree, stmt_tree, trees}
 use Rattle.carried_plays.specs.CarriedPrograms.{with_item}
