@@ -1,7 +1,6 @@
 //! What a command does with its words.
-ghost use Rattle.std.specs.Prelude.{◌≡◌, map, string_bytes, OnOk, OnErr};
-ghost use Rattle.tool_io.specs.Bytes.{then_bytes, MovesFront};
-ghost use Rattle.tool_io.specs.Causes.{HasCause, HasRisen, NeverFalls, NoneFalls};
+ghost use Rattle.std.specs.Prelude.{◌≡◌, map, string_bytes};
+ghost use Rattle.tool_io.specs.Causes.{HasRisen, NeverFalls, NoneFalls};
 ghost use Rattle.tool_answers.specs.Answers.{Wrote, WroteFront};
 ghost use Rattle.named_files.specs.Files.{HasReadCause};
 ghost use Rattle.print_tool.specs.Statuses.{IsFault};
@@ -9,23 +8,11 @@ ghost use Rattle.print_tool.specs.Words.{NamesProgram};
 ghost use Rattle.print_tool.specs.Answers.{OfWords};
 ghost use Rattle.print_tool.specs.Commands.{CommandAnswer};
 
-use crate::help::text_asked;
+use crate::help::{HELP, VERSION};
 use crate::{PrintStatus, run_print};
+use command_texts::{text_asked, write_text};
 use std::alloc::Global;
-use tool_io::{Failed, Lines, Shelf, Sink};
-
-// Writes a text and nothing else.
-#[tactic(auto, using(tool_io::proofs::PutLemmas::front_written, tool_io::proofs::PutLemmas::finish_front))]
-fn write_text<K: Sink>(out: &mut K, text: &[u8]) -> Result<(), Failed>
-    ensures ok { OnOk result (K.written out.new ≡ then_bytes (K.written out.old) text.now) }
-    ensures front { OnErr result (MovesFront (K.written out.old) text.now (K.written out.new)) }
-    ensures cause { HasCause K.faults K.is_last out.old out.new result }
-{
-    let mut lines = Lines::new(out);
-    lines.put(text)?;
-    lines.finish()?;
-    Ok(())
-}
+use tool_io::{Shelf, Sink};
 
 /// Writes the text that the words ask for, or what `run_print` writes of them.
 pub fn run_command<S: Shelf, K: Sink>(
@@ -58,7 +45,7 @@ pub fn run_command<S: Shelf, K: Sink>(
     ensures later { NoneFalls S.faults S.is_last shelf.old shelf.new }
     ensures out_later { NeverFalls K.faults K.is_last out.old out.new }
 {
-    match text_asked(words) {
+    match text_asked(words, HELP, VERSION) {
         Some(text) => match write_text(out, text) {
             Ok(()) => PrintStatus::Done,
             Err(_) => PrintStatus::WriteFault,

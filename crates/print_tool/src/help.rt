@@ -1,9 +1,7 @@
 //! What the words `--help` and `--version`, each alone, are answered.
-ghost use Rattle.std.specs.Prelude.{◌≡◌, map, string_bytes};
-ghost use Rattle.std.specs.Option.{option_map};
-ghost use Rattle.print_tool.specs.Commands.{text_of_word, text_asked};
 
-const HELP: &[u8] = b"zanutero-print: writes STAPL programs (JEDEC JESD71) in canonical form
+pub(crate) const HELP: &[u8] =
+    b"zanutero-print: writes STAPL programs (JEDEC JESD71) in canonical form
 
   zanutero-print program=PATH
       writes the program in the file PATH with a line for each statement, one
@@ -19,27 +17,5 @@ exit codes:
   12 the canonical form has more than 4194304 bytes
 ";
 
-const VERSION: &[u8] = b"zanutero-print 0.1.0
+pub(crate) const VERSION: &[u8] = b"zanutero-print 0.1.0
 ";
-
-fn text_of_word(word: &str) -> Option<&'static [u8]>
-    ensures { option_map (λ text. text.now) result ≡ text_of_word word.now }
-{
-    if word == "--help" {
-        Some(HELP)
-    } else if word == "--version" {
-        Some(VERSION)
-    } else {
-        None
-    }
-}
-
-/// The text that the words ask for, if they are one that asks for one.
-pub(crate) fn text_asked(words: &[String]) -> Option<&'static [u8]>
-    ensures { option_map (λ text. text.now) result ≡ text_asked (map string_bytes words.now) }
-{
-    match words {
-        [word] => text_of_word(word.as_str()),
-        _ => None,
-    }
-}

@@ -15,6 +15,7 @@ use Rattle.stapl_meaning.specs.Plays.{Run, ending_of}
 use Rattle.stapl_meaning.specs.Texts.{events_text}
 use Rattle.stapl_code.specs.declared.raw.CodeLists.{CodeLists}
 use Rattle.stapl_machine.specs.declared.running.Machine.{Machine}
+use Rattle.stapl_instructions.specs.declared.act.Workspace.{Workspace}
 use Rattle.stapl_instructions.specs.Acts.{IsUnused}
 use Rattle.written_cable.specs.Papers.{Shown, Puts, PutsFront}
 use Rattle.written_cable.specs.Signals.{signals_of}
@@ -37,6 +38,10 @@ variables_in machine = machine.work.memory.variables.items
 -- the records of a machine, the topmost first
 abbrev pub records_in : Machine → List Record
 records_in machine = reverse machine.work.memory.records.items
+
+-- what a machine keeps for its run
+abbrev pub workspace_in : Machine → Workspace
+workspace_in machine = machine.work
 
 -- the digits of the first clocks
 abbrev pub digits_in : Machine → List ℕ

@@ -6,3 +6,4 @@ mod runs;
 mod turns;
 
 pub use running::Machine;
+pub use turns::{piece_at, rest_of_turn, turn};

@@ -12,7 +12,7 @@ ghost use Rattle.stapl_code.specs.Safe.{AllBelow};
 ghost use Rattle.written_cable.specs.Papers.{IsOverSame, shown_of};
 ghost use Rattle.written_cable.specs.Resets.{IsReset, kept_digits};
 ghost use Rattle.written_cable.specs.Ports.{IfFault};
-ghost use Rattle.stapl_machine.specs.Machines.{play_of, play_ticks_of, IsPrepared, IsReady, digits_in, IsPlayed, IsPlayedFront};
+ghost use Rattle.stapl_machine.specs.Machines.{play_of, play_ticks_of, IsPrepared, IsReady, digits_in, workspace_in, IsPlayed, IsPlayedFront};
 
 use crate::runs::play_out;
 use base::Steps;
@@ -89,6 +89,15 @@ impl Machine {
             (IsCableLast C.is_line_last C.is_pin_last) cable.old cable.new result }
     {
         five_ones(cable, &mut self.digits)
+    }
+
+    /// What the machine keeps for a run, given up.
+    pub fn into_workspace(self) -> Workspace
+        ensures { result ≡ workspace_in self }
+    {
+        let Machine { work, digits } = self;
+        drop(digits);
+        work
     }
 
     // The digits that a run begins with.

@@ -410,9 +410,9 @@ pub fn rest_of_turn<C: Cable, O: Paper, L: Ledger>(
     }
 }
 
-// The piece of the Turn at a place, if there is one.
+/// The piece of the Turn at a place, if there is one.
 #[inline(always)]
-fn piece_at(instrs: &[Instr], i: usize) -> Option<u32>
+pub fn piece_at(instrs: &[Instr], i: usize) -> Option<u32>
     ensures { result ≡ piece_of (slice_get instrs.now i) }
 {
     match instrs.get(i) {

@@ -1,13 +1,16 @@
 -- Lines that are written one after the other.
 use Rattle.std.proofs.Common.{◌≡◌, ℕ, ◌+◌, ◌<◌, ◌≤◌, zero, suc, List, [], ◌∷◌, ◌++◌, length, map, drop, get_or, Result, Ok, Err, IfOk, Vec, Global, refl, sym, ap, subst, ◌∙◌}
-use Rattle.std.proofs.Common.{append_assoc, append-nil, arith, add-one, OnOk}
-use Rattle.std.proofs.lemmas.List.{length-append, drop_all}
+use Rattle.std.proofs.Common.{append_assoc, arith, add-one, OnOk}
+use Rattle.std.proofs.lemmas.List.{length-append}
 use Rattle.std.proofs.lemmas.List.Concat.{flat_map-cons}
+use Rattle.std.specs.List.{AllByRecursion}
 use Rattle.stapl_lexer.specs.Pieces.{text_limit}
 use Rattle.stapl_syntax.specs.Trees.{StmtTree}
 use Rattle.stapl_syntax.specs.Programs.{IsProgram}
-use Rattle.canonical_text.specs.CanonicalText.{line, lines, checked, checked_from, checked_statements, canonical_text}
-use Rattle.canonical_text.proofs.Programs.{canonical_program}
+use Rattle.canonical_text.specs.CanonicalText.{line, lines, checked, checked_from, checked_statements, canonical_text, HasStatements}
+use Rattle.canonical_text.specs.Printable.{CanBePrinted}
+use Rattle.canonical_text.proofs.Programs.{canonical_program, canonical_read}
+use Rattle.stapl_print.specs.Lines.{with_lines}
 
 drop_at : {A B : Type 0} (f : A → B) (i : ℕ) (xs : List A) (d : A) → i < length xs → drop i (map f xs) ≡ f (get_or xs i d) ∷ drop (suc i) (map f xs)
 drop_at f zero [] d below = absurd (omega (arith, below))
@@ -33,11 +36,6 @@ one_line before new whole st left rest e so_far put =
 pub front_large : (before whole : List ℕ) (rest : List StmtTree) → before ++ lines (checked_from before rest) ≡ whole → text_limit < length before → text_limit < length whole
 front_large before whole rest e lt = omega (arith, lt, ap length e, length-append before (lines (checked_from before rest)))
 
--- nothing is left
-pub at_end : (before whole : List ℕ) (i : ℕ) (sts : List StmtTree) → length sts ≤ i → before ++ lines (checked_from before (drop i sts)) ≡ whole → before ≡ whole
-at_end before whole i sts le e =
-    sym (append-nil before) ∙ ap (λ (v : List StmtTree). before ++ lines (checked_from before v)) (sym (drop_all i sts le)) ∙ e
-
 -- the canonical text of a program is a program
 pub program_printed : (bytes : List ℕ) (sts own : List StmtTree) {E : Type 0} (result : Result (Vec ℕ Global) E) → own ≡ sts → IsProgram bytes sts →
     IfOk result (λ t. t.items ≡ canonical_text own) → OnOk result (length (canonical_text own) ≤ text_limit) → IfOk result (λ t. IsProgram t.items (checked_statements sts))
@@ -45,3 +43,10 @@ program_printed bytes sts own (Ok t) same is text small =
     subst (λ (v : List ℕ). IsProgram v (checked_statements sts)) (sym (text ∙ ap canonical_text same))
     (canonical_program bytes sts is (subst (λ (v : List StmtTree). length (canonical_text v) ≤ text_limit) same small))
 program_printed bytes sts own (Err e) same is text small = tt
+
+-- the lines of statements after nothing are read back as these
+pub read_back : (text : List ℕ) (sts : List StmtTree) {E : Type 0} (result : Result (Vec ℕ Global) E) → text ≡ [] → AllByRecursion CanBePrinted sts →
+    IfOk result (λ t. t.items ≡ with_lines text sts) → IfOk result (λ t. HasStatements t.items (checked_statements sts))
+read_back text sts (Ok t) none can same =
+    subst (λ (v : List ℕ). HasStatements v (checked_statements sts)) (sym (same ∙ ap (λ (v : List ℕ). with_lines v sts) none)) (canonical_read sts can)
+read_back text sts (Err e) none can same = tt

@@ -13,4 +13,4 @@ mod terms;
 mod tokens;
 mod writer;
 
-pub use printing::{PrintRefused, print_program, print_statements};
+pub use printing::{PrintRefused, print_after, print_program, print_statements};

@@ -10,6 +10,7 @@ ghost use Rattle.stapl_syntax.specs.Trees.{body_tree, stmt_tree, trees};
 ghost use Rattle.canonical_text.specs.CanonicalText.{line, checked, canonical_text, checked_statements, HasStatements};
 ghost use Rattle.canonical_text.specs.Printable.{CanBePrinted};
 ghost use Rattle.canonical_text.specs.PrintedStatements.{body_tokens, label_tokens};
+ghost use Rattle.stapl_print.specs.Lines.{with_lines};
 ghost use Rattle.stapl_print.specs.Written.{written, check_statement};
 
 use crate::writer::Writer;
@@ -133,6 +134,29 @@ impl Writer {
     }
 }
 
+/// Puts the lines of statements after a text. A CRC has the check word of the bytes before it.
+///
+/// `TooLarge` comes exactly if the text would then have more than 4,194,304 bytes; `Memory` is want of memory. The text
+/// is gone then. The time is linear in what is put, and with a CRC in all of the text.
+pub fn print_after(text: Vec<u8>, stmts: &[Stmt]) -> Result<Vec<u8>, PrintRefused>
+    requires { length text.items ≤ text_limit }
+    ensures text { IfOk result (λ longer. longer.items ≡ with_lines text.items (trees stmts.now)) }
+    ensures fits { OnOk result (length (with_lines text.items (trees stmts.now)) ≤ text_limit) }
+    ensures too_large { IsErrOf result PrintRefused.TooLarge →
+        text_limit < length (with_lines text.items (trees stmts.now)) }
+{
+    let mut writer = Writer::over(text);
+    for statement in stmts {
+        let Ok(()) = writer.put_line(statement) else {
+            return Err(PrintRefused::Memory);
+        };
+        if writer.bytes().len() > TEXT_LIMIT {
+            return Err(PrintRefused::TooLarge);
+        }
+    }
+    Ok(writer.into_bytes())
+}
+
 /// The canonical text of statements that can be printed. A statement of any text can be (`CanBePrinted` of
 /// `canonical_text`), and so can one that some symbols mean that keep the limits of the language. The pieces of the
 /// text are these statements, but CRC has the check word of the bytes before it.
@@ -147,16 +171,7 @@ pub fn print_statements(alloc: Global, stmts: &[Stmt]) -> Result<Vec<u8>, PrintR
     ensures too_large { IsErrOf result PrintRefused.TooLarge →
         text_limit < length (canonical_text (trees stmts.now)) }
 {
-    let mut writer = Writer::new(alloc);
-    for statement in stmts {
-        let Ok(()) = writer.put_line(statement) else {
-            return Err(PrintRefused::Memory);
-        };
-        if writer.bytes().len() > TEXT_LIMIT {
-            return Err(PrintRefused::TooLarge);
-        }
-    }
-    Ok(writer.into_bytes())
+    print_after(Vec::new(alloc), stmts)
 }
 
 /// The canonical text of a program. It is a program of the same statements, but CRC has the check word of the bytes

@@ -6,7 +6,7 @@ ghost use Rattle.stapl_print.specs.Written.{shapes_touch, put_as, line_begun, wr
 
 use crate::digits::{push_binary_digits, push_hex_digits};
 use bit_list::Bits;
-use std::alloc::{AllocError, Global};
+use std::alloc::AllocError;
 use std::marker::Model;
 
 /// How a token bears on the spaces around it.
@@ -57,12 +57,12 @@ impl Model for Writer {
 }
 
 impl Writer {
-    /// A writer that has written nothing.
-    pub(crate) fn new(alloc: Global) -> Writer
-        ensures { result ≡ line_begun [] }
+    /// A writer that has written these bytes, and goes on in a new line.
+    pub(crate) fn over(bytes: Vec<u8>) -> Writer
+        ensures { result ≡ line_begun bytes.items }
     {
         Writer {
-            bytes: Vec::new(alloc),
+            bytes,
             last: Shape::Nothing,
         }
     }

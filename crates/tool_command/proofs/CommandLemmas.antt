@@ -1,20 +1,14 @@
--- On answers to the words of a command.
+-- On the words that ask for a text.
 use Rattle.std.proofs.Common.{◌≡◌, ℕ, List, [], ◌∷◌, None, Some, refl, sym, ap, ◌∙◌}
 use Rattle.std.proofs.lemmas.Option.{none-some}
-use Rattle.play_status.specs.declared.status.Status.{Status}
+use Rattle.command_texts.specs.Commands.{text_of_word, text_asked}
 use Rattle.play_words.specs.declared.mode.Mode.{Mode}
 use Rattle.play_words.specs.declared.mode.Mode.TheVariants as modes
 use Rattle.play_words.specs.Words.{mode_word, HasMode}
-use Rattle.tool_answers.proofs.AnswerLemmas.{IsWithin}
-use Rattle.tool_command.specs.Commands.{text_of_word, text_asked, CommandAnswer, done}
-
--- where the words ask for no text, the answer is the tool's
-
-pub tool_answers : (A : List ℕ → Status → Type 0) (words : List (List ℕ)) → text_asked words ≡ None → IsWithin A (CommandAnswer A words)
-tool_answers A words none = record { to = λ text status a. done text status none a }
+use Rattle.tool_command.specs.declared.help.TheConstants.{HELP, VERSION}
 
 -- the word of a mode asks for no text
-no_text : (mode : Mode) → text_of_word (mode_word mode) ≡ None
+no_text : (mode : Mode) → text_of_word HELP.now VERSION.now (mode_word mode) ≡ None
 no_text modes.Play = refl
 no_text modes.Check = refl
 no_text modes.List = refl
@@ -23,7 +17,7 @@ no_text modes.Run = refl
 no_text modes.Soak = refl
 
 -- words that ask for a text have no mode
-pub has_no_mode : (words : List (List ℕ)) (text : List ℕ) (mode : Mode) → text_asked words ≡ Some text → HasMode words mode → ⊥
+pub has_no_mode : (words : List (List ℕ)) (text : List ℕ) (mode : Mode) → text_asked HELP.now VERSION.now words ≡ Some text → HasMode words mode → ⊥
 has_no_mode [] text mode e has = none-some text e
-has_no_mode (word ∷ []) text mode e has = none-some text (sym (no_text mode) ∙ sym (ap text_of_word has) ∙ e)
+has_no_mode (word ∷ []) text mode e has = none-some text (sym (no_text mode) ∙ sym (ap (text_of_word HELP.now VERSION.now) has) ∙ e)
 has_no_mode (word ∷ other ∷ words) text mode e has = none-some text e

@@ -1,7 +1,6 @@
 //! What a command does with its words.
-ghost use Rattle.std.specs.Prelude.{◌≡◌, true, false, map, string_bytes, OnOk, OnErr, IsErrOf};
-ghost use Rattle.tool_io.specs.Bytes.{then_bytes, MovesFront};
-ghost use Rattle.tool_io.specs.Causes.{HasCause, HasRisen, NeverFalls, NoneFalls};
+ghost use Rattle.std.specs.Prelude.{◌≡◌, true, false, map, string_bytes, IsErrOf};
+ghost use Rattle.tool_io.specs.Causes.{HasRisen, NeverFalls, NoneFalls};
 ghost use Rattle.tool_answers.specs.Answers.{Wrote, WroteFront, HasWritten};
 ghost use Rattle.chain_sim.specs.Rack.{IsRack};
 ghost use Rattle.named_files.specs.Files.{HasReadCause, KeepsShelf};
@@ -11,27 +10,15 @@ ghost use Rattle.play_tool.specs.ReadContents.{OfWords, AskForPlay, Answered};
 ghost use Rattle.tool_questions.specs.Questions.{ask_question, QuestionAnswer, OfQuestion, IsAskedOf};
 ghost use Rattle.tool_command.specs.Commands.{CommandAnswer, IsReachedByCommand, status_of};
 
-use crate::help::text_asked;
+use crate::help::{HELP, VERSION};
+use command_texts::{text_asked, write_text};
 use dev_card::Device;
 use play_status::Status;
 use play_tool::run_tool;
 use std::alloc::Global;
 use tool_answers::NoAnswer;
-use tool_io::{Failed, Lines, Shelf, Sink};
+use tool_io::{Lines, Shelf, Sink};
 use tool_questions::{answer_question, ask_question};
-
-// Writes a text and nothing else.
-#[tactic(auto, using(tool_io::proofs::PutLemmas::front_written, tool_io::proofs::PutLemmas::finish_front))]
-fn write_text<K: Sink>(out: &mut K, text: &[u8]) -> Result<(), Failed>
-    ensures ok { OnOk result (K.written out.new ≡ then_bytes (K.written out.old) text.now) }
-    ensures front { OnErr result (MovesFront (K.written out.old) text.now (K.written out.new)) }
-    ensures cause { HasCause K.faults K.is_last out.old out.new result }
-{
-    let mut lines = Lines::new(out);
-    lines.put(text)?;
-    lines.finish()?;
-    Ok(())
-}
 
 // Answers a question.
 fn run_question<S: Shelf, K: Sink>(
@@ -123,7 +110,7 @@ pub fn run_command<S: Shelf, K: Sink>(
     if ask_question(words) {
         return status_of(run_question(alloc, words, shelf, out));
     }
-    match text_asked(words) {
+    match text_asked(words, HELP, VERSION) {
         Some(text) => match write_text(out, text) {
             Ok(()) => Status::Done(0),
             Err(_) => Status::WriteFault,

@@ -1,9 +1,7 @@
 //! What the words `--help` and `--version`, each alone, are answered.
-ghost use Rattle.std.specs.Prelude.{◌≡◌, map, string_bytes};
-ghost use Rattle.std.specs.Option.{option_map};
-ghost use Rattle.tool_command.specs.Commands.{text_of_word, text_asked};
 
-const HELP: &[u8] = b"zanutero: checks, lists, compiles and plays STAPL programs (JEDEC JESD71)
+pub(crate) const HELP: &[u8] =
+    b"zanutero: checks, lists, compiles and plays STAPL programs (JEDEC JESD71)
 
   zanutero check program=PATH
       checks the program in the file PATH: counts its statements, or names its
@@ -62,27 +60,5 @@ Exit codes:
   11 there was no memory, or a word is not UTF-8
 ";
 
-const VERSION: &[u8] = b"zanutero 0.1.0
+pub(crate) const VERSION: &[u8] = b"zanutero 0.1.0
 ";
-
-fn text_of_word(word: &str) -> Option<&'static [u8]>
-    ensures { option_map (λ text. text.now) result ≡ text_of_word word.now }
-{
-    if word == "--help" {
-        Some(HELP)
-    } else if word == "--version" {
-        Some(VERSION)
-    } else {
-        None
-    }
-}
-
-/// The text that the words ask for, if they are one that asks for one.
-pub fn text_asked(words: &[String]) -> Option<&'static [u8]>
-    ensures { option_map (λ text. text.now) result ≡ text_asked (map string_bytes words.now) }
-{
-    match words {
-        [word] => text_of_word(word.as_str()),
-        _ => None,
-    }
-}

@@ -1,17 +1,15 @@
 //! The tool over the real files and the real output.
 #![tactic(auto)]
 
+use command_texts::{NO_WORDS, words_of};
 use dev_card::Device;
 use device_rack::{fill_rack, is_rack};
 use play_status::Status;
 use std::alloc::AllocError;
+use std::io;
 use std::process::ExitCode;
-use std::{env, io};
 use tool_command::run_command;
 use tool_io::{FileShelf, StdSink};
-
-/// The exit code where the words cannot be had: there is no memory for them, or one is not UTF-8.
-const NO_WORDS: u8 = 11;
 
 // Makes the devices of the rack, and runs the command with them.
 fn run(rt: &HostRuntime, words: &[String]) -> Result<Status, AllocError> {
@@ -28,11 +26,7 @@ fn run(rt: &HostRuntime, words: &[String]) -> Result<Status, AllocError> {
 }
 
 fn main(rt: HostRuntime) -> ExitCode {
-    let Ok(mut args) = env::args(&rt) else {
-        return ExitCode::from(NO_WORDS);
-    };
-    let _program = args.next();
-    let Ok(words) = args.collect::<Vec<String>>(rt.alloc()) else {
+    let Some(words) = words_of(&rt) else {
         return ExitCode::from(NO_WORDS);
     };
     let status = run(&rt, &words).unwrap_or(Status::Memory);

@@ -1,9 +1,10 @@
 //! The wave of a trace, over the real files and the real output.
 #![tactic(auto)]
 
+use command_texts::{NO_WORDS, text_asked, words_of, write_text};
+use std::io;
 use std::process::ExitCode;
-use std::{env, io};
-use tool_io::{Failed, FileShelf, Lines, StdSink};
+use tool_io::{FileShelf, StdSink};
 use wave_tool::{WaveStatus, run_wave};
 
 const HELP: &[u8] = b"zanutero-wave: writes the clocks and waits of a play as a Value Change Dump
@@ -30,31 +31,10 @@ Exit codes:
 const VERSION: &[u8] = b"zanutero-wave 0.1.0
 ";
 
-/// The exit code where the words cannot be had: there is no memory for them, or one is not UTF-8.
-const NO_WORDS: u8 = 11;
-
-// The text that the words ask for, if they are one that asks for one.
-fn text_asked(words: &[String]) -> Option<&'static [u8]> {
-    match words {
-        [word] if word.as_str() == "--help" => Some(HELP),
-        [word] if word.as_str() == "--version" => Some(VERSION),
-        _ => None,
-    }
-}
-
-// Writes a text.
-fn write_text(rt: &HostRuntime, text: &[u8]) -> Result<(), Failed> {
-    let mut out = StdSink::new(io::writer(rt));
-    let mut lines = Lines::new(&mut out);
-    lines.put(text)?;
-    lines.finish()?;
-    Ok(())
-}
-
 // Does what the words ask, and gives the exit code.
 fn run(rt: &HostRuntime, words: &[String]) -> u8 {
-    match text_asked(words) {
-        Some(text) => match write_text(rt, text) {
+    match text_asked(words, HELP, VERSION) {
+        Some(text) => match write_text(&mut StdSink::new(io::writer(rt)), text) {
             Ok(()) => 0,
             Err(_) => WaveStatus::WriteFault.exit_code(),
         },
@@ -67,11 +47,7 @@ fn run(rt: &HostRuntime, words: &[String]) -> u8 {
 }
 
 fn main(rt: HostRuntime) -> ExitCode {
-    let Ok(mut args) = env::args(&rt) else {
-        return ExitCode::from(NO_WORDS);
-    };
-    let _program = args.next();
-    let Ok(words) = args.collect::<Vec<String>>(rt.alloc()) else {
+    let Some(words) = words_of(&rt) else {
         return ExitCode::from(NO_WORDS);
     };
     ExitCode::from(run(&rt, &words))

@@ -5,15 +5,18 @@ use Rattle.tool_answers.proofs.AnswerLemmas.{wrote_within, front_within_written}
 use Rattle.play_tool.specs.Answers.{WordsAnswer}
 use Rattle.play_tool.proofs.RequestLemmas.{of_any_words, of_words_as}
 use Rattle.tool_questions.proofs.StatusLemmas.{question_status}
-use Rattle.tool_command.specs.Commands.{text_asked, shown, by_tool, by_question}
-use Rattle.tool_command.proofs.CommandLemmas.{tool_answers, has_no_mode}
+use Rattle.command_texts.specs.Commands.{text_asked, shown}
+use Rattle.command_texts.proofs.CommandLemmas.{tool_answers}
+use Rattle.tool_command.specs.declared.help.TheConstants.{HELP, VERSION}
+use Rattle.tool_command.specs.Commands.{by_tool, by_question}
+use Rattle.tool_command.proofs.CommandLemmas.{has_no_mode}
 use Rattle.tool_command.proofs.QuestionLemmas.{of_question_as, asked_wrote, asked_read, asked_write, asked_front, asked_nothing, asked_no_memory}
 use Rattle.tool_command.proofs.command.run_command.Goals as goal
 
 pub returns-in-Ok-clause-answer : goal.returns-in-Ok-clause-answer
 returns-in-Ok-clause-answer g c = λ _ _.
     let words : List (List ℕ) = map (string_bytes {Z = Global}) c.args.words.now in
-    let text : text_asked words ≡ Some c.in-Some.text.now = sym c.text_asked.ensures ∙ ap (option_map (λ text. text.now)) c.in-Some.is in
+    let text : text_asked HELP.now VERSION.now words ≡ Some c.in-Some.text.now = sym c.text_asked.ensures ∙ ap (option_map (λ text. text.now)) c.in-Some.is in
     of_any_words (g.S.Shelf.told c.args.shelf.now) words (λ contents. record {
       wrote = record { text = c.in-Some.text.now; answer = shown c.in-Some.text.now text; written = c.in-Ok.ensures.ok };
       leaves = λ playing. absurd (has_no_mode words c.in-Some.text.now playing.mode text playing.named);
@@ -24,16 +27,16 @@ returns-in-Ok-clause-answer g c = λ _ _.
 pub returns-in-Err-clause-front : goal.returns-in-Err-clause-front
 returns-in-Err-clause-front g c = λ _ _.
     let words : List (List ℕ) = map (string_bytes {Z = Global}) c.args.words.now in
-    let text : text_asked words ≡ Some c.in-Some.text.now = sym c.text_asked.ensures ∙ ap (option_map (λ text. text.now)) c.in-Some.is in
+    let text : text_asked HELP.now VERSION.now words ≡ Some c.in-Some.text.now = sym c.text_asked.ensures ∙ ap (option_map (λ text. text.now)) c.in-Some.is in
     of_any_words (g.S.Shelf.told c.args.shelf.now) words (λ contents.
     record { text = c.in-Some.text.now; status = _; answer = shown c.in-Some.text.now text; front = c.in-Err.ensures.front })
 
 pub returns-in-None-clause-answer : goal.returns-in-None-clause-answer
 returns-in-None-clause-answer g c = λ works _.
     let words : List (List ℕ) = map (string_bytes {Z = Global}) c.args.words.now in
-    let none : text_asked words ≡ None = sym c.text_asked.ensures ∙ ap (option_map (λ text. text.now)) c.in-None.is in
+    let none : text_asked HELP.now VERSION.now words ≡ None = sym c.text_asked.ensures ∙ ap (option_map (λ text. text.now)) c.in-None.is in
     of_words_as (λ contents a. record {
-      wrote = wrote_within (tool_answers (WordsAnswer words (λ request. contents)) words none) a.wrote;
+      wrote = wrote_within (tool_answers HELP.now VERSION.now _ (WordsAnswer words (λ request. contents)) words none) a.wrote;
       leaves = a.leaves;
       alone = a.alone;
       compiled = a.compiled;
@@ -42,8 +45,8 @@ returns-in-None-clause-answer g c = λ works _.
 pub returns-in-None-clause-front : goal.returns-in-None-clause-front
 returns-in-None-clause-front g c = λ fault _.
     let words : List (List ℕ) = map (string_bytes {Z = Global}) c.args.words.now in
-    let none : text_asked words ≡ None = sym c.text_asked.ensures ∙ ap (option_map (λ text. text.now)) c.in-None.is in
-    of_words_as (λ contents a. front_within_written (tool_answers (WordsAnswer words (λ request. contents)) words none) a) (c.run_tool.ensures.front fault)
+    let none : text_asked HELP.now VERSION.now words ≡ None = sym c.text_asked.ensures ∙ ap (option_map (λ text. text.now)) c.in-None.is in
+    of_words_as (λ contents a. front_within_written (tool_answers HELP.now VERSION.now _ (WordsAnswer words (λ request. contents)) words none) a) (c.run_tool.ensures.front fault)
 
 pub returns-in-None-clause-read : goal.returns-in-None-clause-read
 returns-in-None-clause-read g c = λ fault.

@@ -1,0 +1,4 @@
+pub mod PrintLemmas
+pub mod PieceLemmas
+pub mod NameLemmas
+pub mod RewrittenLemmas

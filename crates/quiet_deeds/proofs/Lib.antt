@@ -1,0 +1,3 @@
+pub mod Reasoned
+pub mod Firsts
+pub mod DeedsAdded

@@ -1,0 +1,5 @@
+pub mod Walked
+pub mod Scanned
+pub mod WatchedDeeds
+pub mod WatchedPlays
+pub mod WatchSteps

@@ -1,0 +1,5 @@
+pub mod Watches
+pub mod WatchLaws
+pub mod HeardPlays
+pub mod WatchedRacks
+pub mod WatchedDevices

@@ -1,0 +1,7 @@
+pub mod WordLemmas
+pub mod OneAnswer
+pub mod EveryRequest
+pub mod ProgramLemmas
+pub mod RequestLemmas
+pub mod CommandLemmas
+pub mod PlayedAlike

@@ -1,0 +1,8 @@
+pub mod Statuses
+pub mod Words
+pub mod Named
+pub mod Texts
+pub mod Answers
+pub mod ReadContents
+pub mod Commands
+pub mod PlayedAlike
