@@ -10,11 +10,13 @@ use Rattle.pin_lines.specs.PinLines.{has_bad_line, pins_in}
 use Rattle.pin_lines.specs.Traces.{Agrees, board_led_to}
 use Rattle.pin_lines.specs.FirstFaults.{IsFirstBadLine, IsFirstDifference}
 use Rattle.pin_lines.proofs.FirstFaults.{a_bad_line, a_difference}
+use Rattle.board_and_file.specs.Words.{FileNames}
+use Rattle.board_and_file.specs.Contents.{Contents}
+use Rattle.board_and_file.proofs.ContentLemmas.{both}
 use Rattle.trace_tool.specs.declared.status.TraceStatus.{TraceStatus}
 use Rattle.trace_tool.specs.declared.status.TraceStatus.TheVariants.{Good, Differs, BadLine, TooLong, BoardRefused}
 use Rattle.trace_tool.specs.Texts.{good_text, differs_line, bad_line_text, too_long_line}
-use Rattle.trace_tool.specs.Words.{TraceFiles}
-use Rattle.trace_tool.specs.Answers.{most_bytes, new_board, TraceAnswer, too_long, bad_line, differs, good, Contents, RequestAnswer, board_refused, board_read}
+use Rattle.trace_tool.specs.Answers.{most_bytes, new_board, TraceAnswer, too_long, bad_line, differs, good, RequestAnswer, board_refused, board_read}
 
 abbrev HasAnswer : (List ℕ → TraceStatus → Type 0) → Type 0
 HasAnswer A = (text : List ℕ) × (status : TraceStatus) × A text status
@@ -40,17 +42,17 @@ every_trace devices text = by_length (cases_lt most_bytes (length text))
 abbrev pub AreBoards : Type 0
 AreBoards = (text : List ℕ) → ((devices : List Desc) × IsBoard text devices) ⊎ ((line : ℕ) × (reason : BoardReason) × IsFirstFault text line reason)
 
-held_request : (named : TraceFiles) (board trace : List ℕ) → ((devices : List Desc) × IsBoard board devices) ⊎ ((line : ℕ) × (reason : BoardReason) × IsFirstFault board line reason) →
-    HasAnswer (RequestAnswer named (record { board = Some board; trace = Some trace }))
+held_request : (named : FileNames) (board trace : List ℕ) → ((devices : List Desc) × IsBoard board devices) ⊎ ((line : ℕ) × (reason : BoardReason) × IsFirstFault board line reason) →
+    HasAnswer (RequestAnswer named (both (Some board) (Some trace)))
 held_request named board trace (inr fault) = (board_refusal_line fault.0 fault.1, BoardRefused fault.0 fault.1, board_refused fault.0 fault.1 fault.2)
 held_request named board trace (inl devices) =
     let a = every_trace devices.0 trace in
     (a.0, a.1, board_read devices.0 a.0 a.1 devices.1 (record { bytes = trace; held = refl; answer = a.2 }))
 
-pub every_request : AreBoards → (named : TraceFiles) (contents : Contents) → IsSome contents.board → IsSome contents.trace → HasAnswer (RequestAnswer named contents)
-every_request boards named contents = by contents.board contents.trace
+pub every_request : AreBoards → (named : FileNames) (contents : Contents) → IsSome contents.board → IsSome contents.file → HasAnswer (RequestAnswer named contents)
+every_request boards named contents = by contents.board contents.file
   where
-    by : (board trace : Option (List ℕ)) → IsSome board → IsSome trace → HasAnswer (RequestAnswer named (record { board = board; trace = trace }))
+    by : (board trace : Option (List ℕ)) → IsSome board → IsSome trace → HasAnswer (RequestAnswer named (both board trace))
     by None trace b t = absurd (false≢true b)
     by (Some board) None b t = absurd (false≢true t)
     by (Some board) (Some trace) b t = held_request named board trace (boards board)

@@ -1,4 +1,3 @@
-pub mod WordLemmas
 pub mod OneAnswer
 pub mod EveryRequest
 pub mod RackLemmas

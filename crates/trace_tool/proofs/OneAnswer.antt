@@ -8,13 +8,14 @@ use Rattle.named_files.proofs.BoardLemmas.{one_held, one_fault, board_or_fault}
 use Rattle.pin_lines.specs.PinLines.{pins_in}
 use Rattle.pin_lines.specs.Traces.{board_led_to}
 use Rattle.pin_lines.proofs.FirstFaults.{one_bad_line, not_both_lines, one_difference, not_both_clocks}
+use Rattle.board_and_file.specs.Words.{FileNames}
+use Rattle.board_and_file.specs.Contents.{Contents, contents_in}
+use Rattle.board_and_file.proofs.WordLemmas.{one_request, one_usage, no_usage}
 use Rattle.trace_tool.specs.declared.status.TraceStatus.{TraceStatus}
 use Rattle.trace_tool.specs.declared.status.TraceStatus.TheVariants.{Good, Differs, BadLine, BoardRefused, Usage}
 use Rattle.trace_tool.specs.Statuses.{IsFault}
 use Rattle.trace_tool.specs.Texts.{good_text, differs_line, bad_line_text}
-use Rattle.trace_tool.specs.Words.{TraceFiles}
-use Rattle.trace_tool.specs.Answers.{new_board, TraceAnswer, too_long, bad_line, differs, good, FileAnswer, Contents, contents_in, RequestAnswer, board_refused, board_read, WordsAnswer, usage, asked, Answer}
-use Rattle.trace_tool.proofs.WordLemmas.{one_request, one_usage, no_usage}
+use Rattle.trace_tool.specs.Answers.{trace_key, new_board, TraceAnswer, too_long, bad_line, differs, good, FileAnswer, RequestAnswer, board_refused, board_read, WordsAnswer, usage, asked, Answer}
 
 -- two texts and two statuses are the same
 abbrev pub AreSame : List ℕ → TraceStatus → List ℕ → TraceStatus → Type 0
@@ -49,23 +50,23 @@ refused_same : {m n : ℕ} {r s : BoardReason} → (m ≡ n) × (r ≡ s) → Ar
 refused_same {n = n} {r = r} e =
     (ap (λ k. board_refusal_line k r) e.0 ∙ ap (board_refusal_line n) e.1, ap (λ k. BoardRefused k r) e.0 ∙ ap (BoardRefused n) e.1)
 
-one_asked : (named : TraceFiles) (contents : Contents) (a b : List ℕ) (s t : TraceStatus) → RequestAnswer named contents a s → RequestAnswer named contents b t → AreSame a s b t
+one_asked : (named : FileNames) (contents : Contents) (a b : List ℕ) (s t : TraceStatus) → RequestAnswer named contents a s → RequestAnswer named contents b t → AreSame a s b t
 one_asked named contents a b s t (board_refused m r x) (board_refused n q y) = refused_same (one_fault (Some named.board) contents.board m n r q x y)
 one_asked named contents a b s t (board_refused m r x) (board_read devices text status y z) =
     absurd (board_or_fault (Some named.board) contents.board devices m r y x)
 one_asked named contents a b s t (board_read devices text status x z) (board_refused n q y) =
     absurd (board_or_fault (Some named.board) contents.board devices n q x y)
 one_asked named contents a b s t (board_read devices text status x z) (board_read others text2 status2 y w) =
-    one_file others contents.trace a b s t
-    (subst (λ (ds : List Desc). FileAnswer ds contents.trace a s) (one_held (Some named.board) contents.board devices others x y) z) w
+    one_file others contents.file a b s t
+    (subst (λ (ds : List Desc). FileAnswer ds contents.file a s) (one_held (Some named.board) contents.board devices others x y) z) w
 
 pub one_words : (words : List (List ℕ)) (files : List (List ℕ × List ℕ)) (a b : List ℕ) (s t : TraceStatus) → Answer words files a s → Answer words files b t → AreSame a s b t
-one_words words files a b s t (usage n x) (usage m y) = let e : n ≡ m = one_usage words n m x y in (ap usage_line e, ap Usage e)
-one_words words files a b s t (usage n x) (asked named text status y z) = absurd (no_usage words named n y x)
-one_words words files a b s t (asked named text status x z) (usage m y) = absurd (no_usage words named m x y)
+one_words words files a b s t (usage n x) (usage m y) = let e : n ≡ m = one_usage trace_key words n m x y in (ap usage_line e, ap Usage e)
+one_words words files a b s t (usage n x) (asked named text status y z) = absurd (no_usage trace_key words named n y x)
+one_words words files a b s t (asked named text status x z) (usage m y) = absurd (no_usage trace_key words named m x y)
 one_words words files a b s t (asked named text status x z) (asked other text2 status2 y w) =
     one_asked other (contents_in files other) a b s t
-    (subst (λ (n : TraceFiles). RequestAnswer n (contents_in files n) a s) (one_request words named other x y) z) w
+    (subst (λ (n : FileNames). RequestAnswer n (contents_in files n) a s) (one_request trace_key words named other x y) z) w
 
 -- the status of a fault
 
@@ -75,11 +76,11 @@ trace_status devices bytes text status (bad_line n x f) p = p
 trace_status devices bytes text status (differs i x g f) p = p
 trace_status devices bytes text status (good n x g f e) p = p
 
-request_status : (named : TraceFiles) (contents : Contents) (text : List ℕ) (status : TraceStatus) → RequestAnswer named contents text status → IsFault status → ⊥
+request_status : (named : FileNames) (contents : Contents) (text : List ℕ) (status : TraceStatus) → RequestAnswer named contents text status → IsFault status → ⊥
 request_status named contents text status (board_refused m r x) p = p
 request_status named contents text status (board_read devices text2 status2 x a) p = trace_status devices a.bytes text status a.answer p
 
-pub answer_status : {words : List (List ℕ)} {contents_of : TraceFiles → Contents} {text : List ℕ} {status : TraceStatus} → WordsAnswer words contents_of text status →
+pub answer_status : {words : List (List ℕ)} {contents_of : FileNames → Contents} {text : List ℕ} {status : TraceStatus} → WordsAnswer words contents_of text status →
     IsFault status → ⊥
 answer_status (usage n u) p = p
 answer_status {contents_of = contents_of} (asked named text status asks a) p = request_status named (contents_of named) text status a p

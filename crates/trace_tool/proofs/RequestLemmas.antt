@@ -1,11 +1,9 @@
 -- On answers to requests: the board comes first, and the trace after it.
-use Rattle.std.proofs.Common.{◌≡◌, ◌∙◌, ◌<◌, ℕ, List, length, Option, None, Some, Result, Ok, Err, IfSome, IsSomeAnd, refl, sym, ap, subst}
+use Rattle.std.proofs.Common.{◌≡◌, ◌<◌, ℕ, List, length, Option, None, Some, Result, Ok, Err, IfSome, IsSomeAnd, refl, sym, subst}
 use Rattle.std.specs.Prelude.{IsErrAnd}
 use Rattle.tool_io.specs.declared.lines.Lines.{Lines}
-use Rattle.tool_io.specs.Causes.{NoneFalls}
 use Rattle.tool_io.specs.Files.{file_of}
 use Rattle.tool_io.specs.Lines.{Puts, PutsFront}
-use Rattle.tool_io.proofs.CauseLemmas.{rose_after_at}
 use Rattle.dev_card.specs.declared.desc.Desc.{Desc}
 use Rattle.dev_card.specs.Sound.{SoundCard}
 use Rattle.board_text.specs.declared.reason.BoardReason.{BoardReason}
@@ -13,18 +11,19 @@ use Rattle.tool_answers.specs.declared.no_answer.NoAnswer.{NoAnswer}
 use Rattle.tool_answers.specs.declared.no_answer.NoAnswer.TheVariants.{Read, Write, Memory}
 use Rattle.tool_answers.specs.Answers.{Says}
 use Rattle.tool_answers.proofs.AnswerLemmas.{IsWithin, says_within, says_failed, said_text, said_front}
-use Rattle.named_files.specs.Files.{file_named, AreRead, OfFile, HasReadCause}
+use Rattle.named_files.specs.Files.{OfFile}
 use Rattle.named_files.specs.Boards.{HasBoard, ReadsBoard, ReadsBoardFault}
 use Rattle.named_files.specs.Texts.{board_refusal_line}
 use Rattle.named_files.proofs.BoardLemmas.{of_file_as, of_any_file, of_whole_file, of_long_file}
+use Rattle.board_and_file.specs.Words.{FileNames, IsRequest}
+use Rattle.board_and_file.specs.Contents.{Contents, contents_in, OfContents, OfWords}
+use Rattle.board_and_file.proofs.ContentLemmas.{both, of_any_contents, of_board, of_both, of_request}
 use Rattle.trace_tool.specs.declared.status.TraceStatus.{TraceStatus}
 use Rattle.trace_tool.specs.declared.status.TraceStatus.TheVariants.{TooLong, BoardRefused}
-use Rattle.trace_tool.specs.Words.{TraceFiles, IsRequest}
 use Rattle.trace_tool.specs.Texts.{too_long_line}
-use Rattle.trace_tool.specs.Answers.{most_bytes, TraceAnswer, too_long, FileAnswer, Contents, contents_in, RequestAnswer, board_refused, board_read, WordsAnswer, usage, asked}
+use Rattle.trace_tool.specs.Answers.{trace_key, most_bytes, TraceAnswer, too_long, FileAnswer, RequestAnswer, board_refused, board_read, WordsAnswer, usage, asked}
 use Rattle.trace_tool.specs.FinalRacks.{HoldsLed, HeldLed, RequestHoldsLed, WordsHoldLed, KeepsRack}
-use Rattle.trace_tool.specs.ReadContents.{OfContents, OfWords, HoldsBoard, IsReached, trace_reached, IsReachedBy, IsUntouched, Answers}
-use Rattle.trace_tool.proofs.WordLemmas.{one_request}
+use Rattle.trace_tool.specs.Written.{IsUntouched, Answers}
 use Rattle.trace_tool.proofs.RackLemmas.{rack_as, rack_failed, rack_same, rack_unread}
 
 answers_as : {K D Kind R T : Type 0} (written : K → Option (List ℕ)) (kind_of : D → Kind) (fitted : D → Option SoundCard) {A B : List ℕ → TraceStatus → Type 0}
@@ -92,74 +91,14 @@ no_room told path devices = of_any_file told (Some path) (λ held. record { says
 
 -- ---- the board is right
 
-file_within : (named : TraceFiles) (devices : List Desc) (board trace : Option (List ℕ)) → HasBoard (Some named.board) board devices →
-    IsWithin (FileAnswer devices trace) (RequestAnswer named (record { board = board; trace = trace }))
+file_within : (named : FileNames) (devices : List Desc) (board trace : Option (List ℕ)) → HasBoard (Some named.board) board devices →
+    IsWithin (FileAnswer devices trace) (RequestAnswer named (both board trace))
 file_within named devices board trace is = record { to = λ text status a. board_read devices text status is a }
 
--- the board that was read is the one that the store holds
-holds_board : (named : TraceFiles) (devices : List Desc) (told : Option (List (List ℕ × List ℕ))) → ReadsBoard told (Some named.board) devices → IfSome told (HoldsBoard named)
-holds_board named devices None reads = tt
-holds_board named devices (Some files) reads = record {
-  devices = devices;
-  board = subst (λ (h : Option (List ℕ)). HasBoard (Some named.board) h devices) (sym (reads.read).same) reads.holds;
-}
-
--- the trace could not be read after a board that is right
-pub trace_cause : {S : Type 0} {faults : S → List ℕ → ℕ} {is_last : S → List ℕ → Type 0} (before between after : S) (named : TraceFiles) (devices : List Desc)
-    (told : Option (List (List ℕ × List ℕ))) → ReadsBoard told (Some named.board) devices → NoneFalls faults is_last before between →
-    HasReadCause faults is_last (λ read. read ≡ named.trace) between after → HasReadCause faults is_last (IsReached told named) before after
-trace_cause {faults = faults} {is_last = is_last} before between after named devices told reads kept c = record {
-  path = c.path;
-  is_reached = trace_reached (sym c.is_reached) (holds_board named devices told reads);
-  rose = rose_after_at kept c.rose;
-}
-
--- ---- what was read
-
-abbrev both : Option (List ℕ) → Option (List ℕ) → Contents
-both board trace = record { board = board; trace = trace }
-
-both_read : (told : Option (List (List ℕ × List ℕ))) (named : TraceFiles) (board trace : Option (List ℕ)) → AreRead told (Some named.board) board →
-    AreRead told (Some named.trace) trace → IfSome told (λ files. contents_in files named ≡ both board trace)
-both_read None named board trace b s = tt
-both_read (Some files) named board trace b s =
-    ap (λ (x : Option (List ℕ)). both x (file_named files (Some named.trace))) b.same ∙ ap (both board) s.same
-
--- what stands of all contents
-pub of_any_contents : (told : Option (List (List ℕ × List ℕ))) (named : TraceFiles) {P : Contents → Type 0} → ((contents : Contents) → P contents) → OfContents told named P
-of_any_contents None named f = record { contents = both None None; read = tt; holds = f (both None None) }
-of_any_contents (Some files) named f = record { contents = contents_in files named; read = refl; holds = f (contents_in files named) }
-
--- the board was read, and it does not matter what else
-of_board : (told : Option (List (List ℕ × List ℕ))) (named : TraceFiles) (board : Option (List ℕ)) {P : Contents → Type 0} → AreRead told (Some named.board) board →
-    ((trace : Option (List ℕ)) → P (both board trace)) → OfContents told named P
-of_board None named board b f = record { contents = both board None; read = tt; holds = f None }
-of_board (Some files) named board b f = record {
-  contents = both board (file_named files (Some named.trace));
-  read = both_read (Some files) named board (file_named files (Some named.trace)) b (record { same = refl });
-  holds = f (file_named files (Some named.trace));
-}
-
--- the words are this request
-of_request : (told : Option (List (List ℕ × List ℕ))) {words : List (List ℕ)} {named : TraceFiles} {P Q : Contents → Type 0} → IsRequest words named →
-    OfContents told named P → ((contents : Contents) → P contents → Q contents) → OfWords told words Q
-of_request told {words = words} {named = named} asks o f = record {
-  contents = o.contents;
-  read = λ other others. subst (λ (n : TraceFiles). IfSome told (λ files. contents_in files n ≡ o.contents)) (one_request words named other asks others) o.read;
-  holds = f o.contents o.holds;
-}
-
--- words that are no request
-pub of_no_request : (told : Option (List (List ℕ × List ℕ))) {words : List (List ℕ)} {Q : Contents → Type 0} → ((named : TraceFiles) → IsRequest words named → ⊥) →
-    ((contents : Contents) → Q contents) → OfWords told words Q
-of_no_request told none f = record { contents = both None None; read = λ named asks. absurd (none named asks); holds = f (both None None) }
-
-pub of_words_as : {told : Option (List (List ℕ × List ℕ))} {words : List (List ℕ)} {P Q : Contents → Type 0} → ((contents : Contents) → P contents → Q contents) →
-    OfWords told words P → OfWords told words Q
-of_words_as f o = record { contents = o.contents; read = o.read; holds = f o.contents o.holds }
+-- ---- told files
 
 in_told : (files : List (List ℕ × List ℕ)) (words : List (List ℕ)) (contents : Contents) {text : List ℕ} {status : TraceStatus} →
-    ((named : TraceFiles) → IsRequest words named → contents_in files named ≡ contents) →
+    ((named : FileNames) → IsRequest trace_key words named → contents_in files named ≡ contents) →
     WordsAnswer words (λ named. contents) text status → WordsAnswer words (contents_in files) text status
 in_told files words contents read (usage n u) = usage n u
 in_told files words contents read (asked named text status asks a) =
@@ -167,50 +106,43 @@ in_told files words contents read (asked named text status asks a) =
 
 -- With a store that tells its files, the answer for the contents that were read is that for its files.
 pub told_answer : (files : List (List ℕ × List ℕ)) (words : List (List ℕ)) (contents : Contents) →
-    ((named : TraceFiles) → IsRequest words named → contents_in files named ≡ contents) →
+    ((named : FileNames) → IsRequest trace_key words named → contents_in files named ≡ contents) →
     IsWithin (WordsAnswer words (λ named. contents)) (WordsAnswer words (contents_in files))
 told_answer files words contents read = record { to = λ text status a. in_told files words contents read a }
 
 -- ---- what is answered to a request, and to words
 
-abbrev pub RequestSays : {K D Kind : Type 0} → (K → Option (List ℕ)) → (D → Kind) → (D → Option SoundCard) → Option (List (List ℕ × List ℕ)) → TraceFiles →
+abbrev pub RequestSays : {K D Kind : Type 0} → (K → Option (List ℕ)) → (D → Kind) → (D → Option SoundCard) → Option (List (List ℕ × List ℕ)) → FileNames →
     Lines K → Lines K → List D → List D → Result TraceStatus NoAnswer → Type 0
 RequestSays written kind_of fitted told named old new olds news r = OfContents told named (λ contents.
     Answers written kind_of fitted (RequestAnswer named contents) (IsUntouched old new olds news) (RequestHoldsLed named contents) old new olds news r)
 
 abbrev pub WordsSay : {K D Kind : Type 0} → (K → Option (List ℕ)) → (D → Kind) → (D → Option SoundCard) → Option (List (List ℕ × List ℕ)) → List (List ℕ) →
     Lines K → Lines K → List D → List D → Result TraceStatus NoAnswer → Type 0
-WordsSay written kind_of fitted told words old new olds news r = OfWords told words (λ contents.
+WordsSay written kind_of fitted told words old new olds news r = OfWords trace_key told words (λ contents.
     Answers written kind_of fitted (WordsAnswer words (λ named. contents)) (IsUntouched old new olds news) (WordsHoldLed words contents) old new olds news r)
 
 -- the board is right
 pub request_of_file : {K D Kind : Type 0} (written : K → Option (List ℕ)) (kind_of : D → Kind) (fitted : D → Option SoundCard) (old new : Lines K) (olds news : List D)
-    (told : Option (List (List ℕ × List ℕ))) (named : TraceFiles) (r : Result TraceStatus NoAnswer) (devices : List Desc) → ReadsBoard told (Some named.board) devices →
-    FileSays written kind_of fitted told named.trace devices old new olds news r → RequestSays written kind_of fitted told named old new olds news r
-request_of_file written kind_of fitted old new olds news told named r devices reads o = record {
-  contents = both reads.held o.held;
-  read = both_read told named reads.held o.held reads.read o.read;
-  holds = answers_as written kind_of fitted r (file_within named devices reads.held o.held reads.holds) (λ u. u)
-      (λ status rack final. record { devices = devices; board = reads.holds; final = final }) o.holds;
-}
+    (told : Option (List (List ℕ × List ℕ))) (named : FileNames) (r : Result TraceStatus NoAnswer) (devices : List Desc) → ReadsBoard told (Some named.board) devices →
+    FileSays written kind_of fitted told named.file devices old new olds news r → RequestSays written kind_of fitted told named old new olds news r
+request_of_file written kind_of fitted old new olds news told named r devices reads o =
+    of_both told named reads.held reads.read o (λ trace a.
+    answers_as written kind_of fitted r (file_within named devices reads.held trace reads.holds) (λ u. u)
+    (λ status rack final. record { devices = devices; board = reads.holds; final = final }) a)
 
 -- the words are this request
 pub words_of_request : {K D Kind : Type 0} (written : K → Option (List ℕ)) (kind_of : D → Kind) (fitted : D → Option SoundCard) (old new : Lines K) (olds news : List D)
-    (told : Option (List (List ℕ × List ℕ))) {words : List (List ℕ)} (named : TraceFiles) (r : Result TraceStatus NoAnswer) → IsRequest words named →
+    (told : Option (List (List ℕ × List ℕ))) {words : List (List ℕ)} (named : FileNames) (r : Result TraceStatus NoAnswer) → IsRequest trace_key words named →
     RequestSays written kind_of fitted told named old new olds news r → WordsSay written kind_of fitted told words old new olds news r
 words_of_request written kind_of fitted old new olds news told named r asks o =
     of_request told asks o (λ contents.
     answers_as written kind_of fitted r (record { to = λ text status a. asked named text status asks a }) (λ u. u)
     (λ status rack final. record { named = named; asked = asks; final = final }))
 
--- a file of the request that was reached is one of the words
-pub reached_by : {S : Type 0} {faults : S → List ℕ → ℕ} {is_last : S → List ℕ → Type 0} {before after : S} {told : Option (List (List ℕ × List ℕ))} {words : List (List ℕ)}
-    {named : TraceFiles} → IsRequest words named → HasReadCause faults is_last (IsReached told named) before after → HasReadCause faults is_last (IsReachedBy told words) before after
-reached_by {named = named} asks c = record { path = c.path; is_reached = record { named = named; asked = asks; reached = c.is_reached }; rose = c.rose }
-
 -- the board is refused
 module _ {K D Kind : Type 0} {written : K → Option (List ℕ)} {kind_of : D → Kind} {fitted : D → Option SoundCard} {old new : Lines K} {items : List D}
-    (told : Option (List (List ℕ × List ℕ))) (named : TraceFiles) (line : ℕ) (reason : BoardReason)
+    (told : Option (List (List ℕ × List ℕ))) (named : FileNames) (line : ℕ) (reason : BoardReason)
     (reads : ReadsBoardFault told (Some named.board) line reason) where
   pub board_failed : (r : Result TraceStatus NoAnswer) → IsErrAnd r (λ e. e ≡ Write) → PutsFront written old (board_refusal_line line reason) new →
       RequestSays written kind_of fitted told named old new items items r
@@ -228,11 +160,11 @@ module _ {K D Kind : Type 0} {written : K → Option (List ℕ)} {kind_of : D �
 
 -- it could not be read, or there was no memory
 pub no_board : {K D Kind : Type 0} {written : K → Option (List ℕ)} {kind_of : D → Kind} {fitted : D → Option SoundCard} {lines : Lines K} {items : List D}
-    (told : Option (List (List ℕ × List ℕ))) (named : TraceFiles) → RequestSays written kind_of fitted told named lines lines items items (Err Read)
+    (told : Option (List (List ℕ × List ℕ))) (named : FileNames) → RequestSays written kind_of fitted told named lines lines items items (Err Read)
 no_board told named = of_any_contents told named (λ contents. record { says = record { sink = refl; rack = refl }; rack = rack_unread Read })
 
 pub no_board_memory : {K D Kind : Type 0} {written : K → Option (List ℕ)} {kind_of : D → Kind} {fitted : D → Option SoundCard} {lines : Lines K} {items : List D}
-    (told : Option (List (List ℕ × List ℕ))) (named : TraceFiles) (r : Result TraceStatus NoAnswer) → IsErrAnd r (λ e. e ≡ Memory) →
+    (told : Option (List (List ℕ × List ℕ))) (named : FileNames) (r : Result TraceStatus NoAnswer) → IsErrAnd r (λ e. e ≡ Memory) →
     RequestSays written kind_of fitted told named lines lines items items r
 no_board_memory told named (Ok status) is = absurd is
 no_board_memory told named (Err e) is = rw is (of_any_contents told named (λ contents. record { says = refl; rack = rack_unread Memory }))

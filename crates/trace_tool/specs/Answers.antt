@@ -1,20 +1,24 @@
 -- What the tool answers: a text and a status, by the words and the contents of the files that they name. It is defined
 -- where the files are held that are read before the answer is found: the board first, and the trace after a board that
 -- is right.
-use Rattle.std.specs.Prelude.{◌≡◌, ◌<◌, ◌≤◌, ℕ, false, List, length, map, Option, Some}
+use Rattle.std.specs.Prelude.{◌≡◌, ◌<◌, ◌≤◌, ℕ, false, List, length, map, codes, Option, Some}
 use Rattle.dev_card.specs.declared.desc.Desc.{Desc}
 use Rattle.dev_card.specs.Card.{Card, fresh}
 use Rattle.board_text.specs.declared.reason.BoardReason.{BoardReason}
-use Rattle.named_files.specs.Files.{file_named}
 use Rattle.named_files.specs.Boards.{HasBoard, HasBoardFault}
 use Rattle.named_files.specs.Texts.{board_refusal_line, usage_line}
 use Rattle.pin_lines.specs.PinLines.{has_bad_line, pins_in}
 use Rattle.pin_lines.specs.Traces.{Agrees, board_led_to}
 use Rattle.pin_lines.specs.FirstFaults.{IsFirstBadLine, IsFirstDifference}
+use Rattle.board_and_file.specs.Words.{FileNames, IsRequest, IsUsage}
+use Rattle.board_and_file.specs.Contents.{Contents, contents_in}
 use Rattle.trace_tool.specs.declared.status.TraceStatus.{TraceStatus}
 use Rattle.trace_tool.specs.declared.status.TraceStatus.TheVariants.{Good, Differs, BadLine, TooLong, BoardRefused, Usage}
-use Rattle.trace_tool.specs.Words.{TraceFiles, IsRequest, IsUsage}
 use Rattle.trace_tool.specs.Texts.{good_text, differs_line, bad_line_text, too_long_line}
+
+-- the key of the word that names the trace
+abbrev pub trace_key : List ℕ
+trace_key = codes "trace="
 
 -- the most bytes of a trace
 abbrev pub most_bytes : ℕ
@@ -44,30 +48,20 @@ pub record FileAnswer (devices : List Desc) (file : Option (List ℕ)) (text : L
   pub held : file ≡ Some bytes
   pub answer : TraceAnswer devices bytes text status
 
--- The bytes of the two files, each where it is held.
-pub record Contents : Type 0 where
-  pub board : Option (List ℕ)
-  pub trace : Option (List ℕ)
-
--- those that a store holds
-abbrev pub contents_in : List (List ℕ × List ℕ) → TraceFiles → Contents
-contents_in files named =
-    record { board = file_named files (Some named.board); trace = file_named files (Some named.trace) }
-
 -- The answer to a request: its board is refused at its first fault, or is of these devices, and the answer is that for
 -- its trace.
-pub data RequestAnswer (named : TraceFiles) (contents : Contents) : List ℕ → TraceStatus → Type 0 where
+pub data RequestAnswer (named : FileNames) (contents : Contents) : List ℕ → TraceStatus → Type 0 where
   board_refused : (line : ℕ) (reason : BoardReason) → HasBoardFault (Some named.board) contents.board line reason →
       RequestAnswer named contents (board_refusal_line line reason) (BoardRefused line reason)
   board_read : (devices : List Desc) (text : List ℕ) (status : TraceStatus) →
       HasBoard (Some named.board) contents.board devices →
-      FileAnswer devices contents.trace text status → RequestAnswer named contents text status
+      FileAnswer devices contents.file text status → RequestAnswer named contents text status
 
 -- The answer to the words, with these contents of the files of each request: they are refused, or what they ask is
 -- answered.
-pub data WordsAnswer (words : List (List ℕ)) (contents_of : TraceFiles → Contents) : List ℕ → TraceStatus → Type 0 where
-  usage : (n : ℕ) → IsUsage words n → WordsAnswer words contents_of (usage_line n) (Usage n)
-  asked : (named : TraceFiles) (text : List ℕ) (status : TraceStatus) → IsRequest words named →
+pub data WordsAnswer (words : List (List ℕ)) (contents_of : FileNames → Contents) : List ℕ → TraceStatus → Type 0 where
+  usage : (n : ℕ) → IsUsage trace_key words n → WordsAnswer words contents_of (usage_line n) (Usage n)
+  asked : (named : FileNames) (text : List ℕ) (status : TraceStatus) → IsRequest trace_key words named →
       RequestAnswer named (contents_of named) text status →
       WordsAnswer words contents_of text status
 

@@ -8,11 +8,12 @@ use Rattle.named_files.specs.Boards.{HasBoard}
 use Rattle.pin_lines.specs.PinLines.{pins_in}
 use Rattle.pin_lines.specs.Traces.{board_led_to}
 use Rattle.tool_answers.specs.declared.no_answer.NoAnswer.{NoAnswer}
+use Rattle.board_and_file.specs.Words.{FileNames, IsRequest}
+use Rattle.board_and_file.specs.Contents.{Contents}
 use Rattle.trace_tool.specs.declared.status.TraceStatus.{TraceStatus}
 use Rattle.trace_tool.specs.declared.status.TraceStatus.TheVariants.{Good, Differs, BadLine, TooLong, BoardRefused, Usage, ReadFault, WriteFault, Memory}
 use Rattle.trace_tool.specs.Statuses.{IsCompared, ComesBeforeFitting}
-use Rattle.trace_tool.specs.Words.{TraceFiles, IsRequest}
-use Rattle.trace_tool.specs.Answers.{new_board, Contents}
+use Rattle.trace_tool.specs.Answers.{trace_key, new_board}
 
 -- The clocks of a trace that were made, by how the comparison ended: all; those before the one that differs; and none
 -- if a line is bad.
@@ -38,17 +39,17 @@ HeldLed devices None status rack = ⊥
 HeldLed devices (Some text) status rack = HoldsLed devices text status rack
 
 -- the same of a request, with the board that it names
-pub record RequestHoldsLed (named : TraceFiles) (contents : Contents) (status : TraceStatus)
+pub record RequestHoldsLed (named : FileNames) (contents : Contents) (status : TraceStatus)
     (rack : List (Option SoundCard)) : Type 0 where
   pub devices : List Desc
   pub board : HasBoard (Some named.board) contents.board devices
-  pub final : HeldLed devices contents.trace status rack
+  pub final : HeldLed devices contents.file status rack
 
 -- the same of words
 pub record WordsHoldLed (words : List (List ℕ)) (contents : Contents) (status : TraceStatus)
     (rack : List (Option SoundCard)) : Type 0 where
-  pub named : TraceFiles
-  pub asked : IsRequest words named
+  pub named : FileNames
+  pub asked : IsRequest trace_key words named
   pub final : RequestHoldsLed named contents status rack
 
 -- What a call that answers leaves of the rack. The devices keep their kinds. They stay as they were if the cause of the

@@ -1,7 +1,5 @@
-pub mod Words
 pub mod Texts
 pub mod Statuses
 pub mod Answers
 pub mod FinalRacks
-pub mod ReadContents
-pub mod Named
+pub mod Written

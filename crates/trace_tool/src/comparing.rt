@@ -7,7 +7,7 @@ ghost use Rattle.chain_sim.specs.Rack.{IsRack};
 ghost use Rattle.named_files.specs.Files.{OfFile, KeepsShelf};
 ghost use Rattle.trace_tool.specs.Answers.{TraceAnswer, FileAnswer};
 ghost use Rattle.trace_tool.specs.FinalRacks.{HoldsLed, HeldLed, KeepsRack};
-ghost use Rattle.trace_tool.specs.ReadContents.{Answers, IsUntouched};
+ghost use Rattle.trace_tool.specs.Written.{Answers, IsUntouched};
 
 use crate::TraceStatus;
 use crate::lines::{put_bad_line, put_differs, put_good, put_too_long};

@@ -1,22 +1,12 @@
 //! Laws of the definitions.
-ghost use Rattle.std.specs.Prelude.{◌≡◌, ◌⊎◌, ℕ, List, Some, IsSome};
+ghost use Rattle.std.specs.Prelude.{◌≡◌, ℕ, List, Some, IsSome};
+ghost use Rattle.board_and_file.specs.Words.{FileNames};
+ghost use Rattle.board_and_file.specs.Contents.{Contents, OfWords};
 ghost use Rattle.trace_tool.specs.declared.status.TraceStatus.{TraceStatus};
 ghost use Rattle.trace_tool.specs.Statuses.{IsFault};
-ghost use Rattle.trace_tool.specs.Words.{TraceFiles, IsRequest, IsUsage};
-ghost use Rattle.trace_tool.specs.Answers.{Contents, RequestAnswer, WordsAnswer, Answer};
-ghost use Rattle.trace_tool.specs.ReadContents.{OfWords};
+ghost use Rattle.trace_tool.specs.Answers.{trace_key, RequestAnswer, WordsAnswer, Answer};
 
 use board_text::laws::every_text_is_a_board_or_has_a_fault;
-
-/// The words are a request, or have exactly one first word that is not as stated.
-pub fn words_are_a_request_or_have_a_usage()
-    ensures some { (words : List (List ℕ)) →
-        ((named : TraceFiles) × IsRequest words named) ⊎ ((n : ℕ) × IsUsage words n) }
-    ensures one_request { (words : List (List ℕ)) (a b : TraceFiles) → IsRequest words a → IsRequest words b → a ≡ b }
-    ensures one_usage { (words : List (List ℕ)) (n m : ℕ) → IsUsage words n → IsUsage words m → n ≡ m }
-    ensures not_both { (words : List (List ℕ)) (named : TraceFiles) (n : ℕ) →
-        IsRequest words named → IsUsage words n → ⊥ }
-{}
 
 /// The words and the files have at most one answer.
 pub fn one_answer()
@@ -26,7 +16,7 @@ pub fn one_answer()
 
 /// A request whose files are held has an answer, whatever they hold.
 pub fn requests_are_answered()
-    ensures { (named : TraceFiles) (contents : Contents) → IsSome contents.board → IsSome contents.trace →
+    ensures { (named : FileNames) (contents : Contents) → IsSome contents.board → IsSome contents.file →
         (text : List ℕ) × (status : TraceStatus) × RequestAnswer named contents text status }
 {
     every_text_is_a_board_or_has_a_fault();
@@ -34,13 +24,13 @@ pub fn requests_are_answered()
 
 /// The status of an answer is that of no fault.
 pub fn answers_are_no_faults()
-    ensures { (words : List (List ℕ)) (contents_of : TraceFiles → Contents) (text : List ℕ) (status : TraceStatus) →
+    ensures { (words : List (List ℕ)) (contents_of : FileNames → Contents) (text : List ℕ) (status : TraceStatus) →
         WordsAnswer words contents_of text status → IsFault status → ⊥ }
 {}
 
 /// With a store that tells its files, the answer for the contents that were read is that for its files.
 pub fn told_files_are_answered()
     ensures { (words : List (List ℕ)) (files : List (List ℕ × List ℕ)) (text : List ℕ) (status : TraceStatus) →
-        OfWords (Some files) words (λ contents. WordsAnswer words (λ named. contents) text status) →
+        OfWords trace_key (Some files) words (λ contents. WordsAnswer words (λ named. contents) text status) →
         Answer words files text status }
 {}

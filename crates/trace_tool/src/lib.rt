@@ -6,7 +6,6 @@ pub mod laws;
 mod lines;
 mod status;
 mod top;
-mod words;
 
 pub use lines::{put_bad_line, put_too_long};
 pub use status::TraceStatus;

@@ -5,15 +5,16 @@ ghost use Rattle.tool_io.specs.Lines.{IsWhole};
 ghost use Rattle.tool_answers.specs.Answers.{KeepsOutput, WroteFront};
 ghost use Rattle.chain_sim.specs.Rack.{IsRack};
 ghost use Rattle.named_files.specs.Files.{HasReadCause, KeepsShelf};
+ghost use Rattle.board_and_file.specs.Named.{files_named};
+ghost use Rattle.board_and_file.specs.Contents.{OfContents, OfWords, IsReached, IsReachedBy};
 ghost use Rattle.trace_tool.specs.Statuses.{IsFault, ComesBeforeFitting};
-ghost use Rattle.trace_tool.specs.Named.{files_named};
-ghost use Rattle.trace_tool.specs.Answers.{RequestAnswer, WordsAnswer};
+ghost use Rattle.trace_tool.specs.Answers.{trace_key, RequestAnswer, WordsAnswer};
 ghost use Rattle.trace_tool.specs.FinalRacks.{RequestHoldsLed, WordsHoldLed};
-ghost use Rattle.trace_tool.specs.ReadContents.{OfContents, OfWords, IsReached, IsReachedBy, IsUntouched, Answers, Ran, Answered};
+ghost use Rattle.trace_tool.specs.Written.{IsUntouched, Answers, Ran, Answered};
 
 use crate::TraceStatus;
 use crate::comparing::answer_file;
-use crate::words::{Named, read_words};
+use board_and_file::{Named, read_words};
 use command_words::FileName;
 use dev_card::Device;
 use named_files::{BoardNotRead, board_named, put_board_refusal, put_usage};
@@ -42,7 +43,7 @@ fn answer_request<S: Shelf, K: Sink>(
 {
     let name = FileName::of(alloc, named.board)?;
     match board_named(alloc, shelf, &Some(name)) {
-        Ok(devices) => answer_file(alloc, &devices, named.trace, shelf, rack, lines),
+        Ok(devices) => answer_file(alloc, &devices, named.file, shelf, rack, lines),
         Err(BoardNotRead::At { line, reason }) => {
             put_board_refusal(lines, line, reason)?;
             Ok(TraceStatus::BoardRefused(line, reason))
@@ -62,16 +63,16 @@ fn answer_words<S: Shelf, K: Sink>(
 ) -> Result<TraceStatus, NoAnswer>
     requires rack { IsRack (map kind_of rack.old.items) }
     requires whole { IsWhole lines.old }
-    ensures answers { OfWords (S.told shelf.old) (map string_bytes words.now) (λ contents. Answers
+    ensures answers { OfWords trace_key (S.told shelf.old) (map string_bytes words.now) (λ contents. Answers
         K.written kind_of fitted (WordsAnswer (map string_bytes words.now) (λ named. contents))
         (IsUntouched lines.old lines.new rack.old.items rack.new.items)
         (WordsHoldLed (map string_bytes words.now) contents)
         lines.old lines.new rack.old.items rack.new.items result) }
-    ensures shelf { KeepsShelf S.told S.faults S.is_last (IsReachedBy (S.told shelf.old) (map string_bytes words.now))
-        shelf.old shelf.new result }
+    ensures shelf { KeepsShelf S.told S.faults S.is_last
+        (IsReachedBy trace_key (S.told shelf.old) (map string_bytes words.now)) shelf.old shelf.new result }
     ensures output { KeepsOutput K.faults K.is_last lines.old lines.new result }
 {
-    match read_words(words) {
+    match read_words(words, "trace=") {
         Ok(named) => answer_request(alloc, named, shelf, rack, lines),
         Err(n) => {
             put_usage(lines, n)?;
@@ -89,11 +90,11 @@ fn run<S: Shelf, K: Sink>(
     out: &mut K,
 ) -> Result<TraceStatus, NoAnswer>
     requires { IsRack (map kind_of rack.old.items) }
-    ensures ran { OfWords (S.told shelf.old) (map string_bytes words.now) (λ contents. Ran kind_of fitted
+    ensures ran { OfWords trace_key (S.told shelf.old) (map string_bytes words.now) (λ contents. Ran kind_of fitted
         (map string_bytes words.now) contents (K.written out.old) (K.written out.new)
         rack.old.items rack.new.items result) }
-    ensures shelf { KeepsShelf S.told S.faults S.is_last (IsReachedBy (S.told shelf.old) (map string_bytes words.now))
-        shelf.old shelf.new result }
+    ensures shelf { KeepsShelf S.told S.faults S.is_last
+        (IsReachedBy trace_key (S.told shelf.old) (map string_bytes words.now)) shelf.old shelf.new result }
     ensures later { NeverFalls K.faults K.is_last out.old out.new }
     ensures write { IsErrOf result NoAnswer.Write → HasRisen K.faults K.is_last out.old out.new }
 {
@@ -124,20 +125,20 @@ pub fn run_trace<S: Shelf, K: Sink>(
     // files, as they were read in this call; its text is written and nothing else, and after a comparison the rack
     // holds the board as the clocks leave it that were made. With a store that tells its files the contents are what it
     // holds.
-    ensures answer { (IsFault result → ⊥) → OfWords (S.told shelf.old) (map string_bytes words.now) (λ contents.
-        Answered (map string_bytes words.now) contents (K.written out.old) (K.written out.new)
+    ensures answer { (IsFault result → ⊥) → OfWords trace_key (S.told shelf.old) (map string_bytes words.now)
+        (λ contents. Answered (map string_bytes words.now) contents (K.written out.old) (K.written out.new)
         result (map fitted rack.new.items)) }
 
     // A read fault comes only where the count of a file that the words name rose, of the trace only if no told board
     // is refused, and then nothing is written.
     ensures read { result ≡ TraceStatus.ReadFault → HasReadCause S.faults S.is_last
-        (IsReachedBy (S.told shelf.old) (map string_bytes words.now)) shelf.old shelf.new }
+        (IsReachedBy trace_key (S.told shelf.old) (map string_bytes words.now)) shelf.old shelf.new }
     ensures nothing { result ≡ TraceStatus.ReadFault → K.written out.new ≡ K.written out.old }
 
     // A write fault comes only where the sink's count rose, and then a prefix of the text is written.
     ensures write { result ≡ TraceStatus.WriteFault → HasRisen K.faults K.is_last out.old out.new }
     ensures front { result ≡ TraceStatus.WriteFault →
-        OfWords (S.told shelf.old) (map string_bytes words.now) (λ contents.
+        OfWords trace_key (S.told shelf.old) (map string_bytes words.now) (λ contents.
         WroteFront (WordsAnswer (map string_bytes words.now) (λ named. contents))
         (K.written out.old) (K.written out.new)) }
 

@@ -1,12 +1,13 @@
 use Rattle.std.proofs.Common.{refl}
 use Rattle.named_files.specs.Texts.{usage_line}
 use Rattle.tool_answers.proofs.AnswerLemmas.{says_failed, said_text, said_front}
+use Rattle.board_and_file.specs.Named.{files_named}
+use Rattle.board_and_file.proofs.WordLemmas.{no_usage}
+use Rattle.board_and_file.proofs.ContentLemmas.{of_no_request, reached_by}
 use Rattle.trace_tool.specs.declared.status.TraceStatus.TheVariants.{Usage}
-use Rattle.trace_tool.specs.Named.{files_named}
-use Rattle.trace_tool.specs.Answers.{usage}
-use Rattle.trace_tool.proofs.WordLemmas.{no_usage}
+use Rattle.trace_tool.specs.Answers.{trace_key, usage}
 use Rattle.trace_tool.proofs.RackLemmas.{rack_failed, rack_same}
-use Rattle.trace_tool.proofs.RequestLemmas.{words_of_request, of_no_request, reached_by}
+use Rattle.trace_tool.proofs.RequestLemmas.{words_of_request}
 use Rattle.trace_tool.proofs.top.answer_words.Goals as goal
 
 pub returns-in-Ok-clause-answers : goal.returns-in-Ok-clause-answers
@@ -23,7 +24,7 @@ returns-in-Ok-clause-shelf g c = record {
 
 pub returns-in_err-put_usage-in-Err-clause-answers : goal.returns-in_err-put_usage-in-Err-clause-answers
 returns-in_err-put_usage-in-Err-clause-answers g c =
-    of_no_request (g.S.Shelf.told c.args.shelf.now) (λ named asks. no_usage _ named c.in-Err.n asks c.in-Err.ensures.usage) (λ contents. record {
+    of_no_request trace_key (g.S.Shelf.told c.args.shelf.now) (λ named asks. no_usage trace_key _ named c.in-Err.n asks c.in-Err.ensures.usage) (λ contents. record {
       says = says_failed _ _ _ _ _ c.from_residual.result c.from_residual.ensures.1
           (said_front (usage_line c.in-Err.n) (Usage c.in-Err.n) (usage c.in-Err.n c.in-Err.ensures.usage) c.in_err-put_usage-in-Err.ensures.put.front);
       rack = rack_failed c.from_residual.result c.from_residual.ensures.1 refl;
@@ -31,7 +32,7 @@ returns-in_err-put_usage-in-Err-clause-answers g c =
 
 pub returns-in_ok-put_usage-in-Err-clause-answers : goal.returns-in_ok-put_usage-in-Err-clause-answers
 returns-in_ok-put_usage-in-Err-clause-answers g c =
-    of_no_request (g.S.Shelf.told c.args.shelf.now) (λ named asks. no_usage _ named c.in-Err.n asks c.in-Err.ensures.usage) (λ contents. record {
+    of_no_request trace_key (g.S.Shelf.told c.args.shelf.now) (λ named asks. no_usage trace_key _ named c.in-Err.n asks c.in-Err.ensures.usage) (λ contents. record {
       says = said_text (usage_line c.in-Err.n) (usage c.in-Err.n c.in-Err.ensures.usage) c.in_ok-put_usage-in-Err.ensures.put.ok;
       rack = rack_same (Usage c.in-Err.n) (λ p. p);
     })

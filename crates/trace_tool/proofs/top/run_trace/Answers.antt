@@ -1,7 +1,7 @@
 use Rattle.std.proofs.Common.{sym, subst}
+use Rattle.board_and_file.proofs.ContentLemmas.{of_words_as}
 use Rattle.trace_tool.specs.Statuses.{IsFault}
 use Rattle.trace_tool.proofs.OneAnswer.{answer_status}
-use Rattle.trace_tool.proofs.RequestLemmas.{of_words_as}
 use Rattle.trace_tool.proofs.top.run_trace.Goals as goal
 
 pub returns-in-Ok-clause-answer : goal.returns-in-Ok-clause-answer

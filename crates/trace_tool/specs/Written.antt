@@ -1,51 +1,16 @@
--- What stands of the contents of the two files, as they were read. The rules are this tool's own.
-use Rattle.std.specs.Prelude.{◌≡◌, ℕ, List, Option, Some, Result, IsErrOf, IfSome}
+-- What a call that answers has written, and what it leaves of the rack. The rules are this tool's own.
+use Rattle.std.specs.Prelude.{◌≡◌, ℕ, List, Option, Result, IsErrOf}
 use Rattle.tool_io.specs.declared.lines.Lines.{Lines}
 use Rattle.tool_io.specs.Lines.{IsSinkUntouched}
-use Rattle.dev_card.specs.declared.desc.Desc.{Desc}
 use Rattle.dev_card.specs.Sound.{SoundCard}
 use Rattle.tool_answers.specs.declared.no_answer.NoAnswer.{NoAnswer}
 use Rattle.tool_answers.specs.declared.no_answer.NoAnswer.TheVariants.{Read}
 use Rattle.tool_answers.specs.Answers.{Says, Wrote, HasWritten}
-use Rattle.named_files.specs.Files.{file_named}
-use Rattle.named_files.specs.Boards.{HasBoard}
+use Rattle.board_and_file.specs.Contents.{Contents}
 use Rattle.trace_tool.specs.declared.status.TraceStatus.{TraceStatus}
 use Rattle.trace_tool.specs.Statuses.{IsCompared}
-use Rattle.trace_tool.specs.Words.{TraceFiles, IsRequest}
-use Rattle.trace_tool.specs.Answers.{Contents, contents_in, WordsAnswer}
+use Rattle.trace_tool.specs.Answers.{WordsAnswer}
 use Rattle.trace_tool.specs.FinalRacks.{WordsHoldLed, KeepsRack}
-
--- This stands of the contents of the files of a request, as they were read: those that the store holds, if it tells its
--- files, and else some contents.
-pub record OfContents (told : Option (List (List ℕ × List ℕ))) (named : TraceFiles) (stands : Contents → Type 0)
-    : Type 0 where
-  pub contents : Contents
-  pub read : IfSome told (λ files. contents_in files named ≡ contents)
-  pub holds : stands contents
-
--- The same of words. Words that are no request name no file.
-pub record OfWords (told : Option (List (List ℕ × List ℕ))) (words : List (List ℕ)) (stands : Contents → Type 0)
-    : Type 0 where
-  pub contents : Contents
-  pub read : (named : TraceFiles) → IsRequest words named → IfSome told (λ files. contents_in files named ≡ contents)
-  pub holds : stands contents
-
--- The store holds the board of a request, and it is a board.
-pub record HoldsBoard (named : TraceFiles) (files : List (List ℕ × List ℕ)) : Type 0 where
-  pub devices : List Desc
-  pub board : HasBoard (Some named.board) (file_named files (Some named.board)) devices
-
--- A file of a request that is read: its board; or its trace, and if the store tells its files, the board is held there
--- and is a board.
-pub data IsReached (told : Option (List (List ℕ × List ℕ))) (named : TraceFiles) (path : List ℕ) : Type 0 where
-  board_reached : named.board ≡ path → IsReached told named path
-  trace_reached : named.trace ≡ path → IfSome told (HoldsBoard named) → IsReached told named path
-
--- a file that the words name and that is read
-pub record IsReachedBy (told : Option (List (List ℕ × List ℕ))) (words : List (List ℕ)) (path : List ℕ) : Type 0 where
-  pub named : TraceFiles
-  pub asked : IsRequest words named
-  pub reached : IsReached told named path
 
 -- Nothing has reached the sink, and the rack is as it was.
 pub record IsUntouched {K D : Type 0} (old new : Lines K) (before after : List D) : Type 0 where
