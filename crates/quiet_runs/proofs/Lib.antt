@@ -1,0 +1,4 @@
+pub mod HeardFollows
+pub mod FirstZeros
+pub mod Judges
+pub mod PieceAt

@@ -1,0 +1,2 @@
+pub mod WatchedPlays
+pub mod Verdicts

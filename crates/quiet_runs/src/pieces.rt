@@ -1,0 +1,133 @@
+//! The piece of a turn.
+ghost use Rattle.std.specs.Prelude.{◌≡◌, ◌<◌, ◌^◌, length, map, Some, IsTrue, IfOk, IfSome, slice_get};
+ghost use Rattle.dev_card.specs.Card.{fresh};
+ghost use Rattle.scan_paths.specs.Cables.{whole};
+ghost use Rattle.board_text.specs.Boards.{CanBeFitted};
+ghost use Rattle.chain_sim.specs.Places.{cards_at, is_chain};
+ghost use Rattle.chain_sim.specs.Rack.{IsRack};
+ghost use Rattle.stapl_code.specs.Safe.{AllBelow};
+ghost use Rattle.stapl_machine.specs.Machines.{play_of, IsPrepared};
+ghost use Rattle.stapl_machine.specs.Turns.{piece_of};
+ghost use Rattle.padded_plays.specs.QuietPlays.{no_base};
+ghost use Rattle.turn_places.specs.Places.{GoesOnTold};
+ghost use Rattle.quiet_runs.specs.Verdicts.{GoesOnAlone, TellsPiece};
+
+use crate::silence::Silence;
+use base::Steps;
+use chain_sim::{Chain, fit_board};
+use dev_card::{Desc, Device};
+use scan_paths::{BasePads, Cable};
+use stapl_code::Code;
+use stapl_machine::{Machine, piece_at};
+use std::alloc::{AllocError, Global};
+use std::marker::Brand;
+use std::sync::ledger::{Blank, Ledger};
+use turn_places::place_after;
+use written_cable::Trouble;
+
+// The place at which a play without base padding goes on.
+fn place_counted<C: Cable, L: Ledger>(
+    machine: Machine,
+    code: &Code,
+    chosen: &[u32],
+    cable: &mut C,
+    turns: u32,
+    blank: Blank,
+) -> Result<Option<u32>, Trouble>
+    requires name { blank.name ≡ L.name }
+    requires parts { blank.parts ≡ L.parts }
+    requires some { 0 < L.parts }
+    requires prepared { IsPrepared code.now machine }
+    requires below { AllBelow (length code.now.procedures) chosen.now }
+    requires whole { C.breakage cable.old ≡ whole }
+    ensures { IfOk result (λ found. IfSome found (GoesOnTold C.board no_base
+        (play_of code.now chosen.now turns) cable.old)) }
+{
+    let mut steps = Steps::<L>::none(blank);
+    let mut silence = Silence;
+    let base = BasePads::none();
+    place_after::<C, Silence, L>(
+        machine,
+        code,
+        chosen,
+        &base,
+        cable,
+        &mut silence,
+        turns,
+        &mut steps,
+    )
+}
+
+// The same. Its steps are counted in a ledger that nobody asks.
+fn place_over<C: Cable>(
+    machine: Machine,
+    code: &Code,
+    chosen: &[u32],
+    cable: &mut C,
+    turns: u32,
+) -> Result<Option<u32>, Trouble>
+    requires prepared { IsPrepared code.now machine }
+    requires below { AllBelow (length code.now.procedures) chosen.now }
+    requires whole { C.breakage cable.old ≡ whole }
+    ensures { IfOk result (λ found. IfSome found (GoesOnTold C.board no_base
+        (play_of code.now chosen.now turns) cable.old)) }
+{
+    let blank = Blank::new(1);
+    place_counted::<C, Brand>(machine, code, chosen, cable, turns, blank)
+}
+
+// The same over new devices at these places of the rack.
+fn place_alone(
+    machine: Machine,
+    code: &Code,
+    chosen: &[u32],
+    rack: &mut Vec<Box<dyn Device>>,
+    places: &[u32],
+    descs: &[Desc],
+    turns: u32,
+) -> Result<Option<u32>, Trouble>
+    requires prepared { IsPrepared code.now machine }
+    requires below { AllBelow (length code.now.procedures) chosen.now }
+    requires chain { IsTrue (is_chain (map fitted rack.old.items) places.now) }
+    requires cards { cards_at (map fitted rack.old.items) places.now ≡ Some (map fresh descs.now) }
+    ensures { IfOk result (λ found. IfSome found (GoesOnAlone code.now chosen.now turns descs.now)) }
+{
+    let mut chain = Chain::over(rack, places);
+    place_over(machine, code, chosen, &mut chain, turns)
+}
+
+// The piece of the Turn at a place of a code.
+fn piece_in(code: &Code, place: u32) -> Option<u32>
+    ensures piece { result ≡ piece_of (slice_get code.now.instrs place) }
+    ensures countable { length code.now.instrs < 2 ^ 32 }
+{
+    piece_at(code.raw().lists().instrs.as_slice(), place as usize)
+}
+
+/// The piece of the turn after so many turns of the play of the chosen procedures on a board of these devices alone,
+/// which is fitted into the rack.
+///
+/// `AllocError` comes for want of memory; no clause says that it does not come if the play has no such turn.
+pub(crate) fn turn_piece(
+    alloc: Global,
+    code: &Code,
+    chosen: &[u32],
+    rack: &mut Vec<Box<dyn Device>>,
+    descs: &[Desc],
+    before: u32,
+) -> Result<u32, AllocError>
+    requires below { AllBelow (length code.now.procedures) chosen.now }
+    requires devices { CanBeFitted descs.now }
+    requires rack { IsRack (map kind_of rack.old.items) }
+    ensures { IfOk result (TellsPiece code.now chosen.now before descs.now) }
+{
+    let places = fit_board(alloc, rack, descs)?;
+    let machine = Machine::prepare(alloc, code)?;
+    let Ok(Some(place)) = place_alone(machine, code, chosen, rack, &places, descs, before) else {
+        return Err(AllocError);
+    };
+    match piece_in(code, place) {
+        Some(piece) => Ok(piece),
+        None => Err(AllocError),
+    }
+}
