@@ -1,20 +1,20 @@
 -- What signals that a watch answered say of a play: it has heard the answers of the watch.
-use Rattle.std.proofs.Common.{◌≡◌, ℕ, zero, suc, Bool, true, false, cond, List, [], ◌∷◌, ◌++◌, refl, sym, ap, subst, ◌∙◌}
+use Rattle.std.proofs.Common.{◌≡◌, ℕ, zero, suc, Bool, true, false, cond, List, [], ◌∷◌, ◌++◌, refl, ap, subst, ◌∙◌}
 use Rattle.std.proofs.lemmas.Bool.{false≢true}
 use Rattle.tap_states.specs.declared.Tap.{Tap}
 use Rattle.tap_states.specs.declared.Tap.TheVariants.{Reset}
 use Rattle.tap_states.specs.Tap.{is_stable_state}
 use Rattle.dev_card.specs.declared.desc.Desc.{Desc}
-use Rattle.dev_card.specs.Board.{Input, clock_with, tdos}
+use Rattle.dev_card.specs.Board.{Input, tdos}
 use Rattle.dev_card.specs.Clocks.{move_inputs, stay_inputs}
-use Rattle.dev_card.specs.FarEnds.{Heard, heard_clocks, heard_after, next_heard, then_heard}
+use Rattle.dev_card.specs.FarEnds.{Heard, heard_clocks, heard_after, then_heard}
 use Rattle.dev_card.specs.Scans.{inputs_of_scan}
 use Rattle.scan_paths.specs.Cables.{Signal, Pulses, Waits, Tunes}
 use Rattle.stapl_meaning.specs.declared.events.Event.{Event}
 use Rattle.stapl_meaning.specs.declared.events.Event.TheVariants.{Print, Export, Clock, Usec, Hertz}
 use Rattle.stapl_meaning.specs.SaidEvents.{is_no_clock, SayNoClock, TurnSaysNoClock}
 use Rattle.stapl_meaning.proofs.SaidEvents.{turn_says, beginning_says}
-use Rattle.stapl_meaning.specs.Deeds.{Deed, Says, Goes, Stays, Scans, Chain, based, pulses, deed_events, deed_chain, deeds_events, deeds_chain, captured_on}
+use Rattle.stapl_meaning.specs.Deeds.{Deed, Says, Goes, Stays, Scans, Chain, based, pulses, deed_chain, deeds_events, deeds_chain, captured_on}
 use Rattle.stapl_meaning.specs.States.{State, Turned, Leads, Over, Broken, Scanning, NoTurn}
 use Rattle.stapl_meaning.specs.Scopes.{Played, zeros_of}
 use Rattle.stapl_meaning.specs.Turns.{turn}
@@ -23,7 +23,7 @@ use Rattle.padded_plays.specs.QuietPlays.{deeds_of_turn, deeds_of_run, deeds_of_
 use Rattle.written_cable.specs.Signals.{signals_of}
 use Rattle.written_cable.proofs.SignalLemmas.{signals_both}
 use Rattle.quiet_watch.specs.Watches.{marks, Watched, watch_tdo, watch_step, watch_after, watch_answers, Follows}
-use Rattle.quiet_watch.specs.HeardPlays.{new_watch, first_watch, marked_chain, marked_deed, tap_by, HearsDeeds, HearsPlay}
+use Rattle.quiet_watch.specs.HeardPlays.{new_watch, first_watch, marked_chain, HearsDeeds, HearsPlay}
 
 -- signals in two parts
 pub record FollowsBoth (w : Watched) (xs ys : List Signal) (v : Watched) : Type 0 where

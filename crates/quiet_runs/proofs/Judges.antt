@@ -1,5 +1,5 @@
 -- What a play over a watch says of the play of a program on the devices alone.
-use Rattle.std.proofs.Common.{◌≡◌, ◌<◌, ◌≤◌, ◌⊎◌, ◌-◌, ◌+◌, ℕ, zero, suc, Bool, List, [], ◌++◌, refl, sym, ap, subst, ◌∙◌, inl, inr, arith}
+use Rattle.std.proofs.Common.{◌≡◌, ◌≤◌, ◌⊎◌, ◌-◌, ◌+◌, ℕ, zero, suc, Bool, List, [], ◌++◌, refl, sym, ap, subst, ◌∙◌, inl, inr, arith}
 use Rattle.std.specs.Prelude.{Option, Some, None}
 use Rattle.tap_states.specs.declared.Tap.TheVariants.{Reset}
 use Rattle.dev_card.specs.declared.desc.Kind.{Kind}
@@ -9,7 +9,7 @@ use Rattle.dev_card.specs.FarEnds.{FarEnd, Heard, heard_after}
 use Rattle.dev_card.specs.Sound.{SoundCard}
 use Rattle.stapl_meaning.specs.declared.events.Event.{Event}
 use Rattle.stapl_meaning.specs.declared.events.Ending.{Ending}
-use Rattle.stapl_meaning.specs.Deeds.{Chain, deeds_events}
+use Rattle.stapl_meaning.specs.Deeds.{deeds_events}
 use Rattle.stapl_meaning.specs.Scopes.{Played}
 use Rattle.stapl_meaning.specs.Plays.{Outcome, Ended, Going, Stopped, Run, ending_of, reset_events, reset_inputs, procedures_run}
 use Rattle.stapl_code.specs.declared.raw.CodeLists.{CodeLists}
@@ -22,13 +22,13 @@ use Rattle.stapl_player.specs.Plays.{whole_play, HasPlayed}
 use Rattle.written_cable.specs.Papers.{Shown}
 use Rattle.written_cable.specs.Signals.{signals_of}
 use Rattle.quiet_runs.proofs.FirstZeros.{same_zeros}
-use Rattle.padded_plays.specs.QuietPlays.{deeds_of_play, first_chain, IsQuietPlay}
+use Rattle.padded_plays.specs.QuietPlays.{deeds_of_play, IsQuietPlay}
 use Rattle.padded_plays.proofs.QuietTurns.{events_of_play}
 use Rattle.quiet_deeds.specs.declared.unquiet.Unquiet.{Unquiet}
-use Rattle.quiet_deeds.specs.FirstDeeds.{HasUnquietDeed, IsFirstUnquiet, at_the_beginning, in_a_turn}
+use Rattle.quiet_deeds.specs.FirstDeeds.{at_the_beginning, in_a_turn}
 use Rattle.quiet_deeds.proofs.Firsts.{GoesOn, goes_on_if}
 use Rattle.quiet_watch.specs.Watches.{marks, Watched, Follows, seen_by}
-use Rattle.quiet_watch.specs.HeardPlays.{marked_chain, new_watch, HearsPlay, HasSeenPlay}
+use Rattle.quiet_watch.specs.HeardPlays.{marked_chain, new_watch, HasSeenPlay}
 use Rattle.quiet_watch.specs.declared.watch.Watch.{Watch}
 use Rattle.quiet_watch.specs.WatchedDevices.{untold, watched_of, HasFollowed}
 use Rattle.quiet_watch.proofs.WatchedPlays.{has_seen}

@@ -1,10 +1,8 @@
 -- The piece of a turn: the code at the place of a piece begins with its Turn.
-use Rattle.std.proofs.Common.{◌≡◌, ◌<◌, ◌≤◌, ◌+◌, ◌-◌, ◌^◌, ℕ, zero, suc, Bool, true, false, List, [], ◌∷◌, length, drop, map, refl, sym, ap, subst, ◌∙◌, arith}
+use Rattle.std.proofs.Common.{◌≡◌, ◌<◌, ◌≤◌, ◌+◌, ◌-◌, ◌^◌, ℕ, suc, Bool, true, false, List, [], ◌∷◌, length, drop, refl, sym, ap, subst, ◌∙◌, arith}
 use Rattle.std.specs.Prelude.{Option, Some, None, slice_get}
 use Rattle.std.proofs.lemmas.List.{drop_all}
 use Rattle.dev_card.specs.declared.desc.Desc.{Desc}
-use Rattle.dev_card.specs.Card.{fresh}
-use Rattle.dev_card.specs.FarEnds.{Told}
 use Rattle.stapl_syntax.specs.Trees.{StmtTree}
 use Rattle.stapl_syntax.specs.Statements.{is_outer}
 use Rattle.stapl_meaning.specs.Scopes.{Played}
@@ -20,7 +18,7 @@ use Rattle.stapl_codegen.specs.Generated.{IsCodeOf}
 use Rattle.stapl_codegen.proofs.Pieces.{start_none, start_head, code_from}
 use Rattle.stapl_machine.specs.Machines.{play_of}
 use Rattle.stapl_machine.specs.Turns.{piece_of}
-use Rattle.padded_plays.specs.QuietPlays.{no_base, first_chain, play_alone, IsQuietPlay}
+use Rattle.padded_plays.specs.QuietPlays.{first_chain, play_alone}
 use Rattle.quiet_deeds.specs.declared.unquiet.Unquiet.{Unquiet}
 use Rattle.quiet_deeds.specs.FirstDeeds.{IsFirstUnquiet, at_the_beginning, in_a_turn}
 use Rattle.quiet_runs.specs.Verdicts.{GoesOnAlone, GoesOnAtPiece, IsUnquietAt, IsUnquietIn}

@@ -1,5 +1,5 @@
 -- On the place at which a run goes on.
-use Rattle.std.proofs.Common.{◌≡◌, ℕ, zero, suc, Bool, List, [], ◌++◌, refl, sym, ap, subst, ◌∙◌}
+use Rattle.std.proofs.Common.{◌≡◌, ℕ, List, [], ◌++◌, refl, sym, ap, subst, ◌∙◌}
 use Rattle.std.specs.Prelude.{Option, Some, None, IfSome, Result, Ok, Err, IfOk}
 use Rattle.dev_card.specs.Card.{Card}
 use Rattle.std.specs.Option.{option_map}
@@ -9,10 +9,9 @@ use Rattle.dev_card.specs.Board.{board_after, tdos}
 use Rattle.dev_card.specs.FarEnds.{Told, far_end}
 use Rattle.dev_card.specs.Padding.{BaseLengths}
 use Rattle.scan_paths.specs.Cables.{Signal, Breakage}
-use Rattle.stapl_meaning.specs.declared.events.Event.{Event}
 use Rattle.stapl_meaning.specs.Deeds.{Chain}
-use Rattle.stapl_meaning.specs.States.{State, Happened, Led, Finished, Broke, Lacks, with_events}
-use Rattle.stapl_meaning.specs.Plays.{Run, Going, after, goes_on, reset_inputs, chain_reset}
+use Rattle.stapl_meaning.specs.States.{State, Happened, Led, Finished, Broke, Lacks}
+use Rattle.stapl_meaning.specs.Plays.{Run, after, goes_on, reset_inputs}
 use Rattle.stapl_meaning.specs.declared.values.Held.{Held}
 use Rattle.stapl_code.specs.declared.raw.CodeLists.{CodeLists}
 use Rattle.written_cable.specs.Papers.{Shown}

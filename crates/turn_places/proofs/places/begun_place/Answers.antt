@@ -1,4 +1,3 @@
-use Rattle.std.proofs.Common.{ap}
 use Rattle.stapl_instructions.specs.declared.control.Went.TheVariants as went
 use Rattle.stapl_instructions.specs.Acts.{state_of}
 use Rattle.stapl_instructions.specs.Moves.{led_on}

@@ -1,6 +1,4 @@
-use Rattle.std.proofs.Common.{ap, refl}
 use Rattle.stapl_meaning.specs.Deeds.{Chain}
-use Rattle.stapl_meaning.specs.Plays.{goes_on}
 use Rattle.stapl_code.specs.Machine.{entry_of, begins_chosen}
 use Rattle.stapl_code.specs.Safe.{entries_of}
 use Rattle.stapl_instructions.specs.Acts.{state_of}
