@@ -1,0 +1,105 @@
+-- On answers: verdicts, and which relation holds the answers of which.
+use Rattle.std.proofs.Common.{◌≡◌, ◌<◌, ℕ, List, length, Option, None, Some, IsSomeAnd, Result, Bool, subst, sym}
+use Rattle.tool_io.specs.declared.lines.Lines.{Lines}
+use Rattle.tool_io.specs.Lines.{IsSinkUntouched}
+use Rattle.tool_answers.specs.declared.no_answer.NoAnswer.{NoAnswer}
+use Rattle.tool_answers.specs.Answers.{Says}
+use Rattle.tool_answers.proofs.AnswerLemmas.{IsWithin, says_within}
+use Rattle.stapl_lexer.specs.Pieces.{text_limit}
+use Rattle.stapl_syntax.specs.Trees.{StmtTree}
+use Rattle.stapl_syntax.specs.Programs.{IsProgram, is_too_long}
+use Rattle.stapl_meaning.specs.declared.events.Ending.{Ending}
+use Rattle.stapl_meaning.specs.Choices.{Choice}
+use Rattle.stapl_meaning.specs.Scopes.{Played}
+use Rattle.dev_card.specs.declared.desc.Desc.{Desc}
+use Rattle.quiet_deeds.specs.declared.unquiet.Unquiet.{Unquiet}
+use Rattle.quiet_runs.specs.declared.first_turns.Verdict.{Verdict}
+use Rattle.quiet_runs.specs.declared.first_turns.Verdict.TheVariants as verdicts
+use Rattle.quiet_runs.specs.Verdicts.{IsVerdict}
+use Rattle.play_words.specs.declared.words.Request.{Request}
+use Rattle.play_tool.specs.Answers.{Contents}
+use Rattle.quiet_tool.specs.declared.status.QuietStatus.{QuietStatus}
+use Rattle.quiet_tool.specs.declared.status.QuietStatus.TheVariants.{Quiet, NotQuiet}
+use Rattle.quiet_tool.specs.Statuses.{IsFault}
+use Rattle.quiet_tool.specs.Texts.{quiet_text, unquiet_line, IsLineOf}
+use Rattle.quiet_tool.specs.Answers.{VerdictAnswer, quiet, unquiet, ChoiceAnswer, no_action, bad_choice, bad_place, judged, AskedAnswer, TextAnswer, refused, accepted, IsLongAnswer, too_long, HeldAnswer, RequestAnswer, board_refused, board_read, WordsAnswer, usage, asked}
+
+module _ {bytes : List ℕ} {turns : ℕ} {verdict : Verdict} where
+  pub verdict_quiet : (ending : Ending) (text : List ℕ) → verdict ≡ verdicts.Quiet ending → text ≡ quiet_text turns ending →
+      (program : Played) (procedures : List ℕ) (run : List Desc) → IsVerdict program procedures turns run verdict →
+      VerdictAnswer bytes program procedures turns run text Quiet
+  verdict_quiet ending text e f program procedures run v =
+      let q = subst (IsVerdict program procedures turns run) e v in
+      subst (λ (t : List ℕ). VerdictAnswer bytes program procedures turns run t Quiet) (sym f) (quiet ending q.quiet q.ended)
+
+  pub verdict_unquiet : (turn piece line : ℕ) (why : Unquiet) (text : List ℕ) → verdict ≡ verdicts.NotQuiet turn piece why → IsLineOf bytes piece line →
+      text ≡ unquiet_line piece line turn why →
+      (program : Played) (procedures : List ℕ) (run : List Desc) → IsVerdict program procedures turns run verdict →
+      VerdictAnswer bytes program procedures turns run text (NotQuiet turn piece why)
+  verdict_unquiet turn piece line why text e at f program procedures run v =
+      let q = subst (IsVerdict program procedures turns run) e v in
+      subst (λ (t : List ℕ). VerdictAnswer bytes program procedures turns run t (NotQuiet turn piece why)) (sym f) (unquiet turn piece line why q.first q.within at)
+
+-- the same verdict, by an equal text and equal devices
+pub verdict_same : {text : List ℕ} {status : QuietStatus} (program : Played) (procedures : List ℕ) (n : ℕ) (a b : List ℕ) (r s : List Desc) → a ≡ b → r ≡ s →
+    VerdictAnswer a program procedures n r text status → VerdictAnswer b program procedures n s text status
+verdict_same {text = text} {status = status} program procedures n a b r s e f v =
+    subst (λ (z : List Desc). VerdictAnswer b program procedures n z text status) f (subst (λ (z : List ℕ). VerdictAnswer z program procedures n r text status) e v)
+
+-- a refusal of a choice or of a place, by its line and status
+module _ {bytes : List ℕ} {program : Played} {choice : Choice} {placed : Bool} {n : ℕ} {run : List Desc} where
+  pub answer_is : {a b : List ℕ} {s t : QuietStatus} → a ≡ b → s ≡ t → ChoiceAnswer bytes program choice placed n run b t →
+      ChoiceAnswer bytes program choice placed n run a s
+  answer_is {a = a} {t = t} e f x =
+      subst (λ (z : QuietStatus). ChoiceAnswer bytes program choice placed n run a z) (sym f) (subst (λ (z : List ℕ). ChoiceAnswer bytes program choice placed n run z t) (sym e) x)
+
+-- a text that is a program
+pub asked_within : (request : Request) (devices : List Desc) (own bytes : List ℕ) (program : List StmtTree) → own ≡ bytes → IsProgram bytes program →
+    IsWithin (AskedAnswer own program request devices) (TextAnswer request devices bytes)
+asked_within request devices own bytes program same is =
+    subst (λ (z : List ℕ). IsWithin (AskedAnswer z program request devices) (TextAnswer request devices bytes)) (sym same)
+    (record { to = λ text status a. accepted program text status is a })
+
+long_is_refused : (request : Request) (devices : List Desc) (bytes text : List ℕ) (status : QuietStatus) → text_limit < length bytes → IsLongAnswer text status →
+    TextAnswer request devices bytes text status
+long_is_refused request devices bytes text status long too_long = refused 0 0 _ (is_too_long long)
+
+-- a text that is too long
+pub long_within : {K : Type 0} (written : K → Option (List ℕ)) (old new : Lines K) (request : Request) (devices : List Desc) (held : Option (List ℕ))
+    (r : Result QuietStatus NoAnswer) → IsSomeAnd held (λ bytes. text_limit < length bytes) → Says written IsLongAnswer ⊥ old new r →
+    Says written (HeldAnswer request devices held) (IsSinkUntouched old new) old new r
+long_within written old new request devices None r long says = absurd long
+long_within written old new request devices (Some bytes) r long says =
+    says_within written IsLongAnswer (TextAnswer request devices bytes) old new r
+    (record { to = λ text status a. long_is_refused request devices bytes text status long a }) (λ none. absurd none) says
+
+-- ---- no answer has the status of a fault
+
+verdict_status : {bytes : List ℕ} {program : Played} {procedures : List ℕ} {n : ℕ} {run : List Desc} {text : List ℕ} {status : QuietStatus} →
+    VerdictAnswer bytes program procedures n run text status → IsFault status → ⊥
+verdict_status (quiet ending q e) fault = fault
+verdict_status (unquiet turn piece line why first within at) fault = fault
+
+choice_status : {bytes : List ℕ} {program : Played} {choice : Choice} {placed : Bool} {n : ℕ} {run : List Desc} {text : List ℕ} {status : QuietStatus} →
+    ChoiceAnswer bytes program choice placed n run text status → IsFault status → ⊥
+choice_status (no_action e) fault = fault
+choice_status (bad_choice e) fault = fault
+choice_status (bad_place procedures e lacks) fault = fault
+choice_status (judged procedures text status e has v) fault = verdict_status v fault
+
+text_status : {request : Request} {devices : List Desc} {bytes text : List ℕ} {status : QuietStatus} → TextAnswer request devices bytes text status → IsFault status → ⊥
+text_status (refused piece line reason is) fault = fault
+text_status (accepted program text status is a) fault = choice_status a.answer fault
+
+held_status : (request : Request) (devices : List Desc) (held : Option (List ℕ)) (text : List ℕ) (status : QuietStatus) → HeldAnswer request devices held text status →
+    IsFault status → ⊥
+held_status request devices None text status a fault = a
+held_status request devices (Some bytes) text status a fault = text_status a fault
+
+request_status : {request : Request} {contents : Contents} {text : List ℕ} {status : QuietStatus} → RequestAnswer request contents text status → IsFault status → ⊥
+request_status (board_refused line reason is) fault = fault
+request_status {request = request} {contents = contents} (board_read devices text status board a) fault = held_status request devices contents.source text status a fault
+
+pub answer_status : {words : List (List ℕ)} {contents : Contents} {text : List ℕ} {status : QuietStatus} → WordsAnswer words contents text status → IsFault status → ⊥
+answer_status (usage n is) fault = fault
+answer_status (asked request text status asks a) fault = request_status a fault

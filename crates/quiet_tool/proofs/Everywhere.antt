@@ -1,0 +1,138 @@
+-- What is quiet on its devices alone is played alike at each place of each board that has them in a row.
+use Rattle.std.proofs.Common.{◌≡◌, ◌∙◌, ℕ, Bool, List, Option, None, Some, refl, subst}
+use Rattle.stapl_syntax.specs.Trees.{StmtTree}
+use Rattle.stapl_syntax.specs.Programs.{IsProgram}
+use Rattle.stapl_meaning.specs.Choices.{Choice, chosen, choice_of}
+use Rattle.stapl_meaning.specs.Scopes.{Played, as_played}
+use Rattle.dev_card.specs.declared.desc.Desc.{Desc}
+use Rattle.dev_card.specs.Padding.{in_run}
+use Rattle.padded_plays.specs.QuietPlays.{IsQuietPlay}
+use Rattle.named_files.specs.Boards.{HasBoard}
+use Rattle.named_files.proofs.BoardLemmas.{one_held}
+use Rattle.play_words.specs.declared.words.Request.{Request}
+use Rattle.code_plays.specs.Plays.{neighbours}
+use Rattle.play_status.specs.declared.status.Status.{Status}
+use Rattle.play_tool.specs.Answers.{Contents, PlaysAction}
+use Rattle.play_tool.specs.Answers as plays
+use Rattle.play_tool.specs.Alone.{alone_request, IsQuietAlone}
+use Rattle.play_tool.proofs.AloneLemmas.{answers_alone}
+use Rattle.quiet_tool.specs.declared.status.QuietStatus.{QuietStatus}
+use Rattle.quiet_tool.specs.declared.status.QuietStatus.TheVariants.{Quiet}
+use Rattle.quiet_tool.specs.Words.{AskAbout}
+use Rattle.quiet_tool.specs.Answers.{run_of, VerdictAnswer, quiet, unquiet, ChoiceAnswer, no_action, bad_choice, bad_place, judged, TextAnswer, refused, accepted, HeldAnswer, RequestAnswer, board_refused, board_read, WordsAnswer, usage, asked}
+use Rattle.quiet_tool.specs.Elsewhere.{PlaysElsewhere, IsAsAlone, IsQuietEverywhere}
+use Rattle.quiet_tool.proofs.WordLemmas.{one_asked}
+
+-- what an answer says that the play is quiet
+record IsFound (request : Request) (devices : List Desc) (source : Option (List ℕ)) : Type 0 where
+  pub bytes : List ℕ
+  pub held : source ≡ Some bytes
+  pub program : List StmtTree
+  pub is : IsProgram bytes program
+  pub action : List ℕ
+  pub named : request.action ≡ Some action
+  pub procedures : List ℕ
+  pub choice : choice_of (as_played program) action request.todo request.skip ≡ chosen procedures
+  pub quiet : IsQuietPlay (as_played program) procedures request.turns (run_of request.place devices)
+
+-- the procedures whose play is quiet
+record IsChosenQuiet (program : Played) (choice : Choice) (n : ℕ) (run : List Desc) : Type 0 where
+  pub procedures : List ℕ
+  pub are_chosen : choice ≡ chosen procedures
+  pub quiet : IsQuietPlay program procedures n run
+
+verdict_found : {bytes : List ℕ} {program : Played} {procedures : List ℕ} {n : ℕ} {run : List Desc} {text : List ℕ} {status : QuietStatus} →
+    VerdictAnswer bytes program procedures n run text status → status ≡ Quiet → IsQuietPlay program procedures n run
+verdict_found (quiet ending q ended) e = q
+verdict_found (unquiet turn piece line why first within at) e = absurd cc
+
+choice_found : {bytes : List ℕ} {program : Played} {choice : Choice} {placed : Bool} {n : ℕ} {run : List Desc} {text : List ℕ} {status : QuietStatus} →
+    ChoiceAnswer bytes program choice placed n run text status → status ≡ Quiet → IsChosenQuiet program choice n run
+choice_found (no_action f) e = absurd cc
+choice_found (bad_choice f) e = absurd cc
+choice_found (bad_place procedures f lacks) e = absurd cc
+choice_found (judged procedures text status f has v) e = record { procedures = procedures; are_chosen = f; quiet = verdict_found v e }
+
+text_found : {request : Request} {devices : List Desc} {bytes text : List ℕ} {status : QuietStatus} → TextAnswer request devices bytes text status → status ≡ Quiet →
+    IsFound request devices (Some bytes)
+text_found (refused piece line reason fault) e = absurd cc
+text_found {bytes = bytes} (accepted program text status is a) e =
+    let found = choice_found a.answer e in
+    record {
+      bytes = bytes;
+      held = refl;
+      program = program;
+      is = is;
+      action = a.action;
+      named = a.asked;
+      procedures = found.procedures;
+      choice = found.are_chosen;
+      quiet = found.quiet;
+    }
+
+held_found : (request : Request) (devices : List Desc) (held : Option (List ℕ)) (text : List ℕ) (status : QuietStatus) → HeldAnswer request devices held text status →
+    status ≡ Quiet → IsFound request devices held
+held_found request devices None text status a e = absurd a
+held_found request devices (Some bytes) text status a e = text_found a e
+
+request_found : {request : Request} {contents : Contents} {text : List ℕ} {status : QuietStatus} (devices : List Desc) → HasBoard request.board contents.board devices →
+    RequestAnswer request contents text status → status ≡ Quiet → IsFound request devices contents.source
+request_found devices board (board_refused line reason fault) e = absurd cc
+request_found {request = request} {contents = contents} devices board (board_read others text status other a) e =
+    subst (λ (ds : List Desc). IsFound request ds contents.source) (one_held request.board contents.board others devices other board)
+    (held_found request others contents.source text status a e)
+
+words_found : {words : List (List ℕ)} {contents : Contents} {text : List ℕ} {status : QuietStatus} (request : Request) (devices : List Desc) → AskAbout words request →
+    HasBoard request.board contents.board devices → WordsAnswer words contents text status → status ≡ Quiet → IsFound request devices contents.source
+words_found request devices asks board (usage n u) e = absurd cc
+words_found {words = words} {contents = contents} request devices asks board (asked other text status others a) e =
+    request_found devices board (subst (λ (r : Request). RequestAnswer r contents text status) (one_asked words other request others asks) a) e
+
+-- the play elsewhere is one for a run of a board, and is quiet on that run alone
+module _ {words : List (List ℕ)} {contents : Contents} {other : List (List ℕ)} {held : Contents} (q : PlaysElsewhere words contents other held)
+    (found : IsFound q.request q.devices contents.source) where
+  same_choice : choice_of (as_played found.program) found.action q.played.todo q.played.skip ≡ chosen found.procedures
+  same_choice = rw (q.same_todo, q.same_skip) found.choice
+
+  same_quiet : IsQuietPlay (as_played found.program) found.procedures q.played.turns (in_run (neighbours q.run) q.around)
+  same_quiet = rw (q.same_turns, q.same_devices) found.quiet
+
+  alone : IsQuietAlone other (λ request. held)
+  alone = record {
+    request = q.played;
+    asked = q.asked;
+    plays = q.plays;
+    no_pins = q.no_pins;
+    run = q.run;
+    for_run = q.for_run;
+    devices = q.around;
+    board = q.other_board;
+    placed = q.placed;
+    bytes = found.bytes;
+    held = q.same_program ∙ found.held;
+    program = found.program;
+    is = found.is;
+    action = found.action;
+    named = q.same_action ∙ found.named;
+    procedures = found.procedures;
+    choice = same_choice;
+    quiet = same_quiet;
+  }
+
+  as_alone : (text : List ℕ) (status : Status) → plays.WordsAnswer other (λ request. held) text status →
+      IsAsAlone contents.source q.played (run_of q.request.place q.devices) text status
+  unfolding alone
+  as_alone text status a = record {
+    bytes = found.bytes;
+    held = found.held;
+    program = found.program;
+    is = found.is;
+    action = found.action;
+    named = q.same_action ∙ found.named;
+    plays = subst (λ (ds : List Desc). PlaysAction found.program found.action (alone_request q.played) ds text status) q.same_devices
+        ((answers_alone alone).to text status a);
+  }
+
+pub quiet_everywhere : {words : List (List ℕ)} {contents : Contents} {said : List ℕ} {status : QuietStatus} → WordsAnswer words contents said status → status ≡ Quiet →
+    IsQuietEverywhere words contents
+quiet_everywhere a e = λ other held q text status answer. as_alone q (words_found q.request q.devices q.about q.board a e) text status answer

@@ -1,0 +1,7 @@
+pub mod WordLemmas
+pub mod AnswerLemmas
+pub mod RequestLemmas
+pub mod OneAnswer
+pub mod Answered
+pub mod Everywhere
+pub mod CommandLemmas

@@ -1,0 +1,22 @@
+use Rattle.std.proofs.Common.{ap, Err, Some, refl}
+use Rattle.stapl_lexer.specs.Pieces.{text_limit}
+use Rattle.tool_answers.proofs.AnswerLemmas.{says_within}
+use Rattle.named_files.proofs.BoardLemmas.{of_whole_file, of_long_file, of_file_as, of_any_file}
+use Rattle.quiet_tool.proofs.AnswerLemmas.{long_within}
+use Rattle.quiet_tool.proofs.top.answer_file.Goals as goal
+
+pub returns-in-Ok-clause-says : goal.returns-in-Ok-clause-says
+returns-in-Ok-clause-says g c =
+    of_whole_file (g.S.Shelf.told c.args.shelf.now) c.args.path.now c.in-Ok.bytes.items c.in-Ok.ensures.whole
+    (says_within _ _ _ _ _ c.answer_text.result (record { to = λ text status a. a }) (λ none. absurd none) (rw c.deref.ensures.value at c.answer_text.ensures.says))
+
+pub returns-in-Err-TooLong-clause-says : goal.returns-in-Err-TooLong-clause-says
+returns-in-Err-TooLong-clause-says g c =
+    of_file_as (λ held more. long_within g.K.Sink.written _ _ c.args.question.now.request.now c.args.question.now.devices.now held c.refuse_long.result more c.refuse_long.ensures.says)
+    (of_long_file (g.S.Shelf.told c.args.shelf.now) c.args.path.now text_limit (c.in-Err-TooLong.ensures.long (ap Err c.in-Err-TooLong.field-0-is)))
+
+pub returns-in-Err-ReadFault-clause-says : goal.returns-in-Err-ReadFault-clause-says
+returns-in-Err-ReadFault-clause-says g c = of_any_file (g.S.Shelf.told c.args.shelf.now) (Some c.args.path.now) (λ held. refl)
+
+pub returns-in-Err-Memory-clause-says : goal.returns-in-Err-Memory-clause-says
+returns-in-Err-Memory-clause-says g c = of_any_file (g.S.Shelf.told c.args.shelf.now) (Some c.args.path.now) (λ held. refl)

@@ -1,0 +1,98 @@
+-- What the program writes, and how it ends: by its words and the contents of the files that they name. The rules are
+-- this tool's own.
+use Rattle.std.specs.Prelude.{◌≡◌, ◌≤◌, ℕ, Bool, true, false, List, codes, Option, None, Some, IsSomeAnd}
+use Rattle.stapl_lexer.specs.declared.reason.Reason.{Reason}
+use Rattle.stapl_lexer.specs.declared.reason.Reason.TheVariants.{TooLong}
+use Rattle.stapl_syntax.specs.Trees.{StmtTree}
+use Rattle.stapl_syntax.specs.Programs.{IsProgram, FirstFault}
+use Rattle.stapl_meaning.specs.declared.events.Ending.{Ending}
+use Rattle.stapl_meaning.specs.Choices.{Choice, choice_of}
+use Rattle.stapl_meaning.specs.Choices as choices
+use Rattle.stapl_meaning.specs.Scopes.{Played, as_played}
+use Rattle.stapl_meaning.specs.Plays.{ending_of}
+use Rattle.dev_card.specs.declared.desc.Desc.{Desc}
+use Rattle.dev_card.specs.Padding.{in_run}
+use Rattle.padded_plays.specs.QuietPlays.{IsQuietPlay, play_alone}
+use Rattle.quiet_deeds.specs.declared.unquiet.Unquiet.{Unquiet}
+use Rattle.quiet_deeds.specs.FirstDeeds.{IsFirstUnquiet}
+use Rattle.board_text.specs.declared.reason.BoardReason.{BoardReason}
+use Rattle.command_words.specs.declared.place_run.PlaceRun.{PlaceRun}
+use Rattle.named_files.specs.Boards.{HasBoard, HasBoardFault}
+use Rattle.named_files.specs.Texts.{refusal_line, board_refusal_line, usage_line}
+use Rattle.play_words.specs.declared.words.Request.{Request}
+use Rattle.code_plays.specs.Plays.{has_place, neighbours}
+use Rattle.play_tool.specs.Answers.{Contents}
+use Rattle.quiet_tool.specs.declared.status.QuietStatus.{QuietStatus}
+use Rattle.quiet_tool.specs.declared.status.QuietStatus.TheVariants.{Quiet, NotQuiet, Refused, BoardRefused, NoAction, BadChoice, BadPlace, Usage}
+use Rattle.quiet_tool.specs.Texts.{quiet_text, unquiet_line, IsLineOf}
+use Rattle.quiet_tool.specs.Words.{AskAbout, HasUsage}
+
+-- the devices that are looked at alone: those of the run that is named, or all of the board
+abbrev pub run_of : Option PlaceRun → List Desc → List Desc
+run_of None devices = devices
+run_of (Some run) devices = in_run (neighbours run) devices
+
+-- The play of the chosen procedures on these devices alone, for at most n turns, is quiet; or its first deed that is
+-- not is told, with the line of its piece in the text of the program.
+pub data VerdictAnswer (bytes : List ℕ) (program : Played) (procedures : List ℕ) (n : ℕ) (run : List Desc) :
+    List ℕ → QuietStatus → Type 0 where
+  quiet : (ending : Ending) → IsQuietPlay program procedures n run →
+      ending_of (play_alone program procedures n run).outcome ≡ Some ending →
+      VerdictAnswer bytes program procedures n run (quiet_text n ending) Quiet
+  unquiet : (turn piece line : ℕ) (why : Unquiet) → IsFirstUnquiet program procedures run turn piece why → turn ≤ n →
+      IsLineOf bytes piece line →
+      VerdictAnswer bytes program procedures n run (unquiet_line piece line turn why) (NotQuiet turn piece why)
+
+-- What is written of a program, by what a choice came to: it has no such action, a name cannot be chosen, the board
+-- lacks the run, or the play of the chosen procedures is judged.
+pub data ChoiceAnswer (bytes : List ℕ) (program : Played) (choice : Choice) (placed : Bool) (n : ℕ) (run : List Desc) :
+    List ℕ → QuietStatus → Type 0 where
+  no_action : choice ≡ choices.no_action → ChoiceAnswer bytes program choice placed n run (codes "R action\n") NoAction
+  bad_choice : choice ≡ choices.bad_choice → ChoiceAnswer bytes program choice placed n run (codes "R choice\n") BadChoice
+  bad_place : (procedures : List ℕ) → choice ≡ choices.chosen procedures → placed ≡ false →
+      ChoiceAnswer bytes program choice placed n run (codes "R place\n") BadPlace
+  judged : (procedures text : List ℕ) (status : QuietStatus) → choice ≡ choices.chosen procedures → placed ≡ true →
+      VerdictAnswer bytes program procedures n run text status → ChoiceAnswer bytes program choice placed n run text status
+
+-- the same of the action of this name, by the choices, the run and the turns of a request
+abbrev pub ActionAnswer : List ℕ → List StmtTree → List ℕ → Request → List Desc → (List ℕ → QuietStatus → Type 0)
+ActionAnswer bytes program action request devices =
+    ChoiceAnswer bytes (as_played program) (choice_of (as_played program) action request.todo request.skip)
+    (has_place request.place devices) request.turns (run_of request.place devices)
+
+-- the same of the action that a request names
+pub record AskedAnswer (bytes : List ℕ) (program : List StmtTree) (request : Request) (devices : List Desc) (text : List ℕ)
+    (status : QuietStatus) : Type 0 where
+  pub action : List ℕ
+  pub asked : request.action ≡ Some action
+  pub answer : ActionAnswer bytes program action request devices text status
+
+-- The answer for a text: it is refused at its first fault, or it is a program, and the play of its action is judged.
+pub data TextAnswer (request : Request) (devices : List Desc) (bytes : List ℕ) : List ℕ → QuietStatus → Type 0 where
+  refused : (piece line : ℕ) (reason : Reason) → FirstFault bytes piece line reason →
+      TextAnswer request devices bytes (refusal_line piece line reason) (Refused piece reason)
+  accepted : (program : List StmtTree) (text : List ℕ) (status : QuietStatus) → IsProgram bytes program →
+      AskedAnswer bytes program request devices text status → TextAnswer request devices bytes text status
+
+-- the refusal of a text that is too long
+pub data IsLongAnswer : List ℕ → QuietStatus → Type 0 where
+  too_long : IsLongAnswer (refusal_line 0 0 TooLong) (Refused 0 TooLong)
+
+-- The same for a file, where it is held.
+abbrev pub HeldAnswer : Request → List Desc → Option (List ℕ) → List ℕ → QuietStatus → Type 0
+HeldAnswer request devices held text status = IsSomeAnd held (λ bytes. TextAnswer request devices bytes text status)
+
+-- The answer to a request: its board is refused at its first fault, or is of these devices, and the answer is that for
+-- its program.
+pub data RequestAnswer (request : Request) (contents : Contents) : List ℕ → QuietStatus → Type 0 where
+  board_refused : (line : ℕ) (reason : BoardReason) → HasBoardFault request.board contents.board line reason →
+      RequestAnswer request contents (board_refusal_line line reason) (BoardRefused line reason)
+  board_read : (devices : List Desc) (text : List ℕ) (status : QuietStatus) →
+      HasBoard request.board contents.board devices → HeldAnswer request devices contents.source text status →
+      RequestAnswer request contents text status
+
+-- The answer to words, with these contents of their files: they are refused, or the request that they are is answered.
+pub data WordsAnswer (words : List (List ℕ)) (contents : Contents) : List ℕ → QuietStatus → Type 0 where
+  usage : (n : ℕ) → HasUsage words n → WordsAnswer words contents (usage_line n) (Usage n)
+  asked : (request : Request) (text : List ℕ) (status : QuietStatus) → AskAbout words request →
+      RequestAnswer request contents text status → WordsAnswer words contents text status

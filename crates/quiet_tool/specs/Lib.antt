@@ -1,0 +1,6 @@
+pub mod Statuses
+pub mod Words
+pub mod Texts
+pub mod Answers
+pub mod Elsewhere
+pub mod Commands

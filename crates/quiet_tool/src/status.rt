@@ -1,0 +1,59 @@
+//! How the program ends.
+ghost use Rattle.std.specs.Prelude.{◌≡◌};
+ghost use Rattle.quiet_tool.specs.Statuses.{exit_code_of};
+
+use board_text::BoardReason;
+use quiet_deeds::Unquiet;
+use stapl_lexer::Reason;
+
+/// How the program ends.
+#[derive(Clone, Copy, Debug, PartialEq, Eq)]
+pub enum QuietStatus {
+    /// The play is quiet for its turns.
+    Quiet,
+    /// The play is not quiet: the turn and the piece of its first deed that is not, counted from 1, or 0 of what sets
+    /// the play up, and why it is not.
+    NotQuiet(u32, u32, Unquiet),
+    /// The text of `--help` or `--version` is written.
+    Shown,
+    /// The program is refused: the piece, counted from 1, of its first fault, or 0 if the text is too long, and the
+    /// reason.
+    Refused(u32, Reason),
+    /// The board is refused: the first faulty line, counted from 1, or 0 if the text is too long, and the reason.
+    BoardRefused(u32, BoardReason),
+    /// The program has no action of the name that the words give.
+    NoAction,
+    /// A name of `do` is not that of an OPTIONAL procedure of the action, or a name of `skip` not that of a RECOMMENDED
+    /// one.
+    BadChoice,
+    /// The board lacks a device of the run that the words name.
+    BadPlace,
+    /// The first word, counted from 1, that is not as stated, or the number of words plus 1 if one is missing.
+    Usage(u32),
+    /// A file that the words name could not be read. Nothing is written.
+    ReadFault,
+    /// The output could not be written. What is written is a prefix of the text.
+    WriteFault,
+    /// There was no memory. Nothing is written.
+    Memory,
+}
+
+impl QuietStatus {
+    /// The exit code of the process: those of a play for what is refused and for faults, and 17 for a play that is not
+    /// quiet.
+    pub fn exit_code(&self) -> u8
+        ensures { result ≡ exit_code_of self.now }
+    {
+        match self {
+            QuietStatus::Quiet | QuietStatus::Shown => 0,
+            QuietStatus::Refused(_, _) => 4,
+            QuietStatus::BoardRefused(_, _) => 5,
+            QuietStatus::NoAction | QuietStatus::BadChoice | QuietStatus::BadPlace => 6,
+            QuietStatus::Usage(_) => 7,
+            QuietStatus::ReadFault => 9,
+            QuietStatus::WriteFault => 10,
+            QuietStatus::Memory => 11,
+            QuietStatus::NotQuiet(_, _, _) => 17,
+        }
+    }
+}
