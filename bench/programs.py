@@ -1,0 +1,61 @@
+#!/usr/bin/env python3
+"""Times zanutero-rewrite, zanutero-link and zanutero-quiet by the size of what they read.
+
+Each line has three sizes, of which each is twice the one before, and the ratios of their times. A ratio near 2 means
+that the time is linear. A play that is not quiet is made some thirty times, for fewer turns each, so it has a line of
+its own. The programs are built first, as by ./zanutero-rewrite --version. A time is the shortest processor time of five
+runs.
+"""
+import pathlib
+import sys
+import tempfile
+
+import measure
+
+RUNS = 5
+BOARD = b"plain U1 4\nplain U2 4\n"
+
+
+def statements(count):
+    return b"ACTION A=P;\nPROCEDURE P;\nINTEGER X;\n" + b"X=X+1;\n" * count + b"ENDPROC;\n"
+
+
+def scans(count, last=b""):
+    loop = b"FOR I=1 TO %d;IRSCAN 8,$FF;DRSCAN 2,#10;NEXT I;" % count
+    return b"ACTION A=P;PROCEDURE P;INTEGER I;" + loop + last + b"ENDPROC;"
+
+
+# What is timed: the program, its words after the board, the exit code, the smallest size, and the file of a size.
+KINDS = (
+    ("pieces that are rewritten", "zanutero_rewrite", ("place=1",), 0, 20_000, statements),
+    ("bytes of a link, a third of them R", "zanutero_link", (), 0, 4_000_000, lambda size: b"04R" * (size // 3)),
+    ("rounds of two scans, quiet", "zanutero_quiet", ("action=A",), 0, 100_000, scans),
+    ("the same, the last scan too long", "zanutero_quiet", ("action=A",), 17, 10_000, lambda size: scans(size, b"DRSCAN 3,#101;")),
+)
+
+
+def words_of(program, folder, others):
+    files = ("link",) if program == "zanutero_link" else ("program",)
+    order = ("program", "board") if program == "zanutero_rewrite" else ("board", *files)
+    path = {"board": folder / "board"}
+    return [f"{key}={path.get(key, folder / 'file')}" for key in order] + list(others)
+
+
+def main():
+    print("| Read | Sizes | Times | Ratios |\n|---|---|---|---|")
+    with tempfile.TemporaryDirectory() as name:
+        folder = pathlib.Path(name)
+        (folder / "board").write_bytes(BOARD)
+        for title, program, others, code, least, text in KINDS:
+            built = measure.TOP / "crates" / program / "out" / program
+            times = []
+            for size in (least, 2 * least, 4 * least):
+                (folder / "file").write_bytes(text(size))
+                times.append(measure.shortest([built, *words_of(program, folder, others)], code, RUNS)[0])
+            ratios = ", ".join(f"{later / before:.2f}" for before, later in zip(times, times[1:]))
+            print(f"| {title} | {least:,}, {2 * least:,}, {4 * least:,} | {', '.join(f'{it:.3f} s' for it in times)} | {ratios} |")
+    return 0
+
+
+if __name__ == "__main__":
+    sys.exit(main())
