@@ -44,8 +44,8 @@ pub enum RewriteRefused {
 /// before the CRC, or at the end, stands the procedure that it names, which sets the padding (JESD71, PREIR, POSTIR,
 /// PREDR, POSTDR).
 ///
-/// `OwnPadding` comes exactly if a piece sets a padding, and names the first one; else `TooLarge` exactly if there would
-/// be too many pieces or bytes. `Memory` is want of memory. The time is linear in the program.
+/// `OwnPadding` comes exactly if a piece sets a padding, and names the first one; else `TooLarge` exactly if there
+/// would be too many pieces or bytes. `Memory` is want of memory. The time is linear in the program.
 pub fn rewrite(
     alloc: Global,
     program: &Program,

@@ -24,14 +24,15 @@ HasUnquietDeed program chosen n run why =
     HasUnquiet false (first_chain run) (deeds_of_play program chosen n (first_chain run)) why
 
 -- The first deed of a play that is not quiet is in this turn, counted from 1, which is that of this piece, and is not
--- quiet for this reason: for a turn less the play is quiet, and goes on at the piece. Turn 0 of piece 0 is what sets the
--- play up. No turn after it is spoken of.
+-- quiet for this reason: for a turn less the play is quiet, and goes on at the piece. Turn 0 of piece 0 is what sets
+-- the play up. No turn after it is spoken of.
 pub data IsFirstUnquiet (program : Played) (chosen : List ℕ) (run : List Desc) : ℕ → ℕ → Unquiet → Type 0 where
   at_the_beginning : (why : Unquiet) → HasUnquietDeed program chosen 0 run why →
       IsFirstUnquiet program chosen run 0 0 why
   in_a_turn : (before place : ℕ) (why : Unquiet) → IsQuietPlay program chosen before run →
       (play_alone program chosen before run).outcome ≡ Going place →
-      HasUnquietDeed program chosen (suc before) run why → IsFirstUnquiet program chosen run (suc before) (place + 1) why
+      HasUnquietDeed program chosen (suc before) run why →
+      IsFirstUnquiet program chosen run (suc before) (place + 1) why
 
 -- there is one within so many turns
 pub record HasFirstUnquiet (program : Played) (chosen : List ℕ) (n : ℕ) (run : List Desc) : Type 0 where

@@ -33,7 +33,8 @@ pub record IsQuietFor (program : Played) (chosen : List ℕ) (n : ℕ) (run : Li
   pub ended : ending_of (play_alone program chosen n run).outcome ≡ Some ending
 
 -- The first deed that is not quiet is in this turn, that of this piece, and is not for this reason.
-pub record IsUnquietIn (program : Played) (chosen : List ℕ) (n : ℕ) (run : List Desc) (turn piece : ℕ) (why : Unquiet) : Type 0 where
+pub record IsUnquietIn (program : Played) (chosen : List ℕ) (n : ℕ) (run : List Desc) (turn piece : ℕ)
+    (why : Unquiet) : Type 0 where
   pub first : IsFirstUnquiet program chosen run turn piece why
   pub within : turn ≤ n
 
@@ -42,11 +43,13 @@ IsVerdict program chosen n run (Quiet ending) = IsQuietFor program chosen n run 
 IsVerdict program chosen n run (NotQuiet turn piece why) = IsUnquietIn program chosen n run turn piece why
 
 abbrev pub JudgesPlay : CodeLists → List ℕ → ℕ → List Desc → Verdict → Type 0
-JudgesPlay code chosen n run verdict = (program : Played) → IsCodeOf program code → IsVerdict program chosen n run verdict
+JudgesPlay code chosen n run verdict =
+    (program : Played) → IsCodeOf program code → IsVerdict program chosen n run verdict
 
 -- the play of a code on new devices of these descriptions goes on at this place
 abbrev pub GoesOnAlone : CodeLists → List ℕ → ℕ → List Desc → ℕ → Type 0
-GoesOnAlone code chosen n run place = (play_of code chosen n (chain_reset no_base (Told (map fresh run)))).outcome ≡ Going place
+GoesOnAlone code chosen n run place =
+    (play_of code chosen n (chain_reset no_base (Told (map fresh run)))).outcome ≡ Going place
 
 -- the play of a program on these devices alone goes on at this piece after so many turns
 pub record GoesOnAtPiece (program : Played) (chosen : List ℕ) (n : ℕ) (run : List Desc) (piece : ℕ) : Type 0 where
@@ -55,21 +58,26 @@ pub record GoesOnAtPiece (program : Played) (chosen : List ℕ) (n : ℕ) (run :
   pub piece_is : piece ≡ place + 1
 
 abbrev pub TellsPiece : CodeLists → List ℕ → ℕ → List Desc → ℕ → Type 0
-TellsPiece code chosen n run piece = (program : Played) → IsCodeOf program code → GoesOnAtPiece program chosen n run piece
+TellsPiece code chosen n run piece =
+    (program : Played) → IsCodeOf program code → GoesOnAtPiece program chosen n run piece
 
 -- The first deed that is not quiet is in this turn, that of some piece, and is not for this reason.
-pub record IsUnquietAt (program : Played) (chosen : List ℕ) (n : ℕ) (run : List Desc) (turn : ℕ) (why : Unquiet) : Type 0 where
+pub record IsUnquietAt (program : Played) (chosen : List ℕ) (n : ℕ) (run : List Desc) (turn : ℕ)
+    (why : Unquiet) : Type 0 where
   pub piece : ℕ
   pub first : IsFirstUnquiet program chosen run turn piece why
   pub within : turn ≤ n
 
 abbrev pub JudgesTurn : CodeLists → List ℕ → ℕ → List Desc → ℕ → Unquiet → Type 0
-JudgesTurn code chosen n run turn why = (program : Played) → IsCodeOf program code → IsUnquietAt program chosen n run turn why
+JudgesTurn code chosen n run turn why =
+    (program : Played) → IsCodeOf program code → IsUnquietAt program chosen n run turn why
 
 -- The play is not quiet for so many turns, for this reason, and is quiet for all fewer turns than another number.
-pub record IsBetween (program : Played) (chosen : List ℕ) (run : List Desc) (low high : ℕ) (why : Unquiet) : Type 0 where
+pub record IsBetween (program : Played) (chosen : List ℕ) (run : List Desc) (low high : ℕ)
+    (why : Unquiet) : Type 0 where
   pub unquiet : HasUnquietDeed program chosen high run why
   pub quiet : (low ≡ 0) ⊎ IsQuietPlay program chosen (low - 1) run
 
 abbrev pub IsCodeBetween : CodeLists → List ℕ → List Desc → ℕ → ℕ → Unquiet → Type 0
-IsCodeBetween code chosen run low high why = (program : Played) → IsCodeOf program code → IsBetween program chosen run low high why
+IsCodeBetween code chosen run low high why =
+    (program : Played) → IsCodeOf program code → IsBetween program chosen run low high why

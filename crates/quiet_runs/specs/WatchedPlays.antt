@@ -10,7 +10,8 @@ use Rattle.quiet_watch.specs.declared.watch.Watch.{Watch}
 use Rattle.quiet_watch.specs.WatchedDevices.{HasFollowed}
 
 -- The play was made over the watch with the answers that it heard there, and ended so.
-pub record HasWatchedPlay {D : Type 0} (fitted : D → Option SoundCard) (kind_of : D → Kind) (run : FarEnd → Run) (old : Watch D) (ending : Ending) (new : Watch D) : Type 0 where
+pub record HasWatchedPlay {D : Type 0} (fitted : D → Option SoundCard) (kind_of : D → Kind) (run : FarEnd → Run)
+    (old : Watch D) (ending : Ending) (new : Watch D) : Type 0 where
   pub answers : List Bool
   pub follows : HasFollowed fitted kind_of old (signals_of (run (Heard answers)).events) new
   pub ended : ending_of (run (Heard answers)).outcome ≡ Some ending

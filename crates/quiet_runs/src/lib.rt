@@ -1,5 +1,5 @@
-//! Plays of a code on devices alone, over a watch: whether they are quiet, and else in which turn they first are not, and
-//! why.
+//! Plays of a code on devices alone, over a watch: whether they are quiet, and else in which turn they first are not,
+//! and why.
 #![tactic(auto)]
 
 mod first_turns;

@@ -47,12 +47,15 @@ pub data VerdictAnswer (bytes : List ℕ) (program : Played) (procedures : List 
 -- lacks the run, or the play of the chosen procedures is judged.
 pub data ChoiceAnswer (bytes : List ℕ) (program : Played) (choice : Choice) (placed : Bool) (n : ℕ) (run : List Desc) :
     List ℕ → QuietStatus → Type 0 where
-  no_action : choice ≡ choices.no_action → ChoiceAnswer bytes program choice placed n run (codes "R action\n") NoAction
-  bad_choice : choice ≡ choices.bad_choice → ChoiceAnswer bytes program choice placed n run (codes "R choice\n") BadChoice
+  no_action : choice ≡ choices.no_action →
+      ChoiceAnswer bytes program choice placed n run (codes "R action\n") NoAction
+  bad_choice : choice ≡ choices.bad_choice →
+      ChoiceAnswer bytes program choice placed n run (codes "R choice\n") BadChoice
   bad_place : (procedures : List ℕ) → choice ≡ choices.chosen procedures → placed ≡ false →
       ChoiceAnswer bytes program choice placed n run (codes "R place\n") BadPlace
   judged : (procedures text : List ℕ) (status : QuietStatus) → choice ≡ choices.chosen procedures → placed ≡ true →
-      VerdictAnswer bytes program procedures n run text status → ChoiceAnswer bytes program choice placed n run text status
+      VerdictAnswer bytes program procedures n run text status →
+      ChoiceAnswer bytes program choice placed n run text status
 
 -- the same of the action of this name, by the choices, the run and the turns of a request
 abbrev pub ActionAnswer : List ℕ → List StmtTree → List ℕ → Request → List Desc → (List ℕ → QuietStatus → Type 0)
@@ -61,8 +64,8 @@ ActionAnswer bytes program action request devices =
     (has_place request.place devices) request.turns (run_of request.place devices)
 
 -- the same of the action that a request names
-pub record AskedAnswer (bytes : List ℕ) (program : List StmtTree) (request : Request) (devices : List Desc) (text : List ℕ)
-    (status : QuietStatus) : Type 0 where
+pub record AskedAnswer (bytes : List ℕ) (program : List StmtTree) (request : Request) (devices : List Desc)
+    (text : List ℕ) (status : QuietStatus) : Type 0 where
   pub action : List ℕ
   pub asked : request.action ≡ Some action
   pub answer : ActionAnswer bytes program action request devices text status

@@ -22,7 +22,8 @@ use Rattle.quiet_tool.specs.Answers.{run_of}
 
 -- Other words ask for a play of the same program: of the same action, with the same choices and turns, without the
 -- clocks, for a run of a board that has in a row the devices that the words ask about.
-pub record PlaysElsewhere (words : List (List ℕ)) (contents : Contents) (other : List (List ℕ)) (held : Contents) : Type 0 where
+pub record PlaysElsewhere (words : List (List ℕ)) (contents : Contents) (other : List (List ℕ))
+    (held : Contents) : Type 0 where
   pub request : Request
   pub about : AskAbout words request
   pub devices : List Desc
@@ -45,7 +46,8 @@ pub record PlaysElsewhere (words : List (List ℕ)) (contents : Contents) (other
 
 -- What is answered to a play is what is answered to it on a board of these devices alone: the text, with their report,
 -- and the status.
-pub record IsAsAlone (source : Option (List ℕ)) (request : Request) (run : List Desc) (text : List ℕ) (status : Status) : Type 0 where
+pub record IsAsAlone (source : Option (List ℕ)) (request : Request) (run : List Desc) (text : List ℕ)
+    (status : Status) : Type 0 where
   pub bytes : List ℕ
   pub held : source ≡ Some bytes
   pub program : List StmtTree
@@ -57,7 +59,8 @@ pub record IsAsAlone (source : Option (List ℕ)) (request : Request) (run : Lis
 -- each play elsewhere is answered as on these devices alone
 abbrev pub IsQuietEverywhere : List (List ℕ) → Contents → Type 0
 IsQuietEverywhere words contents =
-    (other : List (List ℕ)) (held : Contents) (q : PlaysElsewhere words contents other held) (text : List ℕ) (status : Status) →
+    (other : List (List ℕ)) (held : Contents) (q : PlaysElsewhere words contents other held)
+    (text : List ℕ) (status : Status) →
     plays.WordsAnswer other (λ request. held) text status →
     IsAsAlone contents.source q.played (run_of q.request.place q.devices) text status
 

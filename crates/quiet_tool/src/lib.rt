@@ -1,5 +1,5 @@
-//! The program `zanutero-quiet` as one call: it says whether a play is quiet on its devices alone, and else which is its
-//! first deed that is not, and why.
+//! The program `zanutero-quiet` as one call: it says whether a play is quiet on its devices alone, and else which is
+//! its first deed that is not, and why.
 #![tactic(auto)]
 
 mod command;

@@ -213,10 +213,10 @@ fn run<S: Shelf, K: Sink>(
     Ok(status)
 }
 
-/// Says whether the play that the words ask for is quiet on its devices alone: those of the place that they name, or all
-/// of the board. They are the words of a play by the tool, after the word `play`. If the play is quiet for its turns,
-/// a line says for how many, and one how it ends; else a line names the first deed that is not quiet. What is refused is
-/// told as by a play. The devices of the rack are fitted anew for each play that is made.
+/// Says whether the play that the words ask for is quiet on its devices alone: those of the place that they name, or
+/// all of the board. They are the words of a play by the tool, after the word `play`. If the play is quiet for its
+/// turns, a line says for how many, and one how it ends; else a line names the first deed that is not quiet. What is
+/// refused is told as by a play. The devices of the rack are fitted anew for each play that is made.
 ///
 /// All memory is taken before the first byte is written. There is none, too, if a scan has 2 ^ 64 bits or more.
 pub fn run_quiet<S: Shelf, K: Sink>(

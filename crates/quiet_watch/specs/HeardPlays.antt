@@ -1,5 +1,5 @@
--- What a watch has seen of a play that it answers. The scans of the play are told by a bit of base padding, and it hears
--- the answers of the watch and knows no board.
+-- What a watch has seen of a play that it answers. The scans of the play are told by a bit of base padding, and it
+-- hears the answers of the watch and knows no board.
 use Rattle.std.specs.Prelude.{◌≡◌, ℕ, Bool, false, List, [], ◌∷◌, Option, Some, None}
 use Rattle.tap_states.specs.declared.Tap.{Tap}
 use Rattle.tap_states.specs.declared.Tap.TheVariants.{Reset}
@@ -60,7 +60,9 @@ HearsPlay program chosen n run bs v =
 
 -- Such a play stands as the play on these devices alone. The watch has seen nothing exactly if that play is quiet for
 -- n turns, and else it has seen the reason of the first deed that is not.
-pub record HasSeenPlay (program : Played) (chosen : List ℕ) (n : ℕ) (run : List Desc) (bs : List Bool) (v : Watched) : Type 0 where
-  pub outcome : (procedures_run program chosen n (marked_chain Reset bs)).outcome ≡ (procedures_run program chosen n (first_chain run)).outcome
+pub record HasSeenPlay (program : Played) (chosen : List ℕ) (n : ℕ) (run : List Desc) (bs : List Bool)
+    (v : Watched) : Type 0 where
+  pub outcome : (procedures_run program chosen n (marked_chain Reset bs)).outcome
+      ≡ (procedures_run program chosen n (first_chain run)).outcome
   pub none : seen_by v ≡ None → IsQuietPlay program chosen n run
   pub some : (why : Unquiet) → seen_by v ≡ Some why → HasUnquietDeed program chosen n run why

@@ -65,7 +65,8 @@ walk_seen _ tms = None
 -- what a scan of so many bits shows, true for the instruction registers
 abbrev pub scan_seen : Bool → Bool → ℕ → ℕ → Option Unquiet
 scan_seen ir loaded shifted registers =
-    if shifted == registers then (if ir || loaded then None else Some NotLoaded) else Some (length_reason ir shifted registers)
+    if shifted == registers then (if ir || loaded then None else Some NotLoaded)
+    else Some (length_reason ir shifted registers)
 
 -- a clock outside scans
 abbrev pub walked : Watched → Bool → Bool → Watched
@@ -80,7 +81,8 @@ walked w tms tdi = record {
 
 -- the bit by which a scan is told: the board is not clocked
 abbrev pub marked : Watched → Watched
-marked w = record w { scan = Some (record { shifted = 0; registers = lengths_by (is_instruction_shift w.tap) w.descs w.cards }) }
+marked w =
+    record w { scan = Some (record { shifted = 0; registers = lengths_by (is_instruction_shift w.tap) w.descs w.cards }) }
 
 -- a shift clock of a scan of which so many bits have gone in with it, true for the last one
 abbrev pub shifted_by : Watched → Counting → Bool → Bool → Watched

@@ -123,7 +123,7 @@ fn is_last(last: bool, n: u32) -> bool
 ///
 /// The scans of the play have one bit of base padding before all else (`marks`), by which the watch tells a scan from a
 /// walk through a shift state. It takes the bit off: the devices are clocked as by the play without base padding. It
-/// tells no board. A call fails only if a number of bits does not fit, and then the watch is broken and its count rises,
+/// tells no board. A call fails only if a number of bits does not fit; then the watch is broken and its count rises,
 /// or stands at its last value. It takes no memory.
 #[derive(Drop)]
 pub struct Watch<'a, D> {
@@ -230,7 +230,8 @@ impl<'a, D: Device> Watch<'a, D> {
         requires whole { watch_breakage D.fitted D.kind_of self.old ≡ whole }
         requires outside { self.old.scan ≡ None }
         ensures answer { result ≡ board_tdo (watched_of D.fitted D.kind_of self.old).cards tdi }
-        ensures walked { watched_of D.fitted D.kind_of self.new ≡ walked (watched_of D.fitted D.kind_of self.old) tms tdi }
+        ensures walked { watched_of D.fitted D.kind_of self.new
+            ≡ walked (watched_of D.fitted D.kind_of self.old) tms tdi }
         ensures same { IsSameWatch D.fitted D.kind_of self.old self.new }
         ensures whole { watch_breakage D.fitted D.kind_of self.new ≡ whole }
         ensures faults { watch_faults self.new ≡ watch_faults self.old }

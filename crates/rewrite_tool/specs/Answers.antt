@@ -1,6 +1,6 @@
 -- What the program writes, and how it ends, by the words and the contents of the files that they name. It is defined
--- where the files are held that are read before the answer is found: the board first, and the program after a board that
--- is right. The rules are this tool's own.
+-- where the files are held that are read before the answer is found: the board first, and the program after a board
+-- that is right. The rules are this tool's own.
 use Rattle.std.specs.Prelude.{◌≤◌, ◌<◌, ℕ, List, length, Option, Some, IsSomeAnd}
 use Rattle.stapl_lexer.specs.declared.reason.Reason.{Reason}
 use Rattle.stapl_lexer.specs.declared.reason.Reason.TheVariants.{TooLong}
@@ -24,8 +24,8 @@ use Rattle.rewrite_tool.specs.Texts.{place_line, padding_line, too_large_line}
 abbrev pub run_base : List Desc → PlaceRun → BaseLengths
 run_base devices run = base_lengths devices (Some (record { first = run.first; last = run.last }))
 
--- The answer for a text, on a board of these devices, for a run of places: the text is refused at its first fault; or it
--- is a program, and the board lacks the run, or the program has a padding of its own, or the new program is too large,
+-- The answer for a text, on a board of these devices, for a run of places: the text is refused at its first fault; or
+-- it is a program, and the board lacks the run, or the program has a padding of its own, or the new program is too large,
 -- or it is written.
 pub data ProgramAnswer (devices : List Desc) (run : PlaceRun) (bytes : List ℕ) : List ℕ → RewriteStatus → Type 0 where
   refused : (piece line : ℕ) (reason : Reason) → FirstFault bytes piece line reason →

@@ -26,8 +26,8 @@ pub record HoldsBoard (request : Request) (files : List (List ℕ × List ℕ)) 
   pub devices : List Desc
   pub board : HasBoard (Some request.board) (file_named files (Some request.board)) devices
 
--- A file of a request that is read: its board; or its program, and if the store tells its files, the board is held there
--- and is a board.
+-- A file of a request that is read: its board; or its program, and if the store tells its files, the board is held
+-- there and is a board.
 pub data IsReached (told : Option (List (List ℕ × List ℕ))) (request : Request) (path : List ℕ) : Type 0 where
   board_reached : request.board ≡ path → IsReached told request path
   program_reached : request.program ≡ path → IfSome told (HoldsBoard request) → IsReached told request path

@@ -14,7 +14,8 @@ use Rattle.written_cable.specs.declared.pin_cable.PinCable.{PinCable}
 use Rattle.written_cable.specs.Ports.{Passes, chain_before}
 
 -- A run over a port goes on at this place after its turns.
-pub record GoesOnAt {C O : Type 0} (breakage : PinCable C O → Breakage) (board : C → Option (List Card)) (makes : C → List Signal → C → Type 0) (shown : O → Shown)
+pub record GoesOnAt {C O : Type 0} (breakage : PinCable C O → Breakage) (board : C → Option (List Card))
+    (makes : C → List Signal → C → Type 0) (shown : O → Shown)
     (all : Chain → Run) (old : PinCable C O) (place : ℕ) (new : PinCable C O) : Type 0 where
   pub events : List Event
   pub clocks : List Clock
@@ -24,7 +25,8 @@ pub record GoesOnAt {C O : Type 0} (breakage : PinCable C O → Breakage) (board
 -- where the cable tells its board, whose controllers are in the reset state, a run on it goes on at this place
 abbrev pub GoesOnOver : {C : Type 0} → (C → Option (List Card)) → BaseLengths → (Chain → Run) → C → ℕ → Type 0
 GoesOnOver board base run cable place =
-    (cs : List Card) → board cable ≡ Some cs → (run (record { tap = Reset; base = base; far = Told cs })).outcome ≡ Going place
+    (cs : List Card) → board cable ≡ Some cs →
+    (run (record { tap = Reset; base = base; far = Told cs })).outcome ≡ Going place
 
 -- the same of a play over a cable that makes the first clocks
 abbrev pub GoesOnTold : {C : Type 0} → (C → Option (List Card)) → BaseLengths → (Chain → Run) → C → ℕ → Type 0

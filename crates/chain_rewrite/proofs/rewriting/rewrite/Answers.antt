@@ -27,4 +27,5 @@ returns-in-Err-TooLarge-clause-too_large c = λ is.
     let run : Neighbours = record { first = c.args.first; last = c.args.last } in
     large_is (base_lengths c.args.descs.now (Some run)) (lengths_of c.base_pads.result) (trees_of c.args.program.now) (trees c.pieces-statements.result.now)
     c.in-Ok.name c.in-Ok.ensures c.base_pads.ensures (ap trees c.pieces-statements.ensures.same) c.in_default.ensures.none
-    (too_large_from [] (carried_program c.in-Ok.name (lengths_of c.base_pads.result) (trees c.pieces-statements.result.now)) c.in-Err-TooLarge.field-0 c.in-Err-TooLarge.field-0-is c.in-Err-TooLarge.ensures)
+    (too_large_from [] (carried_program c.in-Ok.name (lengths_of c.base_pads.result) (trees c.pieces-statements.result.now))
+    c.in-Err-TooLarge.field-0 c.in-Err-TooLarge.field-0-is c.in-Err-TooLarge.ensures)

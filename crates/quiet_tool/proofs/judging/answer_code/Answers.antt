@@ -22,4 +22,5 @@ returns-in-Err-NoAction g c =
 
 pub returns-in-Err-BadChoice : goal.returns-in-Err-BadChoice
 returns-in-Err-BadChoice g c =
-    on_ok c.refuse-in-Err-BadChoice.result (λ answer same. answer_is same.0 same.1 (bad_choice (c.in-Err-BadChoice.ensures.choice (ap Err c.in-Err-BadChoice.field-0-is)))) c.refuse-in-Err-BadChoice.ensures
+    on_ok c.refuse-in-Err-BadChoice.result (λ answer same. answer_is same.0 same.1
+    (bad_choice (c.in-Err-BadChoice.ensures.choice (ap Err c.in-Err-BadChoice.field-0-is)))) c.refuse-in-Err-BadChoice.ensures

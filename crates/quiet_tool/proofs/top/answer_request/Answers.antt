@@ -18,7 +18,8 @@ answer_file-requires-clause-devices g c = rw c.deref.ensures.value (c.in-Ok.ensu
 pub returns-in-Ok-clause-says : goal.returns-in-Ok-clause-says
 returns-in-Ok-clause-says g c =
     request_of_file g.K.Sink.written _ _ (g.S.Shelf.told c.args.shelf.now) c.args.request.now c.answer_file.result c.in-Ok.devices.items c.as_str.result.now
-    (play_source c.args.request.now _ c.requires.plays (c.in-Some.is ∙ ap Some (sym c.as_str.ensures))) c.in-Ok.ensures.board (rw (c.deref.ensures.value, c.in-Ok.ensures.keeps) at c.answer_file.ensures.says)
+    (play_source c.args.request.now _ c.requires.plays (c.in-Some.is ∙ ap Some (sym c.as_str.ensures))) c.in-Ok.ensures.board
+    (rw (c.deref.ensures.value, c.in-Ok.ensures.keeps) at c.answer_file.ensures.says)
 
 pub returns-in-Ok-clause-shelf : goal.returns-in-Ok-clause-shelf
 returns-in-Ok-clause-shelf g c = record {
