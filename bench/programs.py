@@ -25,12 +25,16 @@ def scans(count, last=b""):
     return b"ACTION A=P;PROCEDURE P;INTEGER I;" + loop + last + b"ENDPROC;"
 
 
+def too_long_at_last(count):
+    return scans(count, b"DRSCAN 3,#101;")
+
+
 # What is timed: the program, its words after the board, the exit code, the smallest size, and the file of a size.
 KINDS = (
     ("pieces that are rewritten", "zanutero_rewrite", ("place=1",), 0, 20_000, statements),
     ("bytes of a link, a third of them R", "zanutero_link", (), 0, 4_000_000, lambda size: b"04R" * (size // 3)),
     ("rounds of two scans, quiet", "zanutero_quiet", ("action=A",), 0, 100_000, scans),
-    ("the same, the last scan too long", "zanutero_quiet", ("action=A",), 17, 10_000, lambda size: scans(size, b"DRSCAN 3,#101;")),
+    ("the same, the last scan too long", "zanutero_quiet", ("action=A",), 17, 10_000, too_long_at_last),
 )
 
 
@@ -48,12 +52,13 @@ def main():
         (folder / "board").write_bytes(BOARD)
         for title, program, others, code, least, text in KINDS:
             built = measure.TOP / "crates" / program / "out" / program
-            times = []
-            for size in (least, 2 * least, 4 * least):
+            sizes, times = (least, 2 * least, 4 * least), []
+            for size in sizes:
                 (folder / "file").write_bytes(text(size))
                 times.append(measure.shortest([built, *words_of(program, folder, others)], code, RUNS)[0])
-            ratios = ", ".join(f"{later / before:.2f}" for before, later in zip(times, times[1:]))
-            print(f"| {title} | {least:,}, {2 * least:,}, {4 * least:,} | {', '.join(f'{it:.3f} s' for it in times)} | {ratios} |")
+            ratios = [f"{later / before:.2f}" for before, later in zip(times, times[1:])]
+            cells = title, ", ".join(f"{it:,}" for it in sizes), ", ".join(f"{it:.3f} s" for it in times), ", ".join(ratios)
+            print(f"| {' | '.join(cells)} |")
     return 0
 
 
