@@ -1,12 +1,13 @@
 //! The wave of a trace, put item by item.
 ghost use Rattle.std.specs.Prelude.{◌≡◌, ◌≤◌, ◌<◌, ◌+◌, ◌*◌, ◌^◌, ◌++◌, ℕ, pos, false, codes, map, length, slice_index_or, IfOk, IfSome};
 ghost use Rattle.tool_io.specs.Lines.{IsWhole, HasPut, KeepsLines};
-ghost use Rattle.pin_lines.specs.PinLines.{input_of_pin, clock_of_pin, is_bad_line, has_bad_line};
+ghost use Rattle.pin_lines.specs.PinLines.{is_bad_line, has_bad_line};
 ghost use Rattle.pin_waves.specs.Items.{Clocked, Waited, most_usec, line_items, items_in};
 ghost use Rattle.pin_waves.specs.Found.{waits_found};
 ghost use Rattle.pin_waves.specs.Waves.{control_after, shown_number, level_of, wire_change, state_line, state_change, changes, are_same, time_line, moment, low_levels, high_levels, control_of, rest_levels, item_text, after_item, items_text, after_items, first_wave, end_text, head_text, wave_text};
 
 use crate::items::wait_of;
+use pin_lines::{tdi_of, tdo_of, tms_of};
 use tap_states::Tap;
 use tool_io::{Failed, Lines, Sink, put_number_line};
 use trace_check::{digits_of, first_line};
@@ -62,28 +63,6 @@ fn level_of(bit: bool) -> u8
     ensures { result ≡ level_of bit }
 {
     if bit { b'1' } else { b'0' }
-}
-
-// TMS, TDI and TDO of a digit.
-fn tms_of(digit: u8) -> bool
-    requires { 48 ≤ digit }
-    ensures { result ≡ (input_of_pin digit).tms }
-{
-    4 <= digit - 48
-}
-
-fn tdi_of(digit: u8) -> bool
-    requires { 48 ≤ digit }
-    ensures { result ≡ (input_of_pin digit).tdi }
-{
-    2 <= (digit - 48) % 4
-}
-
-fn tdo_of(digit: u8) -> bool
-    requires { 48 ≤ digit }
-    ensures { result ≡ (clock_of_pin digit).tdo }
-{
-    (digit - 48) % 2 == 1
 }
 
 impl Control {

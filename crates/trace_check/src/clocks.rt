@@ -1,34 +1,12 @@
 //! Digits of clocks on a board (IEEE 1149.1, test access port).
-ghost use Rattle.std.specs.Prelude.{◌≡◌, ◌≢◌, ◌≤◌, ◌<◌, ◌+◌, ◌-◌, ◌%◌, ◌==◌, ℕ, List, map, length, Option, None, Some, IsSome, slice_get, slice_index_or, nat_le};
+ghost use Rattle.std.specs.Prelude.{◌≡◌, ◌≤◌, ◌<◌, ◌+◌, ◌-◌, ℕ, List, map, length, Some, IsSome, slice_get, slice_index_or};
 ghost use Rattle.dev_card.specs.Card.{Card};
 ghost use Rattle.chain_sim.specs.Places.{cards_at, AreApart, IsAbsent};
-ghost use Rattle.pin_lines.specs.PinLines.{input_of_pin, clock_of_pin};
 ghost use Rattle.trace_check.specs.Clocked.{IsOneClock, AreClocked, DiffersAt};
 
 use chain_sim::{clock_all, first_tdo};
 use dev_card::Device;
-
-// TMS, TDI and TDO of a digit.
-fn tms_of(digit: u8) -> bool
-    requires { 48 ≤ digit }
-    ensures { result ≡ (input_of_pin digit).tms }
-{
-    4 <= digit - 48
-}
-
-fn tdi_of(digit: u8) -> bool
-    requires { 48 ≤ digit }
-    ensures { result ≡ (input_of_pin digit).tdi }
-{
-    2 <= (digit - 48) % 4
-}
-
-fn tdo_of(digit: u8) -> bool
-    requires { 48 ≤ digit }
-    ensures { result ≡ (clock_of_pin digit).tdo }
-{
-    (digit - 48) % 2 == 1
-}
+use pin_lines::{tdi_of, tdo_of, tms_of};
 
 // One digit: the board at the places is clocked if it answers TDO so. Otherwise no device changes.
 fn clock_digit<D: Device>(rack: &mut Vec<D>, places: &[u32], digit: u8) -> bool
