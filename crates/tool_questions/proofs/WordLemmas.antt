@@ -7,7 +7,7 @@ use Rattle.std.specs.Str.{bytes_eq}
 use Rattle.std.specs.Prelude.{Result}
 use Rattle.tool_answers.specs.declared.no_answer.NoAnswer.{NoAnswer}
 use Rattle.named_files.specs.Files.{KeepsShelf}
-use Rattle.tool_questions.specs.Questions.{is_question, IsMoreUsage, IsFileOf, IsAskedOf}
+use Rattle.tool_questions.specs.Questions.{is_question, IsMoreUsage, IsPieceFile, IsAskedOf}
 
 module _ {A : Type 0} (f : A → List ℕ) where
   -- the first one, and the others
@@ -41,12 +41,12 @@ is_piece word asks other = (bytes_eq-Decides word (codes "--piece")).0 (second (
     second false b e h = h
 
 -- the file that the words after `--piece` name is that of the question
-pub named_as : (words rest : List (List ℕ)) (named : Option (List ℕ)) → words ≡ codes "--piece" ∷ rest → IfSome named (IsFileOf rest) → IfSome named (IsAskedOf words)
+pub named_as : (words rest : List (List ℕ)) (named : Option (List ℕ)) → words ≡ codes "--piece" ∷ rest → IfSome named (IsPieceFile rest) → IfSome named (IsAskedOf words)
 named_as words rest None e file = tt
 named_as words rest (Some path) e file = record { rest = rest; words_are = e; file = file }
 
 pub shelf_as : {S T : Type 0} {told : S → Option (List (List ℕ × List ℕ))} {faults : S → List ℕ → ℕ} {is_last : S → List ℕ → Type 0} {before after : S} {r : Result T NoAnswer}
-    (words rest : List (List ℕ)) → words ≡ codes "--piece" ∷ rest → KeepsShelf told faults is_last (IsFileOf rest) before after r →
+    (words rest : List (List ℕ)) → words ≡ codes "--piece" ∷ rest → KeepsShelf told faults is_last (IsPieceFile rest) before after r →
     KeepsShelf told faults is_last (IsAskedOf words) before after r
 shelf_as words rest e kept = record {
   keeps = kept.keeps;

@@ -81,7 +81,7 @@ pub data PieceQuestionAnswer (held : Option (List ℕ)) (rest : List (List ℕ))
   refused : (m : ℕ) → HasPieceUsage rest m → IsUsage m said status → PieceQuestionAnswer held rest said status
 
 -- the words after `--piece` name this file
-pub record IsFileOf (rest : List (List ℕ)) (path : List ℕ) : Type 0 where
+pub record IsPieceFile (rest : List (List ℕ)) (path : List ℕ) : Type 0 where
   pub number : ℕ
   pub asked : IsPieceAsked rest number path
 
@@ -94,12 +94,12 @@ pub data QuestionAnswer (held : Option (List ℕ)) (words : List (List ℕ)) (sa
 pub record IsAskedOf (words : List (List ℕ)) (path : List ℕ) : Type 0 where
   pub rest : List (List ℕ)
   pub words_are : words ≡ codes "--piece" ∷ rest
-  pub file : IsFileOf rest path
+  pub file : IsPieceFile rest path
 
 -- This stands of the bytes of the file that the words after `--piece` name, as they were read, if they name one.
 pub record OfPieceWords (told : Option (List (List ℕ × List ℕ))) (rest : List (List ℕ)) (stands : Option (List ℕ) → Type 0) : Type 0 where
   pub named : Option (List ℕ)
-  pub asked : IfSome named (IsFileOf rest)
+  pub asked : IfSome named (IsPieceFile rest)
   pub file : OfFile told named stands
 
 -- The same of a question.

@@ -4,7 +4,7 @@ ghost use Rattle.tool_io.specs.Lines.{IsWhole, IsSinkUntouched};
 ghost use Rattle.tool_answers.specs.Answers.{Says, KeepsOutput};
 ghost use Rattle.named_files.specs.Files.{KeepsShelf};
 ghost use Rattle.program_reports.specs.Explanations.{word_paragraphs};
-ghost use Rattle.tool_questions.specs.Questions.{ask_question, IsUsage, IsExplained, WordAnswer, PieceQuestionAnswer, QuestionAnswer, OfPieceWords, OfQuestion, IsAskedOf, IsFileOf};
+ghost use Rattle.tool_questions.specs.Questions.{ask_question, IsUsage, IsExplained, WordAnswer, PieceQuestionAnswer, QuestionAnswer, OfPieceWords, OfQuestion, IsAskedOf, IsPieceFile};
 
 use crate::piece::answer_piece;
 use crate::words::piece_asked;
@@ -81,7 +81,7 @@ fn answer_piece_words<S: Shelf, K: Sink>(
     ensures says { OfPieceWords (S.told shelf.old) (map string_bytes rest.now) (λ held. Says K.written
         (PieceQuestionAnswer held (map string_bytes rest.now)) (IsSinkUntouched lines.old lines.new)
         lines.old lines.new result) }
-    ensures shelf { KeepsShelf S.told S.faults S.is_last (IsFileOf (map string_bytes rest.now))
+    ensures shelf { KeepsShelf S.told S.faults S.is_last (IsPieceFile (map string_bytes rest.now))
         shelf.old shelf.new result }
     ensures output { KeepsOutput K.faults K.is_last lines.old lines.new result }
 {
