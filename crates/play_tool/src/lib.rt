@@ -5,6 +5,7 @@ pub mod laws;
 mod lines;
 mod programs;
 mod soaking;
+mod sources;
 mod top;
 
 pub use top::run_tool;

@@ -10,7 +10,7 @@ ghost use Rattle.play_tool.specs.Answers.{request_at, RequestAnswer, SoakAnswer}
 ghost use Rattle.play_tool.specs.FinalRacks.{RequestHoldsFinal, SoakHoldsFinal};
 
 use crate::lines::{SoakSummary, soak_line};
-use crate::top::answer_text;
+use crate::sources::answer_text;
 use base::ItemList;
 use code_plays::Task;
 use command_words::FileName;

@@ -8,7 +8,7 @@ use Rattle.code_plays.proofs.PlayLemmas.{rack_as}
 use Rattle.play_tool.specs.Answers.{code_refused}
 use Rattle.play_tool.proofs.AnswerLemmas.{code_fault_is}
 use Rattle.play_tool.proofs.CodeLemmas.{code_answers, file_final}
-use Rattle.play_tool.proofs.top.answer_code.Goals as goal
+use Rattle.play_tool.proofs.sources.answer_code.Goals as goal
 
 pub unreachable-requires : goal.unreachable-requires
 unreachable-requires g c = has_action c.args.task.now.request.now Run c.requires.needed c.requires.runs refl c.in_default.is

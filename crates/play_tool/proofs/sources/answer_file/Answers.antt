@@ -1,6 +1,6 @@
 use Rattle.std.proofs.Common.{ap, Err, Some}
 use Rattle.play_tool.proofs.FileLemmas.{source_file, long_refused, long_failed, not_read, no_room}
-use Rattle.play_tool.proofs.top.answer_file.Goals as goal
+use Rattle.play_tool.proofs.sources.answer_file.Goals as goal
 
 pub returns-in-Ok-clause-answers : goal.returns-in-Ok-clause-answers
 returns-in-Ok-clause-answers g c =

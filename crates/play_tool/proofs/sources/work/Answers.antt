@@ -6,7 +6,7 @@ use Rattle.play_words.proofs.RequestLemmas.{has_action, has_board}
 use Rattle.tool_answers.proofs.AnswerLemmas.{says_within}
 use Rattle.code_plays.proofs.PlayLemmas.{rack_as}
 use Rattle.play_tool.proofs.AnswerLemmas.{plays_asked}
-use Rattle.play_tool.proofs.top.work.Goals as goal
+use Rattle.play_tool.proofs.sources.work.Goals as goal
 
 pub unreachable-requires : goal.unreachable-requires
 unreachable-requires g c = has_action c.args.task.now.request.now Play c.requires.needed c.in-Play.is refl c.in_default.is

@@ -3,7 +3,7 @@ use Rattle.play_words.proofs.RequestLemmas.{run_mode}
 use Rattle.tool_answers.proofs.AnswerLemmas.{says_within}
 use Rattle.play_words.specs.Words.{reads_text}
 use Rattle.play_tool.proofs.AnswerLemmas.{text_to_source, code_to_source}
-use Rattle.play_tool.proofs.top.answer_source.Goals as goal
+use Rattle.play_tool.proofs.sources.answer_source.Goals as goal
 
 pub answer_code-requires-clause-runs : goal.answer_code-requires-clause-runs
 answer_code-requires-clause-runs g c = run_mode c.args.task.now.request.now.mode (sym c.reads_text.ensures ∙ c.if-reads_text.false) c.requires.no_soak

@@ -4,7 +4,7 @@ use Rattle.tool_answers.proofs.AnswerLemmas.{says_within, says_failed, said_text
 use Rattle.code_plays.proofs.PlayLemmas.{rack_as}
 use Rattle.play_tool.specs.Answers.{refused}
 use Rattle.play_tool.proofs.AnswerLemmas.{work_answers, text_fault_is}
-use Rattle.play_tool.proofs.top.answer_text.Goals as goal
+use Rattle.play_tool.proofs.sources.answer_text.Goals as goal
 
 pub work-requires-clause-program : goal.work-requires-clause-program
 work-requires-clause-program g c = rw c.in-Ok.ensures.text c.in-Ok.ensures.program
