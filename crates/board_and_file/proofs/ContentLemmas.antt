@@ -6,7 +6,7 @@ use Rattle.dev_card.specs.declared.desc.Desc.{Desc}
 use Rattle.named_files.specs.Files.{file_named, AreRead, OfFile, HasReadCause}
 use Rattle.named_files.specs.Boards.{HasBoard, ReadsBoard}
 use Rattle.board_and_file.specs.Words.{FileNames, IsRequest}
-use Rattle.board_and_file.specs.Contents.{Contents, contents_in, OfContents, OfWords, HoldsBoard, IsReached, file_reached, IsReachedBy}
+use Rattle.board_and_file.specs.Contents.{Contents, contents_in, OfContents, OfAsked, OfWords, HoldsBoard, IsReached, file_reached, IsAskedAndReached, IsReachedBy}
 use Rattle.board_and_file.proofs.WordLemmas.{one_request}
 
 abbrev pub both : Option (List ℕ) → Option (List ℕ) → Contents
@@ -42,22 +42,32 @@ of_both told named board b o f = record {
   holds = f o.held o.holds;
 }
 
+-- these files are asked for, and no others
+pub of_asked : (asks : FileNames → Type 0) → ((a b : FileNames) → asks a → asks b → a ≡ b) → (told : Option (List (List ℕ × List ℕ))) {named : FileNames} {P Q : Contents → Type 0} →
+    asks named → OfContents told named P → ((contents : Contents) → P contents → Q contents) → OfAsked asks told Q
+of_asked asks one told {named = named} is o f = record {
+  contents = o.contents;
+  read = λ other others. subst (λ (n : FileNames). IfSome told (λ files. contents_in files n ≡ o.contents)) (one named other is others) o.read;
+  holds = f o.contents o.holds;
+}
+
 -- the words are this request
 pub of_request : {key : List ℕ} (told : Option (List (List ℕ × List ℕ))) {words : List (List ℕ)} {named : FileNames} {P Q : Contents → Type 0} → IsRequest key words named →
     OfContents told named P → ((contents : Contents) → P contents → Q contents) → OfWords key told words Q
-of_request {key = key} told {words = words} {named = named} asks o f = record {
-  contents = o.contents;
-  read = λ other others. subst (λ (n : FileNames). IfSome told (λ files. contents_in files n ≡ o.contents)) (one_request key words named other asks others) o.read;
-  holds = f o.contents o.holds;
-}
+of_request {key = key} told {words = words} asks o f = of_asked (IsRequest key words) (one_request key words) told asks o f
+
+-- no files are asked for
+pub of_none_asked : (asks : FileNames → Type 0) (told : Option (List (List ℕ × List ℕ))) {Q : Contents → Type 0} → ((named : FileNames) → asks named → ⊥) →
+    ((contents : Contents) → Q contents) → OfAsked asks told Q
+of_none_asked asks told none f = record { contents = both None None; read = λ named is. absurd (none named is); holds = f (both None None) }
 
 -- words that are no request
 pub of_no_request : (key : List ℕ) (told : Option (List (List ℕ × List ℕ))) {words : List (List ℕ)} {Q : Contents → Type 0} → ((named : FileNames) → IsRequest key words named → ⊥) →
     ((contents : Contents) → Q contents) → OfWords key told words Q
-of_no_request key told none f = record { contents = both None None; read = λ named asks. absurd (none named asks); holds = f (both None None) }
+of_no_request key told {words = words} none f = of_none_asked (IsRequest key words) told none f
 
-pub of_words_as : {key : List ℕ} {told : Option (List (List ℕ × List ℕ))} {words : List (List ℕ)} {P Q : Contents → Type 0} → ((contents : Contents) → P contents → Q contents) →
-    OfWords key told words P → OfWords key told words Q
+pub of_words_as : {asks : FileNames → Type 0} {told : Option (List (List ℕ × List ℕ))} {P Q : Contents → Type 0} → ((contents : Contents) → P contents → Q contents) →
+    OfAsked asks told P → OfAsked asks told Q
 of_words_as f o = record { contents = o.contents; read = o.read; holds = f o.contents o.holds }
 
 -- the board that was read is the one that the store holds
@@ -78,8 +88,13 @@ file_cause {faults = faults} {is_last = is_last} before between after named devi
   rose = rose_after_at kept c.rose;
 }
 
+-- a file that was reached is one that is asked for
+pub reached_asked : {S : Type 0} {faults : S → List ℕ → ℕ} {is_last : S → List ℕ → Type 0} {before after : S} (asks : FileNames → Type 0) {told : Option (List (List ℕ × List ℕ))}
+    {named : FileNames} → asks named → HasReadCause faults is_last (IsReached told named) before after → HasReadCause faults is_last (IsAskedAndReached asks told) before after
+reached_asked asks {named = named} is c = record { path = c.path; is_reached = record { named = named; asked = is; reached = c.is_reached }; rose = c.rose }
+
 -- a file of the request that was reached is one of the words
 pub reached_by : {S : Type 0} {faults : S → List ℕ → ℕ} {is_last : S → List ℕ → Type 0} {before after : S} {key : List ℕ} {told : Option (List (List ℕ × List ℕ))}
     {words : List (List ℕ)} {named : FileNames} → IsRequest key words named → HasReadCause faults is_last (IsReached told named) before after →
     HasReadCause faults is_last (IsReachedBy key told words) before after
-reached_by {named = named} asks c = record { path = c.path; is_reached = record { named = named; asked = asks; reached = c.is_reached }; rose = c.rose }
+reached_by {key = key} {words = words} asks c = reached_asked (IsRequest key words) asks c

@@ -11,10 +11,10 @@ one_at : (key : List ℕ) (word : Option (List ℕ)) (a b : List ℕ) → IsSome
 one_at key None a b x y = absurd x
 one_at key (Some word) a b x y = one_path key word a b x y
 
-one_named : (key : List ℕ) (words : List (List ℕ)) (place : ℕ) (a b : List ℕ) → NamesAt key words place a → NamesAt key words place b → a ≡ b
+pub one_named : (key : List ℕ) (words : List (List ℕ)) (place : ℕ) (a b : List ℕ) → NamesAt key words place a → NamesAt key words place b → a ≡ b
 one_named key words place a b x y = one_at key (slice_get words place) a b x y
 
-found_at : (key : List ℕ) (word : Option (List ℕ)) → IsFoundOrNot (λ path. IsSomeAnd word (λ w. NamesPath key w path))
+pub found_at : (key : List ℕ) (word : Option (List ℕ)) → IsFoundOrNot (λ path. IsSomeAnd word (λ w. NamesPath key w path))
 found_at key None = inr (λ path h. h)
 found_at key (Some word) = path_or_not key word
 

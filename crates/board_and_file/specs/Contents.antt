@@ -23,12 +23,16 @@ pub record OfContents (told : Option (List (List ℕ × List ℕ))) (named : Fil
   pub read : IfSome told (λ files. contents_in files named ≡ contents)
   pub holds : stands contents
 
--- The same of words. Words that are no request name no file.
-pub record OfWords (key : List ℕ) (told : Option (List (List ℕ × List ℕ))) (words : List (List ℕ))
-    (stands : Contents → Type 0) : Type 0 where
+-- The same of the files that are asked for. Words that are no request ask for none.
+pub record OfAsked (asks : FileNames → Type 0) (told : Option (List (List ℕ × List ℕ))) (stands : Contents → Type 0)
+    : Type 0 where
   pub contents : Contents
-  pub read : (named : FileNames) → IsRequest key words named → IfSome told (λ files. contents_in files named ≡ contents)
+  pub read : (named : FileNames) → asks named → IfSome told (λ files. contents_in files named ≡ contents)
   pub holds : stands contents
+
+-- The same of words that are a board and one more file.
+abbrev pub OfWords : List ℕ → Option (List (List ℕ × List ℕ)) → List (List ℕ) → (Contents → Type 0) → Type 0
+OfWords key told words stands = OfAsked (IsRequest key words) told stands
 
 -- The store holds the board of a request, and it is a board.
 pub record HoldsBoard (named : FileNames) (files : List (List ℕ × List ℕ)) : Type 0 where
@@ -41,9 +45,13 @@ pub data IsReached (told : Option (List (List ℕ × List ℕ))) (named : FileNa
   board_reached : named.board ≡ path → IsReached told named path
   file_reached : named.file ≡ path → IfSome told (HoldsBoard named) → IsReached told named path
 
--- a file that the words name and that is read
-pub record IsReachedBy (key : List ℕ) (told : Option (List (List ℕ × List ℕ))) (words : List (List ℕ))
-    (path : List ℕ) : Type 0 where
+-- a file that is asked for and is read
+pub record IsAskedAndReached (asks : FileNames → Type 0) (told : Option (List (List ℕ × List ℕ))) (path : List ℕ)
+    : Type 0 where
   pub named : FileNames
-  pub asked : IsRequest key words named
+  pub asked : asks named
   pub reached : IsReached told named path
+
+-- a file that the words name and that is read, if they are a board and one more file
+abbrev pub IsReachedBy : List ℕ → Option (List (List ℕ × List ℕ)) → List (List ℕ) → List ℕ → Type 0
+IsReachedBy key told words path = IsAskedAndReached (IsRequest key words) told path

@@ -4,4 +4,4 @@
 pub mod laws;
 mod words;
 
-pub use words::{Named, read_words};
+pub use words::{Named, path_at, read_words};

@@ -13,8 +13,8 @@ pub struct Named<'a> {
     pub file: &'a str,
 }
 
-// The path that the word at a place, counted from 0, gives under a key, if the word is there and gives one.
-fn path_at<'a>(words: &'a [String], place: usize, key: &str) -> Option<&'a str>
+/// The path that the word at a place, counted from 0, gives under a key, if the word is there and gives one.
+pub fn path_at<'a>(words: &'a [String], place: usize, key: &str) -> Option<&'a str>
     ensures some { IfSome result (λ path. NamesAt key.now (map string_bytes words.now) place path.now) }
     ensures none { IfNone result ((path : List ℕ) → NamesAt key.now (map string_bytes words.now) place path → ⊥) }
 {

@@ -1,44 +1,23 @@
 -- On answers, and on the file that the words name.
-use Rattle.std.proofs.Common.{◌≡◌, ◌≤◌, ◌<◌, ℕ, List, length, Option, None, Some, IfSome, IsSomeAnd, Result, subst, sym}
-use Rattle.tool_io.specs.declared.lines.Lines.{Lines}
+use Rattle.std.proofs.Common.{◌≡◌, ◌≤◌, ℕ, List, length, Option, None, Some, IfSome, Result, subst, sym}
 use Rattle.tool_io.specs.Files.{file_of}
-use Rattle.tool_io.specs.Lines.{IsSinkUntouched}
 use Rattle.tool_answers.specs.declared.no_answer.NoAnswer.{NoAnswer}
-use Rattle.tool_answers.specs.Answers.{Says}
-use Rattle.tool_answers.proofs.AnswerLemmas.{says_within}
 use Rattle.named_files.specs.Files.{OfFile, KeepsShelf}
-use Rattle.stapl_lexer.specs.declared.reason.Reason.{Reason}
 use Rattle.stapl_lexer.specs.Pieces.{text_limit}
 use Rattle.stapl_syntax.specs.Trees.{StmtTree}
-use Rattle.stapl_syntax.specs.Programs.{IsProgram, FirstFault, is_too_long}
+use Rattle.stapl_syntax.specs.Programs.{IsProgram}
 use Rattle.canonical_text.specs.CanonicalText.{canonical_text}
 use Rattle.print_tool.specs.declared.status.PrintStatus.{PrintStatus}
 use Rattle.print_tool.specs.declared.status.PrintStatus.TheVariants.{Done}
 use Rattle.print_tool.specs.Statuses.{IsFault}
 use Rattle.print_tool.specs.Words.{NamesProgram}
-use Rattle.print_tool.specs.Answers.{TextAnswer, refused, printed, too_large, IsLongAnswer, too_long, HeldAnswer, WordsAnswer, usage, asked, OfWords}
+use Rattle.print_tool.specs.Answers.{TextAnswer, refused, printed, too_large, HeldAnswer, WordsAnswer, usage, asked, OfWords}
 use Rattle.print_tool.proofs.WordLemmas.{one_named}
 
 -- the canonical text, as it was made
 pub printed_as : (bytes text : List ℕ) (program : List StmtTree) → IsProgram bytes program → length (canonical_text program) ≤ text_limit →
     text ≡ canonical_text program → TextAnswer bytes text Done
 printed_as bytes text program is small e = subst (λ (t : List ℕ). TextAnswer bytes t Done) (sym e) (printed program is small)
-
--- a refusal, by its parts
-pub text_fault_is : {bytes : List ℕ} {p q l m : ℕ} {r s : Reason} → p ≡ q → l ≡ m → r ≡ s → FirstFault bytes p l r → FirstFault bytes q m s
-text_fault_is {bytes = bytes} {q = q} {l = l} {m = m} {r = r} e f h x =
-    subst (λ (s : Reason). FirstFault bytes q m s) h (subst (λ (k : ℕ). FirstFault bytes q k r) f (subst (λ (k : ℕ). FirstFault bytes k l r) e x))
-
-long_is_refused : (bytes text : List ℕ) (status : PrintStatus) → text_limit < length bytes → IsLongAnswer text status → TextAnswer bytes text status
-long_is_refused bytes text status long too_long = refused 0 0 _ (is_too_long long)
-
--- the answer for a text that is too long
-pub long_within : {K : Type 0} (written : K → Option (List ℕ)) (old new : Lines K) (held : Option (List ℕ)) (r : Result PrintStatus NoAnswer) →
-    IsSomeAnd held (λ bytes. text_limit < length bytes) → Says written IsLongAnswer ⊥ old new r →
-    Says written (HeldAnswer held) (IsSinkUntouched old new) old new r
-long_within written old new None r long says = absurd long
-long_within written old new (Some bytes) r long says =
-    says_within written IsLongAnswer (TextAnswer bytes) old new r (record { to = λ text status a. long_is_refused bytes text status long a }) (λ none. absurd none) says
 
 -- what stands of the contents of the file that the words name
 pub words_of_file : (told : Option (List (List ℕ × List ℕ))) (words : List (List ℕ)) (path : List ℕ) {P Q : Option (List ℕ) → Type 0} → NamesProgram words path →

@@ -2,7 +2,6 @@
 use Rattle.std.specs.Prelude.{◌≡◌, ◌≤◌, ◌<◌, ℕ, List, length, codes, Option, IfSome, IsSomeAnd}
 use Rattle.tool_io.specs.Files.{file_of}
 use Rattle.stapl_lexer.specs.declared.reason.Reason.{Reason}
-use Rattle.stapl_lexer.specs.declared.reason.Reason.TheVariants.{TooLong}
 use Rattle.stapl_lexer.specs.Pieces.{text_limit}
 use Rattle.stapl_syntax.specs.Trees.{StmtTree}
 use Rattle.stapl_syntax.specs.Programs.{IsProgram, FirstFault}
@@ -25,10 +24,6 @@ pub data TextAnswer (bytes : List ℕ) : List ℕ → PrintStatus → Type 0 whe
       TextAnswer bytes too_large_line TooLarge
   printed : (program : List StmtTree) → IsProgram bytes program → length (canonical_text program) ≤ text_limit →
       TextAnswer bytes (canonical_text program) Done
-
--- the refusal of a text that is too long
-pub data IsLongAnswer : List ℕ → PrintStatus → Type 0 where
-  too_long : IsLongAnswer (refusal_line 0 0 TooLong) (Refused 0 TooLong)
 
 -- The same for a file, where it is held.
 abbrev pub HeldAnswer : Option (List ℕ) → List ℕ → PrintStatus → Type 0

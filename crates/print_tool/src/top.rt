@@ -8,18 +8,17 @@ ghost use Rattle.stapl_syntax.specs.ProgramValues.{trees_of};
 ghost use Rattle.named_files.specs.Files.{OfFile, HasReadCause, KeepsShelf};
 ghost use Rattle.print_tool.specs.Statuses.{IsFault};
 ghost use Rattle.print_tool.specs.Words.{NamesProgram};
-ghost use Rattle.print_tool.specs.Answers.{TextAnswer, IsLongAnswer, HeldAnswer, WordsAnswer, OfWords};
+ghost use Rattle.print_tool.specs.Answers.{TextAnswer, HeldAnswer, WordsAnswer, OfWords};
 
 use crate::PrintStatus;
 use crate::words::program_path;
 use named_files::{put_refusal, put_usage};
-use stapl_checker::{CheckRefused, check};
-use stapl_lexer::{Reason, TEXT_LIMIT};
+use program_files::{ProgramNotRead, program_named};
 use stapl_print::{PrintRefused, print_program};
 use stapl_syntax::Program;
 use std::alloc::Global;
 use tool_answers::NoAnswer;
-use tool_io::{Lines, ReadRefused, Shelf, Sink, read_whole};
+use tool_io::{Lines, Shelf, Sink};
 
 // Puts the canonical text of a program, or that it is too large.
 fn put_program<K: Sink>(
@@ -45,42 +44,6 @@ fn put_program<K: Sink>(
     }
 }
 
-// Answers for a text.
-fn answer_text<K: Sink>(
-    alloc: Global,
-    bytes: &[u8],
-    lines: &mut Lines<K>,
-) -> Result<PrintStatus, NoAnswer>
-    requires { IsWhole lines.old }
-    ensures says { Says K.written (TextAnswer bytes.now) ⊥ lines.old lines.new result }
-    ensures output { KeepsOutput K.faults K.is_last lines.old lines.new result }
-{
-    match check(alloc, bytes) {
-        Ok(program) => put_program(alloc, &program, lines),
-        Err(
-            CheckRefused::Refused {
-                piece,
-                line,
-                reason,
-            },
-        ) => {
-            put_refusal(lines, piece, line, reason)?;
-            Ok(PrintStatus::Refused(piece, reason))
-        }
-        Err(CheckRefused::Memory) => Err(NoAnswer::Memory),
-    }
-}
-
-// Refuses a text that is too long.
-fn refuse_long<K: Sink>(lines: &mut Lines<K>) -> Result<PrintStatus, NoAnswer>
-    requires { IsWhole lines.old }
-    ensures says { Says K.written IsLongAnswer ⊥ lines.old lines.new result }
-    ensures output { KeepsOutput K.faults K.is_last lines.old lines.new result }
-{
-    put_refusal(lines, 0, 0, Reason::TooLong)?;
-    Ok(PrintStatus::Refused(0, Reason::TooLong))
-}
-
 // Answers for the text in a file.
 fn answer_file<S: Shelf, K: Sink>(
     alloc: Global,
@@ -94,11 +57,20 @@ fn answer_file<S: Shelf, K: Sink>(
     ensures shelf { KeepsShelf S.told S.faults S.is_last (λ read. read ≡ path.now) shelf.old shelf.new result }
     ensures output { KeepsOutput K.faults K.is_last lines.old lines.new result }
 {
-    match read_whole(alloc, shelf, path, TEXT_LIMIT as u32) {
-        Ok(bytes) => answer_text(alloc, &bytes, lines),
-        Err(ReadRefused::TooLong) => refuse_long(lines),
-        Err(ReadRefused::ReadFault) => Err(NoAnswer::Read),
-        Err(ReadRefused::Memory) => Err(NoAnswer::Memory),
+    match program_named(alloc, shelf, path) {
+        Ok(program) => put_program(alloc, &program, lines),
+        Err(
+            ProgramNotRead::Refused {
+                piece,
+                line,
+                reason,
+            },
+        ) => {
+            put_refusal(lines, piece, line, reason)?;
+            Ok(PrintStatus::Refused(piece, reason))
+        }
+        Err(ProgramNotRead::Read) => Err(NoAnswer::Read),
+        Err(ProgramNotRead::Memory) => Err(NoAnswer::Memory),
     }
 }
 

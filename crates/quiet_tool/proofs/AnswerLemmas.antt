@@ -1,13 +1,8 @@
 -- On answers: verdicts, and which relation holds the answers of which.
-use Rattle.std.proofs.Common.{◌≡◌, ◌<◌, ℕ, List, length, Option, None, Some, IsSomeAnd, Result, Bool, subst, sym}
-use Rattle.tool_io.specs.declared.lines.Lines.{Lines}
-use Rattle.tool_io.specs.Lines.{IsSinkUntouched}
-use Rattle.tool_answers.specs.declared.no_answer.NoAnswer.{NoAnswer}
-use Rattle.tool_answers.specs.Answers.{Says}
-use Rattle.tool_answers.proofs.AnswerLemmas.{IsWithin, says_within}
-use Rattle.stapl_lexer.specs.Pieces.{text_limit}
+use Rattle.std.proofs.Common.{◌≡◌, ℕ, List, Option, None, Some, Bool, subst, sym}
+use Rattle.tool_answers.proofs.AnswerLemmas.{IsWithin}
 use Rattle.stapl_syntax.specs.Trees.{StmtTree}
-use Rattle.stapl_syntax.specs.Programs.{IsProgram, is_too_long}
+use Rattle.stapl_syntax.specs.Programs.{IsProgram}
 use Rattle.stapl_meaning.specs.declared.events.Ending.{Ending}
 use Rattle.stapl_meaning.specs.Choices.{Choice}
 use Rattle.stapl_meaning.specs.Scopes.{Played}
@@ -22,7 +17,7 @@ use Rattle.quiet_tool.specs.declared.status.QuietStatus.{QuietStatus}
 use Rattle.quiet_tool.specs.declared.status.QuietStatus.TheVariants.{Quiet, NotQuiet}
 use Rattle.quiet_tool.specs.Statuses.{IsFault}
 use Rattle.quiet_tool.specs.Texts.{quiet_text, unquiet_line, IsLineOf}
-use Rattle.quiet_tool.specs.Answers.{VerdictAnswer, quiet, unquiet, ChoiceAnswer, no_action, bad_choice, bad_place, judged, AskedAnswer, TextAnswer, refused, accepted, IsLongAnswer, too_long, HeldAnswer, RequestAnswer, board_refused, board_read, WordsAnswer, usage, asked}
+use Rattle.quiet_tool.specs.Answers.{VerdictAnswer, quiet, unquiet, ChoiceAnswer, no_action, bad_choice, bad_place, judged, AskedAnswer, TextAnswer, refused, accepted, HeldAnswer, RequestAnswer, board_refused, board_read, WordsAnswer, usage, asked}
 
 module _ {bytes : List ℕ} {turns : ℕ} {verdict : Verdict} where
   pub verdict_quiet : (ending : Ending) (text : List ℕ) → verdict ≡ verdicts.Quiet ending → text ≡ quiet_text turns ending →
@@ -54,24 +49,9 @@ module _ {bytes : List ℕ} {program : Played} {choice : Choice} {placed : Bool}
       subst (λ (z : QuietStatus). ChoiceAnswer bytes program choice placed n run a z) (sym f) (subst (λ (z : List ℕ). ChoiceAnswer bytes program choice placed n run z t) (sym e) x)
 
 -- a text that is a program
-pub asked_within : (request : Request) (devices : List Desc) (own bytes : List ℕ) (program : List StmtTree) → own ≡ bytes → IsProgram bytes program →
-    IsWithin (AskedAnswer own program request devices) (TextAnswer request devices bytes)
-asked_within request devices own bytes program same is =
-    subst (λ (z : List ℕ). IsWithin (AskedAnswer z program request devices) (TextAnswer request devices bytes)) (sym same)
-    (record { to = λ text status a. accepted program text status is a })
-
-long_is_refused : (request : Request) (devices : List Desc) (bytes text : List ℕ) (status : QuietStatus) → text_limit < length bytes → IsLongAnswer text status →
-    TextAnswer request devices bytes text status
-long_is_refused request devices bytes text status long too_long = refused 0 0 _ (is_too_long long)
-
--- a text that is too long
-pub long_within : {K : Type 0} (written : K → Option (List ℕ)) (old new : Lines K) (request : Request) (devices : List Desc) (held : Option (List ℕ))
-    (r : Result QuietStatus NoAnswer) → IsSomeAnd held (λ bytes. text_limit < length bytes) → Says written IsLongAnswer ⊥ old new r →
-    Says written (HeldAnswer request devices held) (IsSinkUntouched old new) old new r
-long_within written old new request devices None r long says = absurd long
-long_within written old new request devices (Some bytes) r long says =
-    says_within written IsLongAnswer (TextAnswer request devices bytes) old new r
-    (record { to = λ text status a. long_is_refused request devices bytes text status long a }) (λ none. absurd none) says
+pub asked_within : (request : Request) (devices : List Desc) (bytes : List ℕ) (program : List StmtTree) → IsProgram bytes program →
+    IsWithin (AskedAnswer bytes program request devices) (TextAnswer request devices bytes)
+asked_within request devices bytes program is = record { to = λ text status a. accepted program text status is a }
 
 -- ---- no answer has the status of a fault
 

@@ -2,7 +2,6 @@
 -- this tool's own.
 use Rattle.std.specs.Prelude.{◌≡◌, ◌≤◌, ℕ, Bool, true, false, List, codes, Option, None, Some, IsSomeAnd}
 use Rattle.stapl_lexer.specs.declared.reason.Reason.{Reason}
-use Rattle.stapl_lexer.specs.declared.reason.Reason.TheVariants.{TooLong}
 use Rattle.stapl_syntax.specs.Trees.{StmtTree}
 use Rattle.stapl_syntax.specs.Programs.{IsProgram, FirstFault}
 use Rattle.stapl_meaning.specs.declared.events.Ending.{Ending}
@@ -76,10 +75,6 @@ pub data TextAnswer (request : Request) (devices : List Desc) (bytes : List ℕ)
       TextAnswer request devices bytes (refusal_line piece line reason) (Refused piece reason)
   accepted : (program : List StmtTree) (text : List ℕ) (status : QuietStatus) → IsProgram bytes program →
       AskedAnswer bytes program request devices text status → TextAnswer request devices bytes text status
-
--- the refusal of a text that is too long
-pub data IsLongAnswer : List ℕ → QuietStatus → Type 0 where
-  too_long : IsLongAnswer (refusal_line 0 0 TooLong) (Refused 0 TooLong)
 
 -- The same for a file, where it is held.
 abbrev pub HeldAnswer : Request → List Desc → Option (List ℕ) → List ℕ → QuietStatus → Type 0

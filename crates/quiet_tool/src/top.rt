@@ -13,7 +13,7 @@ ghost use Rattle.play_words.specs.Words.{HasNeeded};
 ghost use Rattle.play_tool.specs.ReadContents.{OfContents, OfWords, IsReached, IsReachedBy};
 ghost use Rattle.quiet_tool.specs.Statuses.{IsFault};
 ghost use Rattle.quiet_tool.specs.Words.{play_words};
-ghost use Rattle.quiet_tool.specs.Answers.{AskedAnswer, TextAnswer, IsLongAnswer, HeldAnswer, RequestAnswer, WordsAnswer};
+ghost use Rattle.quiet_tool.specs.Answers.{AskedAnswer, HeldAnswer, RequestAnswer, WordsAnswer};
 ghost use Rattle.quiet_tool.specs.Elsewhere.{Answered};
 
 use crate::QuietStatus;
@@ -22,12 +22,11 @@ use crate::words::read_question;
 use dev_card::Device;
 use named_files::{BoardNotRead, board_named, put_board_refusal, put_refusal, put_usage};
 use play_words::{Request, WordsRefused};
-use stapl_checker::{CheckRefused, check};
-use stapl_lexer::{Reason, TEXT_LIMIT};
+use program_files::{ProgramNotRead, program_named};
 use stapl_syntax::Program;
 use std::alloc::Global;
 use tool_answers::NoAnswer;
-use tool_io::{Lines, ReadRefused, Shelf, Sink, read_whole};
+use tool_io::{Lines, Shelf, Sink};
 
 // Puts the verdict on the play of a program.
 fn put_verdict<K: Sink>(
@@ -55,49 +54,6 @@ fn put_verdict<K: Sink>(
     Ok(answer.status)
 }
 
-// Answers for a text.
-fn answer_text<K: Sink>(
-    alloc: Global,
-    question: &Question,
-    bytes: &[u8],
-    rack: &mut Vec<Box<dyn Device>>,
-    lines: &mut Lines<K>,
-) -> Result<QuietStatus, NoAnswer>
-    requires needed { HasNeeded question.now.request.now }
-    requires plays { question.now.request.now.mode ≡ Play }
-    requires devices { CanBeFitted question.now.devices.now }
-    requires rack { IsRack (map kind_of rack.old.items) }
-    requires whole { IsWhole lines.old }
-    ensures says { Says K.written (TextAnswer question.now.request.now question.now.devices.now bytes.now) ⊥
-        lines.old lines.new result }
-    ensures output { KeepsOutput K.faults K.is_last lines.old lines.new result }
-{
-    match check(alloc, bytes) {
-        Ok(program) => put_verdict(alloc, question, &program, rack, lines),
-        Err(
-            CheckRefused::Refused {
-                piece,
-                line,
-                reason,
-            },
-        ) => {
-            put_refusal(lines, piece, line, reason)?;
-            Ok(QuietStatus::Refused(piece, reason))
-        }
-        Err(CheckRefused::Memory) => Err(NoAnswer::Memory),
-    }
-}
-
-// Refuses a text that is too long.
-fn refuse_long<K: Sink>(lines: &mut Lines<K>) -> Result<QuietStatus, NoAnswer>
-    requires { IsWhole lines.old }
-    ensures says { Says K.written IsLongAnswer ⊥ lines.old lines.new result }
-    ensures output { KeepsOutput K.faults K.is_last lines.old lines.new result }
-{
-    put_refusal(lines, 0, 0, Reason::TooLong)?;
-    Ok(QuietStatus::Refused(0, Reason::TooLong))
-}
-
 // Answers for the text in a file.
 fn answer_file<S: Shelf, K: Sink>(
     alloc: Global,
@@ -118,11 +74,20 @@ fn answer_file<S: Shelf, K: Sink>(
     ensures shelf { KeepsShelf S.told S.faults S.is_last (λ read. read ≡ path.now) shelf.old shelf.new result }
     ensures output { KeepsOutput K.faults K.is_last lines.old lines.new result }
 {
-    match read_whole(alloc, shelf, path, TEXT_LIMIT as u32) {
-        Ok(bytes) => answer_text(alloc, question, &bytes, rack, lines),
-        Err(ReadRefused::TooLong) => refuse_long(lines),
-        Err(ReadRefused::ReadFault) => Err(NoAnswer::Read),
-        Err(ReadRefused::Memory) => Err(NoAnswer::Memory),
+    match program_named(alloc, shelf, path) {
+        Ok(program) => put_verdict(alloc, question, &program, rack, lines),
+        Err(
+            ProgramNotRead::Refused {
+                piece,
+                line,
+                reason,
+            },
+        ) => {
+            put_refusal(lines, piece, line, reason)?;
+            Ok(QuietStatus::Refused(piece, reason))
+        }
+        Err(ProgramNotRead::Read) => Err(NoAnswer::Read),
+        Err(ProgramNotRead::Memory) => Err(NoAnswer::Memory),
     }
 }
 

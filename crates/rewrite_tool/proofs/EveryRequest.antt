@@ -12,11 +12,13 @@ use Rattle.board_text.specs.Boards.{IsBoard, IsFirstFault}
 use Rattle.command_words.specs.declared.place_run.PlaceRun.{PlaceRun}
 use Rattle.chain_rewrite.proofs.RewrittenLemmas.{Outcome, has_padding, is_large, has_text, an_outcome}
 use Rattle.named_files.specs.Texts.{refusal_line, board_refusal_line}
+use Rattle.board_and_file.specs.Contents.{Contents}
+use Rattle.board_and_file.proofs.ContentLemmas.{both}
 use Rattle.rewrite_tool.specs.declared.status.RewriteStatus.{RewriteStatus}
 use Rattle.rewrite_tool.specs.declared.status.RewriteStatus.TheVariants.{Done, Refused, BoardRefused, BadPlace, OwnPadding, TooLarge}
 use Rattle.rewrite_tool.specs.Texts.{place_line, padding_line, too_large_line}
 use Rattle.rewrite_tool.specs.Words.{Request}
-use Rattle.rewrite_tool.specs.Answers.{run_base, ProgramAnswer, refused, bad_place, own_padding, too_large, rewritten, Contents, RequestAnswer, board_refused, board_read}
+use Rattle.rewrite_tool.specs.Answers.{run_base, ProgramAnswer, refused, bad_place, own_padding, too_large, rewritten, RequestAnswer, board_refused, board_read}
 
 abbrev HasAnswer : (List ℕ → RewriteStatus → Type 0) → Type 0
 HasAnswer A = (text : List ℕ) × (status : RewriteStatus) × A text status
@@ -45,16 +47,16 @@ AreBoards = (text : List ℕ) → ((devices : List Desc) × IsBoard text devices
 
 held_request : (request : Request) (board program : List ℕ) →
     ((devices : List Desc) × IsBoard board devices) ⊎ ((line : ℕ) × (reason : BoardReason) × IsFirstFault board line reason) →
-    HasAnswer (RequestAnswer request (record { board = Some board; program = Some program }))
+    HasAnswer (RequestAnswer request (both (Some board) (Some program)))
 held_request request board program (inr fault) = (board_refusal_line fault.0 fault.1, BoardRefused fault.0 fault.1, board_refused fault.0 fault.1 fault.2)
 held_request request board program (inl devices) =
     let a = every_program devices.0 request.run program in
     (a.0, a.1, board_read devices.0 a.0 a.1 devices.1 a.2)
 
-pub every_request : AreBoards → (request : Request) (contents : Contents) → IsSome contents.board → IsSome contents.program → HasAnswer (RequestAnswer request contents)
-every_request boards request contents = by contents.board contents.program
+pub every_request : AreBoards → (request : Request) (contents : Contents) → IsSome contents.board → IsSome contents.file → HasAnswer (RequestAnswer request contents)
+every_request boards request contents = by contents.board contents.file
   where
-    by : (board program : Option (List ℕ)) → IsSome board → IsSome program → HasAnswer (RequestAnswer request (record { board = board; program = program }))
+    by : (board program : Option (List ℕ)) → IsSome board → IsSome program → HasAnswer (RequestAnswer request (both board program))
     by None program b p = absurd (false≢true b)
     by (Some board) None b p = absurd (false≢true p)
     by (Some board) (Some program) b p = held_request request board program (boards board)

@@ -11,12 +11,13 @@ use Rattle.chain_rewrite.specs.Rewritten.{IsRewritten, BecomesTooLarge}
 use Rattle.chain_rewrite.proofs.RewrittenLemmas.{one_rewritten}
 use Rattle.named_files.specs.Texts.{refusal_line, board_refusal_line, usage_line}
 use Rattle.named_files.proofs.BoardLemmas.{one_held, one_fault, board_or_fault}
+use Rattle.board_and_file.specs.Contents.{Contents, contents_in}
 use Rattle.rewrite_tool.specs.declared.status.RewriteStatus.{RewriteStatus}
 use Rattle.rewrite_tool.specs.declared.status.RewriteStatus.TheVariants.{Done, Refused, BoardRefused, OwnPadding, Usage}
 use Rattle.rewrite_tool.specs.Statuses.{IsFault}
 use Rattle.rewrite_tool.specs.Texts.{padding_line}
 use Rattle.rewrite_tool.specs.Words.{Request}
-use Rattle.rewrite_tool.specs.Answers.{run_base, ProgramAnswer, refused, bad_place, own_padding, too_large, rewritten, FileAnswer, Contents, contents_in, RequestAnswer, board_refused, board_read, WordsAnswer, usage, asked, Answer}
+use Rattle.rewrite_tool.specs.Answers.{run_base, ProgramAnswer, refused, bad_place, own_padding, too_large, rewritten, FileAnswer, RequestAnswer, board_refused, board_read, WordsAnswer, usage, asked, Answer}
 use Rattle.rewrite_tool.proofs.WordLemmas.{one_request, one_usage, no_usage}
 
 -- the text and the status of an answer
@@ -93,22 +94,22 @@ refused_same m n r s e = λ j. said (board_refusal_line (e.0 j) (e.1 j)) (BoardR
 
 one_asked : (request : Request) (contents : Contents) (a b : List ℕ) (s t : RewriteStatus) → RequestAnswer request contents a s → RequestAnswer request contents b t →
     said a s ≡ said b t
-one_asked request contents a b s t (board_refused m r x) (board_refused n q y) = refused_same m n r q (one_fault (Some request.board) contents.board m n r q x y)
+one_asked request contents a b s t (board_refused m r x) (board_refused n q y) = refused_same m n r q (one_fault (Some request.files.board) contents.board m n r q x y)
 one_asked request contents a b s t (board_refused m r x) (board_read devices text status y z) =
-    absurd (board_or_fault (Some request.board) contents.board devices m r y x)
+    absurd (board_or_fault (Some request.files.board) contents.board devices m r y x)
 one_asked request contents a b s t (board_read devices text status x z) (board_refused n q y) =
-    absurd (board_or_fault (Some request.board) contents.board devices n q x y)
+    absurd (board_or_fault (Some request.files.board) contents.board devices n q x y)
 one_asked request contents a b s t (board_read devices text status x z) (board_read others text2 status2 y w) =
-    one_file others request.run contents.program a b s t
-    (subst (λ (ds : List Desc). FileAnswer ds request.run contents.program a s) (one_held (Some request.board) contents.board devices others x y) z) w
+    one_file others request.run contents.file a b s t
+    (subst (λ (ds : List Desc). FileAnswer ds request.run contents.file a s) (one_held (Some request.files.board) contents.board devices others x y) z) w
 
 one_said : (words : List (List ℕ)) (files : List (List ℕ × List ℕ)) (a b : List ℕ) (s t : RewriteStatus) → Answer words files a s → Answer words files b t → said a s ≡ said b t
 one_said words files a b s t (usage n x) (usage m y) = ap (λ (k : ℕ). said (usage_line k) (Usage k)) (one_usage words n m x y)
 one_said words files a b s t (usage n x) (asked request text status y z) = absurd (no_usage words request n y x)
 one_said words files a b s t (asked request text status x z) (usage m y) = absurd (no_usage words request m x y)
 one_said words files a b s t (asked request text status x z) (asked other text2 status2 y w) =
-    one_asked other (contents_in files other) a b s t
-    (subst (λ (n : Request). RequestAnswer n (contents_in files n) a s) (one_request words request other x y) z) w
+    one_asked other (contents_in files other.files) a b s t
+    (subst (λ (n : Request). RequestAnswer n (contents_in files n.files) a s) (one_request words request other x y) z) w
 
 pub one_words : (words : List (List ℕ)) (files : List (List ℕ × List ℕ)) (a b : List ℕ) (s t : RewriteStatus) → Answer words files a s → Answer words files b t →
     (a ≡ b) × (s ≡ t)
@@ -129,7 +130,7 @@ file_status devices run (Some bytes) text status a fault = program_status device
 
 request_status : (request : Request) (contents : Contents) (text : List ℕ) (status : RewriteStatus) → RequestAnswer request contents text status → IsFault status → ⊥
 request_status request contents text status (board_refused m r x) fault = fault
-request_status request contents text status (board_read devices text2 status2 x a) fault = file_status devices request.run contents.program text status a fault
+request_status request contents text status (board_read devices text2 status2 x a) fault = file_status devices request.run contents.file text status a fault
 
 pub answer_status : {words : List (List ℕ)} {contents_of : Request → Contents} {text : List ℕ} {status : RewriteStatus} → WordsAnswer words contents_of text status →
     IsFault status → ⊥

@@ -1,28 +1,18 @@
 -- The words are one request, or have one first word that is not as stated.
-use Rattle.std.proofs.Common.{◌≡◌, ◌<◌, ◌≤◌, ◌⊎◌, inl, inr, ℕ, List, [], ◌∷◌, length, map, codes, slice_get, Option, None, Some, IsSomeAnd, refl, arith}
+use Rattle.std.proofs.Common.{◌≡◌, ◌<◌, ◌≤◌, ◌⊎◌, inl, inr, ℕ, List, [], ◌∷◌, length, map, codes, slice_get, Option, None, Some, IsSomeAnd, refl, ap, arith}
 use Rattle.std.proofs.lemmas.Bool.{cases_lt}
 use Rattle.std.proofs.lemmas.List.{length-map}
 use Rattle.command_words.specs.declared.place_run.PlaceRun.{PlaceRun}
-use Rattle.command_words.specs.KeyedWords.{NamesPath, SpellsRun, of_one, of_two, NamesRun}
-use Rattle.command_words.proofs.ValueLemmas.{one_path}
+use Rattle.command_words.specs.KeyedWords.{SpellsRun, of_one, of_two, NamesRun}
 use Rattle.command_words.proofs.RunLemmas.{one_run}
-use Rattle.command_words.proofs.FoundOrNot.{IsFoundOrNot, path_or_not, run_or_not}
-use Rattle.rewrite_tool.specs.Words.{NamesAt, NamesProgram, NamesBoard, NamesPlace, IsRun, Request, IsRequest, IsUsage, no_program, no_board, no_place, too_many}
-
-one_at : (key : List ℕ) (word : Option (List ℕ)) (a b : List ℕ) → IsSomeAnd word (λ w. NamesPath key w a) → IsSomeAnd word (λ w. NamesPath key w b) → a ≡ b
-one_at key None a b x y = absurd x
-one_at key (Some word) a b x y = one_path key word a b x y
-
-one_named : (key : List ℕ) (words : List (List ℕ)) (place : ℕ) (a b : List ℕ) → NamesAt key words place a → NamesAt key words place b → a ≡ b
-one_named key words place a b x y = one_at key (slice_get words place) a b x y
+use Rattle.command_words.proofs.FoundOrNot.{IsFoundOrNot, run_or_not}
+use Rattle.board_and_file.specs.Words.{FileNames}
+use Rattle.board_and_file.proofs.WordLemmas.{one_named, found_at}
+use Rattle.rewrite_tool.specs.Words.{NamesProgram, NamesBoard, NamesPlace, IsRun, Request, IsRequest, Asks, IsUsage, no_program, no_board, no_place, too_many}
 
 one_run_at : (word : Option (List ℕ)) (a b : PlaceRun) → IsSomeAnd word (λ w. NamesRun (codes "place=") 999 w a) → IsSomeAnd word (λ w. NamesRun (codes "place=") 999 w b) → a ≡ b
 one_run_at None a b x y = absurd x
 one_run_at (Some word) a b x y = one_run (codes "place=") 999 word a b x y
-
-found_at : (key : List ℕ) (word : Option (List ℕ)) → IsFoundOrNot (λ path. IsSomeAnd word (λ w. NamesPath key w path))
-found_at key None = inr (λ path h. h)
-found_at key (Some word) = path_or_not key word
 
 run_found : (word : Option (List ℕ)) → IsFoundOrNot (λ run. IsSomeAnd word (λ w. NamesRun (codes "place=") 999 w run))
 run_found None = inr (λ run h. h)
@@ -59,39 +49,44 @@ four_words f words more = omega (arith, more, length-map {B = List ℕ} words)
 
 pub more_than_three : (words : List (List ℕ)) (program board : List ℕ) (run : PlaceRun) → NamesProgram words program → NamesBoard words board → NamesPlace words run →
     3 < length words → IsUsage words 4
-more_than_three words program board run is there at more = too_many (record { program = program; board = board; run = run }) is there at more
+more_than_three words program board run is there at more = too_many (record { files = record { board = board; file = program }; run = run }) is there at more
 
 -- ---- one request, or one word
 
-same_requests : (a b : Request) → a.program ≡ b.program → a.board ≡ b.board → a.run ≡ b.run → a ≡ b
-same_requests a b e f g = λ j. record { program = e j; board = f j; run = g j }
+same_requests : (a b : Request) → a.files.file ≡ b.files.file → a.files.board ≡ b.files.board → a.run ≡ b.run → a ≡ b
+same_requests a b e f g = λ j. record { files = record { board = f j; file = e j }; run = g j }
 
 pub one_request : (words : List (List ℕ)) (a b : Request) → IsRequest words a → IsRequest words b → a ≡ b
 one_request words a b x y =
-    same_requests a b (one_named (codes "program=") words 0 a.program b.program x.program y.program)
-    (one_named (codes "board=") words 1 a.board b.board x.board y.board) (one_run_at (slice_get words 2) a.run b.run x.place y.place)
+    same_requests a b (one_named (codes "program=") words 0 a.files.file b.files.file x.program y.program)
+    (one_named (codes "board=") words 1 a.files.board b.files.board x.board y.board) (one_run_at (slice_get words 2) a.run b.run x.place y.place)
+
+-- the words ask for the same files, whatever the run is
+pub one_asked : (words : List (List ℕ)) (a b : FileNames) → Asks words a → Asks words b → a ≡ b
+one_asked words a b x y =
+    ap (λ (request : Request). request.files) (one_request words (record { files = a; run = x.0 }) (record { files = b; run = y.0 }) x.1 y.1)
 
 pub one_usage : (words : List (List ℕ)) (n m : ℕ) → IsUsage words n → IsUsage words m → n ≡ m
 one_usage words n m (no_program none) (no_program other) = refl
 one_usage words n m (no_program none) (no_board program is other) = absurd (none program is)
 one_usage words n m (no_program none) (no_place program board is there other) = absurd (none program is)
-one_usage words n m (no_program none) (too_many request is there at more) = absurd (none request.program is)
+one_usage words n m (no_program none) (too_many request is there at more) = absurd (none request.files.file is)
 one_usage words n m (no_board program is none) (no_program other) = absurd (other program is)
 one_usage words n m (no_board program is none) (no_board program2 is2 other) = refl
 one_usage words n m (no_board program is none) (no_place program2 board is2 there other) = absurd (none board there)
-one_usage words n m (no_board program is none) (too_many request is2 there at more) = absurd (none request.board there)
+one_usage words n m (no_board program is none) (too_many request is2 there at more) = absurd (none request.files.board there)
 one_usage words n m (no_place program board is there none) (no_program other) = absurd (other program is)
 one_usage words n m (no_place program board is there none) (no_board program2 is2 other) = absurd (other board there)
 one_usage words n m (no_place program board is there none) (no_place program2 board2 is2 there2 other) = refl
 one_usage words n m (no_place program board is there none) (too_many request is2 there2 at more) = absurd (none request.run at)
-one_usage words n m (too_many request is there at more) (no_program other) = absurd (other request.program is)
-one_usage words n m (too_many request is there at more) (no_board program is2 other) = absurd (other request.board there)
+one_usage words n m (too_many request is there at more) (no_program other) = absurd (other request.files.file is)
+one_usage words n m (too_many request is there at more) (no_board program is2 other) = absurd (other request.files.board there)
 one_usage words n m (too_many request is there at more) (no_place program board is2 there2 other) = absurd (other request.run at)
 one_usage words n m (too_many request is there at more) (too_many request2 is2 there2 at2 more2) = refl
 
 pub no_usage : (words : List (List ℕ)) (request : Request) (n : ℕ) → IsRequest words request → IsUsage words n → ⊥
-no_usage words request n asks (no_program none) = none request.program asks.program
-no_usage words request n asks (no_board program is none) = none request.board asks.board
+no_usage words request n asks (no_program none) = none request.files.file asks.program
+no_usage words request n asks (no_board program is none) = none request.files.board asks.board
 no_usage words request n asks (no_place program board is there none) = none request.run asks.place
 no_usage words request n asks (too_many other is there at more) = absurd (omega (arith, asks.three, more))
 
@@ -101,7 +96,7 @@ RequestOrUsage words = ((request : Request) × IsRequest words request) ⊎ ((n 
 pub request_or_usage : (words : List (List ℕ)) → ((request : Request) × IsRequest words request) ⊎ ((n : ℕ) × IsUsage words n)
 request_or_usage words = by_program (found_at (codes "program=") (slice_get words 0))
   where
-    by_count : (request : Request) → NamesProgram words request.program → NamesBoard words request.board → NamesPlace words request.run →
+    by_count : (request : Request) → NamesProgram words request.files.file → NamesBoard words request.files.board → NamesPlace words request.run →
         (3 < length words) ⊎ (length words ≤ 3) → RequestOrUsage words
     by_count request is there at (inl more) = inr (4, too_many request is there at more)
     by_count request is there at (inr few) =
@@ -111,7 +106,7 @@ request_or_usage words = by_program (found_at (codes "program=") (slice_get word
     by_place : (program board : List ℕ) → NamesProgram words program → NamesBoard words board → IsFoundOrNot (NamesPlace words) → RequestOrUsage words
     by_place program board is there (inr none) = inr (3, no_place program board is there none)
     by_place program board is there (inl found) =
-        by_count (record { program = program; board = board; run = found.0 }) is there found.1 (cases_lt 3 (length words))
+        by_count (record { files = record { board = board; file = program }; run = found.0 }) is there found.1 (cases_lt 3 (length words))
 
     by_board : (program : List ℕ) → NamesProgram words program → IsFoundOrNot (NamesBoard words) → RequestOrUsage words
     by_board program is (inr none) = inr (2, no_board program is none)

@@ -3,7 +3,6 @@
 -- that is right. The rules are this tool's own.
 use Rattle.std.specs.Prelude.{◌≤◌, ◌<◌, ℕ, List, length, Option, Some, IsSomeAnd}
 use Rattle.stapl_lexer.specs.declared.reason.Reason.{Reason}
-use Rattle.stapl_lexer.specs.declared.reason.Reason.TheVariants.{TooLong}
 use Rattle.stapl_syntax.specs.Trees.{StmtTree}
 use Rattle.stapl_syntax.specs.Programs.{IsProgram, FirstFault}
 use Rattle.dev_card.specs.declared.desc.Desc.{Desc}
@@ -12,9 +11,9 @@ use Rattle.board_text.specs.declared.reason.BoardReason.{BoardReason}
 use Rattle.carried_plays.specs.OwnPaddings.{IsFirstPadding}
 use Rattle.chain_rewrite.specs.Rewritten.{IsRewritten, BecomesTooLarge}
 use Rattle.command_words.specs.declared.place_run.PlaceRun.{PlaceRun}
-use Rattle.named_files.specs.Files.{file_named}
 use Rattle.named_files.specs.Boards.{HasBoard, HasBoardFault}
 use Rattle.named_files.specs.Texts.{refusal_line, board_refusal_line, usage_line}
+use Rattle.board_and_file.specs.Contents.{Contents, contents_in}
 use Rattle.rewrite_tool.specs.declared.status.RewriteStatus.{RewriteStatus}
 use Rattle.rewrite_tool.specs.declared.status.RewriteStatus.TheVariants.{Done, Refused, BoardRefused, BadPlace, OwnPadding, TooLarge, Usage}
 use Rattle.rewrite_tool.specs.Words.{Request, IsRequest, IsUsage}
@@ -39,33 +38,19 @@ pub data ProgramAnswer (devices : List Desc) (run : PlaceRun) (bytes : List ℕ)
   rewritten : (program : List StmtTree) (text : List ℕ) → IsProgram bytes program → run.last ≤ length devices →
       IsRewritten (run_base devices run) program text → ProgramAnswer devices run bytes text Done
 
--- the refusal of a text that is too long
-pub data IsLongAnswer : List ℕ → RewriteStatus → Type 0 where
-  too_long : IsLongAnswer (refusal_line 0 0 TooLong) (Refused 0 TooLong)
-
 -- The same for a file, where it is held.
 abbrev pub FileAnswer : List Desc → PlaceRun → Option (List ℕ) → List ℕ → RewriteStatus → Type 0
 FileAnswer devices run held text status = IsSomeAnd held (λ bytes. ProgramAnswer devices run bytes text status)
-
--- The bytes of the two files, each where it is held.
-pub record Contents : Type 0 where
-  pub board : Option (List ℕ)
-  pub program : Option (List ℕ)
-
--- those that a store holds
-abbrev pub contents_in : List (List ℕ × List ℕ) → Request → Contents
-contents_in files request =
-    record { board = file_named files (Some request.board); program = file_named files (Some request.program) }
 
 -- The answer to a request: its board is refused at its first fault, or is of these devices, and the answer is that for
 -- its program.
 pub data RequestAnswer (request : Request) (contents : Contents) : List ℕ → RewriteStatus → Type 0 where
   board_refused : (line : ℕ) (reason : BoardReason) →
-      HasBoardFault (Some request.board) contents.board line reason →
+      HasBoardFault (Some request.files.board) contents.board line reason →
       RequestAnswer request contents (board_refusal_line line reason) (BoardRefused line reason)
   board_read : (devices : List Desc) (text : List ℕ) (status : RewriteStatus) →
-      HasBoard (Some request.board) contents.board devices →
-      FileAnswer devices request.run contents.program text status → RequestAnswer request contents text status
+      HasBoard (Some request.files.board) contents.board devices →
+      FileAnswer devices request.run contents.file text status → RequestAnswer request contents text status
 
 -- The answer to the words, with these contents of the files of each request: they are refused, or what they ask is
 -- answered.
@@ -76,4 +61,4 @@ pub data WordsAnswer (words : List (List ℕ)) (contents_of : Request → Conten
 
 -- The answer to the words and the files of a store.
 abbrev pub Answer : List (List ℕ) → List (List ℕ × List ℕ) → (List ℕ → RewriteStatus → Type 0)
-Answer words files = WordsAnswer words (contents_in files)
+Answer words files = WordsAnswer words (λ request. contents_in files request.files)

@@ -3,6 +3,5 @@ pub mod Words
 pub mod Named
 pub mod Texts
 pub mod Answers
-pub mod ReadContents
 pub mod Commands
 pub mod PlayedAlike

@@ -1,11 +1,8 @@
 -- The words of the program: `program=PATH`, `board=PATH` and `place=RUN`, in this order. The rules are this tool's own.
 use Rattle.std.specs.Prelude.{◌≡◌, ◌<◌, ◌≤◌, ℕ, List, length, codes, slice_get, IsSomeAnd}
 use Rattle.command_words.specs.declared.place_run.PlaceRun.{PlaceRun}
-use Rattle.command_words.specs.KeyedWords.{NamesPath, NamesRun}
-
--- the word at a place, counted from 0, is there and names this file under this key
-abbrev pub NamesAt : List ℕ → List (List ℕ) → ℕ → List ℕ → Type 0
-NamesAt key words place path = IsSomeAnd (slice_get words place) (λ word. NamesPath key word path)
+use Rattle.command_words.specs.KeyedWords.{NamesRun}
+use Rattle.board_and_file.specs.Words.{NamesAt, FileNames}
 
 abbrev pub NamesProgram : List (List ℕ) → List ℕ → Type 0
 NamesProgram words path = NamesAt (codes "program=") words 0 path
@@ -22,18 +19,21 @@ pub record IsRun (run : PlaceRun) : Type 0 where
   pub counted : 1 ≤ run.first
   pub in_order : run.first ≤ run.last
 
--- the names of the two files, and the run of devices
+-- the names of the board and of the program, and the run of devices
 pub record Request : Type 0 where
-  pub program : List ℕ
-  pub board : List ℕ
+  pub files : FileNames
   pub run : PlaceRun
 
 -- The words name these, and there are no others.
 pub record IsRequest (words : List (List ℕ)) (request : Request) : Type 0 where
-  pub program : NamesProgram words request.program
-  pub board : NamesBoard words request.board
+  pub program : NamesProgram words request.files.file
+  pub board : NamesBoard words request.files.board
   pub place : NamesPlace words request.run
   pub three : length words ≡ 3
+
+-- The words ask for these files, for some run.
+abbrev pub Asks : List (List ℕ) → FileNames → Type 0
+Asks words files = (run : PlaceRun) × IsRequest words (record { files = files; run = run })
 
 -- The first word, counted from 1, that is not as stated; where all words are as stated and one is missing, that is the
 -- number of words plus 1.
@@ -43,5 +43,5 @@ pub data IsUsage (words : List (List ℕ)) : ℕ → Type 0 where
       IsUsage words 2
   no_place : (program board : List ℕ) → NamesProgram words program → NamesBoard words board →
       ((run : PlaceRun) → NamesPlace words run → ⊥) → IsUsage words 3
-  too_many : (request : Request) → NamesProgram words request.program → NamesBoard words request.board →
+  too_many : (request : Request) → NamesProgram words request.files.file → NamesBoard words request.files.board →
       NamesPlace words request.run → 3 < length words → IsUsage words 4

@@ -3,8 +3,9 @@ ghost use Rattle.std.specs.Prelude.{◌≡◌, map, string_bytes};
 ghost use Rattle.tool_io.specs.Causes.{HasRisen, NeverFalls, NoneFalls};
 ghost use Rattle.tool_answers.specs.Answers.{Wrote, WroteFront};
 ghost use Rattle.named_files.specs.Files.{HasReadCause};
+ghost use Rattle.board_and_file.specs.Contents.{OfAsked, IsAskedAndReached};
 ghost use Rattle.rewrite_tool.specs.Statuses.{IsFault};
-ghost use Rattle.rewrite_tool.specs.ReadContents.{OfWords, IsReachedBy};
+ghost use Rattle.rewrite_tool.specs.Words.{Asks};
 ghost use Rattle.rewrite_tool.specs.Commands.{CommandAnswer};
 
 use crate::{RewriteStatus, run_rewrite};
@@ -50,19 +51,19 @@ pub fn run_command<S: Shelf, K: Sink>(
     // Every status but those of faults and of want of memory is the answer's to the words and the contents of their
     // files, as they were read in this call; its text is written and nothing else. With a store that tells its files
     // the contents are what it holds.
-    ensures answer { (IsFault result → ⊥) → OfWords (S.told shelf.old) (map string_bytes words.now) (λ contents.
+    ensures answer { (IsFault result → ⊥) → OfAsked (Asks (map string_bytes words.now)) (S.told shelf.old) (λ contents.
         Wrote (CommandAnswer (map string_bytes words.now) contents) (K.written out.old) (K.written out.new) result) }
 
     // A read fault comes only where the count of a file that the words name rose, of the program only if no told board
     // is refused, and then nothing is written.
     ensures read { result ≡ RewriteStatus.ReadFault → HasReadCause S.faults S.is_last
-        (IsReachedBy (S.told shelf.old) (map string_bytes words.now)) shelf.old shelf.new }
+        (IsAskedAndReached (Asks (map string_bytes words.now)) (S.told shelf.old)) shelf.old shelf.new }
     ensures nothing { result ≡ RewriteStatus.ReadFault → K.written out.new ≡ K.written out.old }
 
     // A write fault comes only where the sink's count rose, and then a prefix of the text is written.
     ensures write { result ≡ RewriteStatus.WriteFault → HasRisen K.faults K.is_last out.old out.new }
     ensures front { result ≡ RewriteStatus.WriteFault →
-        OfWords (S.told shelf.old) (map string_bytes words.now) (λ contents.
+        OfAsked (Asks (map string_bytes words.now)) (S.told shelf.old) (λ contents.
         WroteFront (CommandAnswer (map string_bytes words.now) contents) (K.written out.old) (K.written out.new)) }
 
     // After want of memory nothing is written.

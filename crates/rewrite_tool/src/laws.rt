@@ -3,12 +3,12 @@ ghost use Rattle.std.specs.Prelude.{◌≡◌, ◌⊎◌, ℕ, List, Some, IsSom
 ghost use Rattle.dev_card.specs.declared.desc.Desc.{Desc};
 ghost use Rattle.board_text.specs.Boards.{CanBeFitted};
 ghost use Rattle.command_words.specs.declared.place_run.PlaceRun.{PlaceRun};
+ghost use Rattle.board_and_file.specs.Contents.{Contents, OfAsked};
 ghost use Rattle.rewrite_tool.specs.declared.status.RewriteStatus.{RewriteStatus};
 ghost use Rattle.rewrite_tool.specs.declared.status.RewriteStatus.TheVariants.{Done};
 ghost use Rattle.rewrite_tool.specs.Statuses.{IsFault};
-ghost use Rattle.rewrite_tool.specs.Words.{Request, IsRequest, IsUsage};
-ghost use Rattle.rewrite_tool.specs.Answers.{Contents, ProgramAnswer, RequestAnswer, WordsAnswer, Answer};
-ghost use Rattle.rewrite_tool.specs.ReadContents.{OfWords};
+ghost use Rattle.rewrite_tool.specs.Words.{Request, IsRequest, Asks, IsUsage};
+ghost use Rattle.rewrite_tool.specs.Answers.{ProgramAnswer, RequestAnswer, WordsAnswer, Answer};
 ghost use Rattle.rewrite_tool.specs.PlayedAlike.{IsPlayedAlike};
 
 use board_text::laws::every_text_is_a_board_or_has_a_fault;
@@ -32,7 +32,7 @@ pub fn one_answer()
 
 /// A request whose files are held has an answer, whatever they hold.
 pub fn requests_are_answered()
-    ensures { (request : Request) (contents : Contents) → IsSome contents.board → IsSome contents.program →
+    ensures { (request : Request) (contents : Contents) → IsSome contents.board → IsSome contents.file →
         (text : List ℕ) × (status : RewriteStatus) × RequestAnswer request contents text status }
 {
     every_text_is_a_board_or_has_a_fault();
@@ -47,7 +47,7 @@ pub fn answers_are_no_faults()
 /// With a store that tells its files, the answer for the contents that were read is that for its files.
 pub fn told_files_are_answered()
     ensures { (words : List (List ℕ)) (files : List (List ℕ × List ℕ)) (text : List ℕ) (status : RewriteStatus) →
-        OfWords (Some files) words (λ contents. WordsAnswer words (λ request. contents) text status) →
+        OfAsked (Asks words) (Some files) (λ contents. WordsAnswer words (λ request. contents) text status) →
         Answer words files text status }
 {}
 

@@ -4,11 +4,11 @@ ghost use Rattle.tool_io.specs.Causes.{HasRisen, NeverFalls, NoneFalls};
 ghost use Rattle.tool_io.specs.Lines.{IsWhole, IsSinkUntouched};
 ghost use Rattle.tool_answers.specs.Answers.{Says, KeepsOutput, Wrote, WroteFront, HasWritten};
 ghost use Rattle.named_files.specs.Files.{HasReadCause, KeepsShelf};
+ghost use Rattle.board_and_file.specs.Contents.{OfContents, OfAsked, IsReached, IsAskedAndReached};
 ghost use Rattle.rewrite_tool.specs.Statuses.{IsFault};
-ghost use Rattle.rewrite_tool.specs.Words.{IsRun};
+ghost use Rattle.rewrite_tool.specs.Words.{IsRun, Asks};
 ghost use Rattle.rewrite_tool.specs.Named.{request_of};
 ghost use Rattle.rewrite_tool.specs.Answers.{RequestAnswer, WordsAnswer};
-ghost use Rattle.rewrite_tool.specs.ReadContents.{OfContents, OfWords, IsReached, IsReachedBy};
 
 use crate::RewriteStatus;
 use crate::programs::answer_file;
@@ -28,10 +28,10 @@ fn answer_request<S: Shelf, K: Sink>(
 ) -> Result<RewriteStatus, NoAnswer>
     requires run { IsRun named.run }
     requires whole { IsWhole lines.old }
-    ensures says { OfContents (S.told shelf.old) (request_of named.entry) (λ contents. Says K.written
+    ensures says { OfContents (S.told shelf.old) (request_of named.entry).files (λ contents. Says K.written
         (RequestAnswer (request_of named.entry) contents) (IsSinkUntouched lines.old lines.new)
         lines.old lines.new result) }
-    ensures shelf { KeepsShelf S.told S.faults S.is_last (IsReached (S.told shelf.old) (request_of named.entry))
+    ensures shelf { KeepsShelf S.told S.faults S.is_last (IsReached (S.told shelf.old) (request_of named.entry).files)
         shelf.old shelf.new result }
     ensures output { KeepsOutput K.faults K.is_last lines.old lines.new result }
 {
@@ -55,11 +55,11 @@ fn answer_words<S: Shelf, K: Sink>(
     lines: &mut Lines<K>,
 ) -> Result<RewriteStatus, NoAnswer>
     requires { IsWhole lines.old }
-    ensures says { OfWords (S.told shelf.old) (map string_bytes words.now) (λ contents. Says K.written
+    ensures says { OfAsked (Asks (map string_bytes words.now)) (S.told shelf.old) (λ contents. Says K.written
         (WordsAnswer (map string_bytes words.now) (λ request. contents)) (IsSinkUntouched lines.old lines.new)
         lines.old lines.new result) }
-    ensures shelf { KeepsShelf S.told S.faults S.is_last (IsReachedBy (S.told shelf.old) (map string_bytes words.now))
-        shelf.old shelf.new result }
+    ensures shelf { KeepsShelf S.told S.faults S.is_last
+        (IsAskedAndReached (Asks (map string_bytes words.now)) (S.told shelf.old)) shelf.old shelf.new result }
     ensures output { KeepsOutput K.faults K.is_last lines.old lines.new result }
 {
     match read_words(words) {
@@ -78,11 +78,11 @@ fn run<S: Shelf, K: Sink>(
     shelf: &mut S,
     out: &mut K,
 ) -> Result<RewriteStatus, NoAnswer>
-    ensures wrote { OfWords (S.told shelf.old) (map string_bytes words.now) (λ contents. HasWritten
+    ensures wrote { OfAsked (Asks (map string_bytes words.now)) (S.told shelf.old) (λ contents. HasWritten
         (WordsAnswer (map string_bytes words.now) (λ request. contents))
         (K.written out.old) (K.written out.new) result) }
-    ensures shelf { KeepsShelf S.told S.faults S.is_last (IsReachedBy (S.told shelf.old) (map string_bytes words.now))
-        shelf.old shelf.new result }
+    ensures shelf { KeepsShelf S.told S.faults S.is_last
+        (IsAskedAndReached (Asks (map string_bytes words.now)) (S.told shelf.old)) shelf.old shelf.new result }
     ensures later { NeverFalls K.faults K.is_last out.old out.new }
     ensures write { IsErrOf result NoAnswer.Write → HasRisen K.faults K.is_last out.old out.new }
 {
@@ -110,20 +110,20 @@ pub fn run_rewrite<S: Shelf, K: Sink>(
     // Every status but those of faults and of want of memory is the answer's to the words and the contents of their
     // files, as they were read in this call; its text is written and nothing else. With a store that tells its files
     // the contents are what it holds.
-    ensures answer { (IsFault result → ⊥) → OfWords (S.told shelf.old) (map string_bytes words.now) (λ contents.
+    ensures answer { (IsFault result → ⊥) → OfAsked (Asks (map string_bytes words.now)) (S.told shelf.old) (λ contents.
         Wrote (WordsAnswer (map string_bytes words.now) (λ request. contents))
         (K.written out.old) (K.written out.new) result) }
 
     // A read fault comes only where the count of a file that the words name rose, of the program only if no told board
     // is refused, and then nothing is written.
     ensures read { result ≡ RewriteStatus.ReadFault → HasReadCause S.faults S.is_last
-        (IsReachedBy (S.told shelf.old) (map string_bytes words.now)) shelf.old shelf.new }
+        (IsAskedAndReached (Asks (map string_bytes words.now)) (S.told shelf.old)) shelf.old shelf.new }
     ensures nothing { result ≡ RewriteStatus.ReadFault → K.written out.new ≡ K.written out.old }
 
     // A write fault comes only where the sink's count rose, and then a prefix of the text is written.
     ensures write { result ≡ RewriteStatus.WriteFault → HasRisen K.faults K.is_last out.old out.new }
     ensures front { result ≡ RewriteStatus.WriteFault →
-        OfWords (S.told shelf.old) (map string_bytes words.now) (λ contents.
+        OfAsked (Asks (map string_bytes words.now)) (S.told shelf.old) (λ contents.
         WroteFront (WordsAnswer (map string_bytes words.now) (λ request. contents))
         (K.written out.old) (K.written out.new)) }
 

@@ -1,10 +1,11 @@
 //! The words of the program.
-ghost use Rattle.std.specs.Prelude.{ℕ, List, map, slice_get, string_bytes, IsSomeAnd, IfSome, IfNone, IfOk, IfErr};
+ghost use Rattle.std.specs.Prelude.{map, string_bytes, IfSome, IfNone, IfOk, IfErr};
 ghost use Rattle.command_words.specs.declared.place_run.PlaceRun.{PlaceRun};
-ghost use Rattle.rewrite_tool.specs.Words.{NamesAt, NamesPlace, IsRun, IsRequest, IsUsage};
+ghost use Rattle.rewrite_tool.specs.Words.{NamesPlace, IsRun, IsRequest, IsUsage};
 ghost use Rattle.rewrite_tool.specs.Named.{request_of};
 
-use command_words::{PlaceRun, path_under, run_under};
+use board_and_file::path_at;
+use command_words::{PlaceRun, run_under};
 
 /// The most that a place is.
 const MOST_PLACE: u32 = 999;
@@ -15,17 +16,6 @@ pub(crate) struct Named<'a> {
     pub(crate) program: &'a str,
     pub(crate) board: &'a str,
     pub(crate) run: PlaceRun,
-}
-
-// The path that the word at a place, counted from 0, gives under a key, if the word is there and gives one.
-fn path_at<'a>(words: &'a [String], place: usize, key: &str) -> Option<&'a str>
-    ensures some { IfSome result (λ path. NamesAt key.now (map string_bytes words.now) place path.now) }
-    ensures none { IfNone result ((path : List ℕ) → NamesAt key.now (map string_bytes words.now) place path → ⊥) }
-{
-    match words.get(place) {
-        Some(word) => path_under(word.as_str(), key),
-        None => None,
-    }
 }
 
 // The run of devices that the third word gives, if it is there and gives one.

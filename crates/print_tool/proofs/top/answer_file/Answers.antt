@@ -1,22 +1,31 @@
-use Rattle.std.proofs.Common.{ap, Err, Some, refl}
-use Rattle.stapl_lexer.specs.Pieces.{text_limit}
+use Rattle.std.proofs.Common.{sym, ap, Err, Some, refl}
 use Rattle.tool_answers.proofs.AnswerLemmas.{says_within}
-use Rattle.named_files.proofs.BoardLemmas.{of_whole_file, of_long_file, of_file_as, of_any_file}
-use Rattle.print_tool.proofs.AnswerLemmas.{long_within}
+use Rattle.named_files.proofs.BoardLemmas.{of_any_file}
+use Rattle.program_files.proofs.ProgramLemmas.{of_text, fault_is, refusal_failed, refusal_put}
+use Rattle.print_tool.specs.Answers.{TextAnswer, refused}
 use Rattle.print_tool.proofs.top.answer_file.Goals as goal
 
 pub returns-in-Ok-clause-says : goal.returns-in-Ok-clause-says
 returns-in-Ok-clause-says g c =
-    of_whole_file (g.S.Shelf.told c.args.shelf.now) c.args.path.now c.in-Ok.bytes.items c.in-Ok.ensures.whole
-    (says_within _ _ _ _ _ c.answer_text.result (record { to = λ text status a. a }) (λ none. absurd none) (rw c.deref.ensures.value at c.answer_text.ensures.says))
+    of_text (g.S.Shelf.told c.args.shelf.now) c.args.path.now _ c.in-Ok.ensures.text
+    (says_within _ _ _ _ _ c.put_program.result (record { to = λ text status a. a }) (λ none. absurd none) c.put_program.ensures.says)
 
-pub returns-in-Err-TooLong-clause-says : goal.returns-in-Err-TooLong-clause-says
-returns-in-Err-TooLong-clause-says g c =
-    of_file_as (λ held more. long_within g.K.Sink.written _ _ held c.refuse_long.result more c.refuse_long.ensures.says)
-    (of_long_file (g.S.Shelf.told c.args.shelf.now) c.args.path.now text_limit (c.in-Err-TooLong.ensures.long (ap Err c.in-Err-TooLong.field-0-is)))
+pub returns-in_err-put_refusal-in-Err-Refused-clause-says : goal.returns-in_err-put_refusal-in-Err-Refused-clause-says
+returns-in_err-put_refusal-in-Err-Refused-clause-says g c =
+    refusal_failed _ _ _ TextAnswer _ (λ bytes. refused _ _ _)
+    (fault_is (sym c.in-Err-Refused.piece-is) (sym c.in-Err-Refused.line-is) (sym c.in-Err-Refused.reason-is)
+    (c.in-Err-Refused.ensures.fault c.in-Err-Refused.piece c.in-Err-Refused.line c.in-Err-Refused.reason (ap Err c.in-Err-Refused.field-0-is)))
+    c.from_residual.result c.from_residual.ensures.1 c.in_err-put_refusal-in-Err-Refused.ensures.put.front
 
-pub returns-in-Err-ReadFault-clause-says : goal.returns-in-Err-ReadFault-clause-says
-returns-in-Err-ReadFault-clause-says g c = of_any_file (g.S.Shelf.told c.args.shelf.now) (Some c.args.path.now) (λ held. refl)
+pub returns-in_ok-put_refusal-in-Err-Refused-clause-says : goal.returns-in_ok-put_refusal-in-Err-Refused-clause-says
+returns-in_ok-put_refusal-in-Err-Refused-clause-says g c =
+    refusal_put _ _ _ TextAnswer _ (λ bytes. refused _ _ _)
+    (fault_is (sym c.in-Err-Refused.piece-is) (sym c.in-Err-Refused.line-is) (sym c.in-Err-Refused.reason-is)
+    (c.in-Err-Refused.ensures.fault c.in-Err-Refused.piece c.in-Err-Refused.line c.in-Err-Refused.reason (ap Err c.in-Err-Refused.field-0-is)))
+    c.in_ok-put_refusal-in-Err-Refused.ensures.put.ok
+
+pub returns-in-Err-Read-clause-says : goal.returns-in-Err-Read-clause-says
+returns-in-Err-Read-clause-says g c = of_any_file (g.S.Shelf.told c.args.shelf.now) (Some c.args.path.now) (λ held. refl)
 
 pub returns-in-Err-Memory-clause-says : goal.returns-in-Err-Memory-clause-says
 returns-in-Err-Memory-clause-says g c = of_any_file (g.S.Shelf.told c.args.shelf.now) (Some c.args.path.now) (λ held. refl)

@@ -3,10 +3,11 @@ use Rattle.std.specs.Option.{option_map}
 use Rattle.tool_answers.proofs.AnswerLemmas.{wrote_within, front_within_written}
 use Rattle.command_texts.specs.Commands.{text_asked, shown}
 use Rattle.command_texts.proofs.CommandLemmas.{tool_answers}
+use Rattle.board_and_file.proofs.ContentLemmas.{of_words_as}
 use Rattle.rewrite_tool.specs.declared.command.TheConstants.{HELP, VERSION}
 use Rattle.rewrite_tool.specs.declared.status.RewriteStatus.TheVariants.{Done}
 use Rattle.rewrite_tool.specs.Answers.{WordsAnswer}
-use Rattle.rewrite_tool.proofs.RequestLemmas.{of_no_request, of_words_as}
+use Rattle.rewrite_tool.proofs.RequestLemmas.{of_no_request}
 use Rattle.rewrite_tool.proofs.CommandLemmas.{asks_nothing}
 use Rattle.rewrite_tool.proofs.command.run_command.Goals as goal
 

@@ -1,8 +1,9 @@
 use Rattle.std.proofs.Common.{sym, ap, Err, Some, refl, rules}
 use Rattle.named_files.proofs.BoardLemmas.{fault_is}
 use Rattle.tool_answers.specs.declared.no_answer.NoAnswer.TheVariants.{Memory}
+use Rattle.board_and_file.proofs.ContentLemmas.{file_cause}
 use Rattle.rewrite_tool.specs.Named.{request_of}
-use Rattle.rewrite_tool.proofs.RequestLemmas.{request_of_file, program_cause, board_failed, board_is_refused, no_board, no_board_memory}
+use Rattle.rewrite_tool.proofs.RequestLemmas.{request_of_file, board_failed, board_is_refused, no_board, no_board_memory}
 use Rattle.rewrite_tool.proofs.top.answer_request.Goals as goal
 
 pub returns-in_err-name-clause-says : goal.returns-in_err-name-clause-says
@@ -18,7 +19,7 @@ returns-in-Ok-clause-shelf g c = record {
   keeps = search rules;
   later = search rules;
   read = λ e.
-      program_cause _ _ _ (request_of c.args.named) c.in-Ok.devices.items (g.S.Shelf.told c.args.shelf.now)
+      file_cause _ _ _ (request_of c.args.named).files c.in-Ok.devices.items (g.S.Shelf.told c.args.shelf.now)
       (rw c.in_ok-name.ensures at c.in-Ok.ensures.board) c.in-Ok.ensures.later (c.answer_file.ensures.shelf.read e);
 }
 

@@ -1,7 +1,7 @@
 use Rattle.std.proofs.Common.{rules, map, string_bytes, Global}
 use Rattle.tool_answers.proofs.AnswerLemmas.{wrote_all, unfinished, not_answered}
+use Rattle.board_and_file.proofs.ContentLemmas.{of_words_as}
 use Rattle.rewrite_tool.specs.Answers.{WordsAnswer}
-use Rattle.rewrite_tool.proofs.RequestLemmas.{of_words_as}
 use Rattle.rewrite_tool.proofs.top.run.Goals as goal
 
 pub returns-in_err-status-clause-wrote : goal.returns-in_err-status-clause-wrote
