@@ -27,7 +27,7 @@ pub const MOST_BITS: u32 = 16_777_216;
 pub const MOST_DIGITS: usize = 4_194_304;
 
 /// A list of at most `MOST_BITS` bits, the lowest index first, which is the order of shifting.
-#[derive(Debug, Drop)]
+#[derive(Drop)]
 pub struct Bits {
     words: Vec<u64>,
     len: u32,

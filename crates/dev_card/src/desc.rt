@@ -10,7 +10,7 @@ use std::alloc::{AllocError, Global};
 pub const MOST_DEVICES: usize = 64;
 
 /// The kinds of device.
-#[derive(Clone, Copy, Debug, PartialEq, Eq)]
+#[derive(Clone, Copy, PartialEq, Eq)]
 pub enum Kind {
     /// A device with BYPASS and perhaps an identity, and no other data register.
     Plain,
@@ -21,7 +21,7 @@ pub enum Kind {
 }
 
 /// The identity of a device (IEEE 1149.1, device identification register).
-#[derive(Clone, Copy, Debug, PartialEq, Eq)]
+#[derive(Clone, Copy, PartialEq, Eq)]
 pub struct IdCode {
     /// The identification code of 32 bits, of which the lowest is 1.
     pub value: u32,
@@ -30,7 +30,7 @@ pub struct IdCode {
 }
 
 /// A data register of a device of kind `Regs`.
-#[derive(Debug, PartialEq, Eq, Drop)]
+#[derive(PartialEq, Eq, Drop)]
 pub struct RegDesc {
     pub name: Name,
     /// The opcode of the instruction that selects it.
@@ -42,7 +42,7 @@ pub struct RegDesc {
 }
 
 /// The memory of a device of kind `Flash`.
-#[derive(Clone, Copy, Debug, PartialEq, Eq)]
+#[derive(Clone, Copy, PartialEq, Eq)]
 pub struct FlashDesc {
     /// The opcode that erases, with a register of 1 bit.
     pub erase: u64,

@@ -8,7 +8,7 @@ use stapl_lexer::Reason;
 use stapl_meaning::RunFault;
 
 /// How a run of the tool ends.
-#[derive(Clone, Copy, Debug, PartialEq, Eq)]
+#[derive(Clone, Copy, PartialEq, Eq)]
 pub enum Status {
     /// The work is done, 0; or a play ended with this code.
     Done(i32),

@@ -2,7 +2,7 @@
 ghost use Rattle.std.specs.Prelude.{◌≡◌};
 
 /// What the tool is asked to do. The first word of a command names it.
-#[derive(Clone, Copy, Debug, PartialEq, Eq)]
+#[derive(Clone, Copy, PartialEq, Eq)]
 pub enum Mode {
     /// To play an action of a program.
     Play,
@@ -19,7 +19,7 @@ pub enum Mode {
 }
 
 /// The keys of the words after the mode.
-#[derive(Clone, Copy, Debug, PartialEq, Eq)]
+#[derive(Clone, Copy, PartialEq, Eq)]
 pub enum WordKey {
     /// The file of the board.
     Board,

@@ -7,7 +7,7 @@ use quiet_deeds::Unquiet;
 use stapl_lexer::Reason;
 
 /// How the program ends.
-#[derive(Clone, Copy, Debug, PartialEq, Eq)]
+#[derive(Clone, Copy, PartialEq, Eq)]
 pub enum QuietStatus {
     /// The play is quiet for its turns.
     Quiet,

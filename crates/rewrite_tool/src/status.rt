@@ -6,7 +6,7 @@ use board_text::BoardReason;
 use stapl_lexer::Reason;
 
 /// How the program ends.
-#[derive(Clone, Copy, Debug, PartialEq, Eq)]
+#[derive(Clone, Copy, PartialEq, Eq)]
 pub enum RewriteStatus {
     /// The new program is written.
     Done,

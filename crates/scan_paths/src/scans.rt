@@ -20,7 +20,7 @@ use tool_io::Failed;
 
 /// What a scan is to do: through which registers it goes, how many bits of data it shifts, to which state it leads, and
 /// how many ones stand before and after what the program shifts.
-#[derive(Clone, Copy, Debug)]
+#[derive(Clone, Copy)]
 pub struct ScanPlan {
     /// True for the instruction registers (JESD71, IRSCAN), false for the data registers (DRSCAN).
     pub ir: bool,

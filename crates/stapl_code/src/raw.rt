@@ -11,7 +11,7 @@ use stapl_meaning::{Profile, Text};
 use std::marker::Model;
 
 /// A variable.
-#[derive(Clone, Copy, Debug, PartialEq, Eq)]
+#[derive(Clone, Copy, PartialEq, Eq)]
 pub struct VarDef {
     /// 0 is an INTEGER scalar, 1 a BOOLEAN scalar, 2 an INTEGER array, 3 a BOOLEAN array.
     pub kind: u8,
@@ -20,7 +20,7 @@ pub struct VarDef {
 }
 
 /// A procedure.
-#[derive(Clone, Copy, Debug, PartialEq, Eq)]
+#[derive(Clone, Copy, PartialEq, Eq)]
 pub struct ProcDef {
     pub name: Name,
     /// The number of its first instruction.
@@ -28,7 +28,7 @@ pub struct ProcDef {
 }
 
 /// An item of an action.
-#[derive(Clone, Copy, Debug, PartialEq, Eq)]
+#[derive(Clone, Copy, PartialEq, Eq)]
 pub struct ItemDef {
     /// The number of its procedure.
     pub procedure: u32,

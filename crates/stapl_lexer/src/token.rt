@@ -3,7 +3,7 @@
 use crate::Terminal;
 
 /// What a token is: its row in the table of tokens (JESD71, statements).
-#[derive(Clone, Copy, Debug, PartialEq, Eq)]
+#[derive(Clone, Copy, PartialEq, Eq)]
 pub enum TokenKind {
     /// A letter, then letters, digits and `_`; or `CHR$`. It may be a name or a reserved word.
     Word,
@@ -22,7 +22,7 @@ pub enum TokenKind {
 }
 
 /// A token, and its place: its bytes are those of the text from `start` up to `end`.
-#[derive(Clone, Copy, Debug, PartialEq, Eq)]
+#[derive(Clone, Copy, PartialEq, Eq)]
 pub struct Token {
     /// What the token is.
     pub kind: TokenKind,

@@ -35,7 +35,7 @@ pub enum Event {
 }
 
 /// What goes wrong in a turn, and ends the play. The rules are this profile's.
-#[derive(Clone, Copy, Debug, PartialEq, Eq)]
+#[derive(Clone, Copy, PartialEq, Eq)]
 pub enum RunFault {
     /// The right side of `/` or `%` is 0.
     DivideByZero,
@@ -83,7 +83,7 @@ impl RunFault {
 }
 
 /// How a play ends.
-#[derive(Clone, Copy, Debug, PartialEq, Eq)]
+#[derive(Clone, Copy, PartialEq, Eq)]
 pub enum Ending {
     /// It ends with this code.
     Exit(i32),

@@ -1,7 +1,7 @@
 //! What a WAIT waits for.
 
 /// What a WAIT counts.
-#[derive(Clone, Copy, Debug, PartialEq, Eq)]
+#[derive(Clone, Copy, PartialEq, Eq)]
 pub enum WaitKind {
     /// Clocks alone.
     Cycles,

@@ -4,7 +4,7 @@ use base::ItemList;
 use stapl_lexer::Name;
 
 /// The kind of a variable (JESD71, INTEGER and BOOLEAN).
-#[derive(Clone, Copy, Debug, PartialEq, Eq)]
+#[derive(Clone, Copy, PartialEq, Eq)]
 pub enum VarKind {
     Integer,
     Boolean,
@@ -53,7 +53,7 @@ pub struct Variable {
 }
 
 /// What a name of a variable stands for.
-#[derive(Clone, Copy, Debug, PartialEq, Eq)]
+#[derive(Clone, Copy, PartialEq, Eq)]
 pub enum Found {
     /// The variable with this number, counted from 0 in the order of the first declarations.
     Variable(u32),
@@ -64,7 +64,7 @@ pub enum Found {
 }
 
 /// The kind of an expression. The literals 0 and 1 are `Either`, which is accepted for both others.
-#[derive(Clone, Copy, Debug, PartialEq, Eq)]
+#[derive(Clone, Copy, PartialEq, Eq)]
 pub enum Kind {
     Int,
     Bool,

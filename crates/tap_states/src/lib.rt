@@ -15,7 +15,7 @@ use paths::PATHS;
 ///
 /// `Reset` is the standard's Test-Logic-Reset and `Idle` its Run-Test/Idle. `Dr` and `Ir` in front of a name stand for
 /// its endings -DR and -IR: `DrShift` is Shift-DR.
-#[derive(Clone, Copy, Debug, PartialEq, Eq)]
+#[derive(Clone, Copy, PartialEq, Eq)]
 pub enum Tap {
     Reset,
     Idle,
@@ -135,7 +135,7 @@ impl Tap {
 }
 
 /// A list of at most 8 TMS values.
-#[derive(Clone, Copy, Debug, PartialEq, Eq)]
+#[derive(Clone, Copy, PartialEq, Eq)]
 pub struct Path {
     /// How many values there are, one for each clock.
     pub len: u32,
