@@ -10,7 +10,7 @@ use Rattle.std.proofs.lemmas.List.Elements.{All-take, All-drop, All-nil, All-con
 use Rattle.std.proofs.lemmas.Nat.{be_bytes_4}
 use Rattle.std.proofs.Math.Seq.{take-append_seam, drop-append_seam}
 use Rattle.code_files.specs.declared.fault.Fault.{Fault}
-use Rattle.code_files.specs.declared.fault.CodeReason.TheVariants.{Field}
+use Rattle.stapl_code.specs.declared.reason.CodeReason.TheVariants.{Field}
 use Rattle.stapl_code.specs.Fields.{number, counted}
 use Rattle.code_files.specs.Reading.{◌>>=◌, fault, field, is_from, byte_in, number_in, items_at, listed_in}
 use Rattle.code_files.specs.ReadInstrs.{Reads, with_number_from, with_byte_from, made_of, followed, nothing, row, tagged}

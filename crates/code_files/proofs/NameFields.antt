@@ -5,7 +5,7 @@ use Rattle.std.specs.Str.{bytes_eq}
 use Rattle.std.proofs.lemmas.Bool.{le-ltb}
 use Rattle.std.proofs.lemmas.List.{map-append}
 use Rattle.indexmap.specs.IndexSet.{insert_key}
-use Rattle.code_files.specs.declared.fault.CodeReason.TheVariants.{Field}
+use Rattle.stapl_code.specs.declared.reason.CodeReason.TheVariants.{Field}
 use Rattle.code_files.specs.Reading.{fault, field, byte_in}
 use Rattle.stapl_code.specs.declared.raw.ProcDef.{ProcDef}
 use Rattle.stapl_code.specs.declared.raw.ActionDef.{ActionDef}

@@ -5,8 +5,8 @@ use Rattle.stapl_code.specs.declared.raw.CodeLists.{CodeLists}
 use Rattle.stapl_code.specs.Instrs.{instr}
 use Rattle.stapl_code.specs.Files.{file, most_bytes, HasFile}
 use Rattle.stapl_code.specs.Valid.{first_break, IsValid}
-use Rattle.code_files.specs.declared.fault.CodeReason.{CodeReason}
-use Rattle.code_files.specs.declared.fault.CodeReason.TheVariants.{Extra, Invalid, TooLong}
+use Rattle.stapl_code.specs.declared.reason.CodeReason.{CodeReason}
+use Rattle.stapl_code.specs.declared.reason.CodeReason.TheVariants.{Extra, Invalid, TooLong}
 use Rattle.code_files.specs.declared.fault.Fault.{Fault}
 use Rattle.code_files.specs.declared.decoding.DecodeRefused.{DecodeRefused}
 use Rattle.code_files.specs.declared.decoding.DecodeRefused.TheVariants.{At, Memory}

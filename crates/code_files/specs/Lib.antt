@@ -2,4 +2,3 @@ pub mod Reading
 pub mod ReadInstrs
 pub mod ReadFiles
 pub mod CodeFaults
-pub mod Reasons

@@ -27,7 +27,7 @@ use Rattle.stapl_code.specs.declared.instr.Instr.{Instr}
 use Rattle.stapl_code.specs.declared.instr.Instr.TheVariants.{Turn, Push, PushBit, Load, LoadAt, CheckIndex, CheckRange, Store, StoreAt, Unary, Binary, ToInt, CopyBits, SetBits, SetInts, For, Next, PushRecord, PopRecord, Call, Jump, JumpIfZero, EndProc, Print, Export, CheckChar, Exit, Scan as Scans, Stop, Pad, State as GoThrough, Wait, Frequency}
 use Rattle.stapl_code.specs.declared.raw.VarDef.{VarDef}
 use Rattle.stapl_code.specs.Ranges.{size_of}
-use Rattle.code_files.specs.declared.fault.CodeReason.TheVariants.{Field}
+use Rattle.stapl_code.specs.declared.reason.CodeReason.TheVariants.{Field}
 use Rattle.code_files.specs.declared.fault.Fault.{Fault}
 use Rattle.code_files.specs.Reading.{◌>>=◌, fault, byte_in, number_in, listed_in, any_end}
 

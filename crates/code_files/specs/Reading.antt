@@ -2,8 +2,8 @@
 -- the bytes after it. The format is this profile's.
 use Rattle.std.specs.Prelude.{◌≡◌, ℕ, zero, suc, Bool, ◌&&◌, List, [], ◌∷◌, ◌++◌, length, take, drop, Result, Ok, Err, nat_lt, nat_le, slice_index_or, ◌^◌, if◌then◌else◌}
 use Rattle.std.specs.Int.{w32, from_be_bytes}
-use Rattle.code_files.specs.declared.fault.CodeReason.{CodeReason}
-use Rattle.code_files.specs.declared.fault.CodeReason.TheVariants.{Cut, Field}
+use Rattle.stapl_code.specs.declared.reason.CodeReason.{CodeReason}
+use Rattle.stapl_code.specs.declared.reason.CodeReason.TheVariants.{Cut, Field}
 use Rattle.code_files.specs.declared.fault.Fault.{Fault}
 use Rattle.code_files.specs.declared.fault.Stop.{Stop}
 use Rattle.code_files.specs.declared.fault.Stop.TheVariants as stops

@@ -9,11 +9,12 @@ ghost use Rattle.code_files.specs.ReadFiles.{code_at};
 ghost use Rattle.code_files.specs.CodeFaults.{IsFileOf, NamesFault};
 
 use crate::encoding::put_instrs;
-use crate::fault::{CodeReason, Stop};
+use crate::fault::Stop;
 use crate::read_code::code_of;
-use stapl_code::{Code, CodeLists, FILE_LIMIT, RawCode, ValidateRefused, validate};
+use stapl_code::{CodeLists, CodeReason, FILE_LIMIT, RawCode};
 use std::alloc::{AllocError, Global};
 use thiserror::Error;
+use valid_codes::{Code, ValidateRefused, validate};
 
 /// Why bytes are no file of a code.
 #[derive(Clone, Copy, Debug, PartialEq, Eq, Error)]

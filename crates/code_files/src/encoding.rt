@@ -13,9 +13,10 @@ use crate::fields::{
 };
 use crate::instrs::put_instr;
 use bit_list::Bits;
-use stapl_code::{ActionDef, Code, CodeLists, Instr, ItemDef, ProcDef, VarDef};
+use stapl_code::{ActionDef, CodeLists, Instr, ItemDef, ProcDef, VarDef};
 use stapl_meaning::Text;
 use std::alloc::{AllocError, Global};
+use valid_codes::Code;
 
 fn put_variables(out: &mut Vec<u8>, variables: &[VarDef]) -> Result<(), AllocError>
     requires { length variables.now < 2 ^ 32 }

@@ -3,7 +3,7 @@ ghost use Rattle.std.specs.Prelude.{◌≡◌, ◌++◌, ◌⊎◌, ◌<◌, ℕ
 ghost use Rattle.stapl_meaning.specs.declared.profiles.Profile.{Profile};
 ghost use Rattle.stapl_code.specs.declared.raw.CodeLists.{CodeLists};
 ghost use Rattle.stapl_code.specs.Files.{file, example, example_bytes, HasFile};
-ghost use Rattle.code_files.specs.declared.fault.CodeReason.{CodeReason};
+ghost use Rattle.stapl_code.specs.declared.reason.CodeReason.{CodeReason};
 ghost use Rattle.code_files.specs.ReadFiles.{code_at};
 ghost use Rattle.code_files.specs.CodeFaults.{IsFileOf, IsCodeFault};
 

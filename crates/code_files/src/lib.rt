@@ -19,4 +19,3 @@ mod reading;
 
 pub use decoding::{DecodeRefused, decode_code};
 pub use encoding::encode_code;
-pub use fault::CodeReason;

@@ -3,8 +3,9 @@ ghost use Rattle.std.specs.Prelude.{◌≡◌, ◌<◌, ◌≤◌, length, IfOk,
 ghost use Rattle.code_files.specs.Reading.{Gives, field, byte_in, number_in};
 ghost use Rattle.code_files.specs.ReadFiles.{is_head, profile_of, head_at};
 
-use crate::fault::{CodeReason, Fault, Stop};
+use crate::fault::{Fault, Stop};
 use crate::fields::head;
+use stapl_code::CodeReason;
 use stapl_meaning::Profile;
 
 // The bytes end inside a field.

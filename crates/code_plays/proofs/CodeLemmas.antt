@@ -5,7 +5,7 @@ use Rattle.stapl_meaning.specs.Plays.{Run}
 use Rattle.stapl_code.specs.declared.raw.CodeLists.{CodeLists}
 use Rattle.stapl_code.specs.Ranges.{IsInRange}
 use Rattle.stapl_code.specs.Safe.{AllFit}
-use Rattle.stapl_instructions.specs.Zeros.{zeros_of_code}
+use Rattle.machine_memory.specs.Zeros.{zeros_of_code}
 use Rattle.stapl_player.specs.Choices.{code_choice}
 use Rattle.dev_card.specs.declared.desc.Desc.{Desc}
 use Rattle.dev_card.specs.Sound.{SoundCard}

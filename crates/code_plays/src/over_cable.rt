@@ -18,12 +18,12 @@ ghost use Rattle.code_plays.specs.CodePlays.{task_base, task_play, NeverRises, W
 use crate::playing::Task;
 use base::Steps;
 use scan_paths::{BasePads, Cable};
-use stapl_code::Code;
 use stapl_machine::Machine;
 use stapl_meaning::Ending;
 use stapl_player::{base_pads, play};
 use std::sync::ledger::{Blank, Ledger};
 use tool_io::{Failed, Lines, Sink};
+use valid_codes::Code;
 use written_cable::Trouble;
 
 // The failure of the lines that a trouble is which is none of the cable.

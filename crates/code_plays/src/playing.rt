@@ -28,7 +28,6 @@ use dev_card::{Desc, Device};
 use play_status::Status;
 use play_words::Request;
 use scan_paths::Cable;
-use stapl_code::Code;
 use stapl_code::laws::never_stuck;
 use stapl_lexer::Name;
 use stapl_machine::Machine;
@@ -39,6 +38,7 @@ use std::marker::Brand;
 use std::sync::ledger::Blank;
 use tool_answers::NoAnswer;
 use tool_io::{Failed, Lines, Sink};
+use valid_codes::Code;
 
 /// What is asked: the request, and the devices of the board that it names, the first nearest TDO.
 #[derive(Clone, Copy)]

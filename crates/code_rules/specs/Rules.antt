@@ -7,7 +7,7 @@ use Rattle.stapl_meaning.specs.declared.values.ValueKind.{ValueKind}
 use Rattle.stapl_code.specs.declared.raw.CodeLists.{CodeLists}
 use Rattle.stapl_code.specs.declared.instr.Instr.{Instr}
 use Rattle.stapl_code.specs.declared.instr.Instr.TheVariants.{Turn}
-use Rattle.stapl_code.specs.declared.valid.ValidateRefused.TheVariants.{Invalid}
+use Rattle.valid_codes.specs.declared.valid.ValidateRefused.TheVariants.{Invalid}
 use Rattle.stapl_code.specs.Machine.{Want, wants}
 use Rattle.stapl_code.specs.Ranges.{IsInRange}
 use Rattle.stapl_code.specs.Valid.{IsValid, NamesFirst}

@@ -1,6 +1,7 @@
 //! Codes: how many operands they hold, and lists that are no code. Which codes are valid is shown by cases of tests/.
 use base::ItemList;
 use code_files::{DecodeRefused, decode_code};
+use code_ranges::{is_in_range, is_short};
 use stapl_code::CodeLists;
 use stapl_meaning::Profile;
 use std::alloc::Global;
@@ -30,7 +31,7 @@ const FRONT: &[u8] =
 fn depth_in(alloc: Global, file: &[u8]) -> Result<Option<u32>, DecodeRefused> {
     let code = decode_code(alloc, file)?;
     let lists = code.raw().lists();
-    let is_code = lists.is_in_range() && lists.is_short();
+    let is_code = is_in_range(lists) && is_short(lists);
     let depth = code.depth();
     drop(code);
     Ok(if is_code { Some(depth) } else { None })
@@ -69,7 +70,7 @@ fn empty(alloc: Global) -> CodeLists {
 #[test]
 fn refuses_lists_without_a_procedure(rt: HostRuntime) {
     let lists = empty(rt.alloc());
-    let (in_range, short) = (lists.is_in_range(), lists.is_short());
+    let (in_range, short) = (is_in_range(&lists), is_short(&lists));
     drop(lists);
     assert!(rt; !in_range && short);
 }

@@ -7,7 +7,6 @@ use crate::wire::Wire;
 use base::Steps;
 use code_files::decode_code;
 use scan_paths::BasePads;
-use stapl_code::Code;
 use stapl_machine::Machine;
 use stapl_meaning::Ending;
 use std::alloc::Global;
@@ -15,6 +14,7 @@ use std::marker::Brand;
 use std::sync::ledger::{Blank, Ledger};
 use std::test::Fail;
 use tool_io::{Lines, MemSink};
+use valid_codes::Code;
 use written_cable::Trouble;
 
 // The file of a code with an array of 4 BOOLEAN and the text A, from its head to the number of its instructions. It

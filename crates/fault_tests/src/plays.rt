@@ -14,7 +14,6 @@ use dev_card::{Desc, Device};
 use device_rack::{fill_rack, is_rack};
 use scan_paths::{BasePads, Cable};
 use stapl_checker::check;
-use stapl_code::Code;
 use stapl_codegen::generate;
 use stapl_lexer::Name;
 use stapl_machine::Machine;
@@ -25,6 +24,7 @@ use std::marker::Brand;
 use std::sync::ledger::{Blank, Ledger};
 use std::test::Fail;
 use tool_io::{Lines, MemSink};
+use valid_codes::Code;
 use written_cable::Trouble;
 
 /// A program with an action A, the lines that its play puts, and the numbers of its waits and frequencies.

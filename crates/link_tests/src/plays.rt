@@ -16,7 +16,6 @@ use link_cable::{LinkCable, MemWire, Wire};
 use linked_play::play_linked;
 use scan_paths::BasePads;
 use stapl_checker::check;
-use stapl_code::Code;
 use stapl_codegen::generate;
 use stapl_lexer::Name;
 use stapl_machine::Machine;
@@ -27,6 +26,7 @@ use std::marker::Brand;
 use std::sync::ledger::{Blank, Ledger};
 use std::test::Fail;
 use tool_io::{Lines, MemSink};
+use valid_codes::Code;
 use written_cable::Trouble;
 
 /// A program with an action A, its board, the lines that its play puts, and from which number on calls of the wire

@@ -17,12 +17,12 @@ ghost use Rattle.linked_play.specs.LinkedPlays.{HasRunOf, IsGoodOver};
 use base::Steps;
 use link_cable::{LinkCable, Wire};
 use scan_paths::{BasePads, Cable};
-use stapl_code::Code;
 use stapl_machine::Machine;
 use stapl_meaning::Ending;
 use stapl_player::play;
 use std::sync::ledger::Ledger;
 use tool_io::{Lines, Sink};
+use valid_codes::Code;
 use written_cable::Trouble;
 
 /// The play of `stapl_player`, with what it answers and puts on a board, so that plays over two cables can be compared:

@@ -3,7 +3,7 @@ ghost use Rattle.std.specs.Prelude.{◌≡◌};
 ghost use Rattle.play_status.specs.Codes.{exit_code_of};
 
 use board_text::BoardReason;
-use code_files::CodeReason;
+use stapl_code::CodeReason;
 use stapl_lexer::Reason;
 use stapl_meaning::RunFault;
 

@@ -8,8 +8,8 @@ use Rattle.stapl_syntax.specs.Trees.{StmtTree}
 use Rattle.stapl_syntax.specs.Programs.{IsProgram, FirstFault, is_too_long}
 use Rattle.stapl_checker.proofs.UniqueLemmas.{one_program, no_fault}
 use Rattle.stapl_code.specs.Files.{most_bytes}
-use Rattle.code_files.specs.declared.fault.CodeReason.{CodeReason}
-use Rattle.code_files.specs.declared.fault.CodeReason.TheVariants as code_reasons
+use Rattle.stapl_code.specs.declared.reason.CodeReason.{CodeReason}
+use Rattle.stapl_code.specs.declared.reason.CodeReason.TheVariants as code_reasons
 use Rattle.code_files.specs.CodeFaults.{IsCodeFault, too_long}
 use Rattle.dev_card.specs.declared.desc.Desc.{Desc}
 use Rattle.named_files.specs.Texts.{refusal_line}

@@ -20,7 +20,7 @@ use Rattle.program_reports.specs.Listings.{list_text}
 use Rattle.play_tool.specs.Texts.{code_refusal_line}
 use Rattle.stapl_code.specs.declared.raw.CodeLists.{CodeLists}
 use Rattle.stapl_code.specs.Files.{file}
-use Rattle.code_files.specs.declared.fault.CodeReason.{CodeReason}
+use Rattle.stapl_code.specs.declared.reason.CodeReason.{CodeReason}
 use Rattle.code_files.proofs.FileFaults.{one_alone}
 use Rattle.code_files.proofs.FileFaults as code_faults
 use Rattle.play_words.specs.Words.{reads_text, soaks}

@@ -11,7 +11,7 @@ use Rattle.stapl_meaning.specs.Plays.{Outcome, Ended, Going, Stopped, procedures
 use Rattle.stapl_codegen.specs.Emit.{start_of}
 use Rattle.stapl_codegen.specs.Correct.{placed_outcome, placed_run}
 use Rattle.stapl_codegen.specs.Generated.{kind_number, variable_def}
-use Rattle.stapl_instructions.specs.Zeros.{zero_of, zeros_of_code}
+use Rattle.machine_memory.specs.Zeros.{zero_of, zeros_of_code}
 use Rattle.stapl_machine.specs.Machines.{play_of}
 use Rattle.dev_card.specs.Card.{fresh}
 use Rattle.dev_card.specs.FarEnds.{Told}

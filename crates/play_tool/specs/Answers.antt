@@ -9,7 +9,7 @@ use Rattle.stapl_meaning.specs.Choices.{choice_of}
 use Rattle.stapl_meaning.specs.Scopes.{Played, as_played}
 use Rattle.stapl_meaning.specs.Plays.{Run, play}
 use Rattle.stapl_code.specs.declared.raw.CodeLists.{CodeLists}
-use Rattle.code_files.specs.declared.fault.CodeReason.{CodeReason}
+use Rattle.stapl_code.specs.declared.reason.CodeReason.{CodeReason}
 use Rattle.code_files.specs.CodeFaults.{IsFileOf, IsCodeFault}
 use Rattle.stapl_codegen.specs.Generated.{IsCodeOf}
 use Rattle.soak_texts.specs.Boards.{soak_devices, soak_board, soak_place}

@@ -3,7 +3,7 @@ use Rattle.std.specs.Prelude.{ℕ, List, Bool, true, false}
 use Rattle.stapl_lexer.specs.Pieces.{text_limit}
 use Rattle.stapl_lexer.specs.declared.reason.Reason.TheVariants as reasons
 use Rattle.stapl_code.specs.Files.{most_bytes}
-use Rattle.code_files.specs.declared.fault.CodeReason.TheVariants as code_reasons
+use Rattle.stapl_code.specs.declared.reason.CodeReason.TheVariants as code_reasons
 use Rattle.play_status.specs.declared.status.Status.{Status}
 use Rattle.play_status.specs.declared.status.Status.TheVariants.{Refused, CodeRefused}
 use Rattle.play_tool.specs.Texts.{code_refusal_line}

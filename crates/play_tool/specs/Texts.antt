@@ -1,12 +1,12 @@
 -- The lines that this tool alone writes. The format is its own.
 use Rattle.std.specs.Prelude.{ℕ, pos, List, ◌++◌, codes}
 use Rattle.tool_io.specs.Texts.{labelled, number_line, word_line}
-use Rattle.code_files.specs.declared.fault.CodeReason.{CodeReason}
-use Rattle.code_files.specs.Reasons as code_files
+use Rattle.stapl_code.specs.declared.reason.CodeReason.{CodeReason}
+use Rattle.stapl_code.specs.Reasons as codes_refused
 
 -- the line of a refused code: the offset of the fault, and the reason
 abbrev pub code_refusal_line : ℕ → CodeReason → List ℕ
-code_refusal_line offset reason = labelled (codes "R code ") (pos offset) ++ codes " " ++ word_line (code_files.reason_name reason)
+code_refusal_line offset reason = labelled (codes "R code ") (pos offset) ++ codes " " ++ word_line (codes_refused.reason_name reason)
 
 -- the first line of a soak: the number that it is made from, how many devices its board has, the place of the device
 -- that its program is for, and how many pieces the program has

@@ -5,8 +5,8 @@ ghost use Rattle.tool_io.specs.Texts.{labelled};
 ghost use Rattle.play_tool.specs.Texts.{code_refusal_line};
 ghost use Rattle.play_tool.specs.SoakLines.{summary_line};
 
-use code_files::CodeReason;
 use itoa::Buffer;
+use stapl_code::CodeReason;
 use std::alloc::{AllocError, Global};
 use tool_io::{Failed, Lines, Sink, put_count, put_word_line};
 

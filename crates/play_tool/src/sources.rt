@@ -17,14 +17,14 @@ ghost use Rattle.play_tool.specs.ReadContents.{IsPlaying, Answers, IsUntouched};
 
 use crate::lines::put_code_refusal;
 use crate::programs::{check_program, compile_program, list_program, play_program};
-use code_files::{CodeReason, DecodeRefused, decode_code};
+use code_files::{DecodeRefused, decode_code};
 use code_plays::{Task, play_code};
 use dev_card::Device;
 use named_files::put_refusal;
 use play_status::Status;
 use play_words::Mode;
 use stapl_checker::{CheckRefused, check};
-use stapl_code::FILE_LIMIT;
+use stapl_code::{CodeReason, FILE_LIMIT};
 use stapl_lexer::{Reason, TEXT_LIMIT};
 use stapl_syntax::Program;
 use std::alloc::Global;

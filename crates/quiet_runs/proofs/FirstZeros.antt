@@ -9,7 +9,7 @@ use Rattle.stapl_meaning.specs.Scopes.{Played, zeros_of}
 use Rattle.stapl_meaning.specs.Scopes as scopes
 use Rattle.stapl_code.specs.declared.raw.CodeLists.{CodeLists}
 use Rattle.stapl_codegen.specs.Generated.{kind_number, variable_def, IsCodeOf}
-use Rattle.stapl_instructions.specs.Zeros.{zero_of, zeros_of_code}
+use Rattle.machine_memory.specs.Zeros.{zero_of, zeros_of_code}
 
 zero_same : (v : Key × Variable) → zero_of (variable_def v) ≡ scopes.zero_of v
 zero_same v = by v.1.kind (nat_abs v.1.size)

@@ -9,9 +9,9 @@ use crate::judging::judge;
 use crate::pieces::turn_piece;
 use dev_card::{Desc, Device};
 use quiet_deeds::Unquiet;
-use stapl_code::Code;
 use stapl_meaning::Ending;
 use std::alloc::{AllocError, Global};
+use valid_codes::Code;
 
 /// Whether a play is quiet for its turns, and how it ended; or the turn and the piece of its first deed that is not
 /// quiet, counted from 1, and why that is not. Turn 0 of piece 0 is what sets the play up.

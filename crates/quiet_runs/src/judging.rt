@@ -18,10 +18,10 @@ use chain_sim::fit_board;
 use dev_card::{Desc, Device};
 use quiet_deeds::Unquiet;
 use quiet_watch::Watch;
-use stapl_code::Code;
 use stapl_machine::Machine;
 use stapl_meaning::Ending;
 use std::alloc::{AllocError, Global};
+use valid_codes::Code;
 
 /// How a play ended, and the reason of its first deed that is not quiet, if there is one.
 #[derive(Clone, Copy)]

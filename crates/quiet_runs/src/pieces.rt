@@ -17,12 +17,12 @@ use base::Steps;
 use chain_sim::{Chain, fit_board};
 use dev_card::{Desc, Device};
 use scan_paths::{BasePads, Cable};
-use stapl_code::Code;
 use stapl_machine::{Machine, piece_at};
 use std::alloc::{AllocError, Global};
 use std::marker::Brand;
 use std::sync::ledger::{Blank, Ledger};
 use turn_places::place_after;
+use valid_codes::Code;
 use written_cable::Trouble;
 
 // The place at which a play without base padding goes on.

@@ -15,13 +15,13 @@ use base::Steps;
 use dev_card::Device;
 use quiet_watch::Watch;
 use scan_paths::BasePads;
-use stapl_code::Code;
 use stapl_machine::Machine;
 use stapl_meaning::Ending;
 use stapl_player::play;
 use std::marker::Brand;
 use std::sync::ledger::{Blank, Ledger};
 use tool_io::{Lines, Sink};
+use valid_codes::Code;
 use written_cable::Trouble;
 
 // The play over any sink.

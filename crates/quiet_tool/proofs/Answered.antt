@@ -21,7 +21,7 @@ use Rattle.stapl_code.specs.Safe.{AllBelow, NeverStuck}
 use Rattle.stapl_code.specs.Valid.{IsValid}
 use Rattle.stapl_codegen.specs.Accepted.{IsAccepted}
 use Rattle.stapl_codegen.specs.Generated.{lists_of, IsCodeOf}
-use Rattle.stapl_instructions.specs.Zeros.{zeros_of_code}
+use Rattle.machine_memory.specs.Zeros.{zeros_of_code}
 use Rattle.stapl_player.specs.Choices.{are_offered, optional, recommended, running, choice_in, code_choice}
 use Rattle.stapl_player.proofs.ChoiceLemmas.{found_below}
 use Rattle.dev_card.specs.declared.desc.Desc.{Desc}

@@ -20,13 +20,13 @@ use crate::lines::{line_of_piece, quiet_text, unquiet_line};
 use dev_card::{Desc, Device};
 use play_words::Request;
 use quiet_runs::{Verdict, quiet_play};
-use stapl_code::Code;
 use stapl_codegen::generate;
 use stapl_lexer::{Name, cut};
 use stapl_meaning::laws::programs_are_typed;
 use stapl_player::{ChoiceRefused, choose};
 use stapl_syntax::Program;
 use std::alloc::{AllocError, Global};
+use valid_codes::Code;
 
 /// What is asked about: the request, and the devices of the board that it names, the first nearest TDO.
 #[derive(Clone, Copy)]

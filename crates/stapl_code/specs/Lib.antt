@@ -11,3 +11,4 @@ pub mod Valid
 pub mod Safe
 pub mod Depth
 pub mod Rooms
+pub mod Reasons

@@ -23,8 +23,6 @@ use Rattle.stapl_code.specs.declared.raw.ProcDef.{ProcDef}
 use Rattle.stapl_code.specs.declared.raw.CodeLists.{CodeLists}
 use Rattle.stapl_code.specs.declared.instr.Instr.{Instr}
 use Rattle.stapl_code.specs.declared.instr.Instr.TheVariants.{Turn, Push, PushBit, Store, SetBits, SetInts, For, Next, Call, Jump, EndProc, Exit, Stop, State as GoThrough, Wait}
-use Rattle.stapl_code.specs.declared.valid.ValidateRefused.{ValidateRefused}
-use Rattle.stapl_code.specs.declared.valid.ValidateRefused.TheVariants.{Invalid, Memory}
 use Rattle.stapl_code.specs.Machine.{goes_to}
 use Rattle.stapl_code.specs.Kinds.{then_kinds, left_by, kinds_behind}
 
@@ -154,8 +152,3 @@ first_break code =
 
 abbrev pub IsValid : CodeLists → Type 0
 IsValid code = first_break code ≡ None
-
--- a refusal names the first instruction that breaks a rule; want of memory says nothing of the code
-abbrev pub NamesFirst : ValidateRefused → CodeLists → Type 0
-NamesFirst (Invalid i) code = first_break code ≡ Some i
-NamesFirst Memory code = Unit {0}

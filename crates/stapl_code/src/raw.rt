@@ -10,6 +10,9 @@ use stapl_lexer::Name;
 use stapl_meaning::{Profile, Text};
 use std::marker::Model;
 
+/// The most bytes that the file of a code may have.
+pub const FILE_LIMIT: usize = 268_435_520;
+
 /// A variable.
 #[derive(Clone, Copy, PartialEq, Eq)]
 pub struct VarDef {

@@ -93,7 +93,7 @@ fn wait_takes(kind: WaitKind) -> usize
 }
 
 /// How many operands an Export takes.
-pub(crate) fn export_takes(part: ExportPart) -> usize
+pub fn export_takes(part: ExportPart) -> usize
     ensures { result ≡ length (export_slots part) }
 {
     match part {

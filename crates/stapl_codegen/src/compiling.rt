@@ -19,11 +19,12 @@ use crate::definitions::{Numbers, actions, procedure_numbers, procedures, variab
 use crate::draft::{Written, write_program};
 use crate::laws::{accepted_code_is_valid, files_are_short, programs_are_accepted};
 use base::ItemList;
-use stapl_code::{ActionDef, Code, CodeLists, ProcDef, RawCode, ValidateRefused, VarDef, validate};
+use stapl_code::{ActionDef, CodeLists, ProcDef, RawCode, VarDef};
 use stapl_meaning::Profile;
 use stapl_names::{Names, collect};
 use stapl_syntax::{Program, Stmt};
 use std::alloc::{AllocError, Global};
+use valid_codes::{Code, ValidateRefused, validate};
 
 // The numbers of so many pieces, from 1 on.
 fn piece_numbers(alloc: Global, count: usize) -> Result<Vec<u32>, AllocError>

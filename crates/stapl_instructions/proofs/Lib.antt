@@ -1,13 +1,3 @@
-pub mod Wraps
-pub mod Bitwise
-pub mod PrintLemmas
-pub mod RecordLemmas
 pub mod Slices
 pub mod MoveLemmas
-pub mod SettingLemmas
-pub mod ScanLemmas
-pub mod SpanLemmas
-pub mod ArrayLemmas
-pub mod RoomLemmas
 pub mod OperandLemmas
-pub mod ExportLemmas

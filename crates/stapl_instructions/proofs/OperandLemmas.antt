@@ -13,12 +13,12 @@ use Rattle.stapl_code.specs.Safe.{entries_of, constants_of}
 use Rattle.stapl_code.specs.Rooms.{count_behind, HoldWithin, LeavesAtMost}
 use Rattle.stapl_code.proofs.RoomLemmas.{fewer_hold, room_for, hold_behind}
 use Rattle.stapl_code.proofs.StepCounts.{step_leaves}
-use Rattle.stapl_instructions.specs.declared.act.Workspace.{Workspace}
-use Rattle.stapl_instructions.specs.declared.effects.Made.{Made}
-use Rattle.stapl_instructions.specs.declared.effects.Made.TheVariants as made
-use Rattle.stapl_instructions.specs.Acts.{state_of, operands_of, step_of, stepped, deeds_told, told_by}
-use Rattle.stapl_instructions.specs.RunRooms.{HasRoom, KeepsRoom, HoldsFrom, IsWithin}
-use Rattle.stapl_instructions.proofs.PrintLemmas.{item_at}
+use Rattle.machine_memory.specs.declared.memory.Workspace.{Workspace}
+use Rattle.machine_memory.specs.declared.effects.Made.{Made}
+use Rattle.machine_memory.specs.declared.effects.Made.TheVariants as made
+use Rattle.machine_memory.specs.Acts.{state_of, operands_of, step_of, stepped, deeds_told, told_by}
+use Rattle.machine_memory.specs.RunRooms.{HasRoom, KeepsRoom, HoldsFrom, IsWithin}
+use Rattle.machine_memory.proofs.PrintLemmas.{item_at}
 
 acted_within : (deeds : List Deed) (below : List Value) (s : State) (n : ℕ) → LeavesAtMost (acted deeds below s) n → length below ≤ n
 acted_within [] below s n h = h

@@ -11,13 +11,13 @@ use Rattle.stapl_code.specs.declared.raw.CodeLists.{CodeLists}
 use Rattle.stapl_code.specs.Machine.{Step, Falls, Scanned, Stops, Faulted, Wrong, taken, taken_onto, on_taken, on_made, takes, lands, made, entry_of}
 use Rattle.stapl_code.specs.Machine as machine
 use Rattle.stapl_code.specs.Safe.{entries_of, constants_of}
-use Rattle.stapl_instructions.specs.declared.operate.Stop.{Stop}
-use Rattle.stapl_instructions.specs.declared.operate.Stop.TheVariants as stops
-use Rattle.stapl_instructions.specs.declared.effects.Made.{Made}
-use Rattle.stapl_instructions.specs.declared.effects.Made.TheVariants as mades
-use Rattle.stapl_instructions.specs.declared.act.Workspace.{Workspace}
-use Rattle.stapl_instructions.specs.Jobs.{job_scan, job_lands}
-use Rattle.stapl_instructions.specs.Acts.{IsMade, IsActed, RestsAfter, told_by, deeds_told, operands_of, state_of, step_of, stepped}
+use Rattle.machine_memory.specs.declared.operate.Stop.{Stop}
+use Rattle.machine_memory.specs.declared.operate.Stop.TheVariants as stops
+use Rattle.machine_memory.specs.declared.effects.Made.{Made}
+use Rattle.machine_memory.specs.declared.effects.Made.TheVariants as mades
+use Rattle.machine_memory.specs.declared.memory.Workspace.{Workspace}
+use Rattle.machine_memory.specs.Jobs.{job_scan, job_lands}
+use Rattle.machine_memory.specs.Acts.{IsMade, IsActed, RestsAfter, told_by, deeds_told, operands_of, state_of, step_of, stepped}
 use Rattle.stapl_code.proofs.PutOn.{onto, taken_back}
 
 turned : (front back : List Value) → reverse (front ++ back) ≡ onto back (reverse front)

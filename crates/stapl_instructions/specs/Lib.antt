@@ -1,13 +1,2 @@
-pub mod Found
-pub mod Prints
-pub mod Exports
-pub mod Records
-pub mod PadSettings
-pub mod Arrays
-pub mod Jobs
-pub mod Acts
 pub mod TriedInstrs
 pub mod Moves
-pub mod Zeros
-pub mod Rooms
-pub mod RunRooms

@@ -6,14 +6,14 @@ use Rattle.stapl_meaning.specs.States.{State, Turned, Leads, Over, NoTurn, Happe
 use Rattle.stapl_code.specs.declared.raw.CodeLists.{CodeLists}
 use Rattle.stapl_code.specs.declared.instr.Instr.{Instr}
 use Rattle.stapl_code.specs.Ticks.{counted_scan}
-use Rattle.stapl_instructions.specs.declared.act.Workspace.{Workspace}
-use Rattle.stapl_instructions.specs.declared.memory.Memory.{Memory}
+use Rattle.machine_memory.specs.declared.memory.Workspace.{Workspace}
+use Rattle.machine_memory.specs.declared.memory.Memory.{Memory}
 use Rattle.stapl_instructions.specs.declared.control.Went.{Went}
 use Rattle.stapl_instructions.specs.declared.control.Went.TheVariants as went
 use Rattle.stapl_instructions.specs.declared.control.Moved.{Moved}
 use Rattle.stapl_instructions.specs.declared.control.Moved.TheVariants as moved
-use Rattle.stapl_instructions.specs.Acts.{state_of, operands_of, told_by, deeds_told, RestsIn}
-use Rattle.stapl_instructions.specs.Jobs.{job_scan, job_lands, CanBeDone}
+use Rattle.machine_memory.specs.Acts.{state_of, operands_of, told_by, deeds_told, RestsIn}
+use Rattle.machine_memory.specs.Jobs.{job_scan, job_lands, CanBeDone}
 
 -- where a turn led, and what that is on a chain
 abbrev pub led_to : Went → State → Turned

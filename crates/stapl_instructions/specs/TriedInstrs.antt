@@ -8,11 +8,11 @@ use Rattle.stapl_meaning.specs.States.{Did, Leads, Resumes}
 use Rattle.stapl_meaning.specs.States as did
 use Rattle.stapl_meaning.specs.Effects.{element_written}
 use Rattle.stapl_code.specs.Machine.{Step, Falls, Stops}
-use Rattle.stapl_instructions.specs.declared.memory.Memory.{Memory}
-use Rattle.stapl_instructions.specs.declared.act.Workspace.{Workspace}
+use Rattle.machine_memory.specs.declared.memory.Memory.{Memory}
+use Rattle.machine_memory.specs.declared.memory.Workspace.{Workspace}
 use Rattle.stapl_instructions.specs.declared.fast_path.Tried.{Tried}
 use Rattle.stapl_instructions.specs.declared.fast_path.Tried.TheVariants as tried
-use Rattle.stapl_instructions.specs.Acts.{state_in, state_of, operands_of}
+use Rattle.machine_memory.specs.Acts.{state_in, state_of, operands_of}
 
 -- The step goes on, or it leads to the turn at a place with no operand left; or it is not done, and nothing changed.
 abbrev pub IsTried : Tried → List ℕ → Workspace → Workspace → Step → Type 0

@@ -3,37 +3,24 @@ ghost use Rattle.std.specs.Prelude.{◌≡◌, ◌<◌, ◌≤◌, ◌+◌, ◌^
 ghost use Rattle.stapl_code.specs.Machine.{made, lands};
 ghost use Rattle.stapl_code.specs.declared.raw.CodeLists.{CodeLists};
 ghost use Rattle.stapl_code.specs.Safe.{entries_of, constants_of};
-ghost use Rattle.stapl_instructions.specs.Acts.{IsMade, IsActed, told_by, state_in, step_of};
-ghost use Rattle.stapl_instructions.specs.Prints.{instr_room};
-ghost use Rattle.stapl_instructions.specs.RunRooms.{IsKeptBeside};
+ghost use Rattle.machine_memory.specs.Acts.{IsMade, IsActed, told_by, state_in, step_of};
+ghost use Rattle.machine_memory.specs.Prints.{instr_room};
+ghost use Rattle.machine_memory.specs.RunRooms.{IsKeptBeside};
 
-use crate::arrays::{assign_at, check_index, load_at, set_integers};
-use crate::copying::{copy, integer};
-use crate::effects::{
+use crate::printing::print;
+use machine_copies::{copy, integer};
+use machine_loops::{begin_loop, repeat};
+use machine_memory::arrays::{assign_at, check_index, load_at, set_integers};
+use machine_memory::effects::{
     Made, assign, bit, check_character, exit, jump, load, operate_one, operate_two, part_ways,
 };
-use crate::exporting::export;
-use crate::loops::{begin_loop, repeat};
-use crate::memory::Memory;
-use crate::operate::Stop;
-use crate::parts::check_range;
-use crate::printing::print;
-use crate::records::{call, end_procedure, pop_value, push_value};
-use crate::scanning::{pad, scan, stop};
-use crate::waiting::{go_through, tune, wait};
+use machine_memory::memory::{Memory, Workspace};
+use machine_memory::operate::Stop;
+use machine_memory::parts::check_range;
+use machine_memory::records::{call, end_procedure, pop_value, push_value};
+use machine_scans::{export, go_through, pad, scan, stop, tune, wait};
 use stapl_code::{CodeLists, Dest, Instr, Source, operands_taken};
 use stapl_meaning::Value;
-
-/// What a run keeps: the memory, the operands in the order in which they were put on, the text of the last Print, how
-/// many of the chosen procedures have begun, and the piece of the turn.
-#[derive(Drop)]
-pub struct Workspace {
-    pub memory: Memory,
-    pub operands: Vec<Value>,
-    pub text: Vec<u8>,
-    pub next: usize,
-    pub piece: u32,
-}
 
 // What an instruction that stands here makes of its operands.
 fn make(

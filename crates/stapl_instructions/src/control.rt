@@ -9,15 +9,16 @@ ghost use Rattle.stapl_code.specs.Machine.{lands, entry_of, at_end, continues};
 ghost use Rattle.stapl_code.specs.Ticks.{counted_behind};
 ghost use Rattle.stapl_code.specs.Rooms.{count_behind};
 ghost use Rattle.stapl_code.specs.Safe.{entries_of};
-ghost use Rattle.stapl_instructions.specs.Acts.{state_with, step_of, stepped, RestsAfter};
-ghost use Rattle.stapl_instructions.specs.Prints.{instr_room};
-ghost use Rattle.stapl_instructions.specs.RunRooms.{IsWithin, KeepsRoom};
+ghost use Rattle.machine_memory.specs.Acts.{state_with, step_of, stepped, RestsAfter};
+ghost use Rattle.machine_memory.specs.Prints.{instr_room};
+ghost use Rattle.machine_memory.specs.RunRooms.{IsWithin, KeepsRoom};
 ghost use Rattle.stapl_instructions.specs.Moves.{led_to, led_on, IsClean, moved_to, moved_ticks, IsCleanMove, RestsBehind};
 
-use crate::act::{Workspace, act};
-use crate::effects::{Doing, Made, ScanJob};
-use crate::operands::put;
-use crate::operate::Stop;
+use crate::act::act;
+use machine_memory::effects::{Doing, Made, ScanJob};
+use machine_memory::memory::Workspace;
+use machine_memory::operands::put;
+use machine_memory::operate::Stop;
 use stapl_code::{CodeLists, Instr, ProcDef};
 use stapl_meaning::{Ending, Value};
 

@@ -10,23 +10,22 @@ ghost use Rattle.stapl_meaning.specs.Effects.{repeated};
 ghost use Rattle.stapl_code.specs.declared.instr.Instr.TheVariants.{PushBit, Load, LoadAt, CheckIndex, CheckRange, Store, StoreAt, Unary, Binary, ToInt, Next, JumpIfZero};
 ghost use Rattle.stapl_code.specs.declared.instr.Source.TheVariants.{Range};
 ghost use Rattle.stapl_code.specs.declared.raw.CodeLists.{CodeLists};
-ghost use Rattle.stapl_instructions.specs.Acts.{operands_of, state_in, state_of, step_of};
-ghost use Rattle.stapl_instructions.specs.RunRooms.{IsKeptBeside};
+ghost use Rattle.machine_memory.specs.Acts.{operands_of, state_in, state_of, step_of};
+ghost use Rattle.machine_memory.specs.RunRooms.{IsKeptBeside};
 ghost use Rattle.stapl_instructions.specs.TriedInstrs.{IsTried, IsRound, IsWritten, element_put};
 
-use crate::act::Workspace;
-use crate::arrays::{element, index_of, store_at};
-use crate::copying::range_integer;
-use crate::effects::{bit, load, operate_before, store};
-use crate::loops::{integer_held, is_over};
-use crate::memory::Memory;
-use crate::operands::{leave, put, replace, top, top_two};
-use crate::operate::{
+use machine_copies::range_integer;
+use machine_loops::{integer_held, is_over};
+use machine_memory::arrays::{element, index_of, store_at};
+use machine_memory::effects::{bit, load, operate_before, store};
+use machine_memory::memory::{Memory, Workspace};
+use machine_memory::operands::{leave, put, replace, top, top_two};
+use machine_memory::operate::{
     common_bits, difference, different_bits, divide, joint_bits, product, remainder, shift_left,
     shift_right, sum,
 };
-use crate::parts::range;
-use crate::record_stack::RecordStack;
+use machine_memory::parts::range;
+use machine_memory::record_stack::RecordStack;
 use stapl_code::{CodeLists, Instr, Source};
 use stapl_meaning::{Held, Loop, Record, Value};
 

@@ -3,18 +3,18 @@ ghost use Rattle.std.specs.Prelude.{◌≡◌, ◌≤◌, ◌+◌, ◌^◌, ◌�
 ghost use Rattle.std.specs.Fmt.{signed_decimal};
 ghost use Rattle.stapl_meaning.specs.Values.{Got, Known, then_get, integer_of};
 ghost use Rattle.stapl_meaning.specs.Operands.{character_of};
-ghost use Rattle.stapl_meaning.specs.Effects.{digit_of, shown, after_value, after_character, printed};
+ghost use Rattle.stapl_meaning.specs.Effects.{shown, after_value, after_character, printed};
 ghost use Rattle.stapl_meaning.specs.States.{State};
 ghost use Rattle.stapl_code.specs.Machine.{known_text, parts_text, does};
 ghost use Rattle.stapl_code.specs.Safe.{constants_of};
-ghost use Rattle.stapl_instructions.specs.declared.memory.Shifted.{Shifted};
-ghost use Rattle.stapl_instructions.specs.Found.{IsGot};
-ghost use Rattle.stapl_instructions.specs.Prints.{IsPut, Follows, with_front, text_length, part_room, parts_room, instr_room, print_room};
-ghost use Rattle.stapl_instructions.specs.Acts.{IsMade};
+ghost use Rattle.machine_memory.specs.declared.memory.Shifted.{Shifted};
+ghost use Rattle.machine_memory.specs.Found.{IsGot};
+ghost use Rattle.machine_memory.specs.Prints.{IsPut, Follows, with_front, text_length, part_room, parts_room, instr_room, print_room};
+ghost use Rattle.machine_memory.specs.Acts.{IsMade};
 
-use crate::effects::{Doing, Made, character};
-use crate::operate::Stop;
 use itoa::Buffer;
+use machine_memory::effects::{Doing, Made, character, digit_of};
+use machine_memory::operate::Stop;
 use stapl_code::{CodeLists, Instr, PrintPart};
 use stapl_meaning::{Text, Value};
 
@@ -55,13 +55,6 @@ fn put_text(texts: &[Text], n: u32, text: &mut Vec<u8>) -> Result<(), Stop>
         }
         None => Err(Stop::Wrong),
     }
-}
-
-/// A Boolean as a digit.
-pub fn digit_of(bit: bool) -> u8
-    ensures { result ≡ digit_of bit }
-{
-    if bit { b'1' } else { b'0' }
 }
 
 // Puts what is printed of a value.

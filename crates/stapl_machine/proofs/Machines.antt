@@ -8,7 +8,7 @@ use Rattle.stapl_meaning.specs.Plays.{Outcome, Ended, Going, Stopped, ending_of}
 use Rattle.stapl_code.specs.declared.raw.VarDef.{VarDef}
 use Rattle.stapl_code.specs.Ranges.{IsVariable}
 use Rattle.stapl_code.specs.Safe.{Fits, AllFit}
-use Rattle.stapl_instructions.specs.Zeros.{zero_of}
+use Rattle.machine_memory.specs.Zeros.{zero_of}
 
 -- only what no valid code meets has no ending
 pub ending_none : (o : Outcome) → ending_of o ≡ None → o ≡ Stopped

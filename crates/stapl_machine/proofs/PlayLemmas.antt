@@ -18,12 +18,12 @@ use Rattle.stapl_meaning.specs.States.{State}
 use Rattle.stapl_meaning.specs.Plays.{Run, ending_of}
 use Rattle.stapl_meaning.specs.Texts.{bytes_of, waiting, pin_line, events_text}
 use Rattle.stapl_code.specs.declared.raw.CodeLists.{CodeLists}
-use Rattle.stapl_instructions.specs.declared.act.Workspace.{Workspace}
+use Rattle.machine_memory.specs.declared.memory.Workspace.{Workspace}
 use Rattle.written_cable.specs.declared.pin_cable.PinCable.{PinCable}
 use Rattle.stapl_machine.specs.declared.running.Machine.{Machine}
 use Rattle.written_cable.specs.declared.trouble.Trouble.{Trouble}
 use Rattle.written_cable.specs.declared.trouble.Trouble.TheVariants as troubles
-use Rattle.stapl_instructions.specs.Acts.{state_of}
+use Rattle.machine_memory.specs.Acts.{state_of}
 use Rattle.stapl_machine.specs.Machines.{play_of, play_ticks_of, chain_at, IsPlayed, IsPlayedFront}
 use Rattle.written_cable.specs.Papers.{Shown, Puts, PutsFront}
 use Rattle.written_cable.specs.PaperLaws.{put_then, put_then_front, front_with}
@@ -33,7 +33,7 @@ use Rattle.written_cable.specs.Ports.{BrokeSo, IsKept, IfFault, LeavesSo, chain_
 use Rattle.written_cable.specs.Signals.{signals_of}
 use Rattle.written_cable.specs.Resets.{kept_digits}
 use Rattle.stapl_machine.specs.Runs.{play_from, play_ticks_from}
-use Rattle.stapl_instructions.specs.Zeros.{zeros_of_code}
+use Rattle.machine_memory.specs.Zeros.{zeros_of_code}
 use Rattle.written_cable.proofs.DeedLemmas.{same_chain}
 
 module _ {C O : Type 0} (breakage : PinCable C O → Breakage) (board : C → Option (List Card))

@@ -17,11 +17,11 @@ use Rattle.stapl_code.specs.Machine.{entry_of, begins_chosen, stretch}
 use Rattle.stapl_code.specs.Safe.{entries_of, constants_of}
 use Rattle.stapl_code.specs.Ticks.{ticks, counted_then}
 use Rattle.stapl_code.proofs.Preceded.{begins_with, with_nothing}
-use Rattle.stapl_instructions.specs.declared.act.Workspace.{Workspace}
+use Rattle.machine_memory.specs.declared.memory.Workspace.{Workspace}
 use Rattle.stapl_instructions.specs.declared.control.Went.{Went}
 use Rattle.stapl_instructions.specs.declared.control.Went.TheVariants as went
 use Rattle.written_cable.specs.declared.pin_cable.PinCable.{PinCable}
-use Rattle.stapl_instructions.specs.Acts.{IsUnused, state_with, state_of, operands_of}
+use Rattle.machine_memory.specs.Acts.{IsUnused, state_with, state_of, operands_of}
 use Rattle.stapl_instructions.specs.Moves.{led_to, led_on}
 use Rattle.written_cable.specs.Papers.{Shown}
 use Rattle.written_cable.specs.Pins.{cable_of, port_chain}

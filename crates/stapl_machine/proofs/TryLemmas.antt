@@ -8,8 +8,8 @@ use Rattle.stapl_code.specs.declared.raw.CodeLists.{CodeLists}
 use Rattle.stapl_code.specs.Machine.{Step, Falls, Stops, stretch, continues}
 use Rattle.stapl_code.specs.Ticks.{ticks, tick_of, counted_behind}
 use Rattle.stapl_code.specs.Safe.{entries_of, constants_of}
-use Rattle.stapl_instructions.specs.declared.act.Workspace.{Workspace}
-use Rattle.stapl_instructions.specs.Acts.{state_of, operands_of, step_of}
+use Rattle.machine_memory.specs.declared.memory.Workspace.{Workspace}
+use Rattle.machine_memory.specs.Acts.{state_of, operands_of, step_of}
 use Rattle.stapl_machine.specs.Turns.{rest_of, ticks_from}
 use Rattle.stapl_machine.proofs.TurnLemmas.{behind, ticks_after, one_more, one_tick}
 

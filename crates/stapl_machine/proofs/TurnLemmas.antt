@@ -18,10 +18,10 @@ use Rattle.stapl_code.specs.Machine.{Constants, step, stretch, begins, continues
 use Rattle.stapl_code.specs.Ticks.{ticks, begin_ticks, tick_of, counted_scan, counted_behind}
 use Rattle.stapl_code.specs.Safe.{entries_of, constants_of}
 use Rattle.stapl_code.proofs.Preceded.{with_nothing, with_both}
-use Rattle.stapl_instructions.specs.declared.act.Workspace.{Workspace}
+use Rattle.machine_memory.specs.declared.memory.Workspace.{Workspace}
 use Rattle.stapl_instructions.specs.declared.control.Moved.{Moved}
 use Rattle.written_cable.specs.declared.pin_cable.PinCable.{PinCable}
-use Rattle.stapl_instructions.specs.Acts.{state_of, operands_of, step_of}
+use Rattle.machine_memory.specs.Acts.{state_of, operands_of, step_of}
 use Rattle.stapl_instructions.specs.Moves.{moved_to, moved_ticks}
 use Rattle.written_cable.specs.Papers.{Shown}
 use Rattle.written_cable.specs.Pins.{cable_of, tap_of, port_chain}

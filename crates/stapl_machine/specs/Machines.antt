@@ -15,13 +15,13 @@ use Rattle.stapl_meaning.specs.Plays.{Run, ending_of}
 use Rattle.stapl_meaning.specs.Texts.{events_text}
 use Rattle.stapl_code.specs.declared.raw.CodeLists.{CodeLists}
 use Rattle.stapl_machine.specs.declared.running.Machine.{Machine}
-use Rattle.stapl_instructions.specs.declared.act.Workspace.{Workspace}
-use Rattle.stapl_instructions.specs.Acts.{IsUnused}
+use Rattle.machine_memory.specs.declared.memory.Workspace.{Workspace}
+use Rattle.machine_memory.specs.Acts.{IsUnused}
 use Rattle.written_cable.specs.Papers.{Shown, Puts, PutsFront}
 use Rattle.written_cable.specs.Signals.{signals_of}
 use Rattle.written_cable.specs.Resets.{kept_digits}
-use Rattle.stapl_instructions.specs.RunRooms.{HasRoom}
-use Rattle.stapl_instructions.specs.Zeros.{zeros_of_code}
+use Rattle.machine_memory.specs.RunRooms.{HasRoom}
+use Rattle.machine_memory.specs.Zeros.{zeros_of_code}
 use Rattle.stapl_machine.specs.Runs.{play_from, play_ticks_from}
 
 -- the play of a code, for at most n turns of the chosen procedures, and how many instructions it takes

@@ -3,13 +3,13 @@ use Rattle.std.specs.Prelude.{◌≡◌, ◌<◌, ◌≤◌, ℕ, ◌+◌, List,
 use Rattle.stapl_meaning.specs.Deeds.{Chain}
 use Rattle.stapl_meaning.specs.States.{Happened, Led, Lacks}
 use Rattle.stapl_code.specs.declared.raw.CodeLists.{CodeLists}
-use Rattle.stapl_instructions.specs.declared.act.Workspace.{Workspace}
+use Rattle.machine_memory.specs.declared.memory.Workspace.{Workspace}
 use Rattle.stapl_instructions.specs.declared.fast_path.Tried.{Tried}
 use Rattle.stapl_instructions.specs.declared.fast_path.Tried.TheVariants as tried
 use Rattle.stapl_machine.specs.declared.turns.Reached.{Reached}
 use Rattle.stapl_machine.specs.declared.turns.Reached.TheVariants as reached
-use Rattle.stapl_instructions.specs.Acts.{state_of}
-use Rattle.stapl_instructions.specs.RunRooms.{HoldsFrom}
+use Rattle.machine_memory.specs.Acts.{state_of}
+use Rattle.machine_memory.specs.RunRooms.{HoldsFrom}
 use Rattle.stapl_machine.specs.Turns.{rest_of, ticks_from, no_ticks}
 
 -- the rest of the turn after instruction i, which was tried, and how many instructions it takes

@@ -8,11 +8,11 @@ use Rattle.stapl_code.specs.declared.raw.CodeLists.{CodeLists}
 use Rattle.stapl_code.specs.Machine.{stretch, code_turn}
 use Rattle.stapl_code.specs.Ticks.{ticks, turn_ticks}
 use Rattle.stapl_code.specs.Safe.{entries_of, constants_of}
-use Rattle.stapl_instructions.specs.declared.act.Workspace.{Workspace}
+use Rattle.machine_memory.specs.declared.memory.Workspace.{Workspace}
 use Rattle.stapl_instructions.specs.declared.control.Went.{Went}
-use Rattle.stapl_instructions.specs.Acts.{state_of, operands_of}
+use Rattle.machine_memory.specs.Acts.{state_of, operands_of}
 use Rattle.stapl_instructions.specs.Moves.{led_on, IsClean}
-use Rattle.stapl_instructions.specs.RunRooms.{HoldsFrom}
+use Rattle.machine_memory.specs.RunRooms.{HoldsFrom}
 
 -- the rest of a turn from an instruction on, and how many instructions it takes
 abbrev pub rest_of : CodeLists → ℕ → List ℕ → Workspace → Chain → Happened

@@ -16,14 +16,15 @@ ghost use Rattle.stapl_machine.specs.Machines.{play_of, play_ticks_of, IsPrepare
 
 use crate::runs::play_out;
 use base::Steps;
+use machine_memory::memory::{Memory, Workspace};
 use scan_paths::{BasePads, Cable};
-use stapl_code::Code;
 use stapl_code::laws::{codes_hold_their_depth, never_stuck, plays_are_bounded};
-use stapl_instructions::{Memory, Workspace, print_room};
+use stapl_instructions::print_room;
 use stapl_meaning::Ending;
 use std::alloc::{AllocError, Global};
 use std::sync::ledger::Ledger;
 use tool_io::{Failed, Lines, Sink};
+use valid_codes::Code;
 use written_cable::{Digits, Paper, PinCable, Trouble, five_ones};
 
 /// The stack machine, for one run of a code.

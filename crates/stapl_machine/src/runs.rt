@@ -2,19 +2,20 @@
 ghost use Rattle.std.specs.Prelude.{◌≡◌, ◌<◌, ◌^◌, [], false, length, OnOk, OnErr, IfOk, IfErr};
 ghost use Rattle.tool_io.specs.Causes.{HasRisen, NeverFalls};
 ghost use Rattle.scan_paths.specs.Cables.{whole, cable_faults, IsCableLast};
-ghost use Rattle.stapl_instructions.specs.Acts.{IsUnused, state_of};
+ghost use Rattle.machine_memory.specs.Acts.{IsUnused, state_of};
 ghost use Rattle.stapl_instructions.specs.Moves.{led_on, IsClean};
 ghost use Rattle.written_cable.specs.Papers.{IsOverSame};
 ghost use Rattle.written_cable.specs.Pins.{cable_of, lines_of, port_breakage, IsSameCable, IsSameOut};
 ghost use Rattle.written_cable.specs.Ports.{IsInStep, IsRun, Keeps, PlaysTo, PlaysFront, IfFault};
-ghost use Rattle.stapl_instructions.specs.RunRooms.{HasRoom};
+ghost use Rattle.machine_memory.specs.RunRooms.{HasRoom};
 ghost use Rattle.stapl_machine.specs.Runs.{run_of, run_ticks_of, chosen_run, chosen_ticks, begun_run, begun_ticks, play_from, play_ticks_from};
 
 use crate::turns::{rest_of_turn, turn};
 use base::Steps;
+use machine_memory::memory::Workspace;
 use scan_paths::Cable;
 use stapl_code::CodeLists;
-use stapl_instructions::{Went, Workspace, begin_next};
+use stapl_instructions::{Went, begin_next};
 use stapl_meaning::Ending;
 use std::sync::ledger::Ledger;
 use written_cable::{Paper, PinCable, Trouble, trouble_of};

@@ -5,22 +5,23 @@ ghost use Rattle.scan_paths.specs.Cables.{whole};
 ghost use Rattle.stapl_meaning.specs.Deeds.{Chain, Deed, Goes, Scans};
 ghost use Rattle.stapl_meaning.specs.Scans.{settings_of, scan_of};
 ghost use Rattle.stapl_code.specs.Ticks.{tick_of};
-ghost use Rattle.stapl_instructions.specs.Acts.{state_in, state_of, states_of, told_by, stays_for, pauses_for, waited_deeds, deeds_told, RestsIn};
-ghost use Rattle.stapl_instructions.specs.Jobs.{CanBeDone, job_scan, job_lands, with_captured};
+ghost use Rattle.machine_memory.specs.Acts.{state_in, state_of, states_of, told_by, stays_for, pauses_for, waited_deeds, deeds_told, RestsIn};
+ghost use Rattle.machine_memory.specs.Jobs.{CanBeDone, job_scan, job_lands, with_captured};
 ghost use Rattle.stapl_instructions.specs.Moves.{led_on, IsClean};
 ghost use Rattle.written_cable.specs.Pins.{tap_of, port_breakage};
-ghost use Rattle.stapl_instructions.specs.RunRooms.{HasRoom, HoldsFrom, KeepsRoom};
+ghost use Rattle.machine_memory.specs.RunRooms.{HasRoom, HoldsFrom, KeepsRoom};
 ghost use Rattle.written_cable.specs.Ports.{IsInStep, IsKept, Did, DidFront, DidScan, Captured, IsDone, Keeps};
 ghost use Rattle.stapl_machine.specs.Reaches.{behind_try, ticks_behind_try, IsCleanTry, behind_reached, ticks_behind_reached, IsReached};
 ghost use Rattle.stapl_machine.specs.Turns.{rest_of, ticks_from, no_ticks, behind_it, ticks_behind_it, IsCleanBehind, piece_of, turn_at, ticks_at};
 
 use base::Steps;
+use machine_memory::effects::{Doing, ScanJob, Wait};
+use machine_memory::memory::{Memory, Shifted, Workspace};
+use machine_memory::settings::Settings;
+use machine_scans::land;
 use scan_paths::Cable;
 use stapl_code::{CodeLists, Instr};
-use stapl_instructions::{
-    Doing, Memory, Moved, ScanJob, Settings, Shifted, Tried, Wait, Went, Workspace, advance, land,
-    try_step,
-};
+use stapl_instructions::{Moved, Tried, Went, advance, try_step};
 use stapl_lexer::Register;
 use std::sync::ledger::Ledger;
 use tap_states::Tap;

@@ -8,10 +8,11 @@ ghost use Rattle.stapl_code.specs.Safe.{AllBelow};
 ghost use Rattle.stapl_player.specs.declared.choosing.ChoiceRefused.TheVariants.{Memory};
 ghost use Rattle.stapl_player.specs.Choices.{bears, bears_one, runs, running, are_offered, code_choice};
 
-use stapl_code::{ActionDef, Code, ItemDef, ProcDef};
+use stapl_code::{ActionDef, ItemDef, ProcDef};
 use stapl_lexer::Name;
 use std::alloc::{AllocError, Global};
 use thiserror::Error;
+use valid_codes::Code;
 
 /// Why no procedures are chosen: `NoAction` if the code has no action of that name, else `BadChoice` if a name cannot
 /// be chosen, or `Memory` for want of memory alone.

@@ -12,11 +12,11 @@ ghost use Rattle.stapl_player.specs.Plays.{whole_play, whole_ticks, HasPlayed, H
 
 use base::Steps;
 use scan_paths::{BasePads, Cable};
-use stapl_code::Code;
 use stapl_machine::Machine;
 use stapl_meaning::Ending;
 use std::sync::ledger::Ledger;
 use tool_io::{Lines, Sink};
+use valid_codes::Code;
 use written_cable::Trouble;
 
 /// Plays the chosen procedures of a code, which are told by their numbers, for at most so many turns, on a machine that

@@ -20,7 +20,7 @@ use Rattle.written_cable.specs.Pins.{cable_of, tap_of, base_of, port_chain}
 use Rattle.written_cable.specs.Resets.{IsReset}
 use Rattle.written_cable.specs.Ports.{chain_before, Does, Runs}
 use Rattle.written_cable.proofs.DeedLemmas.{passes_both, before_both}
-use Rattle.stapl_instructions.specs.Zeros.{zeros_of_code}
+use Rattle.machine_memory.specs.Zeros.{zeros_of_code}
 use Rattle.stapl_machine.specs.Runs.{run_of, run_ticks_of, play_from}
 use Rattle.stapl_machine.specs.Machines.{play_of}
 use Rattle.stapl_machine.proofs.RunLemmas.{goes_after}

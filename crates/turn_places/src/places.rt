@@ -1,18 +1,19 @@
 //! The place at which a run goes on.
 ghost use Rattle.std.specs.Prelude.{◌≡◌, ◌<◌, ◌^◌, [], length, IfOk, IfSome};
 ghost use Rattle.scan_paths.specs.Cables.{whole};
-ghost use Rattle.stapl_instructions.specs.Acts.{IsUnused, state_of};
+ghost use Rattle.machine_memory.specs.Acts.{IsUnused, state_of};
 ghost use Rattle.stapl_instructions.specs.Moves.{led_on, IsClean};
-ghost use Rattle.stapl_instructions.specs.RunRooms.{HasRoom};
+ghost use Rattle.machine_memory.specs.RunRooms.{HasRoom};
 ghost use Rattle.written_cable.specs.Pins.{port_breakage};
 ghost use Rattle.written_cable.specs.Ports.{IsInStep};
 ghost use Rattle.stapl_machine.specs.Runs.{run_of, chosen_run, begun_run, play_from};
 ghost use Rattle.turn_places.specs.Places.{GoesOnAt};
 
 use base::Steps;
+use machine_memory::memory::Workspace;
 use scan_paths::Cable;
 use stapl_code::CodeLists;
-use stapl_instructions::{Went, Workspace, begin_next};
+use stapl_instructions::{Went, begin_next};
 use stapl_machine::{rest_of_turn, turn};
 use std::sync::ledger::Ledger;
 use written_cable::{Paper, PinCable, Trouble};

@@ -5,20 +5,20 @@ ghost use Rattle.dev_card.specs.Board.{AllIn};
 ghost use Rattle.scan_paths.specs.Cables.{whole, WhereTold};
 ghost use Rattle.scan_paths.specs.Scans.{lengths_of};
 ghost use Rattle.stapl_code.specs.Safe.{AllBelow};
-ghost use Rattle.stapl_instructions.specs.Acts.{IsUnused};
-ghost use Rattle.stapl_instructions.specs.RunRooms.{HasRoom};
-ghost use Rattle.stapl_instructions.specs.Zeros.{zeros_of_code};
+ghost use Rattle.machine_memory.specs.Acts.{IsUnused};
+ghost use Rattle.machine_memory.specs.RunRooms.{HasRoom};
+ghost use Rattle.machine_memory.specs.Zeros.{zeros_of_code};
 ghost use Rattle.stapl_machine.specs.Machines.{play_of, IsPrepared};
 ghost use Rattle.turn_places.specs.Places.{GoesOnOver, GoesOnTold};
 
 use crate::places::play_place;
 use base::Steps;
+use machine_memory::memory::Workspace;
 use scan_paths::{BasePads, Cable};
-use stapl_code::Code;
-use stapl_instructions::Workspace;
 use stapl_machine::Machine;
 use std::sync::ledger::Ledger;
 use tool_io::{Lines, Sink};
+use valid_codes::Code;
 use written_cable::{Digits, Paper, PinCable, Trouble};
 
 // The place after the first clocks, which led all controllers to the reset state.

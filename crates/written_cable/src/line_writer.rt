@@ -10,15 +10,15 @@ ghost use Rattle.stapl_meaning.specs.declared.events.Event.TheVariants.{Print, U
 ghost use Rattle.stapl_meaning.specs.declared.events.Event.TheVariants as events;
 ghost use Rattle.stapl_code.specs.Safe.{constants_of};
 ghost use Rattle.stapl_meaning.specs.Values.{bits_in, bits_of, span_bits};
-ghost use Rattle.stapl_instructions.specs.Arrays.{span_in};
-ghost use Rattle.stapl_instructions.specs.Exports.{text_in, literal_in, bits_at, value_exported, export_event};
+ghost use Rattle.machine_memory.specs.Arrays.{span_in};
+ghost use Rattle.machine_memory.specs.Exports.{text_in, literal_in, bits_at, value_exported, export_event};
 ghost use Rattle.written_cable.specs.HexTexts.{hex_text};
 
 use bit_list::Bits;
+use machine_memory::effects::{BitsAt, Export, Exported, digit_of};
+use machine_memory::part_bits::part_word;
+use machine_memory::parts::{Part, Span, held_at, literal_at};
 use stapl_code::CodeLists;
-use stapl_instructions::{
-    BitsAt, Export, Exported, Part, Span, digit_of, held_at, literal_at, part_word,
-};
 use stapl_meaning::{Held, Text, Value};
 use tool_io::{Failed, Lines, Sink, put_count_line, put_escaped, put_hex};
 

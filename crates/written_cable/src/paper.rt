@@ -4,12 +4,12 @@ ghost use Rattle.tool_io.specs.Causes.{HasCause};
 ghost use Rattle.stapl_meaning.specs.Texts.{event_line, pin_line};
 ghost use Rattle.stapl_meaning.specs.declared.events.Event.TheVariants.{Print, Usec, Hertz};
 ghost use Rattle.stapl_code.specs.Safe.{constants_of};
-ghost use Rattle.stapl_instructions.specs.Exports.{export_event};
+ghost use Rattle.machine_memory.specs.Exports.{export_event};
 ghost use Rattle.written_cable.specs.Papers.{Shown, Puts, PutsFront, IsOverSame};
 
 use crate::line_writer;
+use machine_memory::effects::Export;
 use stapl_code::CodeLists;
-use stapl_instructions::Export;
 use stapl_meaning::Held;
 use tool_io::{Failed, Lines, Sink};
 

@@ -2,7 +2,7 @@ use Rattle.std.proofs.Common.{map, refl}
 use Rattle.dev_card.specs.Card.{fresh}
 use Rattle.dev_card.specs.FarEnds.{Told}
 use Rattle.stapl_meaning.specs.Plays.{chain_reset}
-use Rattle.stapl_instructions.specs.Zeros.{zeros_of_code}
+use Rattle.machine_memory.specs.Zeros.{zeros_of_code}
 use Rattle.code_plays.specs.CodePlays.{task_base, task_play}
 use Rattle.code_plays.proofs.PlayLemmas.{has_ending}
 use Rattle.code_plays.proofs.CodeLemmas.{zeros_of_code_fit}

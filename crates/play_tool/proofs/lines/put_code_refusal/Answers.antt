@@ -1,5 +1,5 @@
 use Rattle.std.proofs.Common.{codes}
-use Rattle.code_files.specs.Reasons.{reason_name}
+use Rattle.stapl_code.specs.Reasons.{reason_name}
 use Rattle.tool_io.specs.Texts.{word_line}
 use Rattle.tool_io.proofs.PutLemmas.{put_then, put_then_front, front_with, put_failed, put_done}
 use Rattle.play_tool.proofs.lines.put_code_refusal.Goals as goal

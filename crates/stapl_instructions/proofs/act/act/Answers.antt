@@ -2,8 +2,8 @@ use Rattle.std.proofs.Common.{rules, ◌≡◌, ◌-◌, length, reverse, drop, 
 use Rattle.std.specs.Prelude.{Ok, Err}
 use Rattle.stapl_code.specs.Machine.{made, lands}
 use Rattle.stapl_code.specs.Safe.{entries_of, constants_of}
-use Rattle.stapl_instructions.specs.declared.act.Workspace.{Workspace}
-use Rattle.stapl_instructions.specs.Acts.{IsMade, told_by, state_of, step_of}
+use Rattle.machine_memory.specs.declared.memory.Workspace.{Workspace}
+use Rattle.machine_memory.specs.Acts.{IsMade, told_by, state_of, step_of}
 use Rattle.stapl_instructions.proofs.Slices.{none_there, all_there, acts, acts_not}
 use Rattle.stapl_instructions.proofs.act.act.Goals as goal
 

@@ -4,7 +4,7 @@ use Rattle.stapl_meaning.specs.declared.values.Held.{Held}
 use Rattle.stapl_code.specs.declared.instr.Instr.TheVariants.{Print}
 use Rattle.stapl_code.specs.Machine.{does, known_text, part_exported}
 use Rattle.stapl_code.specs.Safe.{constants_of}
-use Rattle.stapl_instructions.specs.Acts.{IsMade, Told, state_in, state_with}
+use Rattle.machine_memory.specs.Acts.{IsMade, Told, state_in, state_with}
 use Rattle.stapl_instructions.proofs.act.make.Goals as goal
 
 pub returns-in-Print-clause-made : goal.returns-in-Print-clause-made

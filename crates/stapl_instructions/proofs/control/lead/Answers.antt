@@ -3,7 +3,7 @@ use Rattle.stapl_meaning.specs.States.{State, happens, happened_in_piece}
 use Rattle.stapl_code.specs.Safe.{entries_of}
 use Rattle.std.specs.Prelude.{Some}
 use Rattle.stapl_code.specs.Machine.{at_end, continues, lands}
-use Rattle.stapl_instructions.specs.Acts.{state_in, stepped}
+use Rattle.machine_memory.specs.Acts.{state_in, stepped}
 use Rattle.stapl_instructions.specs.Moves.{led_to}
 use Rattle.stapl_instructions.specs.declared.control.Went.TheVariants as went
 use Rattle.stapl_instructions.proofs.control.lead.Goals as goal

@@ -2,8 +2,8 @@ use Rattle.std.proofs.Common.{◌+◌, length, drop, sym, ap, ◌∙◌, arith, 
 use Rattle.std.proofs.lemmas.List.{drop_more}
 use Rattle.stapl_code.specs.Machine.{parts_text}
 use Rattle.stapl_code.specs.Safe.{constants_of}
-use Rattle.stapl_instructions.specs.Prints.{with_front, parts_room}
-use Rattle.stapl_instructions.proofs.PrintLemmas.{nothing_in_front, put_stops, left_over, none_left}
+use Rattle.machine_memory.specs.Prints.{with_front, parts_room}
+use Rattle.machine_memory.proofs.PrintLemmas.{nothing_in_front, put_stops, left_over, none_left}
 use Rattle.stapl_instructions.proofs.printing.join.Goals as goal
 
 pub loop-part-init : goal.loop-part-init

@@ -1,7 +1,7 @@
 use Rattle.std.proofs.Common.{◌≡◌, ◌≤◌, ◌+◌, ℕ, List, drop, length, vec_capacity}
 use Rattle.stapl_code.specs.Machine.{parts_text}
 use Rattle.stapl_code.specs.Safe.{constants_of}
-use Rattle.stapl_instructions.specs.Prints.{with_front, parts_room}
+use Rattle.machine_memory.specs.Prints.{with_front, parts_room}
 use Rattle.stapl_instructions.proofs.printing.join.Given as goal
 
 abbrev pub invariant-loop-part : goal.invariant-loop-part

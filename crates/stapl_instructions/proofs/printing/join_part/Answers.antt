@@ -2,7 +2,7 @@ use Rattle.std.proofs.Common.{◌++◌, drop, subst, slice_get}
 use Rattle.stapl_meaning.specs.Values.{Known, then_get}
 use Rattle.stapl_code.specs.Machine.{parts_text, known_text}
 use Rattle.stapl_code.specs.Safe.{constants_of}
-use Rattle.stapl_instructions.specs.Prints.{IsPut}
+use Rattle.machine_memory.specs.Prints.{IsPut}
 use Rattle.stapl_instructions.proofs.printing.join_part.Goals as goal
 
 pub returns-in-Text-clause-put : goal.returns-in-Text-clause-put

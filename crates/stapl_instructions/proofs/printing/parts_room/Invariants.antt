@@ -1,5 +1,5 @@
 use Rattle.std.proofs.Common.{◌≡◌, ◌+◌, drop}
-use Rattle.stapl_instructions.specs.Prints.{parts_room}
+use Rattle.machine_memory.specs.Prints.{parts_room}
 use Rattle.stapl_instructions.proofs.printing.parts_room.Given as goal
 
 abbrev pub invariant-loop-part : goal.invariant-loop-part

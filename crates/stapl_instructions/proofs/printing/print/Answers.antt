@@ -2,7 +2,7 @@ use Rattle.std.proofs.Common.{[], ap}
 use Rattle.stapl_code.specs.Machine.{does}
 use Rattle.stapl_code.specs.Safe.{constants_of}
 use Rattle.stapl_meaning.specs.Effects.{printed}
-use Rattle.stapl_instructions.proofs.PrintLemmas.{print_stops}
+use Rattle.machine_memory.proofs.PrintLemmas.{print_stops}
 use Rattle.stapl_instructions.proofs.printing.print.Goals as goal
 
 pub returns-in-Ok-clause-made : goal.returns-in-Ok-clause-made

@@ -1,5 +1,5 @@
 use Rattle.std.proofs.Common.{◌≡◌, max, drop}
-use Rattle.stapl_instructions.specs.Prints.{print_room}
+use Rattle.machine_memory.specs.Prints.{print_room}
 use Rattle.stapl_instructions.proofs.printing.print_room.Given as goal
 
 abbrev pub invariant-loop-instr : goal.invariant-loop-instr

@@ -1,8 +1,8 @@
 use Rattle.std.proofs.Common.{◌≡◌, ◌++◌, ap, sym, ◌∙◌}
 use Rattle.stapl_meaning.specs.Values.{Known, then_get}
 use Rattle.stapl_code.specs.Machine.{known_text}
-use Rattle.stapl_instructions.specs.Prints.{with_front}
-use Rattle.stapl_instructions.proofs.PrintLemmas.{front_text, item_at, no_item}
+use Rattle.machine_memory.specs.Prints.{with_front}
+use Rattle.machine_memory.proofs.PrintLemmas.{front_text, item_at, no_item}
 use Rattle.stapl_instructions.proofs.printing.put_text.Goals as goal
 
 pub returns-in-Some-clause-put : goal.returns-in-Some-clause-put

@@ -4,7 +4,7 @@ use Rattle.stapl_meaning.specs.Plays.{goes_on}
 use Rattle.stapl_code.specs.Machine.{entry_of, begins_chosen}
 use Rattle.stapl_code.specs.Safe.{entries_of}
 use Rattle.stapl_code.specs.Ticks.{counted_then}
-use Rattle.stapl_instructions.specs.Acts.{state_of}
+use Rattle.machine_memory.specs.Acts.{state_of}
 use Rattle.stapl_instructions.specs.Moves.{led_on}
 use Rattle.written_cable.specs.Pins.{port_breakage}
 use Rattle.stapl_machine.specs.Turns.{rest_of, ticks_from, no_ticks}

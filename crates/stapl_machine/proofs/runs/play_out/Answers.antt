@@ -1,4 +1,4 @@
-use Rattle.stapl_instructions.specs.Acts.{state_of}
+use Rattle.machine_memory.specs.Acts.{state_of}
 use Rattle.written_cable.specs.Pins.{port_breakage}
 use Rattle.stapl_machine.specs.Runs.{play_from, play_ticks_from}
 use Rattle.stapl_machine.proofs.PlayLemmas.{plays_end, plays_torn, plays_front}

@@ -2,7 +2,7 @@ use Rattle.std.proofs.Common.{ap, None}
 use Rattle.stapl_meaning.specs.Plays.{goes_on, ending_of}
 use Rattle.stapl_code.specs.Ticks.{counted_then}
 use Rattle.stapl_instructions.specs.declared.control.Went.TheVariants as went
-use Rattle.stapl_instructions.specs.Acts.{state_of}
+use Rattle.machine_memory.specs.Acts.{state_of}
 use Rattle.stapl_instructions.specs.Moves.{led_on}
 use Rattle.written_cable.specs.Pins.{port_breakage}
 use Rattle.stapl_machine.specs.Runs.{run_of, run_ticks_of, chosen_run, chosen_ticks, begun_run, begun_ticks}

@@ -1,9 +1,9 @@
 use Rattle.std.proofs.Common.{◌≡◌, ◌≤◌, ◌-◌, []}
 use Rattle.scan_paths.specs.Cables.{whole}
-use Rattle.stapl_instructions.specs.Acts.{state_of}
+use Rattle.machine_memory.specs.Acts.{state_of}
 use Rattle.written_cable.specs.Pins.{port_breakage}
 use Rattle.written_cable.specs.Ports.{IsInStep, IsKept, Runs}
-use Rattle.stapl_instructions.specs.RunRooms.{HasRoom}
+use Rattle.machine_memory.specs.RunRooms.{HasRoom}
 use Rattle.stapl_machine.specs.Runs.{run_of, run_ticks_of}
 use Rattle.stapl_machine.proofs.runs.run_turns.Given as goal
 

@@ -1,7 +1,7 @@
 use Rattle.std.proofs.Common.{ap, ◌∙◌}
-use Rattle.stapl_instructions.specs.declared.memory.Memory.{Memory}
-use Rattle.stapl_instructions.specs.Acts.{state_in}
-use Rattle.stapl_instructions.specs.Jobs.{job_lands}
+use Rattle.machine_memory.specs.declared.memory.Memory.{Memory}
+use Rattle.machine_memory.specs.Acts.{state_in}
+use Rattle.machine_memory.specs.Jobs.{job_lands}
 use Rattle.stapl_machine.proofs.turns.capture.Goals as goal
 
 pub returns-clause-captured : goal.returns-clause-captured

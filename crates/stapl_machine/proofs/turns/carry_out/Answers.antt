@@ -2,13 +2,13 @@ use Rattle.std.proofs.Common.{rules, arith, ◌≡◌, ◌+◌, get_or, drop, sy
 use Rattle.stapl_meaning.specs.Deeds.{deeds_chain}
 use Rattle.stapl_meaning.specs.States.{happened_in_piece}
 use Rattle.stapl_instructions.specs.declared.control.Moved.TheVariants.{On, Acts, Scans, Ends}
-use Rattle.stapl_instructions.specs.Acts.{state_in, state_of, operands_of, told_by, deeds_told}
-use Rattle.stapl_instructions.specs.Jobs.{job_scan, job_lands}
+use Rattle.machine_memory.specs.Acts.{state_in, state_of, operands_of, told_by, deeds_told}
+use Rattle.machine_memory.specs.Jobs.{job_scan, job_lands}
 use Rattle.stapl_instructions.specs.Moves.{led_on}
 use Rattle.written_cable.specs.Pins.{port_breakage}
 use Rattle.stapl_machine.specs.Turns.{rest_of, ticks_from, no_ticks}
 use Rattle.stapl_instructions.proofs.OperandLemmas.{count_fits, holds_behind}
-use Rattle.stapl_instructions.proofs.PrintLemmas.{print_fits}
+use Rattle.machine_memory.proofs.PrintLemmas.{print_fits}
 use Rattle.stapl_machine.proofs.TurnLemmas.{goes, counts, does_still, does_deeds, does_deeds_front, does_lack, does_scan, does_scan_front, behind, ticks_after, none_over}
 use Rattle.stapl_machine.proofs.turns.carry_out.Goals as goal
 

@@ -1,6 +1,6 @@
 use Rattle.std.proofs.Common.{◌≡◌, ℕ, ◌+◌, List}
 use Rattle.stapl_meaning.specs.Deeds.{Chain}
-use Rattle.stapl_instructions.specs.RunRooms.{HoldsFrom, KeepsRoom}
+use Rattle.machine_memory.specs.RunRooms.{HoldsFrom, KeepsRoom}
 use Rattle.stapl_machine.specs.Turns.{rest_of, ticks_from}
 use Rattle.stapl_machine.proofs.turns.carry_out_common.Given as goal
 

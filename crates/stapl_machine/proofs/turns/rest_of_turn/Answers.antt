@@ -1,6 +1,6 @@
 use Rattle.std.proofs.Common.{refl, ◌+◌, None, subst, arith}
 use Rattle.stapl_instructions.specs.declared.control.Went.TheVariants as went
-use Rattle.stapl_instructions.specs.Acts.{state_of}
+use Rattle.machine_memory.specs.Acts.{state_of}
 use Rattle.stapl_instructions.specs.Moves.{led_on}
 use Rattle.written_cable.specs.Pins.{port_breakage}
 use Rattle.stapl_machine.specs.Turns.{rest_of, ticks_from, no_ticks, behind_it, ticks_behind_it, IsCleanBehind}

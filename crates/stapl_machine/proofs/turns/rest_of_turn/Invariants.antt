@@ -2,7 +2,7 @@ use Rattle.std.proofs.Common.{◌≡◌, ◌-◌, length}
 use Rattle.scan_paths.specs.Cables.{whole}
 use Rattle.written_cable.specs.Pins.{port_breakage}
 use Rattle.written_cable.specs.Ports.{IsInStep, IsKept, Does}
-use Rattle.stapl_instructions.specs.RunRooms.{HasRoom, HoldsFrom, KeepsRoom}
+use Rattle.machine_memory.specs.RunRooms.{HasRoom, HoldsFrom, KeepsRoom}
 use Rattle.stapl_machine.specs.Turns.{rest_of, ticks_from}
 use Rattle.stapl_machine.proofs.turns.rest_of_turn.Given as goal
 

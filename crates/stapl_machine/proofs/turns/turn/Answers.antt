@@ -1,6 +1,6 @@
 use Rattle.std.proofs.Common.{rules, ◌≡◌, ◌+◌, Some, None, slice_get}
 use Rattle.stapl_instructions.specs.declared.control.Went.TheVariants as went
-use Rattle.stapl_instructions.specs.Acts.{state_of}
+use Rattle.machine_memory.specs.Acts.{state_of}
 use Rattle.stapl_instructions.specs.Moves.{led_on}
 use Rattle.written_cable.specs.Pins.{port_breakage}
 use Rattle.stapl_machine.specs.Turns.{rest_of, ticks_from, no_ticks, piece_of, turn_at, ticks_at}

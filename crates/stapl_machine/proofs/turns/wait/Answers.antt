@@ -2,7 +2,7 @@ use Rattle.std.proofs.Common.{[], ◌∷◌, ◌++◌, List}
 use Rattle.tool_io.proofs.BytesLemmas.{on_err}
 use Rattle.stapl_meaning.specs.Deeds.{Deed, Goes}
 use Rattle.written_cable.specs.Pins.{port_breakage}
-use Rattle.stapl_instructions.specs.Acts.{stays_for, pauses_for, waited_deeds}
+use Rattle.machine_memory.specs.Acts.{stays_for, pauses_for, waited_deeds}
 use Rattle.written_cable.proofs.DeedLemmas.{did_both, did_both_front}
 use Rattle.stapl_machine.proofs.turns.wait.Goals as goal
 

@@ -1,5 +1,5 @@
 use Rattle.stapl_instructions.specs.declared.control.Went.TheVariants as went
-use Rattle.stapl_instructions.specs.Acts.{state_of}
+use Rattle.machine_memory.specs.Acts.{state_of}
 use Rattle.stapl_instructions.specs.Moves.{led_on}
 use Rattle.written_cable.specs.Pins.{port_breakage}
 use Rattle.stapl_machine.specs.Runs.{chosen_run, begun_run}

@@ -1,5 +1,5 @@
 use Rattle.std.proofs.Common.{ap, ◌∙◌, reverse}
-use Rattle.stapl_instructions.specs.Acts.{state_of}
+use Rattle.machine_memory.specs.Acts.{state_of}
 use Rattle.stapl_instructions.specs.Moves.{led_to}
 use Rattle.written_cable.specs.Pins.{port_breakage}
 use Rattle.stapl_machine.specs.Runs.{run_of, chosen_run}

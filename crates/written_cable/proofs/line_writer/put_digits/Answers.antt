@@ -5,8 +5,8 @@ use Rattle.bit_list.proofs.HexDigits.{word_fits, digits_down}
 use Rattle.tool_io.proofs.CauseLemmas.{kept_start, kept_then}
 use Rattle.tool_io.proofs.PutLemmas.{put_failed, put_done}
 use Rattle.stapl_meaning.specs.Values.{span_bits}
-use Rattle.stapl_instructions.specs.Arrays.{span_in}
-use Rattle.stapl_instructions.proofs.SpanLemmas.{length_span}
+use Rattle.machine_memory.specs.Arrays.{span_in}
+use Rattle.machine_memory.proofs.SpanLemmas.{length_span}
 use Rattle.written_cable.proofs.DigitLemmas.{no_word, word_more, word_front, digits_put}
 use Rattle.written_cable.proofs.line_writer.put_digits.Goals as goal
 

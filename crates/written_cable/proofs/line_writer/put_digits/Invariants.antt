@@ -1,7 +1,7 @@
 use Rattle.std.proofs.Common.{◌≤◌}
 use Rattle.bit_list.specs.Hexadecimal.{all_hex_digits}
 use Rattle.stapl_meaning.specs.Values.{span_bits}
-use Rattle.stapl_instructions.specs.Arrays.{span_in}
+use Rattle.machine_memory.specs.Arrays.{span_in}
 use Rattle.tool_io.specs.Lines.{IsWhole, IsOverSame, SinkNeverFalls}
 use Rattle.written_cable.specs.HexTexts.{PutsDigits}
 use Rattle.written_cable.proofs.line_writer.put_digits.Given as goal

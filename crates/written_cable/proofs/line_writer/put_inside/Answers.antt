@@ -1,5 +1,5 @@
 use Rattle.stapl_meaning.specs.Values.{span_bits}
-use Rattle.stapl_instructions.specs.Arrays.{span_in}
+use Rattle.machine_memory.specs.Arrays.{span_in}
 use Rattle.bit_list.specs.Hexadecimal.{all_hex_digits}
 use Rattle.tool_io.proofs.PutLemmas.{put_then, put_then_front, front_with, put_failed, put_done}
 use Rattle.written_cable.proofs.line_writer.put_inside.Goals as goal

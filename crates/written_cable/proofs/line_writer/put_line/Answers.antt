@@ -3,7 +3,7 @@ use Rattle.std.specs.Prelude.{codes}
 use Rattle.stapl_meaning.specs.Texts.{export_text}
 use Rattle.tool_io.specs.Texts.{escaped}
 use Rattle.tool_io.proofs.PutLemmas.{put_then, put_then_front, front_with, put_failed, put_done}
-use Rattle.stapl_instructions.specs.Exports.{value_exported}
+use Rattle.machine_memory.specs.Exports.{value_exported}
 use Rattle.written_cable.proofs.line_writer.put_line.Goals as goal
 
 pub returns-in_err-put-clause-put : goal.returns-in_err-put-clause-put

@@ -3,11 +3,11 @@ use Rattle.tap_states.specs.Tap.{is_stable_state}
 use Rattle.scan_paths.specs.Scans.{lengths_of}
 use Rattle.stapl_code.specs.Safe.{entries_of, constants_of}
 use Rattle.stapl_machine.specs.declared.running.Machine.{Machine}
-use Rattle.stapl_instructions.specs.Acts.{state_of}
+use Rattle.machine_memory.specs.Acts.{state_of}
 use Rattle.stapl_machine.specs.Machines.{play_of, play_ticks_of, digits_in}
 use Rattle.written_cable.specs.Pins.{port_breakage}
 use Rattle.written_cable.specs.Ports.{chain_before}
-use Rattle.stapl_instructions.specs.Zeros.{zeros_of_code}
+use Rattle.machine_memory.specs.Zeros.{zeros_of_code}
 use Rattle.stapl_machine.proofs.Machines.{ending_none, zeros_fit}
 use Rattle.stapl_machine.proofs.PlayLemmas.{over_code, over_code_front, machine_played, machine_front}
 use Rattle.stapl_machine.proofs.running.Machine.run_on.Goals as goal

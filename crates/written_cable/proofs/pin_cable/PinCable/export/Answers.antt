@@ -1,7 +1,7 @@
 use Rattle.std.proofs.Common.{sym, ap, subst, []}
 use Rattle.tool_io.proofs.BytesLemmas.{on_err}
 use Rattle.stapl_code.specs.Safe.{constants_of}
-use Rattle.stapl_instructions.specs.Exports.{export_event}
+use Rattle.machine_memory.specs.Exports.{export_event}
 use Rattle.written_cable.specs.Pins.{port_breakage}
 use Rattle.written_cable.proofs.DeedLemmas.{said_pins_front, said_line_front, did_said}
 use Rattle.written_cable.proofs.pin_cable.PinCable.export.Goals as goal

@@ -5,8 +5,8 @@ use Rattle.written_cable.specs.declared.pin_cable.PinCable.{PinCable}
 use Rattle.written_cable.specs.Pins.{port_breakage}
 use Rattle.written_cable.specs.Ports.{DidScan}
 use Rattle.written_cable.proofs.DeedLemmas.{pins_put, pins_put_front, scan_did, scan_did_front}
-use Rattle.stapl_instructions.proofs.SettingLemmas.{same_scan}
-use Rattle.stapl_instructions.proofs.RoomLemmas.{count_of_room}
+use Rattle.machine_memory.proofs.SettingLemmas.{same_scan}
+use Rattle.machine_memory.proofs.RoomLemmas.{count_of_room}
 use Rattle.written_cable.proofs.pin_cable.PinCable.scan.Goals as goal
 
 pub returns-in_err-_state-clause-front : goal.returns-in_err-_state-clause-front

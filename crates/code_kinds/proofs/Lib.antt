@@ -1,0 +1,2 @@
+mod PartsTaken
+mod TakenIntegers

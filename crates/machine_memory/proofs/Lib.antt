@@ -1,0 +1,7 @@
+pub mod Wraps
+pub mod Bitwise
+pub mod PrintLemmas
+pub mod SettingLemmas
+pub mod SpanLemmas
+pub mod ArrayLemmas
+pub mod RoomLemmas

@@ -1,0 +1,11 @@
+pub mod Found
+pub mod Prints
+pub mod Exports
+pub mod Records
+pub mod PadSettings
+pub mod Arrays
+pub mod Jobs
+pub mod Acts
+pub mod Zeros
+pub mod Rooms
+pub mod RunRooms

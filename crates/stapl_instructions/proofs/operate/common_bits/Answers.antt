@@ -1,5 +1,0 @@
-use Rattle.stapl_instructions.proofs.Bitwise.{bitwise-and}
-use Rattle.stapl_instructions.proofs.operate.common_bits.Goals as goal
-
-pub returns : goal.returns
-returns c = bitwise-and c.args.a c.args.b c.ranges.a c.ranges.b

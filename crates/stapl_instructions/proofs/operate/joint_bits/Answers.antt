@@ -1,5 +1,0 @@
-use Rattle.stapl_instructions.proofs.Bitwise.{bitwise-or}
-use Rattle.stapl_instructions.proofs.operate.joint_bits.Goals as goal
-
-pub returns : goal.returns
-returns c = bitwise-or c.args.a c.args.b c.ranges.a c.ranges.b

@@ -1,6 +1,0 @@
-use Rattle.std.proofs.Common.{◌≡◌, map, take}
-use Rattle.stapl_instructions.specs.Zeros.{zero_of}
-use Rattle.stapl_instructions.proofs.zeros.zeros.Given as goal
-
-abbrev pub invariant-loop-def : goal.invariant-loop-def
-invariant-loop-def l = l.variables.items ≡ map zero_of (take l.def-index l.defs)

@@ -1,0 +1,2 @@
+mod DepthSteps
+mod BreakSteps
