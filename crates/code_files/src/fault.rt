@@ -6,7 +6,7 @@ use stapl_code::CodeReason;
 use std::alloc::{AllocError, AllocFailed};
 
 /// The first fault that is met from left to right: how many bytes stand from its place to the end, and the reason.
-#[derive(Clone, Copy, Debug, PartialEq, Eq)]
+#[derive(Clone, Copy, Debug)]
 pub struct Fault {
     pub left: usize,
     pub reason: CodeReason,

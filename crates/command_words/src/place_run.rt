@@ -3,7 +3,7 @@ ghost use Rattle.std.specs.Prelude.{◌≡◌};
 
 /// A run of neighbours of a board, by the places of its first and its last device, which are counted from 1. A single
 /// device is a run whose places are the same.
-#[derive(Clone, Copy, PartialEq, Eq)]
+#[derive(Clone, Copy)]
 pub struct PlaceRun {
     pub first: u32,
     pub last: u32,

@@ -9,7 +9,7 @@ use chain_sim::{clock_all, first_tdo};
 use dev_card::Device;
 
 /// How a session stands: it is open, a `Q` ended it, or a byte was refused.
-#[derive(Clone, Copy, PartialEq, Eq)]
+#[derive(Clone, Copy)]
 pub enum LinkState {
     Open,
     Quit,
@@ -17,14 +17,14 @@ pub enum LinkState {
 }
 
 /// What a link keeps: the level of TCK, and how its session stands.
-#[derive(Clone, Copy, PartialEq, Eq)]
+#[derive(Clone, Copy)]
 pub struct Link {
     pub tck: bool,
     pub state: LinkState,
 }
 
 /// How many bytes a link took of those that it was fed, and how many it answered.
-#[derive(Clone, Copy, PartialEq, Eq)]
+#[derive(Clone, Copy)]
 pub struct Fed {
     pub taken: u32,
     pub answered: u32,

@@ -5,7 +5,7 @@ ghost use Rattle.link_tool.specs.Statuses.{exit_code_of};
 use board_text::BoardReason;
 
 /// How a run of the tool ends.
-#[derive(Clone, Copy, PartialEq, Eq)]
+#[derive(Clone, Copy)]
 pub enum LinkStatus {
     /// The session ended with a `Q`, or with the file.
     Done,

@@ -11,11 +11,10 @@ ghost use Rattle.machine_memory.specs.Arrays.{HasSpan, with_bits};
 ghost use Rattle.machine_memory.specs.Jobs.{is_known, is_given_known, is_scan_known, resolved, compare_resolved, scan_resolved, IsPartIf, HasRoom, IsAsLong, AreCompared, IsCompareFound, AreFound, places_of, cell_of, cell_at, compared_at, compare_at, found_at, compared_by, both_asked, job_compare, job_lands, CanBeDone};
 
 use crate::scan_parts::{
-    ComparedAt, PartsAt, fill_bits, find_known, find_parts, is_given_known, is_scan_known,
-    padding_length, scan_length,
+    fill_bits, find_known, find_parts, is_given_known, is_scan_known, padding_length, scan_length,
 };
 use machine_memory::arrays::store_at;
-use machine_memory::effects::{CellAt, Made, ScanJob, store};
+use machine_memory::effects::{CellAt, ComparedAt, Made, PartsAt, ScanJob, store};
 use machine_memory::memory::{Memory, Shifted};
 use machine_memory::operate::Stop;
 use machine_memory::part_bits::{copy_turned, first_places};

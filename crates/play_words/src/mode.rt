@@ -19,7 +19,7 @@ pub enum Mode {
 }
 
 /// The keys of the words after the mode.
-#[derive(Clone, Copy, PartialEq, Eq)]
+#[derive(Clone, Copy)]
 pub enum WordKey {
     /// The file of the board.
     Board,

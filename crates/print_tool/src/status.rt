@@ -5,7 +5,7 @@ ghost use Rattle.print_tool.specs.Statuses.{exit_code_of};
 use stapl_lexer::Reason;
 
 /// How the program ends.
-#[derive(Clone, Copy, PartialEq, Eq)]
+#[derive(Clone, Copy)]
 pub enum PrintStatus {
     /// The canonical text is written.
     Done,

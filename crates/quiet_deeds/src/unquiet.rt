@@ -2,7 +2,7 @@
 
 /// Why a move, a stay or a scan of a run of devices that stands alone is not quiet. Which deeds are quiet is this
 /// profile's. If several reasons hold of one deed, the first in this order is told.
-#[derive(Clone, Copy, PartialEq, Eq)]
+#[derive(Clone, Copy)]
 pub enum Unquiet {
     /// A scan of the instruction registers: how many bits the program shifts, and how many the registers have.
     Instruction(u64, u64),

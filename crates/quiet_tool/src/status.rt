@@ -7,7 +7,7 @@ use quiet_deeds::Unquiet;
 use stapl_lexer::Reason;
 
 /// How the program ends.
-#[derive(Clone, Copy, PartialEq, Eq)]
+#[derive(Clone, Copy)]
 pub enum QuietStatus {
     /// The play is quiet for its turns.
     Quiet,

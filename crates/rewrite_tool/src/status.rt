@@ -6,7 +6,7 @@ use board_text::BoardReason;
 use stapl_lexer::Reason;
 
 /// How the program ends.
-#[derive(Clone, Copy, PartialEq, Eq)]
+#[derive(Clone, Copy)]
 pub enum RewriteStatus {
     /// The new program is written.
     Done,

@@ -8,7 +8,7 @@ use bit_list::Bits;
 
 /// The lengths of base padding, in bits: of the ones before and after all that a program shifts, in scans of the
 /// instruction registers and of the data registers.
-#[derive(Clone, Copy, PartialEq, Eq)]
+#[derive(Clone, Copy)]
 pub struct BasePads {
     pub pre_ir: u32,
     pub post_ir: u32,

@@ -5,7 +5,7 @@ use stapl_meaning::{ValueKind, WaitKind};
 use tap_states::Tap;
 
 /// A part of what a Print prints.
-#[derive(Clone, Copy, PartialEq, Eq)]
+#[derive(Clone, Copy)]
 pub enum PrintPart {
     /// The text of a number.
     Text(u32),
@@ -18,7 +18,7 @@ pub enum PrintPart {
 }
 
 /// Where an instruction takes bits from.
-#[derive(Clone, Copy, PartialEq, Eq)]
+#[derive(Clone, Copy)]
 pub enum Source {
     /// The literal of a number.
     Literal(u32),
@@ -31,7 +31,7 @@ pub enum Source {
 }
 
 /// Where an instruction puts bits.
-#[derive(Clone, Copy, PartialEq, Eq)]
+#[derive(Clone, Copy)]
 pub enum Dest {
     /// Into the whole of a BOOLEAN array.
     Whole(u32),
@@ -40,7 +40,7 @@ pub enum Dest {
 }
 
 /// What an Export exports.
-#[derive(Clone, Copy, PartialEq, Eq)]
+#[derive(Clone, Copy)]
 pub enum ExportPart {
     /// An integer, from the operands.
     Int,
@@ -51,7 +51,7 @@ pub enum ExportPart {
 }
 
 /// Where the result of a comparison goes.
-#[derive(Clone, Copy, PartialEq, Eq)]
+#[derive(Clone, Copy)]
 pub enum Cell {
     /// Into a BOOLEAN scalar.
     Scalar(u32),
@@ -60,7 +60,7 @@ pub enum Cell {
 }
 
 /// What a Scan compares the captured bits with, and where the result goes.
-#[derive(Clone, Copy, PartialEq, Eq)]
+#[derive(Clone, Copy)]
 pub struct Compare {
     pub expected: Source,
     /// The bits that are compared.
@@ -70,7 +70,7 @@ pub struct Compare {
 
 /// What a Scan does: the registers that it goes through, its data, where the captured bits go, and what they are
 /// compared with.
-#[derive(Clone, Copy, PartialEq, Eq)]
+#[derive(Clone, Copy)]
 pub struct Scan {
     pub register: Register,
     pub source: Source,

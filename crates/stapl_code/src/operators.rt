@@ -6,7 +6,7 @@ use stapl_lexer::BinOp;
 use stapl_meaning::ValueKind;
 
 /// An operator, the kind of both its sides, and that of what it makes of them.
-#[derive(Clone, Copy, PartialEq, Eq)]
+#[derive(Clone, Copy)]
 pub struct Operator {
     pub op: BinOp,
     pub sides: ValueKind,

@@ -14,7 +14,7 @@ use std::marker::Model;
 pub const FILE_LIMIT: usize = 268_435_520;
 
 /// A variable.
-#[derive(Clone, Copy, PartialEq, Eq)]
+#[derive(Clone, Copy)]
 pub struct VarDef {
     /// 0 is an INTEGER scalar, 1 a BOOLEAN scalar, 2 an INTEGER array, 3 a BOOLEAN array.
     pub kind: u8,
@@ -23,7 +23,7 @@ pub struct VarDef {
 }
 
 /// A procedure.
-#[derive(Clone, Copy, PartialEq, Eq)]
+#[derive(Clone, Copy)]
 pub struct ProcDef {
     pub name: Name,
     /// The number of its first instruction.
@@ -31,7 +31,7 @@ pub struct ProcDef {
 }
 
 /// An item of an action.
-#[derive(Clone, Copy, PartialEq, Eq)]
+#[derive(Clone, Copy)]
 pub struct ItemDef {
     /// The number of its procedure.
     pub procedure: u32,

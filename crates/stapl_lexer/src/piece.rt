@@ -2,7 +2,7 @@
 
 /// A piece of a text: a statement as it stands there, with the white space and the comments around it (JESD71,
 /// program text). Places count the bytes of the text from 0.
-#[derive(Clone, Copy, PartialEq, Eq)]
+#[derive(Clone, Copy)]
 pub struct Piece {
     /// Where the piece begins: at the front of the text, or after the semicolon of the piece before.
     pub start: u32,

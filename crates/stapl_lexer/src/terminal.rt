@@ -2,7 +2,7 @@
 //! in the grammar.
 
 /// An operator with two operands (JESD71, expressions).
-#[derive(Clone, Copy, PartialEq, Eq)]
+#[derive(Clone, Copy)]
 pub enum BinOp {
     Multiply,
     Divide,
@@ -25,7 +25,7 @@ pub enum BinOp {
 }
 
 /// A mark that is no operator with two operands.
-#[derive(Clone, Copy, PartialEq, Eq)]
+#[derive(Clone, Copy)]
 pub enum Mark {
     Tilde,
     Exclamation,
@@ -40,14 +40,14 @@ pub enum Mark {
 }
 
 /// Which register a scan or a stop state speaks of: `Data` is DR, `Instruction` is IR.
-#[derive(Clone, Copy, PartialEq, Eq)]
+#[derive(Clone, Copy)]
 pub enum Register {
     Data,
     Instruction,
 }
 
 /// Which of the four paddings: before or after the data or the instruction register.
-#[derive(Clone, Copy, PartialEq, Eq)]
+#[derive(Clone, Copy)]
 pub enum Padding {
     PreData,
     PostData,
@@ -57,7 +57,7 @@ pub enum Padding {
 
 /// The first word of a statement outside procedures and DATA blocks, or of one that begins or ends such a block from
 /// outside.
-#[derive(Clone, Copy, PartialEq, Eq)]
+#[derive(Clone, Copy)]
 pub enum OuterWord {
     Note,
     Action,
@@ -68,7 +68,7 @@ pub enum OuterWord {
 }
 
 /// ENDPROC, or the first word of a declaration.
-#[derive(Clone, Copy, PartialEq, Eq)]
+#[derive(Clone, Copy)]
 pub enum InnerWord {
     EndProcedure,
     Boolean,
@@ -76,7 +76,7 @@ pub enum InnerWord {
 }
 
 /// The first word of a statement that may follow THEN, other than IF and those that drive the test access port.
-#[derive(Clone, Copy, PartialEq, Eq)]
+#[derive(Clone, Copy)]
 pub enum SimpleWord {
     Call,
     Goto,
@@ -90,7 +90,7 @@ pub enum SimpleWord {
 }
 
 /// The first word of a statement that drives the test access port.
-#[derive(Clone, Copy, PartialEq, Eq)]
+#[derive(Clone, Copy)]
 pub enum PortWord {
     /// DRSCAN, IRSCAN.
     Scan(Register),
@@ -104,7 +104,7 @@ pub enum PortWord {
 }
 
 /// A word that stands inside statements.
-#[derive(Clone, Copy, PartialEq, Eq)]
+#[derive(Clone, Copy)]
 pub enum JoinWord {
     Capture,
     Compare,
@@ -119,7 +119,7 @@ pub enum JoinWord {
 }
 
 /// A function of expressions; `Character` is `CHR$`, which stands in PRINT alone.
-#[derive(Clone, Copy, PartialEq, Eq)]
+#[derive(Clone, Copy)]
 pub enum Function {
     Abs,
     Bool,
@@ -128,7 +128,7 @@ pub enum Function {
 }
 
 /// A symbol of the grammar with a fixed spelling (JESD71, statements and expressions).
-#[derive(Clone, Copy, PartialEq, Eq)]
+#[derive(Clone, Copy)]
 pub enum Terminal {
     Operator(BinOp),
     Mark(Mark),

@@ -22,7 +22,7 @@ pub enum TokenKind {
 }
 
 /// A token, and its place: its bytes are those of the text from `start` up to `end`.
-#[derive(Clone, Copy, PartialEq, Eq)]
+#[derive(Clone, Copy)]
 pub struct Token {
     /// What the token is.
     pub kind: TokenKind,

@@ -1,7 +1,7 @@
 //! What the record stack holds.
 
 /// A loop that FOR began.
-#[derive(Clone, Copy, PartialEq, Eq)]
+#[derive(Clone, Copy)]
 pub struct Loop {
     /// The number of its variable, from 0.
     pub variable: u32,
@@ -14,7 +14,7 @@ pub struct Loop {
 }
 
 /// A record of the record stack. Places are those of pieces, or of instructions where a code runs, from 0.
-#[derive(Clone, Copy, PartialEq, Eq)]
+#[derive(Clone, Copy)]
 pub enum Record {
     /// A value, by PUSH. A Boolean is 0 or 1.
     Pushed(i32),

@@ -3,7 +3,7 @@ use base::ItemList;
 use bit_list::Bits;
 
 /// The kind of a value.
-#[derive(Clone, Copy, PartialEq, Eq)]
+#[derive(Clone, Copy)]
 pub enum ValueKind {
     /// An integer.
     Int,
@@ -12,7 +12,7 @@ pub enum ValueKind {
 }
 
 /// A value of an expression.
-#[derive(Clone, Copy, PartialEq, Eq)]
+#[derive(Clone, Copy)]
 pub enum Value {
     /// An integer of 32 bits with a sign.
     Int(i32),

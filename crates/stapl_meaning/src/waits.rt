@@ -1,7 +1,7 @@
 //! What a WAIT waits for.
 
 /// What a WAIT counts.
-#[derive(Clone, Copy, PartialEq, Eq)]
+#[derive(Clone, Copy)]
 pub enum WaitKind {
     /// Clocks alone.
     Cycles,

@@ -64,7 +64,7 @@ pub enum Found {
 }
 
 /// The kind of an expression. The literals 0 and 1 are `Either`, which is accepted for both others.
-#[derive(Clone, Copy, PartialEq, Eq)]
+#[derive(Clone, Copy)]
 pub enum Kind {
     Int,
     Bool,

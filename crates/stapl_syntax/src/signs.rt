@@ -4,7 +4,7 @@ use stapl_lexer::{
 };
 
 /// An operator with one operand (JESD71, expressions).
-#[derive(Clone, Copy, PartialEq, Eq)]
+#[derive(Clone, Copy)]
 pub enum UnOp {
     Negate,
     Complement,

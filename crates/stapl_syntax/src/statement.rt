@@ -38,7 +38,7 @@ pub enum ArrayExpr {
 }
 
 /// Whether an item of an action may be left out, or is done where nothing is said.
-#[derive(Clone, Copy, PartialEq, Eq)]
+#[derive(Clone, Copy)]
 pub enum ItemChoice {
     Optional,
     Recommended,

@@ -135,7 +135,7 @@ impl Tap {
 }
 
 /// A list of at most 8 TMS values.
-#[derive(Clone, Copy, PartialEq, Eq)]
+#[derive(Clone, Copy)]
 pub struct Path {
     /// How many values there are, one for each clock.
     pub len: u32,

@@ -5,7 +5,7 @@ ghost use Rattle.trace_tool.specs.Statuses.{exit_code_of};
 use board_text::BoardReason;
 
 /// How a run of the tool ends.
-#[derive(Clone, Copy, PartialEq, Eq)]
+#[derive(Clone, Copy)]
 pub enum TraceStatus {
     /// The clocks of the trace are those of the board, and so many.
     Good(u32),

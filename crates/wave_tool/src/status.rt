@@ -3,7 +3,7 @@ ghost use Rattle.std.specs.Prelude.{◌≡◌};
 ghost use Rattle.wave_tool.specs.Statuses.{exit_code_of};
 
 /// How a run of the tool ends.
-#[derive(Clone, Copy, PartialEq, Eq)]
+#[derive(Clone, Copy)]
 pub enum WaveStatus {
     /// The wave is written.
     Written,
