@@ -1,14 +1,14 @@
 -- On the store in memory.
-use Rattle.std.proofs.Common.{◌≡◌, ◌≤◌, ◌<◌, ◌+◌, ◌-◌, ◌^◌, ℕ, min, List, [], ◌∷◌, ◌++◌, length, take, drop, refl, sym, ap, ◌∙◌, Bool, true, false, Option, Some, arith, String, Global, map, string_bytes, slice_index, slice_index_or, inl, inr, if◌then◌else◌, add-one}
+use Rattle.std.proofs.Common.{◌≡◌, ◌≤◌, ◌<◌, ◌+◌, ◌-◌, ◌^◌, ℕ, min, List, [], ◌∷◌, ◌++◌, length, take, drop, refl, sym, ap, ◌∙◌, Bool, true, false, Option, Some, Result, arith, String, Vec, Global, map, string_bytes, slice_index, slice_index_or, inl, inr, if◌then◌else◌, add-one}
 use Rattle.std.proofs.Math.Seq.{take-append_seam}
 use Rattle.std.proofs.lemmas.Bool.{cases_eq}
-use Rattle.std.proofs.lemmas.List.{get_or-set_same, get_or-set_other, length-take-le, take-append-drop, drop-drop, length-map}
+use Rattle.std.proofs.lemmas.List.{get_or-set_same, get_or-set_other, length-take-le, take-append-drop, drop-drop, length-map, get_or-map}
 use Rattle.std.specs.List.{zip}
 use Rattle.std.specs.Str.{bytes_eq}
 use Rattle.tool_io.specs.Files.{file_of, Gives}
 use Rattle.tool_io.specs.Shelves.{place_of, raised}
-use Rattle.tool_io.specs.Causes.{CountKept, IsSaturated, raised_count}
-use Rattle.tool_io.proofs.CauseLemmas.{kept_start, saturated_kept}
+use Rattle.tool_io.specs.Causes.{CountKept, CountRose, CountsCause, IsSaturated, raised_count}
+use Rattle.tool_io.proofs.CauseLemmas.{kept_start, saturated_kept, cause_of_rose_at}
 
 choose : (b : Bool) (f : List ℕ) (fs : List (List ℕ)) (rest : Option (List ℕ)) (place : ℕ) →
     (place < length fs → rest ≡ Some (slice_index_or fs place [])) →
@@ -54,3 +54,20 @@ raised_kept counts place i lt bound =
       | inl e ↦ rw (e, get_or-set_same counts place (raised_count (slice_index counts place)) 0) (saturated_kept (slice_index counts place) bound)
       | inr ne ↦ rw (get_or-set_other counts place i (raised_count (slice_index counts place)) 0 ne) (kept_start (slice_index counts i) _)
     ]
+
+-- one more fault at the place of a name, counted in the items that were lent
+pub counts_raised : {T E : Type 0} (names : List (List ℕ)) (old lent new now : List ℕ) (name : List ℕ) (place : ℕ) (result : Result T E) →
+    place_of names name ≡ place → lent ≡ old → now ≡ new →
+    ((i : ℕ) → CountKept (slice_index lent i) (slice_index new i) (IsSaturated (slice_index lent i)) (IsSaturated (slice_index new i))) →
+    CountRose (slice_index lent place) (slice_index new place) (IsSaturated (slice_index new place)) →
+    CountsCause (λ n. slice_index old (place_of names n)) (λ n. slice_index now (place_of names n))
+    (λ n. IsSaturated (slice_index old (place_of names n))) (λ n. IsSaturated (slice_index now (place_of names n))) name result
+counts_raised names old lent new now name place result e before after kept rose =
+    rw (← before, after) (cause_of_rose_at result
+    (record { later = λ n. (kept (place_of names n)).later; stays = λ n. (kept (place_of names n)).stays })
+    (record { risen = rw e rose.risen }))
+
+-- the bytes of a held file
+pub held_bytes : (files : List (Vec ℕ Global)) (place : ℕ) (file : Vec ℕ Global) → place < length files → file ≡ slice_index_or files place file →
+    slice_index_or (map (λ f. f.items) files) place [] ≡ file.items
+held_bytes files place file lt is = get_or-map (λ f. f.items) files place file [] lt ∙ ap (λ f. f.items) (sym is)

@@ -91,7 +91,6 @@ impl Shelf for MemShelf {
 
     ghost left = { left_of };
 
-    #[tactic(auto, using(crate::proofs::ShelfLemmas::length_names, crate::proofs::ShelfLemmas::file_of_place))]
     fn pick(&mut self, name: &str) -> Result<(), Failed>
         ensures keeps { Some (files_of self.new) ≡ Some (files_of self.old) }
         ensures picks { OnOk result (IsPicked self.new name.now) }

@@ -26,7 +26,6 @@ pub enum ReadRefused {
 ///
 /// `TooLong` exactly where the file, if the shelf tells it, has more than `limit` bytes. `ReadFault` only where the
 /// shelf's count of this name rose, or stands at its last value. `Memory` may come at any time.
-#[tactic(auto, using(crate::proofs::CauseLemmas::counts_start, crate::proofs::CauseLemmas::counts_then, crate::proofs::CauseLemmas::rose_after_at))]
 pub fn read_whole<S: Shelf>(
     alloc: Global,
     shelf: &mut S,
