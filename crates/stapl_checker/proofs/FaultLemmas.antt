@@ -17,17 +17,19 @@ use Rattle.stapl_syntax.specs.Names.{Names, Numbered, numbered, with_numbers, na
 use Rattle.stapl_syntax.specs.Rules.{Facts, declared_in, is_action, any_body, known_from, place_after, totals_of}
 use Rattle.stapl_syntax.specs.Programs.{piece_limit}
 use Rattle.stapl_syntax.specs.Programs.{facts_at}
-use Rattle.stapl_checker.specs.declared.course.Course.{Course}
+use Rattle.checker_rules.specs.declared.course.Course.{Course}
+use Rattle.checker_rules.specs.Earlier.{declared_below}
+use Rattle.checker_rules.specs.BrokenRules.{rule_broken}
+use Rattle.checker_rules.specs.Scopes.{named, IsInside}
+use Rattle.checker_rules.specs.Courses.{BeginsListed, IsCourse}
+use Rattle.checker_rules.proofs.Earlier.{declared_same}
 use Rattle.stapl_checker.specs.declared.reading.Reading.{Reading}
 use Rattle.stapl_checker.specs.declared.reading.Unread.{Unread}
-use Rattle.stapl_checker.specs.Earlier.{declared_below}
-use Rattle.stapl_checker.specs.Judgements.{What, statement, faulty, what_tree, what_trees, rule_broken, unless_late, reason_from, reason_at, reason_of_end, IsFirstReason}
+use Rattle.stapl_checker.specs.Judgements.{What, statement, faulty, what_tree, what_trees, unless_late, reason_from, reason_at, reason_of_end, IsFirstReason}
 use Rattle.stapl_checker.specs.Readings.{stmt_trees, IsFrontTo, IsToldBy}
-use Rattle.stapl_checker.specs.Scopes.{named, IsInside}
-use Rattle.stapl_checker.specs.Courses.{BeginsListed, facts_by, numbered_trees, broken_by, broken_at, NoneBroken, StopsAt, ComesToEnd, IsCourse}
+use Rattle.stapl_checker.specs.Walks.{facts_by, numbered_trees, broken_by, broken_at, NoneBroken, StopsAt, ComesToEnd}
 use Rattle.stapl_checker.specs.Firsts.{front_by, front_of, reason_of_course, fault_at, first_by, IsFirstFault}
 use Rattle.stapl_names.proofs.Keys.{name_same, name_itself, found_behind}
-use Rattle.stapl_checker.proofs.Earlier.{declared_same}
 
 -- each block that a statement begins is in the table
 

@@ -15,7 +15,8 @@ use Rattle.stapl_syntax.specs.Rules.{is_action, any_body, Facts, breaks}
 use Rattle.stapl_syntax.specs.Programs.{piece_limit}
 use Rattle.stapl_syntax.specs.Programs.{facts_at, HasReasonAt, one_too_many, no_statement, breaks_rule, not_closed, nothing_to_do, SmallestReasonAt}
 use Rattle.stapl_grammar.proofs.LawLemmas.{no_reason, one_piece_statement}
-use Rattle.stapl_checker.specs.Judgements.{What, statement, faulty, IsWhat, rule_reasons, rule_broken, reason_of, reason_of_end, IsJudged}
+use Rattle.checker_rules.specs.BrokenRules.{rule_reasons, rule_broken}
+use Rattle.stapl_checker.specs.Judgements.{What, statement, faulty, IsWhat, reason_of, reason_of_end, IsJudged}
 
 -- the reason stands in a list
 abbrev In : Reason → List Reason → Type 0

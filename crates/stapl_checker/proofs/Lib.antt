@@ -1,11 +1,7 @@
 pub mod Judged
 pub mod TextLemmas
-pub mod Earlier
 pub mod ReadingLemmas
-pub mod MentionLemmas
-pub mod StopLemmas
-pub mod ScopeLemmas
-pub mod CourseLemmas
+pub mod WalkLemmas
 pub mod FaultLemmas
 pub mod UniqueLemmas
 pub mod Answered

@@ -4,7 +4,7 @@ use Rattle.std.specs.Option.{option_map}
 use Rattle.stapl_lexer.specs.declared.reason.Reason.{Reason}
 use Rattle.stapl_lexer.specs.declared.reason.Reason.TheVariants as reasons
 use Rattle.stapl_syntax.specs.Trees.{StmtTree}
-use Rattle.stapl_checker.specs.declared.course.Course.{Course}
+use Rattle.checker_rules.specs.declared.course.Course.{Course}
 use Rattle.stapl_checker.specs.declared.faults.Fault.{Fault}
 use Rattle.stapl_checker.specs.declared.reading.Reading.{Reading}
 use Rattle.stapl_checker.specs.declared.reading.Unread.{Unread}

@@ -1,15 +1,16 @@
 -- Which reason the checker names.
-use Rattle.std.specs.Prelude.{◌≡◌, ◌≤◌, ◌<◌, map, take, length, slice_get, ℕ, List, [], ◌∷◌, not, Option, None, Some, is_some, nat_le, if◌then◌else◌, find}
+use Rattle.std.specs.Prelude.{◌≡◌, ◌≤◌, ◌<◌, map, take, length, slice_get, ℕ, List, [], ◌∷◌, Option, None, Some, is_some, nat_le, if◌then◌else◌}
 use Rattle.stapl_lexer.specs.declared.piece.Piece.{Piece}
 use Rattle.stapl_lexer.specs.declared.reason.Reason.{Reason}
 use Rattle.stapl_lexer.specs.declared.reason.Reason.TheVariants as reasons
-use Rattle.stapl_syntax.specs.Trees.{BodyTree, StmtTree}
+use Rattle.stapl_syntax.specs.Trees.{StmtTree}
 use Rattle.stapl_syntax.specs.Statements.{IsPieceStatement}
 use Rattle.stapl_syntax.specs.Reasons.{SmallestReason}
 use Rattle.stapl_syntax.specs.Names.{Numbered, numbered, inside_after}
-use Rattle.stapl_syntax.specs.Rules.{is_action, any_body, Known, Totals, is_well_kinded, stops_unstable, passes_a_limit, Facts, breaks}
+use Rattle.stapl_syntax.specs.Rules.{is_action, any_body}
 use Rattle.stapl_syntax.specs.Programs.{piece_limit}
 use Rattle.stapl_syntax.specs.Programs.{facts_at, HasReasonAt, SmallestReasonAt}
+use Rattle.checker_rules.specs.BrokenRules.{rule_broken}
 
 -- what a piece is: a statement, or none for its smallest reason
 pub data What : Type 0 where
@@ -34,22 +35,6 @@ what_tree (faulty reason) = None
 
 abbrev pub what_trees : List What → List (Option StmtTree)
 what_trees whats = map what_tree whats
-
--- the reasons that speak of statements, the smallest first
-abbrev pub rule_reasons : List Reason
-rule_reasons =
-    reasons.Order ∷ reasons.Duplicate ∷ reasons.Undefined ∷ reasons.NotVisible ∷ reasons.TypeMismatch ∷ reasons.NotStable ∷ reasons.SizeLimit ∷ []
-
--- the smallest reason of a statement by these facts
-abbrev pub rule_broken : Facts → StmtTree → Option Reason
-rule_broken facts st = find (breaks facts st) rule_reasons
-
--- the smallest of the last three: of kinds, stop states and sizes
-abbrev pub operands_broken : Known → Totals → BodyTree → Option Reason
-operands_broken known before body =
-    if not (is_well_kinded known body) then Some reasons.TypeMismatch
-    else if stops_unstable body then Some reasons.NotStable
-    else if passes_a_limit before body then Some reasons.SizeLimit else None
 
 -- one piece too many has the smallest reason of all
 abbrev pub unless_late : ℕ → Option Reason → Option Reason

@@ -1,10 +1,5 @@
 pub mod Judgements
-pub mod Earlier
 pub mod Readings
-pub mod Scopes
-pub mod Counts
-pub mod Places
-pub mod Mentioned
-pub mod Courses
+pub mod Walks
 pub mod Firsts
 pub mod Answers

@@ -4,14 +4,14 @@ ghost use Rattle.std.specs.Option.{option_map};
 ghost use Rattle.stapl_lexer.specs.Pieces.{text_limit};
 ghost use Rattle.stapl_syntax.specs.Trees.{stmt_tree};
 ghost use Rattle.stapl_syntax.specs.Names.{numbered, names_of};
+ghost use Rattle.checker_rules.specs.Courses.{BeginsListed};
 ghost use Rattle.stapl_checker.specs.Judgements.{What, what_trees};
-ghost use Rattle.stapl_checker.specs.Courses.{BeginsListed};
 ghost use Rattle.stapl_checker.specs.Readings.{IsToldBy};
 ghost use Rattle.stapl_checker.specs.Firsts.{front_of, first_by, reason_of_course, IsFirstFault};
 
-use crate::course::Course;
 use crate::reading::{Reading, Unread};
 use crate::walk::{Walked, unless_late, walk};
+use checker_rules::Course;
 use stapl_lexer::Reason;
 use stapl_names::Names;
 

@@ -2,12 +2,13 @@
 ghost use Rattle.std.specs.Prelude.{◌≡◌, ◌≤◌, ◌<◌, ◌+◌, ◌-◌, ◌^◌, length, map, All};
 ghost use Rattle.stapl_lexer.specs.Pieces.{text_limit};
 ghost use Rattle.stapl_syntax.specs.Trees.{stmt_tree};
-ghost use Rattle.stapl_checker.specs.Scopes.{IsInside};
-ghost use Rattle.stapl_checker.specs.Courses.{BeginsListed, facts_in, IsWalked};
-ghost use Rattle.stapl_checker.specs.Judgements.{rule_broken, unless_late};
+ghost use Rattle.checker_rules.specs.Scopes.{IsInside};
+ghost use Rattle.checker_rules.specs.Courses.{BeginsListed, facts_in};
+ghost use Rattle.checker_rules.specs.BrokenRules.{rule_broken};
+ghost use Rattle.stapl_checker.specs.Walks.{IsWalked};
+ghost use Rattle.stapl_checker.specs.Judgements.{unless_late};
 
-use crate::course::Course;
-use crate::judging::broken_rule;
+use checker_rules::{Course, broken_rule};
 use stapl_lexer::Reason;
 use stapl_names::Names;
 use stapl_syntax::Stmt;

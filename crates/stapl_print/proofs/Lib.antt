@@ -1,3 +1,1 @@
-pub mod WriterLemmas
-pub mod DigitLemmas
 pub mod LineLemmas

@@ -1,5 +1,5 @@
 use Rattle.std.proofs.Common.{◌∙◌, arith}
-use Rattle.stapl_checker.proofs.CourseLemmas.{walk_on, reason_is, none_more, stops, listed_at}
+use Rattle.stapl_checker.proofs.WalkLemmas.{walk_on, reason_is, none_more, stops, listed_at}
 use Rattle.stapl_checker.proofs.walk.walk.Goals as goal
 
 pub loop-i-init : goal.loop-i-init

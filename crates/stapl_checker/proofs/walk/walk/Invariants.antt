@@ -1,6 +1,7 @@
 use Rattle.std.proofs.Common.{take, map}
 use Rattle.stapl_syntax.specs.Trees.{stmt_tree}
-use Rattle.stapl_checker.specs.Courses.{NoneBroken, IsCourse, numbered_trees}
+use Rattle.checker_rules.specs.Courses.{IsCourse}
+use Rattle.stapl_checker.specs.Walks.{NoneBroken, numbered_trees}
 use Rattle.stapl_checker.proofs.walk.walk.Given as goal
 
 abbrev pub invariant-loop-i : goal.invariant-loop-i

@@ -1,0 +1,5 @@
+pub mod Earlier
+pub mod MentionLemmas
+pub mod StopLemmas
+pub mod ScopeLemmas
+pub mod CourseLemmas
