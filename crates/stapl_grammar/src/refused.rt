@@ -5,7 +5,7 @@ ghost use Rattle.stapl_grammar.specs.declared.refused.Refused.TheVariants.{Memor
 use std::alloc::{AllocError, AllocFailed};
 
 // Why nothing was read.
-#[derive(Clone, Copy, PartialEq, Eq)]
+#[derive(Clone, Copy)]
 pub(crate) enum Refused {
     // There was no memory for it.
     Memory,
