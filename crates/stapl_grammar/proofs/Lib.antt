@@ -19,3 +19,4 @@ pub mod BodyClean
 pub mod LawLemmas
 pub mod Answered
 pub mod SignLemmas
+pub mod TokenSteps

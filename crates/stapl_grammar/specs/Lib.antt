@@ -5,3 +5,4 @@ pub mod Reading
 pub mod PartReading
 pub mod BodyReading
 pub mod Answers
+pub mod Kept

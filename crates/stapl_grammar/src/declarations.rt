@@ -1,5 +1,6 @@
 //! ENDPROC and declarations.
 use crate::cursor::Cursor;
+use crate::kept::boxed;
 use crate::refused::Refused;
 use base::ItemList;
 use bit_list::Bits;
@@ -38,7 +39,7 @@ impl<'a> Cursor<'a> {
             return Ok(None);
         }
         let bits = self.literal(alloc)?;
-        Ok(Some(Box::new(alloc, bits)?))
+        Ok(Some(boxed(alloc, bits)?))
     }
 
     // ["=" signed]
@@ -62,7 +63,7 @@ impl<'a> Cursor<'a> {
             return Ok(None);
         }
         let values = self.signed_list(alloc)?;
-        Ok(Some(Box::new(alloc, values)?))
+        Ok(Some(boxed(alloc, values)?))
     }
 
     // BOOLEAN name, and then "[" number "]" ["=" literal] | ["=" bit]

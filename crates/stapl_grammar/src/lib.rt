@@ -4,6 +4,7 @@
 mod contents;
 mod cursor;
 mod declarations;
+mod kept;
 pub mod laws;
 mod leaves;
 mod lists;

@@ -18,7 +18,7 @@ use std::alloc::Global;
 use thiserror::Error;
 
 /// Why a piece is no statement.
-#[derive(Clone, Copy, Debug, PartialEq, Eq, Error)]
+#[derive(Clone, Copy, Debug, Error)]
 pub enum ParseRefused {
     /// The piece has this reason.
     #[error("the piece is refused: {0:?}")]
