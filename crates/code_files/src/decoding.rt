@@ -17,7 +17,7 @@ use thiserror::Error;
 use valid_codes::{Code, ValidateRefused, validate};
 
 /// Why bytes are no file of a code.
-#[derive(Clone, Copy, Debug, PartialEq, Eq, Error)]
+#[derive(Clone, Copy, Debug, Error)]
 pub enum DecodeRefused {
     /// The first fault: the offset of its first byte, and what is wrong there. If the bytes end inside a field, it is
     /// their number; if there are too many bytes, the most that a file has.

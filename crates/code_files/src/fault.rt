@@ -6,14 +6,14 @@ use stapl_code::CodeReason;
 use std::alloc::{AllocError, AllocFailed};
 
 /// The first fault that is met from left to right: how many bytes stand from its place to the end, and the reason.
-#[derive(Clone, Copy, Debug)]
+#[derive(Clone, Copy)]
 pub struct Fault {
     pub left: usize,
     pub reason: CodeReason,
 }
 
 /// Why a field was not read.
-#[derive(Debug, Drop)]
+#[derive(Drop)]
 pub enum Stop {
     Memory,
     At(Fault),

@@ -32,14 +32,13 @@ fn size_at(variables: &[VarDef], n: u32) -> u32
     }
 }
 
-// The instructions 1 to 7: a turn, and what pushes and checks operands.
+// The instructions 1 to 4: a turn, and what pushes a value that stands in the code or in a scalar.
 fn operand_instr_of<'a>(counts: Counts, tag: u8, rest: &'a [u8]) -> Result<(Instr, &'a [u8]), Stop>
     requires low { 1 ≤ tag }
-    requires high { tag ≤ 7 }
+    requires high { tag ≤ 4 }
     ensures { let c = counts.entry in let table = instr_table c.variables.now c.literals c.texts c.procedures in
         Gives (λ x. (x.0, x.1.now)) result (row (slice_get table (tag - 1)) rest.now) }
 {
-    let variables = counts.variables.len();
     match tag {
         1 => {
             let (n, rest) = number_in(1, 100_001, rest)?;
@@ -54,28 +53,34 @@ fn operand_instr_of<'a>(counts: Counts, tag: u8, rest: &'a [u8]) -> Result<(Inst
             Ok((Instr::PushBit(bit), rest))
         }
         4 => {
-            let (n, rest) = number_in(0, variables, rest)?;
+            let (n, rest) = number_in(0, counts.variables.len(), rest)?;
             Ok((Instr::Load(n), rest))
-        }
-        5 => {
-            let (n, rest) = number_in(0, variables, rest)?;
-            Ok((Instr::LoadAt(n), rest))
-        }
-        6 => {
-            let (n, rest) = number_in(0, variables, rest)?;
-            Ok((Instr::CheckIndex(n), rest))
-        }
-        7 => {
-            let (n, rest) = number_in(0, variables, rest)?;
-            Ok((Instr::CheckRange(n), rest))
         }
         _ => Err(wrong(rest)),
     }
 }
 
-// The instructions 8 to 14: what stores, computes and copies values.
+// The instructions 5 to 9, which name a variable: what loads an element, checks an index and stores.
+fn variable_instr_of<'a>(counts: Counts, tag: u8, rest: &'a [u8]) -> Result<(Instr, &'a [u8]), Stop>
+    requires low { 5 ≤ tag }
+    requires high { tag ≤ 9 }
+    ensures { let c = counts.entry in let table = instr_table c.variables.now c.literals c.texts c.procedures in
+        Gives (λ x. (x.0, x.1.now)) result (row (slice_get table (tag - 1)) rest.now) }
+{
+    let (n, rest) = number_in(0, counts.variables.len(), rest)?;
+    match tag {
+        5 => Ok((Instr::LoadAt(n), rest)),
+        6 => Ok((Instr::CheckIndex(n), rest)),
+        7 => Ok((Instr::CheckRange(n), rest)),
+        8 => Ok((Instr::Store(n), rest)),
+        9 => Ok((Instr::StoreAt(n), rest)),
+        _ => Err(wrong(rest)),
+    }
+}
+
+// The instructions 10 to 14: what computes and copies values.
 fn value_instr_of<'a>(counts: Counts, tag: u8, rest: &'a [u8]) -> Result<(Instr, &'a [u8]), Stop>
-    requires low { 8 ≤ tag }
+    requires low { 10 ≤ tag }
     requires high { tag ≤ 14 }
     ensures { let c = counts.entry in let table = instr_table c.variables.now c.literals c.texts c.procedures in
         Gives (λ x. (x.0, x.1.now)) result (row (slice_get table (tag - 1)) rest.now) }
@@ -83,14 +88,6 @@ fn value_instr_of<'a>(counts: Counts, tag: u8, rest: &'a [u8]) -> Result<(Instr,
     let variables = counts.variables.len();
     let literals = counts.literals;
     match tag {
-        8 => {
-            let (n, rest) = number_in(0, variables, rest)?;
-            Ok((Instr::Store(n), rest))
-        }
-        9 => {
-            let (n, rest) = number_in(0, variables, rest)?;
-            Ok((Instr::StoreAt(n), rest))
-        }
         10 => {
             let (op, rest) = byte_in(0, 4, rest)?;
             Ok((Instr::Unary(op), rest))
@@ -273,8 +270,9 @@ pub(crate) fn instr_of<'a>(
 {
     let (tag, rest) = byte_in(1, 34, bytes)?;
     match tag {
-        1..=7 => operand_instr_of(counts, tag, rest),
-        8..=14 => value_instr_of(counts, tag, rest),
+        1..=4 => operand_instr_of(counts, tag, rest),
+        5..=9 => variable_instr_of(counts, tag, rest),
+        10..=14 => value_instr_of(counts, tag, rest),
         15..=17 => jump_instr_of(alloc, counts, tag, rest),
         18..=21 => loop_instr_of(counts, tag, rest),
         22..=27 => text_instr_of(alloc, counts, tag, rest),

@@ -148,15 +148,10 @@ pub(crate) fn dest_of(variables: usize, bytes: &[u8]) -> Result<(Dest, &[u8]), S
     ensures { Gives (λ x. (x.0, x.1.now)) result (dest_at variables bytes.now) }
 {
     let (tag, rest) = byte_in(1, 3, bytes)?;
+    let (n, rest) = number_in(0, variables, rest)?;
     match tag {
-        1 => {
-            let (n, rest) = number_in(0, variables, rest)?;
-            Ok((Dest::Whole(n), rest))
-        }
-        2 => {
-            let (n, rest) = number_in(0, variables, rest)?;
-            Ok((Dest::Range(n), rest))
-        }
+        1 => Ok((Dest::Whole(n), rest)),
+        2 => Ok((Dest::Range(n), rest)),
         _ => Err(wrong(rest)),
     }
 }
@@ -166,15 +161,10 @@ pub(crate) fn cell_of(variables: usize, bytes: &[u8]) -> Result<(Cell, &[u8]), S
     ensures { Gives (λ x. (x.0, x.1.now)) result (cell_at variables bytes.now) }
 {
     let (tag, rest) = byte_in(0, 2, bytes)?;
+    let (n, rest) = number_in(0, variables, rest)?;
     match tag {
-        0 => {
-            let (n, rest) = number_in(0, variables, rest)?;
-            Ok((Cell::Scalar(n), rest))
-        }
-        1 => {
-            let (n, rest) = number_in(0, variables, rest)?;
-            Ok((Cell::Element(n), rest))
-        }
+        0 => Ok((Cell::Scalar(n), rest)),
+        1 => Ok((Cell::Element(n), rest)),
         _ => Err(wrong(rest)),
     }
 }

@@ -1,17 +1,15 @@
 -- The steps of the code that reads expressions.
-use Rattle.std.proofs.Common.{◌≡◌, ℕ, ◌-◌, List, Some, None, Result}
+use Rattle.std.proofs.Common.{◌≡◌, ℕ, ◌-◌, List, Some, None}
 use Rattle.stapl_lexer.specs.declared.terminal.BinOp.{BinOp}
-use Rattle.stapl_lexer.specs.declared.terminal.Mark.TheVariants as marks
 use Rattle.stapl_syntax.specs.declared.signs.UnOp.{UnOp}
 use Rattle.stapl_syntax.specs.declared.signs.Sign.{Sign}
 use Rattle.stapl_syntax.specs.Symbols.{Symbol}
-use Rattle.stapl_syntax.specs.Trees.{ExprTree, ArrayTree, unary, binary}
+use Rattle.stapl_syntax.specs.Trees.{ExprTree, unary, binary}
 use Rattle.stapl_syntax.specs.Expressions.{level_of}
 use Rattle.stapl_grammar.specs.declared.refused.Refused.{Refused}
 use Rattle.stapl_grammar.specs.declared.refused.Refused.TheVariants.{Memory, Syntax}
-use Rattle.stapl_grammar.specs.Given.{Fails, Gives}
-use Rattle.stapl_grammar.specs.Looks.{after_mark}
-use Rattle.stapl_grammar.specs.Reading.{Reader, next_sign, next_operator, unary_of, unary_by, primary_from, closed_by, bracketed_by, range_by, target_from, target_by, expr, climb}
+use Rattle.stapl_grammar.specs.Given.{Fails}
+use Rattle.stapl_grammar.specs.Reading.{next_sign, next_operator, unary_of, unary_by, primary_from, expr, climb}
 use Rattle.stapl_grammar.proofs.Steps.{expr-is, unary_is, unary_nothing}
 use Rattle.stapl_grammar.proofs.Complete.{climb_stops, climb_some}
 
@@ -48,15 +46,3 @@ has_no_operator s r g n o = rw (unary_is (expr 10) g s r n, o)
 
 pub has_nothing : (s : List Symbol) → next_sign s ≡ None → unary_by (expr 10) s ≡ None
 has_nothing s n = unary_nothing (expr 10) s n
-
--- ---- what a further function returned
-
-pub closed_gives : {X A : Type 0} (view : X → A × List Symbol) (result : Result X Refused) (read : Reader A) (s r : List Symbol) → after_mark marks.LeftRound s ≡ Some r →
-    Gives view result (closed_by marks.RightRound read r) → Gives view result (bracketed_by read s)
-unfolding bracketed_by
-closed_gives view result read s r e g = rw e g
-
-pub range_gives : {X : Type 0} (view : X → ArrayTree × List Symbol) (result : Result X Refused) (read : Reader ExprTree) (v : List ℕ) (s r q : List Symbol) →
-    after_mark marks.LeftSquare s ≡ Some r → after_mark marks.RightSquare r ≡ None → q ≡ r → Gives view result (range_by read v q) → Gives view result (target_by read v s)
-unfolding target_by target_from
-range_gives view result read v s r q e none same g = rw (e, none, ← same) g

@@ -5,4 +5,3 @@ pub mod Reading
 pub mod PartReading
 pub mod BodyReading
 pub mod Answers
-pub mod Kept

@@ -1,6 +1,5 @@
 //! ENDPROC and declarations.
 use crate::cursor::Cursor;
-use crate::kept::boxed;
 use crate::refused::Refused;
 use base::ItemList;
 use bit_list::Bits;
@@ -39,7 +38,7 @@ impl<'a> Cursor<'a> {
             return Ok(None);
         }
         let bits = self.literal(alloc)?;
-        Ok(Some(boxed(alloc, bits)?))
+        Ok(Some(Box::new(alloc, bits)?))
     }
 
     // ["=" signed]
@@ -63,7 +62,7 @@ impl<'a> Cursor<'a> {
             return Ok(None);
         }
         let values = self.signed_list(alloc)?;
-        Ok(Some(boxed(alloc, values)?))
+        Ok(Some(Box::new(alloc, values)?))
     }
 
     // BOOLEAN name, and then "[" number "]" ["=" literal] | ["=" bit]

@@ -97,7 +97,7 @@ impl<'a> Cursor<'a> {
         if self.take_character() {
             self.expect_mark(Mark::LeftRound)?;
             let number = self.expr(alloc)?;
-            let number = self.before_mark(number, Mark::RightRound)?;
+            self.expect_mark(Mark::RightRound)?;
             return Ok(PrintPart::Character(number));
         }
         let value = self.expr(alloc)?;

@@ -4,7 +4,6 @@
 mod contents;
 mod cursor;
 mod declarations;
-mod kept;
 pub mod laws;
 mod leaves;
 mod lists;

@@ -1,6 +1,5 @@
 //! Statements outside procedures.
 use crate::cursor::Cursor;
-use crate::kept::{boxed, joined};
 use crate::refused::Refused;
 use base::ItemList;
 use stapl_lexer::{JoinWord, Mark, Name, OuterWord};
@@ -23,7 +22,7 @@ impl<'a> Cursor<'a> {
         ensures { Gives (λ b. (body_tree b, self.new)) result (mapped note_of (part_at note_part self.old)) }
     {
         let key = self.text(alloc)?;
-        let (key, text) = joined(key, self.text(alloc))?;
+        let text = self.text(alloc)?;
         Ok(Body::Note(key, text))
     }
 
@@ -46,11 +45,9 @@ impl<'a> Cursor<'a> {
     {
         let name = self.name()?;
         let text = self.optional_text(alloc)?;
-        let text = self.before_mark(text, Mark::Equals)?;
-        let parts = joined(text, self.items(alloc))?;
-        let ((text, items), name) = joined(parts, boxed(alloc, name))?;
-        let ((text, name), items) = joined((text, name), boxed(alloc, items))?;
-        Ok(Body::Action(name, text, items))
+        self.expect_mark(Mark::Equals)?;
+        let items = self.items(alloc)?;
+        Ok(Body::Action(Box::new(alloc, name)?, text, Box::new(alloc, items)?))
     }
 
     // [USES name {"," name}]
@@ -62,7 +59,7 @@ impl<'a> Cursor<'a> {
             return Ok(None);
         }
         let names = self.names(alloc)?;
-        Ok(Some(boxed(alloc, names)?))
+        Ok(Some(Box::new(alloc, names)?))
     }
 
     // PROCEDURE name [USES name {"," name}]

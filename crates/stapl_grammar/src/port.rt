@@ -1,6 +1,5 @@
 //! Statements that drive the test access port.
 use crate::cursor::Cursor;
-use crate::kept::{boxed, joined};
 use crate::refused::Refused;
 use stapl_lexer::{JoinWord, Mark, Padding, PortWord, Register};
 use stapl_syntax::{ArrayExpr, Body, Compare, Expr, Scan};
@@ -26,7 +25,7 @@ impl<'a> Cursor<'a> {
             return Ok(None);
         }
         let target = self.target(alloc)?;
-        Ok(Some(boxed(alloc, target)?))
+        Ok(Some(Box::new(alloc, target)?))
     }
 
     // "," array "," cell
@@ -37,9 +36,9 @@ impl<'a> Cursor<'a> {
     {
         self.expect_mark(Mark::Comma)?;
         let mask = self.array(alloc)?;
-        let mask = self.before_mark(mask, Mark::Comma)?;
-        let parts = joined(mask, self.cell(alloc))?;
-        Ok(parts)
+        self.expect_mark(Mark::Comma)?;
+        let cell = self.cell(alloc)?;
+        Ok((mask, cell))
     }
 
     // array "," array "," cell
@@ -48,7 +47,7 @@ impl<'a> Cursor<'a> {
         ensures { Gives (λ c. (compare_tree c, self.new)) result (part_at compared_part self.old) }
     {
         let expected = self.array(alloc)?;
-        let (expected, (mask, cell)) = joined(expected, self.mask_and_cell(alloc))?;
+        let (mask, cell) = self.mask_and_cell(alloc)?;
         Ok(Compare {
             expected,
             mask,
@@ -65,7 +64,7 @@ impl<'a> Cursor<'a> {
             return Ok(None);
         }
         let parts = self.compare_parts(alloc)?;
-        Ok(Some(boxed(alloc, parts)?))
+        Ok(Some(Box::new(alloc, parts)?))
     }
 
     // ["," CAPTURE target] ["," COMPARE array "," array "," cell]
@@ -84,31 +83,8 @@ impl<'a> Cursor<'a> {
             (part_at (both capture_part compare_part) self.old) }
     {
         let target = self.capture(alloc)?;
-        let parts = joined(target, self.compare(alloc))?;
-        Ok(parts)
-    }
-
-    // array ["," CAPTURE target] ["," COMPARE array "," array "," cell]
-    #[tactic(auto, unfolding(crate::specs::PartReading::part_at))]
-    fn scanned(
-        &mut self,
-        alloc: Global,
-    ) -> Result<(ArrayExpr, (Option<Box<ArrayExpr>>, Option<Box<Compare>>)), Refused>
-        ensures { Gives (λ x. (
-          (
-            array_tree x.0,
-            (
-              option_map (λ a. array_tree (box_value a)) x.1.0,
-              option_map (λ c. compare_tree (box_value c)) x.1.1,
-            ),
-          ),
-          self.new,
-        )) result
-            (part_at (both an_array (both capture_part compare_part)) self.old) }
-    {
-        let source = self.array(alloc)?;
-        let parts = joined(source, self.captures(alloc))?;
-        Ok(parts)
+        let compare = self.compare(alloc)?;
+        Ok((target, compare))
     }
 
     // (DRSCAN | IRSCAN) expr "," array ["," CAPTURE target] ["," COMPARE array "," array "," cell]
@@ -117,8 +93,9 @@ impl<'a> Cursor<'a> {
         ensures { Gives (λ b. (body_tree b, self.new)) result (mapped (scan_of register) (part_at scan_part self.old)) }
     {
         let length = self.expr(alloc)?;
-        let length = self.before_mark(length, Mark::Comma)?;
-        let (length, (source, (target, compare))) = joined(length, self.scanned(alloc))?;
+        self.expect_mark(Mark::Comma)?;
+        let source = self.array(alloc)?;
+        let (target, compare) = self.captures(alloc)?;
         let scan = Scan {
             register,
             length,
@@ -126,7 +103,7 @@ impl<'a> Cursor<'a> {
             target,
             compare,
         };
-        Ok(Body::Scan(boxed(alloc, scan)?))
+        Ok(Body::Scan(Box::new(alloc, scan)?))
     }
 
     // (PREDR | POSTDR | PREIR | POSTIR) expr ["," array]
@@ -138,7 +115,7 @@ impl<'a> Cursor<'a> {
         if !self.take_mark(Mark::Comma) {
             return Ok(Body::Pad(padding, count, None));
         }
-        let (count, bits) = joined(count, self.boxed_array(alloc))?;
+        let bits = self.boxed_array(alloc)?;
         Ok(Body::Pad(padding, count, Some(bits)))
     }
 
@@ -177,19 +154,8 @@ impl<'a> Cursor<'a> {
         }
         self.expect_mark(Mark::Comma)?;
         let count = self.boxed_expr(alloc)?;
-        let count = self.before_join(count, JoinWord::Usec)?;
+        self.expect_join(JoinWord::Usec)?;
         Ok(Some(count))
-    }
-
-    // ["," expr USEC] ["," state]
-    #[tactic(auto, unfolding(crate::specs::PartReading::part_at))]
-    fn usec_then_last(&mut self, alloc: Global) -> Result<(Option<Box<Expr>>, Option<u8>), Refused>
-        ensures { Gives (λ x. ((option_map (λ e. expr_tree (box_value e)) x.0, x.1), self.new)) result
-            (part_at (both usec_part last_part) self.old) }
-    {
-        let usec = self.usec(alloc)?;
-        let parts = joined(usec, self.last_state())?;
-        Ok(parts)
     }
 
     // USEC ["," state]
@@ -210,11 +176,12 @@ impl<'a> Cursor<'a> {
         let first = self.first_state()?;
         let count = self.expr(alloc)?;
         if self.take_join(JoinWord::Cycles) {
-            let count = boxed(alloc, count)?;
-            let (count, (usec, last)) = joined(count, self.usec_then_last(alloc))?;
+            let count = Box::new(alloc, count)?;
+            let usec = self.usec(alloc)?;
+            let last = self.last_state()?;
             return Ok(Body::WaitCycles(first, count, usec, last));
         }
-        let (count, last) = joined(count, self.usec_and_last())?;
+        let last = self.usec_and_last()?;
         Ok(Body::WaitUsec(first, count, last))
     }
 

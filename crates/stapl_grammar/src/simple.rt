@@ -1,34 +1,19 @@
 //! Statements that may stand after THEN.
 use crate::cursor::Cursor;
-use crate::kept::{boxed, joined};
 use crate::refused::Refused;
 use stapl_lexer::{JoinWord, Mark, Name, SimpleWord};
-use stapl_syntax::{ArrayExpr, Body, Expr, Sign};
+use stapl_syntax::{Body, Expr, Sign};
 use std::alloc::Global;
 
 impl<'a> Cursor<'a> {
     ghost use Rattle.std.specs.Prelude.{◌≡◌, ◌<◌, length};
     ghost use Rattle.std.specs.Option.{option_map};
     ghost use Rattle.std.specs.Box.{box_value};
-    ghost use Rattle.stapl_syntax.specs.Trees.{expr_tree, array_tree, body_tree, print};
-    ghost use Rattle.stapl_syntax.specs.Expressions.{right_square};
-    ghost use Rattle.stapl_syntax.specs.Parts.{an_expr, an_array, after, both, equals, step_part, for_part, print_part, export_part};
+    ghost use Rattle.stapl_syntax.specs.Trees.{expr_tree, body_tree, print};
+    ghost use Rattle.stapl_syntax.specs.Parts.{step_part, for_part, print_part, export_part};
     ghost use Rattle.stapl_grammar.specs.Given.{Gives};
     ghost use Rattle.stapl_grammar.specs.PartReading.{part_at};
     ghost use Rattle.stapl_grammar.specs.BodyReading.{mapped, range_or_element_of, range_or_element_part, indexed_of, indexed_part, assign_of, assign_part, for_of, export_of, simple_word_from, if_from, simple_from, simple_at};
-
-    // expr "]" "=" array
-    #[tactic(auto, unfolding(crate::specs::PartReading::part_at))]
-    fn range_end(&mut self, alloc: Global) -> Result<(Box<Expr>, Box<ArrayExpr>), Refused>
-        ensures { Gives (λ x. ((expr_tree (box_value x.0), array_tree (box_value x.1)), self.new)) result
-            (part_at (both an_expr (after right_square (after equals an_array))) self.old) }
-    {
-        let low = self.boxed_expr(alloc)?;
-        let low = self.before_mark(low, Mark::RightSquare)?;
-        let low = self.before_mark(low, Mark::Equals)?;
-        let parts = joined(low, self.boxed_array(alloc))?;
-        Ok(parts)
-    }
 
     // After a name, its bracket and an expression: ".." expr "]" "=" array | "]" "=" expr
     #[tactic(auto, unfolding(crate::specs::PartReading::part_at))]
@@ -42,13 +27,15 @@ impl<'a> Cursor<'a> {
             (mapped (range_or_element_of v (expr_tree (box_value first))) (part_at range_or_element_part self.old)) }
     {
         if self.take_mark(Mark::Dots) {
-            let range = joined(first, self.range_end(alloc))?;
-            let ((first, (low, array)), name) = joined(range, boxed(alloc, v))?;
-            return Ok(Body::AssignRange(name, first, low, array));
+            let low = self.boxed_expr(alloc)?;
+            self.expect_mark(Mark::RightSquare)?;
+            self.expect_mark(Mark::Equals)?;
+            let array = self.boxed_array(alloc)?;
+            return Ok(Body::AssignRange(Box::new(alloc, v)?, first, low, array));
         }
-        let first = self.before_mark(first, Mark::RightSquare)?;
-        let first = self.before_mark(first, Mark::Equals)?;
-        let (first, value) = joined(first, self.boxed_expr(alloc))?;
+        self.expect_mark(Mark::RightSquare)?;
+        self.expect_mark(Mark::Equals)?;
+        let value = self.boxed_expr(alloc)?;
         Ok(Body::AssignElement(v, first, value))
     }
 
@@ -91,17 +78,6 @@ impl<'a> Cursor<'a> {
         Ok(Some(step))
     }
 
-    // expr [STEP expr]
-    #[tactic(auto, unfolding(crate::specs::PartReading::part_at))]
-    fn for_end(&mut self, alloc: Global) -> Result<(Box<Expr>, Option<Box<Expr>>), Refused>
-        ensures { Gives (λ x. ((expr_tree (box_value x.0), option_map (λ e. expr_tree (box_value e)) x.1), self.new)) result
-            (part_at (both an_expr step_part) self.old) }
-    {
-        let to = self.boxed_expr(alloc)?;
-        let parts = joined(to, self.step(alloc))?;
-        Ok(parts)
-    }
-
     // FOR name "=" expr TO expr [STEP expr]
     #[tactic(auto, unfolding(crate::specs::PartReading::part_at))]
     fn for_loop(&mut self, alloc: Global) -> Result<Body, Refused>
@@ -110,10 +86,10 @@ impl<'a> Cursor<'a> {
         let name = self.name()?;
         self.expect_mark(Mark::Equals)?;
         let from = self.boxed_expr(alloc)?;
-        let from = self.before_join(from, JoinWord::To)?;
-        let range = joined(from, self.for_end(alloc))?;
-        let ((from, (to, step)), name) = joined(range, boxed(alloc, name))?;
-        Ok(Body::For(name, from, to, step))
+        self.expect_join(JoinWord::To)?;
+        let to = self.boxed_expr(alloc)?;
+        let step = self.step(alloc)?;
+        Ok(Body::For(Box::new(alloc, name)?, from, to, step))
     }
 
     // EXPORT string "," (expr | array)
@@ -122,10 +98,9 @@ impl<'a> Cursor<'a> {
         ensures { Gives (λ b. (body_tree b, self.new)) result (mapped export_of (part_at export_part self.old)) }
     {
         let key = self.text(alloc)?;
-        let key = self.before_mark(key, Mark::Comma)?;
-        let (key, exported) = joined(key, self.exported(alloc))?;
-        let (key, exported) = joined(key, boxed(alloc, exported))?;
-        Ok(Body::Export(key, exported))
+        self.expect_mark(Mark::Comma)?;
+        let exported = self.exported(alloc)?;
+        Ok(Body::Export(key, Box::new(alloc, exported)?))
     }
 
     // PRINT part {"," part}
@@ -180,8 +155,8 @@ impl<'a> Cursor<'a> {
         ensures { Gives (λ b. (body_tree b, self.new)) result (if_from simple_at self.old) }
     {
         let test = self.expr(alloc)?;
-        let test = self.before_join(test, JoinWord::Then)?;
-        let (test, then) = joined(test, self.boxed_simple(alloc))?;
+        self.expect_join(JoinWord::Then)?;
+        let then = self.boxed_simple(alloc)?;
         Ok(Body::If(test, then))
     }
 
@@ -218,6 +193,6 @@ impl<'a> Cursor<'a> {
         ensures { Gives (λ b. (body_tree (box_value b), self.new)) result (simple_at self.old) }
     {
         let statement = self.simple(alloc)?;
-        Ok(boxed(alloc, statement)?)
+        Ok(Box::new(alloc, statement)?)
     }
 }

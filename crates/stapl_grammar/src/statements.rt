@@ -1,6 +1,5 @@
 //! Whole statements.
 use crate::cursor::Cursor;
-use crate::kept::{boxed, joined};
 use crate::refused::Refused;
 use stapl_lexer::{Mark, Name};
 use stapl_syntax::{Body, Sign, Stmt};
@@ -83,8 +82,8 @@ impl<'a> Cursor<'a> {
     {
         match label {
             Some(name) => {
-                let name = boxed(alloc, name)?;
-                let (name, body) = joined(name, self.labelled(alloc))?;
+                let name = Box::new(alloc, name)?;
+                let body = self.labelled(alloc)?;
                 Ok(Stmt {
                     label: Some(name),
                     body,

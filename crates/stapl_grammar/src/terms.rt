@@ -1,6 +1,5 @@
 //! Expressions and arrays.
 use crate::cursor::Cursor;
-use crate::kept::{boxed, joined};
 use crate::looks::{level, unary_of};
 use crate::refused::Refused;
 use stapl_lexer::{Function, Mark, Name};
@@ -15,7 +14,7 @@ impl<'a> Cursor<'a> {
     ghost use Rattle.std.specs.Box.{box_value};
     ghost use Rattle.stapl_syntax.specs.Trees.{expr_tree, array_tree};
     ghost use Rattle.stapl_grammar.specs.Given.{Gives};
-    ghost use Rattle.stapl_grammar.specs.Reading.{expr, unary_by, primary_from, brackets_from, closed_by, bracketed_by, function_from, array_by, array_from, bool_from, named_by, range_by, target_by};
+    ghost use Rattle.stapl_grammar.specs.Reading.{expr, unary_by, primary_from, brackets_from, bracketed_by, function_from, array_by, array_from, bool_from, named_by, target_by};
     ghost use Rattle.stapl_grammar.specs.PartReading.{array_at, cell_at, target_at};
 
     // An expression.
@@ -78,8 +77,8 @@ impl<'a> Cursor<'a> {
     {
         let mut left = self.operand(alloc)?;
         while let Some(op) = self.take_operator(most) {
-            let left_box = boxed(alloc, left)?;
-            let (left_box, right) = joined(left_box, self.boxed_level(alloc, level(op) - 1))?;
+            let left_box = Box::new(alloc, left)?;
+            let right = self.boxed_level(alloc, level(op) - 1)?;
             left = Expr::Binary(op, left_box, right);
         }
         Ok(left)
@@ -92,18 +91,20 @@ impl<'a> Cursor<'a> {
         ensures shorter { OnOk result (length self.new < length self.old) }
     {
         let inner = self.level_expr(alloc, most)?;
-        Ok(boxed(alloc, inner)?)
+        Ok(Box::new(alloc, inner)?)
     }
 
     // An expression in brackets, after a pointer.
     #[cycle(terms)]
-    #[tactic(auto, unfolding(crate::specs::Reading::bracketed_by))]
+    #[tactic(auto, unfolding(crate::specs::Reading::closed_by, crate::specs::Reading::bracketed_by))]
     fn bracketed(&mut self, alloc: Global) -> Result<Box<Expr>, Refused>
         ensures read { Gives (λ e. (expr_tree (box_value e), self.new)) result (bracketed_by (expr 10) self.old) }
         ensures shorter { OnOk result (length self.new ≤ length self.old) }
     {
         self.expect_mark(Mark::LeftRound)?;
-        self.closed(alloc, Mark::RightRound)
+        let inner = self.boxed_level(alloc, LOOSEST)?;
+        self.expect_mark(Mark::RightRound)?;
+        Ok(inner)
     }
 
     // An array in brackets, after a pointer.
@@ -116,7 +117,7 @@ impl<'a> Cursor<'a> {
     {
         self.expect_mark(Mark::LeftRound)?;
         let inner = self.boxed_array_term(alloc)?;
-        let inner = self.before_mark(inner, Mark::RightRound)?;
+        self.expect_mark(Mark::RightRound)?;
         Ok(inner)
     }
 
@@ -133,7 +134,7 @@ impl<'a> Cursor<'a> {
         match unary_of(first) {
             Some(op) => {
                 let inner = self.operand(alloc)?;
-                Ok(Expr::Unary(op, boxed(alloc, inner)?))
+                Ok(Expr::Unary(op, Box::new(alloc, inner)?))
             }
             None => self.primary(alloc, first),
         }
@@ -165,7 +166,7 @@ impl<'a> Cursor<'a> {
         match mark {
             Mark::LeftRound => {
                 let inner = self.level_expr(alloc, LOOSEST)?;
-                let inner = self.before_mark(inner, Mark::RightRound)?;
+                self.expect_mark(Mark::RightRound)?;
                 Ok(inner)
             }
             _ => Err(Refused::Syntax),
@@ -194,7 +195,7 @@ impl<'a> Cursor<'a> {
 
     // After a name: an element, or the name alone.
     #[cycle(terms)]
-    #[tactic(auto, unfolding(crate::specs::Reading::named_by))]
+    #[tactic(auto, unfolding(crate::specs::Reading::named_by, crate::specs::Reading::closed_by))]
     fn named(&mut self, alloc: Global, v: Name) -> Result<Expr, Refused>
         ensures read { Gives (λ e. (expr_tree e, self.new)) result (named_by (expr 10) v self.old) }
         ensures shorter { OnOk result (length self.new ≤ length self.old) }
@@ -202,9 +203,9 @@ impl<'a> Cursor<'a> {
         if !self.take_mark(Mark::LeftSquare) {
             return Ok(Expr::Scalar(v));
         }
-        let index = self.closed(alloc, Mark::RightSquare)?;
-        let (index, name) = joined(index, boxed(alloc, v))?;
-        Ok(Expr::Element(name, index))
+        let index = self.boxed_level(alloc, LOOSEST)?;
+        self.expect_mark(Mark::RightSquare)?;
+        Ok(Expr::Element(Box::new(alloc, v)?, index))
     }
 
     // An array.
@@ -231,7 +232,7 @@ impl<'a> Cursor<'a> {
         ensures shorter { OnOk result (length self.new < length self.old) }
     {
         let inner = self.array_term(alloc)?;
-        Ok(boxed(alloc, inner)?)
+        Ok(Box::new(alloc, inner)?)
     }
 
     // An array that begins with this sign, and is no literal.
@@ -264,35 +265,9 @@ impl<'a> Cursor<'a> {
         }
     }
 
-    // An expression, after a pointer, and then this mark.
-    #[cycle(terms)]
-    #[tactic(auto, unfolding(crate::specs::Reading::closed_by))]
-    fn closed(&mut self, alloc: Global, mark: Mark) -> Result<Box<Expr>, Refused>
-        ensures read { Gives (λ e. (expr_tree (box_value e), self.new)) result (closed_by mark (expr 10) self.old) }
-        ensures shorter { OnOk result (length self.new < length self.old) }
-    {
-        let inner = self.boxed_level(alloc, LOOSEST)?;
-        let inner = self.before_mark(inner, mark)?;
-        Ok(inner)
-    }
-
-    // After a name and its bracket: a range of the array of this name.
-    #[cycle(terms)]
-    #[tactic(auto, unfolding(crate::specs::Reading::range_by))]
-    fn range_of(&mut self, alloc: Global, v: Name) -> Result<ArrayExpr, Refused>
-        ensures read { Gives (λ a. (array_tree a, self.new)) result (range_by (expr 10) v self.old) }
-        ensures shorter { OnOk result (length self.new < length self.old) }
-    {
-        let high = self.boxed_level(alloc, LOOSEST)?;
-        let high = self.before_mark(high, Mark::Dots)?;
-        let ends = joined(high, self.closed(alloc, Mark::RightSquare))?;
-        let ((high, low), name) = joined(ends, boxed(alloc, v))?;
-        Ok(ArrayExpr::Range(name, high, low))
-    }
-
     // After a name: the whole array of this name, or a range of it.
     #[cycle(terms)]
-    #[tactic(auto, unfolding(crate::specs::Reading::target_by, crate::specs::Reading::target_from))]
+    #[tactic(auto, unfolding(crate::specs::Reading::target_by, crate::specs::Reading::target_from, crate::specs::Reading::range_by, crate::specs::Reading::closed_by))]
     fn target_of(&mut self, alloc: Global, v: Name) -> Result<ArrayExpr, Refused>
         ensures read { Gives (λ a. (array_tree a, self.new)) result (target_by (expr 10) v self.old) }
         ensures shorter { OnOk result (length self.new < length self.old) }
@@ -301,6 +276,10 @@ impl<'a> Cursor<'a> {
         if self.take_mark(Mark::RightSquare) {
             return Ok(ArrayExpr::Whole(v));
         }
-        self.range_of(alloc, v)
+        let high = self.boxed_level(alloc, LOOSEST)?;
+        self.expect_mark(Mark::Dots)?;
+        let low = self.boxed_level(alloc, LOOSEST)?;
+        self.expect_mark(Mark::RightSquare)?;
+        Ok(ArrayExpr::Range(Box::new(alloc, v)?, high, low))
     }
 }

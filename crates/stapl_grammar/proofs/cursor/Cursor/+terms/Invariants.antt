@@ -53,9 +53,3 @@ decreases-bracketed_array l = 6 * length l.self.now
 
 abbrev pub decreases-boxed_array_term : goal.decreases-boxed_array_term
 decreases-boxed_array_term l = 6 * length l.self.now + 1
-
-abbrev pub decreases-closed : goal.decreases-closed
-decreases-closed l = 6 * length l.self.now + 4
-
-abbrev pub decreases-range_of : goal.decreases-range_of
-decreases-range_of l = 6 * length l.self.now + 4
