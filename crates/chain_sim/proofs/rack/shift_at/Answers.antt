@@ -1,8 +1,12 @@
 use Rattle.std.proofs.Common.{arith}
 use Rattle.dev_card.specs.Blocks.{card_after_block, card_block}
-use Rattle.chain_sim.proofs.Clocking.{card_changed, kinds_same, others_same}
+use Rattle.chain_sim.proofs.Clocking.{card_read, card_changed, kinds_same, others_same}
 use Rattle.chain_sim.proofs.BlockRuns.{card_seen}
 use Rattle.chain_sim.proofs.rack.shift_at.Goals as goal
+
+pub shift_block-requires-clause-fitted : goal.shift_block-requires-clause-fitted
+shift_block-requires-clause-fitted g c =
+    rw (card_read g.D.Device.fitted c.args.rack.now.items c.args.place c.index_mut.result.now (omega arith) c.index_mut.ensures.value) at c.requires.fitted
 
 pub returns-clause-kinds : goal.returns-clause-kinds
 returns-clause-kinds g c = kinds_same _ _ _ _ _ c.index_mut.ensures.value c.shift_block.ensures.kind
