@@ -10,7 +10,8 @@ use Rattle.stapl_code.specs.declared.instr.Instr.TheVariants.{Turn}
 use Rattle.valid_codes.specs.declared.valid.ValidateRefused.TheVariants.{Invalid}
 use Rattle.stapl_code.specs.Machine.{Want, wants}
 use Rattle.stapl_code.specs.Ranges.{IsInRange}
-use Rattle.stapl_code.specs.Valid.{IsValid, NamesFirst}
+use Rattle.stapl_code.specs.Valid.{IsValid}
+use Rattle.valid_codes.specs.Refusals.{NamesFirst}
 use Rattle.code_rules.specs.Places.{StandsAt, BeginsAt, IsOfPrologue, IsOfProcedure, EndsPart}
 use Rattle.code_rules.specs.Instructions.{IsTurnInstr, IsEndProc, SetsUp, Empties, Departs, HasTarget, WantsStable}
 use Rattle.code_rules.specs.KindMoves.{HasWanted, MovesKinds, KindsBefore}
