@@ -9,10 +9,10 @@ use Rattle.std.proofs.lemmas.Option.{same_Some}
 use Rattle.tool_io.specs.declared.lines.Lines.{Lines}
 use Rattle.tool_io.specs.Lines.{Puts, PutsFront}
 use Rattle.tool_io.proofs.PutLemmas.{put_then, put_then_front, front_with}
-use Rattle.tool_answers.specs.declared.no_answer.NoAnswer.{NoAnswer}
-use Rattle.tool_answers.specs.declared.no_answer.NoAnswer.TheVariants.{Write}
-use Rattle.tool_answers.specs.Answers.{Said, SaidFront, Says}
-use Rattle.tool_answers.proofs.AnswerLemmas.{IsWithin}
+use Rattle.tool_frame.specs.declared.no_answer.NoAnswer.{NoAnswer}
+use Rattle.tool_frame.specs.declared.no_answer.NoAnswer.TheVariants.{Write}
+use Rattle.tool_frame.specs.Answers.{Said, SaidFront, Says}
+use Rattle.tool_frame.proofs.AnswerLemmas.{IsWithin}
 use Rattle.stapl_meaning.specs.declared.events.Event.{Event}
 use Rattle.stapl_meaning.specs.declared.events.Ending.{Ending}
 use Rattle.stapl_meaning.specs.declared.events.Ending.TheVariants.{Spent}

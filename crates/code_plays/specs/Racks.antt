@@ -10,7 +10,7 @@ use Rattle.stapl_code.specs.declared.raw.CodeLists.{CodeLists}
 use Rattle.stapl_player.specs.Choices.{code_choice}
 use Rattle.chain_sim.specs.Places.{cards_at}
 use Rattle.chain_sim.specs.Rack.{places_of}
-use Rattle.tool_answers.specs.declared.no_answer.NoAnswer.{NoAnswer}
+use Rattle.tool_frame.specs.declared.no_answer.NoAnswer.{NoAnswer}
 use Rattle.play_words.specs.declared.words.Request.{Request}
 use Rattle.play_status.specs.declared.status.Status.{Status}
 use Rattle.play_status.specs.Statuses.{IsPlayed, ComesBeforeFitting}

@@ -1,7 +1,7 @@
 //! The play of a code over a cable that tells its board and never fails.
 ghost use Rattle.std.specs.Prelude.{◌≡◌, ◌≢◌, ◌<◌, [], true, length, map, Some, OnOk, IfOk};
 ghost use Rattle.tool_io.specs.Lines.{IsWhole, HasPut};
-ghost use Rattle.tool_answers.specs.Answers.{KeepsSink};
+ghost use Rattle.tool_frame.specs.Answers.{KeepsSink};
 ghost use Rattle.scan_paths.specs.Cables.{whole, cable_faults, IsCableLast};
 ghost use Rattle.scan_paths.specs.Scans.{lengths_of};
 ghost use Rattle.dev_card.specs.Card.{fresh};

@@ -1,7 +1,7 @@
 //! The play of a code.
 ghost use Rattle.std.specs.Prelude.{◌≡◌, [], true, length, map, Some, IsSomeAnd, IsTrue, OnOk, IfOk, IsErrOf};
 ghost use Rattle.tool_io.specs.Lines.{IsWhole, HasPut, KeepsLines};
-ghost use Rattle.tool_answers.specs.Answers.{Says, KeepsOutput, KeepsSink};
+ghost use Rattle.tool_frame.specs.Answers.{Says, KeepsOutput, KeepsSink};
 ghost use Rattle.stapl_meaning.specs.Choices.{no_action, bad_choice, chosen};
 ghost use Rattle.stapl_meaning.specs.Plays.{ending_of};
 ghost use Rattle.stapl_meaning.specs.Texts.{events_text, far_report, asked_report};
@@ -36,7 +36,7 @@ use stapl_player::{ChoiceRefused, choose};
 use std::alloc::Global;
 use std::marker::Brand;
 use std::sync::ledger::Blank;
-use tool_answers::NoAnswer;
+use tool_frame::NoAnswer;
 use tool_io::{Failed, Lines, Sink};
 use valid_codes::Code;
 

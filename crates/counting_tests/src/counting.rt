@@ -1,8 +1,8 @@
 //! The program.
 ghost use Rattle.std.specs.Prelude.{◌≡◌, ℕ, List, map, string_bytes, IfSome, IfNone};
 ghost use Rattle.tool_io.specs.Lines.{IsWhole, IsSinkUntouched, HasPut, KeepsLines};
-ghost use Rattle.tool_answers.specs.Answers.{Says, KeepsOutput};
-ghost use Rattle.named_files.specs.Files.{KeepsShelf};
+ghost use Rattle.tool_frame.specs.Answers.{Says, KeepsOutput};
+ghost use Rattle.tool_frame.specs.Files.{KeepsShelf};
 ghost use Rattle.counting_tests.specs.Counts.{NamesBoard, count_line, BoardAnswer, Counts};
 
 use board_text::BoardReason;
@@ -10,7 +10,7 @@ use command_words::{FileName, path_under};
 use dev_card::Desc;
 use named_files::{BoardNotRead, board_named, put_board_refusal, put_usage};
 use std::alloc::Global;
-use tool_answers::NoAnswer;
+use tool_frame::NoAnswer;
 use tool_io::{Failed, Lines, Shelf, Sink, put_number_line};
 
 /// How the program ends.

@@ -2,7 +2,7 @@
 use crate::{Ending, count_devices};
 use board_text::BoardReason;
 use std::test::Fail;
-use tool_answers::NoAnswer;
+use tool_frame::NoAnswer;
 use tool_io::{Lines, MemShelf, MemSink};
 
 // What the program answers to one word, with this board in the file `b`, and what it writes.

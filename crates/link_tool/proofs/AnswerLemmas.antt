@@ -7,15 +7,15 @@ use Rattle.dev_card.specs.declared.desc.Desc.{Desc}
 use Rattle.dev_card.specs.Sound.{SoundCard}
 use Rattle.board_text.specs.declared.reason.BoardReason.{BoardReason}
 use Rattle.board_text.specs.Boards.{IsBoard, IsFirstFault}
-use Rattle.tool_answers.specs.declared.no_answer.NoAnswer.{NoAnswer}
-use Rattle.tool_answers.specs.declared.no_answer.NoAnswer.TheVariants.{Read, Write, Memory}
-use Rattle.tool_answers.proofs.AnswerLemmas.{IsWithin, wrote_within, front_within_written}
+use Rattle.tool_frame.specs.declared.no_answer.NoAnswer.{NoAnswer}
+use Rattle.tool_frame.specs.declared.no_answer.NoAnswer.TheVariants.{Read, Write, Memory}
+use Rattle.tool_frame.proofs.AnswerLemmas.{IsWithin, wrote_within, front_within_written}
 use Rattle.named_files.specs.Boards.{ReadsBoard, ReadsBoardFault}
 use Rattle.named_files.proofs.BoardLemmas.{one_held, one_fault, board_or_fault}
-use Rattle.board_and_file.specs.Words.{FileNames, IsRequest, IsUsage}
-use Rattle.board_and_file.specs.Contents.{Contents, contents_in, OfContents, OfWords}
-use Rattle.board_and_file.proofs.WordLemmas.{one_request, one_usage, no_usage}
-use Rattle.board_and_file.proofs.ContentLemmas.{both, of_any_contents, of_board, of_both, of_request, of_no_request}
+use Rattle.named_files.specs.Words.{FileNames, IsRequest, IsUsage}
+use Rattle.named_files.specs.Contents.{Contents, contents_in, OfContents, OfWords}
+use Rattle.named_files.proofs.WordLemmas.{one_request, one_usage, no_usage}
+use Rattle.named_files.proofs.ContentLemmas.{both, of_any_contents, of_board, of_both, of_request, of_no_request}
 use Rattle.link_tool.specs.declared.status.LinkStatus.{LinkStatus}
 use Rattle.link_tool.specs.declared.status.LinkStatus.TheVariants.{BoardRefused, Usage}
 use Rattle.link_tool.specs.Statuses.{IsFault, IsOfSession}

@@ -8,9 +8,9 @@ use Rattle.dev_card.specs.Card.{Card}
 use Rattle.dev_card.specs.Sound.{SoundCard}
 use Rattle.chain_sim.specs.Places.{cards_at}
 use Rattle.chain_sim.specs.Rack.{places_of}
-use Rattle.tool_answers.specs.declared.no_answer.NoAnswer.{NoAnswer}
-use Rattle.tool_answers.specs.declared.no_answer.NoAnswer.TheVariants.{Read, Write, Memory}
-use Rattle.named_files.specs.Files.{OfFile}
+use Rattle.tool_frame.specs.declared.no_answer.NoAnswer.{NoAnswer}
+use Rattle.tool_frame.specs.declared.no_answer.NoAnswer.TheVariants.{Read, Write, Memory}
+use Rattle.tool_frame.specs.Files.{OfFile}
 use Rattle.named_files.proofs.BoardLemmas.{of_any_file, of_whole_file}
 use Rattle.link_tool.specs.declared.status.LinkStatus.{LinkStatus}
 use Rattle.link_tool.specs.Sessions.{session_answers}

@@ -22,8 +22,8 @@ use Rattle.link_server.specs.declared.link.Fed.{Fed}
 use Rattle.link_server.specs.Runs.{LinkAt, LinkRun, new_link, link_run, is_open, HasFed}
 use Rattle.link_server.proofs.Cuts.{end_joined, answers_joined, taken_joined}
 use Rattle.link_server.proofs.FeedLemmas.{closed_after, closed_answers, closed_taken}
-use Rattle.tool_answers.specs.declared.no_answer.NoAnswer.{NoAnswer}
-use Rattle.tool_answers.specs.declared.no_answer.NoAnswer.TheVariants.{Read, Write}
+use Rattle.tool_frame.specs.declared.no_answer.NoAnswer.{NoAnswer}
+use Rattle.tool_frame.specs.declared.no_answer.NoAnswer.TheVariants.{Read, Write}
 use Rattle.link_tool.specs.declared.status.LinkStatus.{LinkStatus}
 use Rattle.link_tool.specs.declared.status.LinkStatus.TheVariants.{Done, BadByte, TooLong}
 use Rattle.link_tool.specs.declared.session.Session.{Session}

@@ -6,8 +6,8 @@ use Rattle.dev_card.specs.declared.desc.Desc.{Desc}
 use Rattle.dev_card.specs.Card.{Card, fresh}
 use Rattle.board_text.specs.declared.reason.BoardReason.{BoardReason}
 use Rattle.named_files.specs.Boards.{HasBoard, HasBoardFault}
-use Rattle.board_and_file.specs.Words.{FileNames, IsRequest, IsUsage}
-use Rattle.board_and_file.specs.Contents.{Contents, contents_in}
+use Rattle.named_files.specs.Words.{FileNames, IsRequest, IsUsage}
+use Rattle.named_files.specs.Contents.{Contents, contents_in}
 use Rattle.link_tool.specs.declared.status.LinkStatus.{LinkStatus}
 use Rattle.link_tool.specs.declared.status.LinkStatus.TheVariants.{BoardRefused, Usage}
 use Rattle.link_tool.specs.Sessions.{session_bytes, first_answers, session_answers, EndsWith}

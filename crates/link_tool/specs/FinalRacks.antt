@@ -5,9 +5,9 @@ use Rattle.dev_card.specs.Sound.{SoundCard}
 use Rattle.chain_sim.specs.Places.{cards_at}
 use Rattle.chain_sim.specs.Rack.{places_of}
 use Rattle.named_files.specs.Boards.{HasBoard}
-use Rattle.tool_answers.specs.declared.no_answer.NoAnswer.{NoAnswer}
-use Rattle.board_and_file.specs.Words.{FileNames, IsRequest}
-use Rattle.board_and_file.specs.Contents.{Contents}
+use Rattle.tool_frame.specs.declared.no_answer.NoAnswer.{NoAnswer}
+use Rattle.named_files.specs.Words.{FileNames, IsRequest}
+use Rattle.named_files.specs.Contents.{Contents}
 use Rattle.link_tool.specs.declared.status.LinkStatus.{LinkStatus}
 use Rattle.link_tool.specs.Statuses.{IsOfSession, ComesBeforeFitting}
 use Rattle.link_tool.specs.Sessions.{board_left}

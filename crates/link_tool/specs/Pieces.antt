@@ -8,8 +8,8 @@ use Rattle.dev_card.specs.Card.{Card}
 use Rattle.link_server.specs.declared.link.LinkState.{LinkState}
 use Rattle.link_server.specs.declared.link.LinkState.TheVariants as states
 use Rattle.link_server.specs.Runs.{LinkAt, link_run}
-use Rattle.tool_answers.specs.declared.no_answer.NoAnswer.{NoAnswer}
-use Rattle.tool_answers.specs.declared.no_answer.NoAnswer.TheVariants.{Read, Write, Memory}
+use Rattle.tool_frame.specs.declared.no_answer.NoAnswer.{NoAnswer}
+use Rattle.tool_frame.specs.declared.no_answer.NoAnswer.TheVariants.{Read, Write, Memory}
 use Rattle.link_tool.specs.declared.status.LinkStatus.{LinkStatus}
 use Rattle.link_tool.specs.declared.status.LinkStatus.TheVariants.{Done, BadByte, TooLong}
 use Rattle.link_tool.specs.declared.session.Session.{Session}

@@ -4,10 +4,10 @@ use Rattle.std.specs.Prelude.{◌≡◌, ℕ, List, Option, Result, Ok, Err, IsE
 use Rattle.tool_io.specs.Bytes.{then_bytes}
 use Rattle.tool_io.specs.Causes.{HasRisen, NeverFalls}
 use Rattle.dev_card.specs.Sound.{SoundCard}
-use Rattle.tool_answers.specs.declared.no_answer.NoAnswer.{NoAnswer}
-use Rattle.tool_answers.specs.declared.no_answer.NoAnswer.TheVariants.{Read, Write, Memory}
-use Rattle.tool_answers.specs.Answers.{Wrote, WroteFront}
-use Rattle.board_and_file.specs.Contents.{Contents}
+use Rattle.tool_frame.specs.declared.no_answer.NoAnswer.{NoAnswer}
+use Rattle.tool_frame.specs.declared.no_answer.NoAnswer.TheVariants.{Read, Write, Memory}
+use Rattle.tool_frame.specs.Answers.{Wrote, WroteFront}
+use Rattle.named_files.specs.Contents.{Contents}
 use Rattle.link_tool.specs.declared.status.LinkStatus.{LinkStatus}
 use Rattle.link_tool.specs.Statuses.{IsOfSession}
 use Rattle.link_tool.specs.Answers.{WordsAnswer}

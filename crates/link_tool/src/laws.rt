@@ -3,8 +3,8 @@ ghost use Rattle.std.specs.Prelude.{◌≡◌, ℕ, List, Some, IsSome};
 ghost use Rattle.link_tool.specs.declared.status.LinkStatus.{LinkStatus};
 ghost use Rattle.link_tool.specs.Statuses.{IsFault};
 ghost use Rattle.link_tool.specs.Sessions.{EndsWith};
-ghost use Rattle.board_and_file.specs.Words.{FileNames};
-ghost use Rattle.board_and_file.specs.Contents.{Contents, OfWords};
+ghost use Rattle.named_files.specs.Words.{FileNames};
+ghost use Rattle.named_files.specs.Contents.{Contents, OfWords};
 ghost use Rattle.link_tool.specs.Answers.{link_key, RequestAnswer, WordsAnswer, Answer};
 
 use board_text::laws::every_text_is_a_board_or_has_a_fault;

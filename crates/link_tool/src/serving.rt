@@ -2,7 +2,7 @@
 ghost use Rattle.std.specs.Prelude.{◌≡◌, ℕ, [], List, map, IsTrue, IsSome, IsErrOf, Some};
 ghost use Rattle.tool_io.specs.Causes.{HasRisenAt, NoneFalls};
 ghost use Rattle.tool_io.specs.Lines.{gathered, taken, IsWhole};
-ghost use Rattle.tool_answers.specs.Answers.{KeepsOutput};
+ghost use Rattle.tool_frame.specs.Answers.{KeepsOutput};
 ghost use Rattle.dev_card.specs.Card.{Card};
 ghost use Rattle.chain_sim.specs.Places.{cards_at, is_chain, AreApart};
 ghost use Rattle.link_tool.specs.Pieces.{HasServed};
@@ -11,7 +11,7 @@ ghost use Rattle.link_tool.specs.Written.{KeepsCount};
 use crate::LinkStatus;
 use crate::session::{PIECE, Session};
 use dev_card::Device;
-use tool_answers::NoAnswer;
+use tool_frame::NoAnswer;
 use tool_io::{Lines, Shelf, Sink};
 
 // The session of the picked file: it is read piece by piece, and what is answered to a piece is written and flushed

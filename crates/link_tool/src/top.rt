@@ -1,12 +1,12 @@
 //! The top call.
 ghost use Rattle.std.specs.Prelude.{◌≡◌, Some, map, string_bytes};
 ghost use Rattle.tool_io.specs.Causes.{HasRisen, NeverFalls, NoneFalls};
-ghost use Rattle.tool_answers.specs.Answers.{WroteFront};
+ghost use Rattle.tool_frame.specs.Answers.{WroteFront};
 ghost use Rattle.board_text.specs.Boards.{CanBeFitted};
 ghost use Rattle.chain_sim.specs.Rack.{IsRack};
-ghost use Rattle.named_files.specs.Files.{OfFile, HasReadCause, KeepsShelf};
-ghost use Rattle.board_and_file.specs.Named.{files_named};
-ghost use Rattle.board_and_file.specs.Contents.{OfContents, OfWords, IsReached, IsReachedBy};
+ghost use Rattle.tool_frame.specs.Files.{OfFile, HasReadCause, KeepsShelf};
+ghost use Rattle.named_files.specs.Named.{files_named};
+ghost use Rattle.named_files.specs.Contents.{OfContents, OfWords, IsReached, IsReachedBy};
 ghost use Rattle.link_tool.specs.Statuses.{IsFault, ComesBeforeFitting};
 ghost use Rattle.link_tool.specs.Answers.{link_key, FileAnswer, RequestAnswer, WordsAnswer};
 ghost use Rattle.link_tool.specs.Answers.{FileDue, RequestDue, WordsDue};
@@ -15,13 +15,13 @@ ghost use Rattle.link_tool.specs.Written.{WroteDue, Answers, KeepsCount, Answere
 
 use crate::LinkStatus;
 use crate::serving::serve_to;
-use board_and_file::{Named, read_words};
+use named_files::{Named, read_words};
 use chain_sim::fit_board;
 use command_words::FileName;
 use dev_card::{Desc, Device};
 use named_files::{BoardNotRead, board_named};
 use std::alloc::Global;
-use tool_answers::NoAnswer;
+use tool_frame::NoAnswer;
 use tool_io::{Shelf, Sink};
 
 // Answers the bytes of a link in a file, over a board of these devices. It is fitted into the rack before the file is

@@ -7,7 +7,7 @@ use Rattle.board_text.specs.declared.reason.BoardReason.TheVariants as reasons
 use Rattle.board_text.specs.declared.reason.BoardReason.{BoardReason}
 use Rattle.board_text.specs.Boards.{most_bytes, IsFirstFault}
 use Rattle.board_text.proofs.OneAnswer.{one_board, one_first_fault, no_board_has_a_fault}
-use Rattle.named_files.specs.Files.{file_named, AreRead, OfFile}
+use Rattle.tool_frame.specs.Files.{file_named, AreRead, OfFile}
 use Rattle.named_files.specs.Boards.{HasBoard, HasBoardFault, ReadsBoardFault}
 
 -- there is a text of each length

@@ -1,1 +1,3 @@
 pub mod BoardLemmas
+pub mod WordLemmas
+pub mod ContentLemmas

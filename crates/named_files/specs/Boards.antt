@@ -3,7 +3,7 @@ use Rattle.std.specs.Prelude.{◌≡◌, ℕ, List, [], Option, None, Some, IsSo
 use Rattle.dev_card.specs.declared.desc.Desc.{Desc}
 use Rattle.board_text.specs.declared.reason.BoardReason.{BoardReason}
 use Rattle.board_text.specs.Boards.{IsBoard, IsFirstFault}
-use Rattle.named_files.specs.Files.{OfFile}
+use Rattle.tool_frame.specs.Files.{OfFile}
 
 -- Some bytes are held, and they are the board of these devices. Where no file is named there is no device.
 abbrev pub HasBoard : Option (List ℕ) → Option (List ℕ) → List Desc → Type 0

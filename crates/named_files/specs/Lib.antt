@@ -1,3 +1,5 @@
-pub mod Files
+pub mod Words
+pub mod Named
+pub mod Contents
 pub mod Boards
 pub mod Texts

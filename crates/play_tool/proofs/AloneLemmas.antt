@@ -36,7 +36,7 @@ use Rattle.named_files.specs.Boards.{HasBoard}
 use Rattle.play_tool.specs.Alone.{alone_request, IsQuietAlone, PlaysAlone}
 use Rattle.play_tool.proofs.AnswerLemmas.{answers_work, asked_plays, source_to_text}
 use Rattle.play_tool.proofs.RequestLemmas.{words_request, mode_of_request, the_file}
-use Rattle.tool_answers.proofs.AnswerLemmas.{IsWithin}
+use Rattle.tool_frame.proofs.AnswerLemmas.{IsWithin}
 use Rattle.code_plays.specs.Plays.{done_with, has_place, neighbours, reported_far, asked_text, Plays, no_action, bad_choice, bad_place, played, base_at}
 
 -- the devices of a board are good

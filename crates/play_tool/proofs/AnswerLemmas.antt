@@ -17,7 +17,7 @@ use Rattle.play_words.specs.declared.words.Request.{Request}
 use Rattle.play_words.specs.Words.{reads_text}
 use Rattle.play_status.specs.declared.status.Status.{Status}
 use Rattle.play_status.specs.declared.status.Status.TheVariants.{Refused}
-use Rattle.tool_answers.proofs.AnswerLemmas.{IsWithin}
+use Rattle.tool_frame.proofs.AnswerLemmas.{IsWithin}
 use Rattle.play_tool.specs.ProgramFiles.{most_of_source, long_line, long_status}
 use Rattle.play_tool.specs.Answers.{PlaysAction, PlaysAsked, Work, TextAnswer, refused, accepted, CodeAnswer, code_refused, SourceAnswer, FileAnswer}
 

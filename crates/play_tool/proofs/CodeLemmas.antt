@@ -9,7 +9,7 @@ use Rattle.dev_card.specs.declared.desc.Desc.{Desc}
 use Rattle.dev_card.specs.Sound.{SoundCard}
 use Rattle.play_words.specs.declared.words.Request.{Request}
 use Rattle.play_status.specs.declared.status.Status.{Status}
-use Rattle.tool_answers.proofs.AnswerLemmas.{IsWithin}
+use Rattle.tool_frame.proofs.AnswerLemmas.{IsWithin}
 use Rattle.code_plays.specs.Plays.{PlaysCodeAction}
 use Rattle.code_plays.specs.Racks.{CodeHoldsFinal}
 use Rattle.play_tool.specs.Answers.{PlaysCodeAsked, CodeAnswer, code_refused, code_accepted}

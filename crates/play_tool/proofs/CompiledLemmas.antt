@@ -16,7 +16,7 @@ use Rattle.play_tool.proofs.AnswerLemmas.{source_to_code}
 use Rattle.play_tool.proofs.CodeLemmas.{accepted_code}
 use Rattle.play_tool.proofs.ProgramLemmas.{code_to_program}
 use Rattle.play_tool.proofs.RequestLemmas.{words_request, mode_of_request, the_file}
-use Rattle.tool_answers.proofs.AnswerLemmas.{IsWithin}
+use Rattle.tool_frame.proofs.AnswerLemmas.{IsWithin}
 
 file_code : {request : Request} {devices : List Desc} {file : Option (List ℕ)} {bytes text : List ℕ} {status : Status} → request.mode ≡ Run → file ≡ Some bytes →
     FileAnswer request devices file text status → CodeAnswer request devices bytes text status

@@ -6,11 +6,11 @@ use Rattle.tool_io.specs.Files.{file_of}
 use Rattle.tool_io.specs.Lines.{Puts, PutsFront}
 use Rattle.dev_card.specs.declared.desc.Desc.{Desc}
 use Rattle.dev_card.specs.Sound.{SoundCard}
-use Rattle.tool_answers.specs.declared.no_answer.NoAnswer.{NoAnswer}
-use Rattle.tool_answers.specs.declared.no_answer.NoAnswer.TheVariants.{Read, Write, Memory}
-use Rattle.tool_answers.specs.Answers.{Says}
-use Rattle.tool_answers.proofs.AnswerLemmas.{IsWithin, says_within, says_failed, said_text, said_front}
-use Rattle.named_files.specs.Files.{OfFile}
+use Rattle.tool_frame.specs.declared.no_answer.NoAnswer.{NoAnswer}
+use Rattle.tool_frame.specs.declared.no_answer.NoAnswer.TheVariants.{Read, Write, Memory}
+use Rattle.tool_frame.specs.Answers.{Says}
+use Rattle.tool_frame.proofs.AnswerLemmas.{IsWithin, says_within, says_failed, said_text, said_front}
+use Rattle.tool_frame.specs.Files.{OfFile}
 use Rattle.named_files.proofs.BoardLemmas.{of_file_as, of_any_file, of_whole_file, of_long_file}
 use Rattle.play_words.specs.declared.words.Request.{Request}
 use Rattle.play_words.specs.Words.{reads_text}

@@ -36,7 +36,7 @@ use Rattle.play_tool.specs.Answers.{play_on, PlaysAction, Compiles}
 use Rattle.code_plays.specs.CodePlays.{IsPlayOf}
 use Rattle.play_tool.specs.FinalRacks.{HoldsFinal}
 use Rattle.play_tool.proofs.ChoiceLemmas.{same_choice}
-use Rattle.tool_answers.proofs.AnswerLemmas.{IsWithin}
+use Rattle.tool_frame.proofs.AnswerLemmas.{IsWithin}
 use Rattle.code_plays.specs.Racks.{AreLeft, CodeHoldsFinal}
 use Rattle.code_plays.specs.Plays.{done_with, has_place, asked_text, Plays, no_action, bad_choice, bad_place, played, code_play_on, PlaysCodeAction}
 

@@ -9,10 +9,10 @@ use Rattle.tool_io.proofs.CauseLemmas.{rose_after_at}
 use Rattle.dev_card.specs.declared.desc.Desc.{Desc}
 use Rattle.dev_card.specs.Sound.{SoundCard}
 use Rattle.board_text.specs.declared.reason.BoardReason.{BoardReason}
-use Rattle.tool_answers.specs.declared.no_answer.NoAnswer.{NoAnswer}
-use Rattle.tool_answers.specs.declared.no_answer.NoAnswer.TheVariants.{Read, Write, Memory}
-use Rattle.tool_answers.proofs.AnswerLemmas.{IsWithin, says_within, says_failed, said_text, said_front}
-use Rattle.named_files.specs.Files.{file_named, AreRead, OfFile, HasReadCause}
+use Rattle.tool_frame.specs.declared.no_answer.NoAnswer.{NoAnswer}
+use Rattle.tool_frame.specs.declared.no_answer.NoAnswer.TheVariants.{Read, Write, Memory}
+use Rattle.tool_frame.proofs.AnswerLemmas.{IsWithin, says_within, says_failed, said_text, said_front}
+use Rattle.tool_frame.specs.Files.{file_named, AreRead, OfFile, HasReadCause}
 use Rattle.named_files.specs.Boards.{HasBoard, HasBoardFault, ReadsBoard, ReadsBoardFault}
 use Rattle.named_files.specs.Texts.{board_refusal_line}
 use Rattle.named_files.proofs.BoardLemmas.{one_held, board_or_fault}

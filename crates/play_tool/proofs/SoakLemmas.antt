@@ -12,10 +12,10 @@ use Rattle.board_text.specs.declared.reason.BoardReason.{BoardReason}
 use Rattle.board_text.specs.Boards.{IsBoard, IsFirstFault}
 use Rattle.soak_texts.specs.Boards.{soak_board, soak_devices, soak_place}
 use Rattle.soak_texts.specs.Soak.{soak_program}
-use Rattle.tool_answers.specs.declared.no_answer.NoAnswer.{NoAnswer}
-use Rattle.tool_answers.specs.declared.no_answer.NoAnswer.TheVariants.{Read, Write, Memory}
-use Rattle.tool_answers.specs.Answers.{Says}
-use Rattle.tool_answers.proofs.AnswerLemmas.{IsWithin}
+use Rattle.tool_frame.specs.declared.no_answer.NoAnswer.{NoAnswer}
+use Rattle.tool_frame.specs.declared.no_answer.NoAnswer.TheVariants.{Read, Write, Memory}
+use Rattle.tool_frame.specs.Answers.{Says}
+use Rattle.tool_frame.proofs.AnswerLemmas.{IsWithin}
 use Rattle.named_files.specs.Boards.{HasBoard, HasBoardFault}
 use Rattle.named_files.specs.Texts.{board_refusal_line}
 use Rattle.play_words.specs.declared.mode.Mode.TheVariants.{Play}

@@ -20,7 +20,7 @@ use Rattle.dev_card.specs.FarEnds.{Told}
 use Rattle.board_text.specs.declared.reason.BoardReason.{BoardReason}
 use Rattle.program_reports.specs.Checks.{IsCheckText}
 use Rattle.program_reports.specs.Listings.{list_text}
-use Rattle.named_files.specs.Files.{file_named}
+use Rattle.tool_frame.specs.Files.{file_named}
 use Rattle.named_files.specs.Boards.{HasBoard, HasBoardFault}
 use Rattle.named_files.specs.Texts.{refusal_line, board_refusal_line, usage_line}
 use Rattle.play_words.specs.declared.mode.Mode.{Mode}

@@ -4,10 +4,10 @@ use Rattle.tool_io.specs.declared.lines.Lines.{Lines}
 use Rattle.tool_io.specs.Lines.{IsSinkUntouched}
 use Rattle.dev_card.specs.declared.desc.Desc.{Desc}
 use Rattle.dev_card.specs.Sound.{SoundCard}
-use Rattle.tool_answers.specs.declared.no_answer.NoAnswer.{NoAnswer}
-use Rattle.tool_answers.specs.declared.no_answer.NoAnswer.TheVariants.{Read}
-use Rattle.tool_answers.specs.Answers.{Says, Wrote, HasWritten}
-use Rattle.named_files.specs.Files.{file_named}
+use Rattle.tool_frame.specs.declared.no_answer.NoAnswer.{NoAnswer}
+use Rattle.tool_frame.specs.declared.no_answer.NoAnswer.TheVariants.{Read}
+use Rattle.tool_frame.specs.Answers.{Says, Wrote, HasWritten}
+use Rattle.tool_frame.specs.Files.{file_named}
 use Rattle.named_files.specs.Boards.{HasBoard}
 use Rattle.play_words.specs.declared.mode.Mode.{Mode}
 use Rattle.play_words.specs.declared.words.Request.{Request}

@@ -1,7 +1,7 @@
 //! What is done with a program.
 ghost use Rattle.std.specs.Prelude.{◌≡◌, map, Some};
 ghost use Rattle.tool_io.specs.Lines.{IsWhole};
-ghost use Rattle.tool_answers.specs.Answers.{Says, KeepsOutput};
+ghost use Rattle.tool_frame.specs.Answers.{Says, KeepsOutput};
 ghost use Rattle.stapl_syntax.specs.Programs.{IsProgram};
 ghost use Rattle.stapl_syntax.specs.ProgramValues.{trees_of};
 ghost use Rattle.chain_sim.specs.Rack.{IsRack};
@@ -22,7 +22,7 @@ use stapl_lexer::Name;
 use stapl_meaning::laws::programs_are_typed;
 use stapl_syntax::Program;
 use std::alloc::Global;
-use tool_answers::NoAnswer;
+use tool_frame::NoAnswer;
 use tool_io::{Lines, Sink};
 
 /// Plays an action of a program, as a task asks for it: that of its code.

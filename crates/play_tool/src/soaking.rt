@@ -1,7 +1,7 @@
 //! The play of a program that is made from a number, on a board that is made from it.
 ghost use Rattle.std.specs.Prelude.{◌≡◌, ◌≤◌, ◌==◌, [], Some, count_by, length, map, IfOk};
 ghost use Rattle.tool_io.specs.Lines.{IsWhole, gathered};
-ghost use Rattle.tool_answers.specs.Answers.{Says, KeepsOutput};
+ghost use Rattle.tool_frame.specs.Answers.{Says, KeepsOutput};
 ghost use Rattle.chain_sim.specs.Rack.{IsRack};
 ghost use Rattle.play_words.specs.declared.mode.Mode.TheVariants.{Play, Soak as Soaks};
 ghost use Rattle.play_words.specs.Words.{HasNeeded};
@@ -21,7 +21,7 @@ use play_words::{Mode, PlaceRun, Request, USUAL_TURNS};
 use soak_texts::soak_texts;
 use stapl_lexer::Name;
 use std::alloc::{AllocError, Global};
-use tool_answers::NoAnswer;
+use tool_frame::NoAnswer;
 use tool_io::{Lines, Sink};
 
 // The play of action A that a soak asks for, for the device at a place.

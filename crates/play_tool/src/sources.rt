@@ -1,12 +1,12 @@
 //! What is asked of a program or of a code: by its bytes, and by the file that holds it.
 ghost use Rattle.std.specs.Prelude.{◌≡◌, true, false, Some, IsSome, map, IfOk};
 ghost use Rattle.tool_io.specs.Lines.{IsWhole, HasPut, KeepsLines};
-ghost use Rattle.tool_answers.specs.Answers.{Says, KeepsOutput};
+ghost use Rattle.tool_frame.specs.Answers.{Says, KeepsOutput};
 ghost use Rattle.stapl_syntax.specs.Programs.{IsProgram};
 ghost use Rattle.stapl_syntax.specs.ProgramValues.{trees_of};
 ghost use Rattle.board_text.specs.Boards.{CanBeFitted};
 ghost use Rattle.chain_sim.specs.Rack.{IsRack};
-ghost use Rattle.named_files.specs.Files.{OfFile, KeepsShelf};
+ghost use Rattle.tool_frame.specs.Files.{OfFile, KeepsShelf};
 ghost use Rattle.play_words.specs.declared.mode.Mode.TheVariants.{Run};
 ghost use Rattle.play_words.specs.Words.{reads_text, soaks, HasNeeded};
 ghost use Rattle.code_plays.specs.Racks.{KeepsRack};
@@ -28,7 +28,7 @@ use stapl_code::{CodeReason, FILE_LIMIT};
 use stapl_lexer::{Reason, TEXT_LIMIT};
 use stapl_syntax::Program;
 use std::alloc::Global;
-use tool_answers::NoAnswer;
+use tool_frame::NoAnswer;
 use tool_io::{Failed, Lines, ReadRefused, Shelf, Sink, read_whole};
 
 // Does with a program what is asked.

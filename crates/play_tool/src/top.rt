@@ -3,9 +3,9 @@ ghost use Rattle.std.specs.Option.{option_map};
 ghost use Rattle.std.specs.Prelude.{◌≡◌, false, [], map, string_bytes, IsErrOf};
 ghost use Rattle.tool_io.specs.Causes.{HasRisen, NeverFalls, NoneFalls};
 ghost use Rattle.tool_io.specs.Lines.{IsWhole, gathered};
-ghost use Rattle.tool_answers.specs.Answers.{KeepsOutput, WroteFront};
+ghost use Rattle.tool_frame.specs.Answers.{KeepsOutput, WroteFront};
 ghost use Rattle.chain_sim.specs.Rack.{IsRack};
-ghost use Rattle.named_files.specs.Files.{HasReadCause, KeepsShelf};
+ghost use Rattle.tool_frame.specs.Files.{HasReadCause, KeepsShelf};
 ghost use Rattle.play_words.specs.Words.{soaks, source_of, HasNeeded};
 ghost use Rattle.play_status.specs.Statuses.{IsFault, ComesBeforeFitting};
 ghost use Rattle.play_tool.specs.Answers.{RequestAnswer, ModeAnswer, WordsAnswer};
@@ -22,7 +22,7 @@ use play_status::Status;
 use play_words::{Mode, Request, WordsRefused, read_words};
 use stapl_meaning::laws::programs_are_typed;
 use std::alloc::Global;
-use tool_answers::NoAnswer;
+use tool_frame::NoAnswer;
 use tool_io::{Lines, Shelf, Sink};
 
 // The file that is read after the board.

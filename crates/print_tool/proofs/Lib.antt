@@ -3,4 +3,3 @@ pub mod AnswerLemmas
 pub mod OneAnswer
 pub mod EveryAnswer
 pub mod CanonicalLemmas
-pub mod CommandLemmas

@@ -1,6 +1,5 @@
 -- What the program writes, and how it ends. The rules are this tool's own.
-use Rattle.std.specs.Prelude.{◌≡◌, ◌≤◌, ◌<◌, ℕ, List, length, codes, Option, IfSome, IsSomeAnd}
-use Rattle.tool_io.specs.Files.{file_of}
+use Rattle.std.specs.Prelude.{◌≡◌, ◌≤◌, ◌<◌, ℕ, List, length, codes, Option, IsSomeAnd}
 use Rattle.stapl_lexer.specs.declared.reason.Reason.{Reason}
 use Rattle.stapl_lexer.specs.Pieces.{text_limit}
 use Rattle.stapl_syntax.specs.Trees.{StmtTree}
@@ -34,10 +33,3 @@ pub data WordsAnswer (held : Option (List ℕ)) (words : List (List ℕ)) : List
   usage : (n : ℕ) → HasUsage words n → WordsAnswer held words (usage_line n) (Usage n)
   asked : (path text : List ℕ) (status : PrintStatus) → NamesProgram words path → HeldAnswer held text status →
       WordsAnswer held words text status
-
--- This stands of the bytes of the file that the words name, as they were read: those that the store holds, if it tells
--- its files, and else some bytes. Words that are refused name no file.
-pub record OfWords (told : Option (List (List ℕ × List ℕ))) (words : List (List ℕ)) (stands : Option (List ℕ) → Type 0) : Type 0 where
-  pub held : Option (List ℕ)
-  pub read : (path : List ℕ) → NamesProgram words path → IfSome told (λ files. file_of files path ≡ held)
-  pub holds : stands held

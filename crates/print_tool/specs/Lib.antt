@@ -2,4 +2,3 @@ pub mod Statuses
 pub mod Words
 pub mod Answers
 pub mod Canonical
-pub mod Commands

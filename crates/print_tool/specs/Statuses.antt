@@ -1,23 +1,18 @@
--- How the program ends, by exit codes and groups. The rules are this tool's own.
-use Rattle.std.specs.Prelude.{ℕ}
+-- How the program ends, by exit codes. The rules are this tool's own.
+use Rattle.std.specs.Prelude.{ℕ, refl}
+use Rattle.tool_frame.specs.Frame.{IsNoFaultCode}
 use Rattle.print_tool.specs.declared.status.PrintStatus.{PrintStatus}
-use Rattle.print_tool.specs.declared.status.PrintStatus.TheVariants.{Done, Refused, TooLarge, Usage, ReadFault, WriteFault, Memory}
+use Rattle.print_tool.specs.declared.status.PrintStatus.TheVariants.{Done, Refused, TooLarge, Usage}
 
 abbrev pub exit_code_of : PrintStatus → ℕ
 exit_code_of Done = 0
 exit_code_of (Refused piece reason) = 4
-exit_code_of TooLarge = 12
 exit_code_of (Usage n) = 7
-exit_code_of ReadFault = 9
-exit_code_of WriteFault = 10
-exit_code_of Memory = 11
+exit_code_of TooLarge = 12
 
--- the status is a fault of reading or writing, or want of memory
-abbrev pub IsFault : PrintStatus → Type 0
-IsFault ReadFault = Unit {0}
-IsFault WriteFault = Unit {0}
-IsFault Memory = Unit {0}
-IsFault Done = ⊥
-IsFault (Refused piece reason) = ⊥
-IsFault TooLarge = ⊥
-IsFault (Usage n) = ⊥
+-- none is that of a fault
+pub no_fault_codes : (status : PrintStatus) → IsNoFaultCode (exit_code_of status)
+no_fault_codes Done = refl
+no_fault_codes (Refused piece reason) = refl
+no_fault_codes (Usage n) = refl
+no_fault_codes TooLarge = refl

@@ -5,7 +5,6 @@ ghost use Rattle.stapl_syntax.specs.Programs.{IsProgram};
 ghost use Rattle.canonical_text.specs.CanonicalText.{plain};
 ghost use Rattle.print_tool.specs.declared.status.PrintStatus.{PrintStatus};
 ghost use Rattle.print_tool.specs.declared.status.PrintStatus.TheVariants.{Done};
-ghost use Rattle.print_tool.specs.Statuses.{IsFault};
 ghost use Rattle.print_tool.specs.Words.{NamesProgram, HasUsage};
 ghost use Rattle.print_tool.specs.Answers.{TextAnswer, WordsAnswer};
 ghost use Rattle.print_tool.specs.Canonical.{IsCanonicalOf};
@@ -30,12 +29,6 @@ pub fn one_answer()
 pub fn words_are_answered()
     ensures { (words : List (List ℕ)) (bytes : List ℕ) →
         (text : List ℕ) × (status : PrintStatus) × WordsAnswer (Some bytes) words text status }
-{}
-
-/// The status of an answer is that of no fault.
-pub fn answers_are_no_faults()
-    ensures { (held : Option (List ℕ)) (words : List (List ℕ)) (text : List ℕ) (status : PrintStatus) →
-        WordsAnswer held words text status → IsFault status → ⊥ }
 {}
 
 /// A text that is printed is a program of the same statements, with the values of CRC left out; it is its own canonical

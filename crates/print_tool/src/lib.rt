@@ -1,13 +1,12 @@
-//! The program `zanutero-print` as one call: it writes the canonical text of the program in a file.
+//! The tool of the program `zanutero-print`: it writes the canonical text of the program in a file.
 #![tactic(auto)]
 
-mod command;
+mod answering;
 mod help;
 pub mod laws;
+mod printer;
 mod status;
-mod top;
 mod words;
 
-pub use command::run_command;
+pub use printer::Printer;
 pub use status::PrintStatus;
-pub use top::run_print;

@@ -16,16 +16,10 @@ pub enum PrintStatus {
     TooLarge,
     /// The first word, counted from 1, that is not as stated, or the number of words plus 1 if one is missing.
     Usage(u32),
-    /// The file that the words name could not be read. Nothing is written.
-    ReadFault,
-    /// The output could not be written. What is written is a prefix of the text.
-    WriteFault,
-    /// There was no memory. Nothing is written.
-    Memory,
 }
 
 impl PrintStatus {
-    /// The exit code of the process: those of the tool, and 12 for a canonical text that is too large.
+    /// The exit code of the process.
     pub fn exit_code(&self) -> u8
         ensures { result ≡ exit_code_of self.now }
     {
@@ -33,9 +27,6 @@ impl PrintStatus {
             PrintStatus::Done => 0,
             PrintStatus::Refused(_, _) => 4,
             PrintStatus::Usage(_) => 7,
-            PrintStatus::ReadFault => 9,
-            PrintStatus::WriteFault => 10,
-            PrintStatus::Memory => 11,
             PrintStatus::TooLarge => 12,
         }
     }

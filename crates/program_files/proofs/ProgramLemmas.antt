@@ -4,15 +4,15 @@ use Rattle.std.specs.Prelude.{IsErrAnd}
 use Rattle.tool_io.specs.declared.lines.Lines.{Lines}
 use Rattle.tool_io.specs.Files.{file_of}
 use Rattle.tool_io.specs.Lines.{IsSinkUntouched, Puts, PutsFront}
-use Rattle.tool_answers.specs.declared.no_answer.NoAnswer.{NoAnswer}
-use Rattle.tool_answers.specs.declared.no_answer.NoAnswer.TheVariants.{Write}
-use Rattle.tool_answers.specs.Answers.{Says}
-use Rattle.tool_answers.proofs.AnswerLemmas.{says_failed, said_text, said_front}
+use Rattle.tool_frame.specs.declared.no_answer.NoAnswer.{NoAnswer}
+use Rattle.tool_frame.specs.declared.no_answer.NoAnswer.TheVariants.{Write}
+use Rattle.tool_frame.specs.Answers.{Says}
+use Rattle.tool_frame.proofs.AnswerLemmas.{says_failed, said_text, said_front}
 use Rattle.stapl_lexer.specs.declared.reason.Reason.{Reason}
 use Rattle.stapl_lexer.specs.declared.reason.Reason.TheVariants as reasons
 use Rattle.stapl_lexer.specs.Pieces.{text_limit}
 use Rattle.stapl_syntax.specs.Programs.{FirstFault, is_too_long}
-use Rattle.named_files.specs.Files.{OfFile}
+use Rattle.tool_frame.specs.Files.{OfFile}
 use Rattle.named_files.specs.Texts.{refusal_line}
 use Rattle.named_files.proofs.BoardLemmas.{of_file_as, of_long_file}
 use Rattle.program_files.specs.ProgramFiles.{ReadsText, HasProgramFault, ReadsProgramFault}

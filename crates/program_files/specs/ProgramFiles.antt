@@ -2,7 +2,7 @@
 use Rattle.std.specs.Prelude.{ℕ, List, Option, Some, IsSomeAnd}
 use Rattle.stapl_lexer.specs.declared.reason.Reason.{Reason}
 use Rattle.stapl_syntax.specs.Programs.{FirstFault}
-use Rattle.named_files.specs.Files.{AreRead, OfFile}
+use Rattle.tool_frame.specs.Files.{AreRead, OfFile}
 
 -- The bytes that were read are this text.
 abbrev pub ReadsText : Option (List (List ℕ × List ℕ)) → List ℕ → List ℕ → Type 0

@@ -1,6 +1,6 @@
 -- On answers: verdicts, and which relation holds the answers of which.
 use Rattle.std.proofs.Common.{◌≡◌, ℕ, List, Option, None, Some, Bool, subst, sym}
-use Rattle.tool_answers.proofs.AnswerLemmas.{IsWithin}
+use Rattle.tool_frame.proofs.AnswerLemmas.{IsWithin}
 use Rattle.stapl_syntax.specs.Trees.{StmtTree}
 use Rattle.stapl_syntax.specs.Programs.{IsProgram}
 use Rattle.stapl_meaning.specs.declared.events.Ending.{Ending}

@@ -3,13 +3,13 @@ use Rattle.std.proofs.Common.{◌≡◌, ◌∙◌, ℕ, List, Option, None, Som
 use Rattle.std.specs.Prelude.{IsErrAnd}
 use Rattle.tool_io.specs.declared.lines.Lines.{Lines}
 use Rattle.tool_io.specs.Lines.{IsSinkUntouched, Puts, PutsFront}
-use Rattle.tool_answers.specs.declared.no_answer.NoAnswer.{NoAnswer}
-use Rattle.tool_answers.specs.declared.no_answer.NoAnswer.TheVariants.{Write}
-use Rattle.tool_answers.specs.Answers.{Says}
-use Rattle.tool_answers.proofs.AnswerLemmas.{IsWithin, says_within, says_failed, said_text, said_front}
+use Rattle.tool_frame.specs.declared.no_answer.NoAnswer.{NoAnswer}
+use Rattle.tool_frame.specs.declared.no_answer.NoAnswer.TheVariants.{Write}
+use Rattle.tool_frame.specs.Answers.{Says}
+use Rattle.tool_frame.proofs.AnswerLemmas.{IsWithin, says_within, says_failed, said_text, said_front}
 use Rattle.dev_card.specs.declared.desc.Desc.{Desc}
 use Rattle.board_text.specs.declared.reason.BoardReason.{BoardReason}
-use Rattle.named_files.specs.Files.{file_named, AreRead, OfFile}
+use Rattle.tool_frame.specs.Files.{file_named, AreRead, OfFile}
 use Rattle.named_files.specs.Boards.{HasBoard, HasBoardFault, ReadsBoard, ReadsBoardFault}
 use Rattle.named_files.specs.Texts.{board_refusal_line}
 use Rattle.play_words.specs.declared.mode.Mode.{Mode}

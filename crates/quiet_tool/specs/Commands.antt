@@ -1,7 +1,7 @@
 -- The answer to the words of a command. `--help` and `--version`, each alone, are answered by a text of their own. The
 -- rules are this tool's own.
 use Rattle.std.specs.Prelude.{ℕ, List}
-use Rattle.command_texts.specs.Commands as commands
+use Rattle.tool_frame.specs.Commands as commands
 use Rattle.play_tool.specs.Answers.{Contents}
 use Rattle.quiet_tool.specs.declared.help.TheConstants.{HELP, VERSION}
 use Rattle.quiet_tool.specs.declared.status.QuietStatus.{QuietStatus}

@@ -6,7 +6,7 @@ use Rattle.dev_card.specs.declared.desc.Desc.{Desc}
 use Rattle.dev_card.specs.Padding.{in_run}
 use Rattle.command_words.specs.declared.place_run.PlaceRun.{PlaceRun}
 use Rattle.named_files.specs.Boards.{HasBoard}
-use Rattle.tool_answers.specs.Answers.{Wrote}
+use Rattle.tool_frame.specs.Answers.{Wrote}
 use Rattle.play_words.specs.declared.mode.Mode.TheVariants.{Play}
 use Rattle.play_words.specs.declared.words.Request.{Request}
 use Rattle.play_words.specs.Words.{IsRequest}

@@ -1,9 +1,9 @@
 //! What a command does with its words.
 ghost use Rattle.std.specs.Prelude.{◌≡◌, map, string_bytes};
 ghost use Rattle.tool_io.specs.Causes.{HasRisen, NeverFalls, NoneFalls};
-ghost use Rattle.tool_answers.specs.Answers.{WroteFront};
+ghost use Rattle.tool_frame.specs.Answers.{WroteFront};
 ghost use Rattle.chain_sim.specs.Rack.{IsRack};
-ghost use Rattle.named_files.specs.Files.{HasReadCause};
+ghost use Rattle.tool_frame.specs.Files.{HasReadCause};
 ghost use Rattle.play_tool.specs.ReadContents.{OfWords, IsReachedBy};
 ghost use Rattle.quiet_tool.specs.Statuses.{IsFault};
 ghost use Rattle.quiet_tool.specs.Words.{play_words};
@@ -12,7 +12,7 @@ ghost use Rattle.quiet_tool.specs.Commands.{CommandAnswer};
 
 use crate::help::{HELP, VERSION};
 use crate::{QuietStatus, run_quiet};
-use command_texts::{text_asked, write_text};
+use tool_frame::{text_asked, write_text};
 use dev_card::Device;
 use std::alloc::Global;
 use tool_io::{Shelf, Sink};

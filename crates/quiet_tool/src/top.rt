@@ -2,12 +2,12 @@
 ghost use Rattle.std.specs.Prelude.{◌≡◌, Some, map, string_bytes, IsErrOf};
 ghost use Rattle.tool_io.specs.Causes.{HasRisen, NeverFalls, NoneFalls};
 ghost use Rattle.tool_io.specs.Lines.{IsWhole, IsSinkUntouched};
-ghost use Rattle.tool_answers.specs.Answers.{Says, KeepsOutput, WroteFront, HasWritten};
+ghost use Rattle.tool_frame.specs.Answers.{Says, KeepsOutput, WroteFront, HasWritten};
 ghost use Rattle.stapl_syntax.specs.Programs.{IsProgram};
 ghost use Rattle.stapl_syntax.specs.ProgramValues.{trees_of};
 ghost use Rattle.board_text.specs.Boards.{CanBeFitted};
 ghost use Rattle.chain_sim.specs.Rack.{IsRack};
-ghost use Rattle.named_files.specs.Files.{OfFile, HasReadCause, KeepsShelf};
+ghost use Rattle.tool_frame.specs.Files.{OfFile, HasReadCause, KeepsShelf};
 ghost use Rattle.play_words.specs.declared.mode.Mode.TheVariants.{Play};
 ghost use Rattle.play_words.specs.Words.{HasNeeded};
 ghost use Rattle.play_tool.specs.ReadContents.{OfContents, OfWords, IsReached, IsReachedBy};
@@ -25,7 +25,7 @@ use play_words::{Request, WordsRefused};
 use program_files::{ProgramNotRead, program_named};
 use stapl_syntax::Program;
 use std::alloc::Global;
-use tool_answers::NoAnswer;
+use tool_frame::NoAnswer;
 use tool_io::{Lines, Shelf, Sink};
 
 // Puts the verdict on the play of a program.

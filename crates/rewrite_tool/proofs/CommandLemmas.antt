@@ -1,6 +1,6 @@
 -- On answers to the words of a command.
 use Rattle.std.proofs.Common.{◌≡◌, ℕ, List, [], ◌∷◌, Some}
-use Rattle.command_texts.specs.Commands.{text_asked}
+use Rattle.tool_frame.specs.Commands.{text_asked}
 use Rattle.rewrite_tool.specs.Words.{Request, IsRequest}
 
 -- words that ask for a text are no request

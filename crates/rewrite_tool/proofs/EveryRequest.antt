@@ -12,8 +12,8 @@ use Rattle.board_text.specs.Boards.{IsBoard, IsFirstFault}
 use Rattle.command_words.specs.declared.place_run.PlaceRun.{PlaceRun}
 use Rattle.chain_rewrite.proofs.RewrittenLemmas.{Outcome, has_padding, is_large, has_text, an_outcome}
 use Rattle.named_files.specs.Texts.{refusal_line, board_refusal_line}
-use Rattle.board_and_file.specs.Contents.{Contents}
-use Rattle.board_and_file.proofs.ContentLemmas.{both}
+use Rattle.named_files.specs.Contents.{Contents}
+use Rattle.named_files.proofs.ContentLemmas.{both}
 use Rattle.rewrite_tool.specs.declared.status.RewriteStatus.{RewriteStatus}
 use Rattle.rewrite_tool.specs.declared.status.RewriteStatus.TheVariants.{Done, Refused, BoardRefused, BadPlace, OwnPadding, TooLarge}
 use Rattle.rewrite_tool.specs.Texts.{place_line, padding_line, too_large_line}

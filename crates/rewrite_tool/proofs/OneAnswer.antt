@@ -11,7 +11,7 @@ use Rattle.chain_rewrite.specs.Rewritten.{IsRewritten, BecomesTooLarge}
 use Rattle.chain_rewrite.proofs.RewrittenLemmas.{one_rewritten}
 use Rattle.named_files.specs.Texts.{refusal_line, board_refusal_line, usage_line}
 use Rattle.named_files.proofs.BoardLemmas.{one_held, one_fault, board_or_fault}
-use Rattle.board_and_file.specs.Contents.{Contents, contents_in}
+use Rattle.named_files.specs.Contents.{Contents, contents_in}
 use Rattle.rewrite_tool.specs.declared.status.RewriteStatus.{RewriteStatus}
 use Rattle.rewrite_tool.specs.declared.status.RewriteStatus.TheVariants.{Done, Refused, BoardRefused, OwnPadding, Usage}
 use Rattle.rewrite_tool.specs.Statuses.{IsFault}

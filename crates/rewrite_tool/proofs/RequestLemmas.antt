@@ -5,16 +5,16 @@ use Rattle.tool_io.specs.declared.lines.Lines.{Lines}
 use Rattle.tool_io.specs.Lines.{IsSinkUntouched, Puts, PutsFront}
 use Rattle.dev_card.specs.declared.desc.Desc.{Desc}
 use Rattle.board_text.specs.declared.reason.BoardReason.{BoardReason}
-use Rattle.tool_answers.specs.declared.no_answer.NoAnswer.{NoAnswer}
-use Rattle.tool_answers.specs.declared.no_answer.NoAnswer.TheVariants.{Read, Write, Memory}
-use Rattle.tool_answers.specs.Answers.{Says}
-use Rattle.tool_answers.proofs.AnswerLemmas.{IsWithin, says_within, says_failed, says_no_memory, said_text, said_front}
-use Rattle.named_files.specs.Files.{OfFile, HasReadCause}
+use Rattle.tool_frame.specs.declared.no_answer.NoAnswer.{NoAnswer}
+use Rattle.tool_frame.specs.declared.no_answer.NoAnswer.TheVariants.{Read, Write, Memory}
+use Rattle.tool_frame.specs.Answers.{Says}
+use Rattle.tool_frame.proofs.AnswerLemmas.{IsWithin, says_within, says_failed, says_no_memory, said_text, said_front}
+use Rattle.tool_frame.specs.Files.{OfFile, HasReadCause}
 use Rattle.named_files.specs.Boards.{HasBoard, ReadsBoard, ReadsBoardFault}
 use Rattle.named_files.specs.Texts.{board_refusal_line}
-use Rattle.board_and_file.specs.Words.{FileNames}
-use Rattle.board_and_file.specs.Contents.{Contents, contents_in, OfContents, OfAsked, IsReached, IsAskedAndReached}
-use Rattle.board_and_file.proofs.ContentLemmas.{both, of_any_contents, of_board, of_both, of_asked, of_none_asked, reached_asked}
+use Rattle.named_files.specs.Words.{FileNames}
+use Rattle.named_files.specs.Contents.{Contents, contents_in, OfContents, OfAsked, IsReached, IsAskedAndReached}
+use Rattle.named_files.proofs.ContentLemmas.{both, of_any_contents, of_board, of_both, of_asked, of_none_asked, reached_asked}
 use Rattle.rewrite_tool.specs.declared.status.RewriteStatus.{RewriteStatus}
 use Rattle.rewrite_tool.specs.declared.status.RewriteStatus.TheVariants.{BoardRefused}
 use Rattle.rewrite_tool.specs.Words.{Request, IsRequest, Asks}

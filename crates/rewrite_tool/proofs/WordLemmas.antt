@@ -6,8 +6,8 @@ use Rattle.command_words.specs.declared.place_run.PlaceRun.{PlaceRun}
 use Rattle.command_words.specs.KeyedWords.{SpellsRun, of_one, of_two, NamesRun}
 use Rattle.command_words.proofs.RunLemmas.{one_run}
 use Rattle.command_words.proofs.FoundOrNot.{IsFoundOrNot, run_or_not}
-use Rattle.board_and_file.specs.Words.{FileNames}
-use Rattle.board_and_file.proofs.WordLemmas.{one_named, found_at}
+use Rattle.named_files.specs.Words.{FileNames}
+use Rattle.named_files.proofs.WordLemmas.{one_named, found_at}
 use Rattle.rewrite_tool.specs.Words.{NamesProgram, NamesBoard, NamesPlace, IsRun, Request, IsRequest, Asks, IsUsage, no_program, no_board, no_place, too_many}
 
 one_run_at : (word : Option (List ℕ)) (a b : PlaceRun) → IsSomeAnd word (λ w. NamesRun (codes "place=") 999 w a) → IsSomeAnd word (λ w. NamesRun (codes "place=") 999 w b) → a ≡ b

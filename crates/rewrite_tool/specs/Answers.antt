@@ -13,7 +13,7 @@ use Rattle.chain_rewrite.specs.Rewritten.{IsRewritten, BecomesTooLarge}
 use Rattle.command_words.specs.declared.place_run.PlaceRun.{PlaceRun}
 use Rattle.named_files.specs.Boards.{HasBoard, HasBoardFault}
 use Rattle.named_files.specs.Texts.{refusal_line, board_refusal_line, usage_line}
-use Rattle.board_and_file.specs.Contents.{Contents, contents_in}
+use Rattle.named_files.specs.Contents.{Contents, contents_in}
 use Rattle.rewrite_tool.specs.declared.status.RewriteStatus.{RewriteStatus}
 use Rattle.rewrite_tool.specs.declared.status.RewriteStatus.TheVariants.{Done, Refused, BoardRefused, BadPlace, OwnPadding, TooLarge, Usage}
 use Rattle.rewrite_tool.specs.Words.{Request, IsRequest, IsUsage}

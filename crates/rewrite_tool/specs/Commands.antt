@@ -1,7 +1,7 @@
 -- The answer to the words of a command. The rules are this tool's own.
 use Rattle.std.specs.Prelude.{ℕ, List}
-use Rattle.command_texts.specs.Commands as commands
-use Rattle.board_and_file.specs.Contents.{Contents}
+use Rattle.tool_frame.specs.Commands as commands
+use Rattle.named_files.specs.Contents.{Contents}
 use Rattle.rewrite_tool.specs.declared.command.TheConstants.{HELP, VERSION}
 use Rattle.rewrite_tool.specs.declared.status.RewriteStatus.{RewriteStatus}
 use Rattle.rewrite_tool.specs.declared.status.RewriteStatus.TheVariants.{Done}

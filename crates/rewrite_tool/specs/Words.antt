@@ -2,7 +2,7 @@
 use Rattle.std.specs.Prelude.{◌≡◌, ◌<◌, ◌≤◌, ℕ, List, length, codes, slice_get, IsSomeAnd}
 use Rattle.command_words.specs.declared.place_run.PlaceRun.{PlaceRun}
 use Rattle.command_words.specs.KeyedWords.{NamesRun}
-use Rattle.board_and_file.specs.Words.{NamesAt, FileNames}
+use Rattle.named_files.specs.Words.{NamesAt, FileNames}
 
 abbrev pub NamesProgram : List (List ℕ) → List ℕ → Type 0
 NamesProgram words path = NamesAt (codes "program=") words 0 path

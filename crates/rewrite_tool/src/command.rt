@@ -1,15 +1,15 @@
 //! What a command does with its words.
 ghost use Rattle.std.specs.Prelude.{◌≡◌, map, string_bytes};
 ghost use Rattle.tool_io.specs.Causes.{HasRisen, NeverFalls, NoneFalls};
-ghost use Rattle.tool_answers.specs.Answers.{Wrote, WroteFront};
-ghost use Rattle.named_files.specs.Files.{HasReadCause};
-ghost use Rattle.board_and_file.specs.Contents.{OfAsked, IsAskedAndReached};
+ghost use Rattle.tool_frame.specs.Answers.{Wrote, WroteFront};
+ghost use Rattle.tool_frame.specs.Files.{HasReadCause};
+ghost use Rattle.named_files.specs.Contents.{OfAsked, IsAskedAndReached};
 ghost use Rattle.rewrite_tool.specs.Statuses.{IsFault};
 ghost use Rattle.rewrite_tool.specs.Words.{Asks};
 ghost use Rattle.rewrite_tool.specs.Commands.{CommandAnswer};
 
 use crate::{RewriteStatus, run_rewrite};
-use command_texts::{text_asked, write_text};
+use tool_frame::{text_asked, write_text};
 use std::alloc::Global;
 use tool_io::{Shelf, Sink};
 

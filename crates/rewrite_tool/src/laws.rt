@@ -3,7 +3,7 @@ ghost use Rattle.std.specs.Prelude.{◌≡◌, ◌⊎◌, ℕ, List, Some, IsSom
 ghost use Rattle.dev_card.specs.declared.desc.Desc.{Desc};
 ghost use Rattle.board_text.specs.Boards.{CanBeFitted};
 ghost use Rattle.command_words.specs.declared.place_run.PlaceRun.{PlaceRun};
-ghost use Rattle.board_and_file.specs.Contents.{Contents, OfAsked};
+ghost use Rattle.named_files.specs.Contents.{Contents, OfAsked};
 ghost use Rattle.rewrite_tool.specs.declared.status.RewriteStatus.{RewriteStatus};
 ghost use Rattle.rewrite_tool.specs.declared.status.RewriteStatus.TheVariants.{Done};
 ghost use Rattle.rewrite_tool.specs.Statuses.{IsFault};

@@ -1,11 +1,11 @@
 //! A program for a run of devices of a board.
 ghost use Rattle.std.specs.Prelude.{◌≡◌, Some};
 ghost use Rattle.tool_io.specs.Lines.{IsWhole, IsSinkUntouched};
-ghost use Rattle.tool_answers.specs.Answers.{Says, KeepsOutput};
+ghost use Rattle.tool_frame.specs.Answers.{Says, KeepsOutput};
 ghost use Rattle.stapl_syntax.specs.Programs.{IsProgram};
 ghost use Rattle.stapl_syntax.specs.ProgramValues.{trees_of};
 ghost use Rattle.board_text.specs.Boards.{CanBeFitted};
-ghost use Rattle.named_files.specs.Files.{OfFile, KeepsShelf};
+ghost use Rattle.tool_frame.specs.Files.{OfFile, KeepsShelf};
 ghost use Rattle.rewrite_tool.specs.Words.{IsRun};
 ghost use Rattle.rewrite_tool.specs.Answers.{ProgramAnswer, FileAnswer};
 
@@ -17,7 +17,7 @@ use named_files::put_refusal;
 use program_files::{ProgramNotRead, program_named};
 use stapl_syntax::Program;
 use std::alloc::Global;
-use tool_answers::NoAnswer;
+use tool_frame::NoAnswer;
 use tool_io::{Lines, Shelf, Sink, put_count_line};
 
 // Puts the new program, or why there is none.

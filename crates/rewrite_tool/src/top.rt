@@ -2,9 +2,9 @@
 ghost use Rattle.std.specs.Prelude.{◌≡◌, map, string_bytes, IsErrOf};
 ghost use Rattle.tool_io.specs.Causes.{HasRisen, NeverFalls, NoneFalls};
 ghost use Rattle.tool_io.specs.Lines.{IsWhole, IsSinkUntouched};
-ghost use Rattle.tool_answers.specs.Answers.{Says, KeepsOutput, Wrote, WroteFront, HasWritten};
-ghost use Rattle.named_files.specs.Files.{HasReadCause, KeepsShelf};
-ghost use Rattle.board_and_file.specs.Contents.{OfContents, OfAsked, IsReached, IsAskedAndReached};
+ghost use Rattle.tool_frame.specs.Answers.{Says, KeepsOutput, Wrote, WroteFront, HasWritten};
+ghost use Rattle.tool_frame.specs.Files.{HasReadCause, KeepsShelf};
+ghost use Rattle.named_files.specs.Contents.{OfContents, OfAsked, IsReached, IsAskedAndReached};
 ghost use Rattle.rewrite_tool.specs.Statuses.{IsFault};
 ghost use Rattle.rewrite_tool.specs.Words.{IsRun, Asks};
 ghost use Rattle.rewrite_tool.specs.Named.{request_of};
@@ -16,7 +16,7 @@ use crate::words::{Named, read_words};
 use command_words::FileName;
 use named_files::{BoardNotRead, board_named, put_board_refusal, put_usage};
 use std::alloc::Global;
-use tool_answers::NoAnswer;
+use tool_frame::NoAnswer;
 use tool_io::{Lines, Shelf, Sink};
 
 // Answers a request: its board, and then its program.

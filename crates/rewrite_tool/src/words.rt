@@ -4,7 +4,7 @@ ghost use Rattle.command_words.specs.declared.place_run.PlaceRun.{PlaceRun};
 ghost use Rattle.rewrite_tool.specs.Words.{NamesPlace, IsRun, IsRequest, IsUsage};
 ghost use Rattle.rewrite_tool.specs.Named.{request_of};
 
-use board_and_file::path_at;
+use named_files::path_at;
 use command_words::{PlaceRun, run_under};
 
 /// The most that a place is.

@@ -1,7 +1,7 @@
 -- On the words that ask for a text.
 use Rattle.std.proofs.Common.{◌≡◌, ℕ, List, [], ◌∷◌, None, Some, refl, sym, ap, ◌∙◌}
 use Rattle.std.proofs.lemmas.Option.{none-some}
-use Rattle.command_texts.specs.Commands.{text_of_word, text_asked}
+use Rattle.tool_frame.specs.Commands.{text_of_word, text_asked}
 use Rattle.play_words.specs.declared.mode.Mode.{Mode}
 use Rattle.play_words.specs.declared.mode.Mode.TheVariants as modes
 use Rattle.play_words.specs.Words.{mode_word, HasMode}

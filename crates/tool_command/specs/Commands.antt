@@ -1,11 +1,11 @@
 -- The answer to the words of a command. `--help` and `--version`, each alone, are answered by a text of their own; all
 -- other words are the tool's. The rules are this program's own.
 use Rattle.std.specs.Prelude.{ℕ, pos, List, Option, Result, Ok, Err}
-use Rattle.command_texts.specs.Commands as commands
+use Rattle.tool_frame.specs.Commands as commands
 use Rattle.play_status.specs.declared.status.Status.{Status}
 use Rattle.play_status.specs.declared.status.Status.TheVariants.{Done, ReadFault, WriteFault, Memory as NoMemory}
-use Rattle.tool_answers.specs.declared.no_answer.NoAnswer.{NoAnswer}
-use Rattle.tool_answers.specs.declared.no_answer.NoAnswer.TheVariants as causes
+use Rattle.tool_frame.specs.declared.no_answer.NoAnswer.{NoAnswer}
+use Rattle.tool_frame.specs.declared.no_answer.NoAnswer.TheVariants as causes
 use Rattle.play_tool.specs.ReadContents.{IsReachedBy}
 use Rattle.tool_questions.specs.Questions.{IsAskedOf}
 use Rattle.tool_command.specs.declared.help.TheConstants.{HELP, VERSION}

@@ -1,9 +1,9 @@
 //! What a command does with its words.
 ghost use Rattle.std.specs.Prelude.{◌≡◌, true, false, map, string_bytes, IsErrOf};
 ghost use Rattle.tool_io.specs.Causes.{HasRisen, NeverFalls, NoneFalls};
-ghost use Rattle.tool_answers.specs.Answers.{Wrote, WroteFront, HasWritten};
+ghost use Rattle.tool_frame.specs.Answers.{Wrote, WroteFront, HasWritten};
 ghost use Rattle.chain_sim.specs.Rack.{IsRack};
-ghost use Rattle.named_files.specs.Files.{HasReadCause, KeepsShelf};
+ghost use Rattle.tool_frame.specs.Files.{HasReadCause, KeepsShelf};
 ghost use Rattle.play_status.specs.Statuses.{IsFault, ComesBeforeFitting};
 ghost use Rattle.play_tool.specs.Answers.{WordsAnswer};
 ghost use Rattle.play_tool.specs.ReadContents.{OfWords, AskForPlay, Answered};
@@ -11,12 +11,12 @@ ghost use Rattle.tool_questions.specs.Questions.{ask_question, QuestionAnswer, O
 ghost use Rattle.tool_command.specs.Commands.{CommandAnswer, IsReachedByCommand, status_of};
 
 use crate::help::{HELP, VERSION};
-use command_texts::{text_asked, write_text};
+use tool_frame::{text_asked, write_text};
 use dev_card::Device;
 use play_status::Status;
 use play_tool::run_tool;
 use std::alloc::Global;
-use tool_answers::NoAnswer;
+use tool_frame::NoAnswer;
 use tool_io::{Lines, Shelf, Sink};
 use tool_questions::{answer_question, ask_question};
 

@@ -4,9 +4,9 @@ use Rattle.std.specs.Prelude.{All}
 use Rattle.std.proofs.lemmas.List.Elements.{All-head, All-tail}
 use Rattle.tool_io.specs.declared.lines.Lines.{Lines}
 use Rattle.tool_io.specs.Lines.{IsSinkUntouched}
-use Rattle.tool_answers.specs.declared.no_answer.NoAnswer.{NoAnswer}
-use Rattle.tool_answers.specs.Answers.{Says}
-use Rattle.tool_answers.proofs.AnswerLemmas.{says_within}
+use Rattle.tool_frame.specs.declared.no_answer.NoAnswer.{NoAnswer}
+use Rattle.tool_frame.specs.Answers.{Says}
+use Rattle.tool_frame.proofs.AnswerLemmas.{says_within}
 use Rattle.play_status.specs.declared.status.Status.{Status}
 use Rattle.stapl_lexer.specs.Pieces.{text_limit}
 use Rattle.stapl_lexer.specs.declared.piece.Piece.{Piece}

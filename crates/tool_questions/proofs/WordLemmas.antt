@@ -5,8 +5,8 @@ use Rattle.std.proofs.lemmas.List.{take_all}
 use Rattle.std.proofs.lemmas.Slice.Eq.{bytes_eq-Decides}
 use Rattle.std.specs.Str.{bytes_eq}
 use Rattle.std.specs.Prelude.{Result}
-use Rattle.tool_answers.specs.declared.no_answer.NoAnswer.{NoAnswer}
-use Rattle.named_files.specs.Files.{KeepsShelf}
+use Rattle.tool_frame.specs.declared.no_answer.NoAnswer.{NoAnswer}
+use Rattle.tool_frame.specs.Files.{KeepsShelf}
 use Rattle.tool_questions.specs.Questions.{is_question, IsMoreUsage, IsPieceFile, IsAskedOf}
 
 module _ {A : Type 0} (f : A → List ℕ) where

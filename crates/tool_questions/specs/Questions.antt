@@ -4,7 +4,7 @@ use Rattle.std.specs.Str.{bytes_eq}
 use Rattle.std.specs.List.{flat_map}
 use Rattle.tool_io.specs.Texts.{word_line}
 use Rattle.command_words.specs.KeyedWords.{NamesNumber, NamesPath}
-use Rattle.named_files.specs.Files.{OfFile}
+use Rattle.tool_frame.specs.Files.{OfFile}
 use Rattle.named_files.specs.Texts.{usage_line}
 use Rattle.program_reports.specs.Explanations.{word_paragraphs}
 use Rattle.play_status.specs.declared.status.Status.{Status}

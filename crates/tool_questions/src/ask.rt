@@ -1,8 +1,8 @@
 //! What is answered to questions.
 ghost use Rattle.std.specs.Prelude.{◌≡◌, true, map, string_bytes};
 ghost use Rattle.tool_io.specs.Lines.{IsWhole, IsSinkUntouched};
-ghost use Rattle.tool_answers.specs.Answers.{Says, KeepsOutput};
-ghost use Rattle.named_files.specs.Files.{KeepsShelf};
+ghost use Rattle.tool_frame.specs.Answers.{Says, KeepsOutput};
+ghost use Rattle.tool_frame.specs.Files.{KeepsShelf};
 ghost use Rattle.program_reports.specs.Explanations.{word_paragraphs};
 ghost use Rattle.tool_questions.specs.Questions.{ask_question, IsUsage, IsExplained, WordAnswer, PieceQuestionAnswer, QuestionAnswer, OfPieceWords, OfQuestion, IsAskedOf, IsPieceFile};
 
@@ -12,7 +12,7 @@ use named_files::put_usage;
 use play_status::Status;
 use program_reports::{explanation, put_paragraphs};
 use std::alloc::Global;
-use tool_answers::NoAnswer;
+use tool_frame::NoAnswer;
 use tool_io::{Lines, Shelf, Sink};
 
 // Refuses a word of the command, counted from 1.

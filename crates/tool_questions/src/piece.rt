@@ -1,8 +1,8 @@
 //! The answer to a question about a piece of a program.
 ghost use Rattle.std.specs.Prelude.{◌≡◌, ◌≤◌, None, Some, map, length, IfSome, IfOk};
 ghost use Rattle.tool_io.specs.Lines.{IsWhole, IsSinkUntouched};
-ghost use Rattle.tool_answers.specs.Answers.{Says, KeepsOutput};
-ghost use Rattle.named_files.specs.Files.{OfFile, KeepsShelf};
+ghost use Rattle.tool_frame.specs.Answers.{Says, KeepsOutput};
+ghost use Rattle.tool_frame.specs.Files.{OfFile, KeepsShelf};
 ghost use Rattle.stapl_lexer.specs.Pieces.{LiesIn, text_limit};
 ghost use Rattle.tool_questions.specs.Pieces.{why_refused, IsReport, PieceAnswer, IsLongAnswer, HeldPieceAnswer};
 
@@ -13,7 +13,7 @@ use play_status::Status;
 use program_reports::reason_explanation;
 use stapl_lexer::{Reason, TEXT_LIMIT};
 use std::alloc::{AllocError, Global};
-use tool_answers::NoAnswer;
+use tool_frame::NoAnswer;
 use tool_io::{Lines, ReadRefused, Shelf, Sink, read_whole};
 
 // What is said of the reason of a refusal, if there is one.

@@ -10,9 +10,9 @@ use Rattle.pin_lines.specs.PinLines.{has_bad_line, pins_in}
 use Rattle.pin_lines.specs.Traces.{Agrees, board_led_to}
 use Rattle.pin_lines.specs.FirstFaults.{IsFirstBadLine, IsFirstDifference}
 use Rattle.pin_lines.proofs.FirstFaults.{a_bad_line, a_difference}
-use Rattle.board_and_file.specs.Words.{FileNames}
-use Rattle.board_and_file.specs.Contents.{Contents}
-use Rattle.board_and_file.proofs.ContentLemmas.{both}
+use Rattle.named_files.specs.Words.{FileNames}
+use Rattle.named_files.specs.Contents.{Contents}
+use Rattle.named_files.proofs.ContentLemmas.{both}
 use Rattle.trace_tool.specs.declared.status.TraceStatus.{TraceStatus}
 use Rattle.trace_tool.specs.declared.status.TraceStatus.TheVariants.{Good, Differs, BadLine, TooLong, BoardRefused}
 use Rattle.trace_tool.specs.Texts.{good_text, differs_line, bad_line_text, too_long_line}

@@ -8,9 +8,9 @@ use Rattle.named_files.proofs.BoardLemmas.{one_held, one_fault, board_or_fault}
 use Rattle.pin_lines.specs.PinLines.{pins_in}
 use Rattle.pin_lines.specs.Traces.{board_led_to}
 use Rattle.pin_lines.proofs.FirstFaults.{one_bad_line, not_both_lines, one_difference, not_both_clocks}
-use Rattle.board_and_file.specs.Words.{FileNames}
-use Rattle.board_and_file.specs.Contents.{Contents, contents_in}
-use Rattle.board_and_file.proofs.WordLemmas.{one_request, one_usage, no_usage}
+use Rattle.named_files.specs.Words.{FileNames}
+use Rattle.named_files.specs.Contents.{Contents, contents_in}
+use Rattle.named_files.proofs.WordLemmas.{one_request, one_usage, no_usage}
 use Rattle.trace_tool.specs.declared.status.TraceStatus.{TraceStatus}
 use Rattle.trace_tool.specs.declared.status.TraceStatus.TheVariants.{Good, Differs, BadLine, BoardRefused, Usage}
 use Rattle.trace_tool.specs.Statuses.{IsFault}

@@ -9,8 +9,8 @@ use Rattle.dev_card.proofs.OneScan.{descriptions_after}
 use Rattle.chain_sim.proofs.Fitting.{fresh_described}
 use Rattle.pin_lines.specs.PinLines.{inputs_of_pins}
 use Rattle.pin_lines.specs.Traces.{board_led_to}
-use Rattle.tool_answers.specs.declared.no_answer.NoAnswer.{NoAnswer}
-use Rattle.tool_answers.specs.declared.no_answer.NoAnswer.TheVariants.{Write}
+use Rattle.tool_frame.specs.declared.no_answer.NoAnswer.{NoAnswer}
+use Rattle.tool_frame.specs.declared.no_answer.NoAnswer.TheVariants.{Write}
 use Rattle.trace_tool.specs.declared.status.TraceStatus.{TraceStatus}
 use Rattle.trace_tool.specs.Statuses.{IsCompared}
 use Rattle.trace_tool.specs.Answers.{new_board}

@@ -7,17 +7,17 @@ use Rattle.tool_io.specs.Lines.{Puts, PutsFront}
 use Rattle.dev_card.specs.declared.desc.Desc.{Desc}
 use Rattle.dev_card.specs.Sound.{SoundCard}
 use Rattle.board_text.specs.declared.reason.BoardReason.{BoardReason}
-use Rattle.tool_answers.specs.declared.no_answer.NoAnswer.{NoAnswer}
-use Rattle.tool_answers.specs.declared.no_answer.NoAnswer.TheVariants.{Read, Write, Memory}
-use Rattle.tool_answers.specs.Answers.{Says}
-use Rattle.tool_answers.proofs.AnswerLemmas.{IsWithin, says_within, says_failed, said_text, said_front}
-use Rattle.named_files.specs.Files.{OfFile}
+use Rattle.tool_frame.specs.declared.no_answer.NoAnswer.{NoAnswer}
+use Rattle.tool_frame.specs.declared.no_answer.NoAnswer.TheVariants.{Read, Write, Memory}
+use Rattle.tool_frame.specs.Answers.{Says}
+use Rattle.tool_frame.proofs.AnswerLemmas.{IsWithin, says_within, says_failed, said_text, said_front}
+use Rattle.tool_frame.specs.Files.{OfFile}
 use Rattle.named_files.specs.Boards.{HasBoard, ReadsBoard, ReadsBoardFault}
 use Rattle.named_files.specs.Texts.{board_refusal_line}
 use Rattle.named_files.proofs.BoardLemmas.{of_file_as, of_any_file, of_whole_file, of_long_file}
-use Rattle.board_and_file.specs.Words.{FileNames, IsRequest}
-use Rattle.board_and_file.specs.Contents.{Contents, contents_in, OfContents, OfWords}
-use Rattle.board_and_file.proofs.ContentLemmas.{both, of_any_contents, of_board, of_both, of_request}
+use Rattle.named_files.specs.Words.{FileNames, IsRequest}
+use Rattle.named_files.specs.Contents.{Contents, contents_in, OfContents, OfWords}
+use Rattle.named_files.proofs.ContentLemmas.{both, of_any_contents, of_board, of_both, of_request}
 use Rattle.trace_tool.specs.declared.status.TraceStatus.{TraceStatus}
 use Rattle.trace_tool.specs.declared.status.TraceStatus.TheVariants.{TooLong, BoardRefused}
 use Rattle.trace_tool.specs.Texts.{too_long_line}

@@ -10,8 +10,8 @@ use Rattle.named_files.specs.Texts.{board_refusal_line, usage_line}
 use Rattle.pin_lines.specs.PinLines.{has_bad_line, pins_in}
 use Rattle.pin_lines.specs.Traces.{Agrees, board_led_to}
 use Rattle.pin_lines.specs.FirstFaults.{IsFirstBadLine, IsFirstDifference}
-use Rattle.board_and_file.specs.Words.{FileNames, IsRequest, IsUsage}
-use Rattle.board_and_file.specs.Contents.{Contents, contents_in}
+use Rattle.named_files.specs.Words.{FileNames, IsRequest, IsUsage}
+use Rattle.named_files.specs.Contents.{Contents, contents_in}
 use Rattle.trace_tool.specs.declared.status.TraceStatus.{TraceStatus}
 use Rattle.trace_tool.specs.declared.status.TraceStatus.TheVariants.{Good, Differs, BadLine, TooLong, BoardRefused, Usage}
 use Rattle.trace_tool.specs.Texts.{good_text, differs_line, bad_line_text, too_long_line}

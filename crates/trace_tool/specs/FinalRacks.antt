@@ -7,9 +7,9 @@ use Rattle.chain_sim.specs.Rack.{places_of}
 use Rattle.named_files.specs.Boards.{HasBoard}
 use Rattle.pin_lines.specs.PinLines.{pins_in}
 use Rattle.pin_lines.specs.Traces.{board_led_to}
-use Rattle.tool_answers.specs.declared.no_answer.NoAnswer.{NoAnswer}
-use Rattle.board_and_file.specs.Words.{FileNames, IsRequest}
-use Rattle.board_and_file.specs.Contents.{Contents}
+use Rattle.tool_frame.specs.declared.no_answer.NoAnswer.{NoAnswer}
+use Rattle.named_files.specs.Words.{FileNames, IsRequest}
+use Rattle.named_files.specs.Contents.{Contents}
 use Rattle.trace_tool.specs.declared.status.TraceStatus.{TraceStatus}
 use Rattle.trace_tool.specs.declared.status.TraceStatus.TheVariants.{Good, Differs, BadLine, TooLong, BoardRefused, Usage, ReadFault, WriteFault, Memory}
 use Rattle.trace_tool.specs.Statuses.{IsCompared, ComesBeforeFitting}

@@ -3,10 +3,10 @@ use Rattle.std.specs.Prelude.{◌≡◌, ℕ, List, Option, Result, IsErrOf}
 use Rattle.tool_io.specs.declared.lines.Lines.{Lines}
 use Rattle.tool_io.specs.Lines.{IsSinkUntouched}
 use Rattle.dev_card.specs.Sound.{SoundCard}
-use Rattle.tool_answers.specs.declared.no_answer.NoAnswer.{NoAnswer}
-use Rattle.tool_answers.specs.declared.no_answer.NoAnswer.TheVariants.{Read}
-use Rattle.tool_answers.specs.Answers.{Says, Wrote, HasWritten}
-use Rattle.board_and_file.specs.Contents.{Contents}
+use Rattle.tool_frame.specs.declared.no_answer.NoAnswer.{NoAnswer}
+use Rattle.tool_frame.specs.declared.no_answer.NoAnswer.TheVariants.{Read}
+use Rattle.tool_frame.specs.Answers.{Says, Wrote, HasWritten}
+use Rattle.named_files.specs.Contents.{Contents}
 use Rattle.trace_tool.specs.declared.status.TraceStatus.{TraceStatus}
 use Rattle.trace_tool.specs.Statuses.{IsCompared}
 use Rattle.trace_tool.specs.Answers.{WordsAnswer}

@@ -1,10 +1,10 @@
 //! A trace against a board.
 ghost use Rattle.std.specs.Prelude.{◌≡◌, ◌≤◌, length, map, Some};
 ghost use Rattle.tool_io.specs.Lines.{IsWhole};
-ghost use Rattle.tool_answers.specs.Answers.{Says, KeepsOutput};
+ghost use Rattle.tool_frame.specs.Answers.{Says, KeepsOutput};
 ghost use Rattle.board_text.specs.Boards.{CanBeFitted};
 ghost use Rattle.chain_sim.specs.Rack.{IsRack};
-ghost use Rattle.named_files.specs.Files.{OfFile, KeepsShelf};
+ghost use Rattle.tool_frame.specs.Files.{OfFile, KeepsShelf};
 ghost use Rattle.trace_tool.specs.Answers.{TraceAnswer, FileAnswer};
 ghost use Rattle.trace_tool.specs.FinalRacks.{HoldsLed, HeldLed, KeepsRack};
 ghost use Rattle.trace_tool.specs.Written.{Answers, IsUntouched};
@@ -14,7 +14,7 @@ use crate::lines::{put_bad_line, put_differs, put_good, put_too_long};
 use chain_sim::fit_board;
 use dev_card::{Desc, Device};
 use std::alloc::Global;
-use tool_answers::NoAnswer;
+use tool_frame::NoAnswer;
 use tool_io::{Lines, ReadRefused, Shelf, Sink, read_whole};
 use trace_check::{TraceRefused, check_trace};
 

@@ -1,7 +1,7 @@
 //! Laws of the definitions.
 ghost use Rattle.std.specs.Prelude.{◌≡◌, ℕ, List, Some, IsSome};
-ghost use Rattle.board_and_file.specs.Words.{FileNames};
-ghost use Rattle.board_and_file.specs.Contents.{Contents, OfWords};
+ghost use Rattle.named_files.specs.Words.{FileNames};
+ghost use Rattle.named_files.specs.Contents.{Contents, OfWords};
 ghost use Rattle.trace_tool.specs.declared.status.TraceStatus.{TraceStatus};
 ghost use Rattle.trace_tool.specs.Statuses.{IsFault};
 ghost use Rattle.trace_tool.specs.Answers.{trace_key, RequestAnswer, WordsAnswer, Answer};

@@ -2,11 +2,11 @@
 ghost use Rattle.std.specs.Prelude.{◌≡◌, Some, map, string_bytes, IsErrOf};
 ghost use Rattle.tool_io.specs.Causes.{HasRisen, NeverFalls, NoneFalls};
 ghost use Rattle.tool_io.specs.Lines.{IsWhole};
-ghost use Rattle.tool_answers.specs.Answers.{KeepsOutput, WroteFront};
+ghost use Rattle.tool_frame.specs.Answers.{KeepsOutput, WroteFront};
 ghost use Rattle.chain_sim.specs.Rack.{IsRack};
-ghost use Rattle.named_files.specs.Files.{HasReadCause, KeepsShelf};
-ghost use Rattle.board_and_file.specs.Named.{files_named};
-ghost use Rattle.board_and_file.specs.Contents.{OfContents, OfWords, IsReached, IsReachedBy};
+ghost use Rattle.tool_frame.specs.Files.{HasReadCause, KeepsShelf};
+ghost use Rattle.named_files.specs.Named.{files_named};
+ghost use Rattle.named_files.specs.Contents.{OfContents, OfWords, IsReached, IsReachedBy};
 ghost use Rattle.trace_tool.specs.Statuses.{IsFault, ComesBeforeFitting};
 ghost use Rattle.trace_tool.specs.Answers.{trace_key, RequestAnswer, WordsAnswer};
 ghost use Rattle.trace_tool.specs.FinalRacks.{RequestHoldsLed, WordsHoldLed};
@@ -14,12 +14,12 @@ ghost use Rattle.trace_tool.specs.Written.{IsUntouched, Answers, Ran, Answered};
 
 use crate::TraceStatus;
 use crate::comparing::answer_file;
-use board_and_file::{Named, read_words};
+use named_files::{Named, read_words};
 use command_words::FileName;
 use dev_card::Device;
 use named_files::{BoardNotRead, board_named, put_board_refusal, put_usage};
 use std::alloc::Global;
-use tool_answers::NoAnswer;
+use tool_frame::NoAnswer;
 use tool_io::{Lines, Shelf, Sink};
 
 // Answers a request: its board, and then its trace.

@@ -1,9 +1,9 @@
 -- On the answer for a file, whose bytes a store tells or not.
 use Rattle.std.proofs.Common.{◌<◌, ℕ, List, length, Option, None, Some, Result, IsSomeAnd}
 use Rattle.tool_io.specs.declared.lines.Lines.{Lines}
-use Rattle.tool_answers.specs.declared.no_answer.NoAnswer.{NoAnswer}
-use Rattle.tool_answers.specs.Answers.{Says}
-use Rattle.tool_answers.proofs.AnswerLemmas.{IsWithin, says_within}
+use Rattle.tool_frame.specs.declared.no_answer.NoAnswer.{NoAnswer}
+use Rattle.tool_frame.specs.Answers.{Says}
+use Rattle.tool_frame.proofs.AnswerLemmas.{IsWithin, says_within}
 use Rattle.named_files.proofs.BoardLemmas.{of_file_as}
 use Rattle.wave_tool.specs.declared.status.WaveStatus.{WaveStatus}
 use Rattle.wave_tool.specs.Answers.{most_bytes, too_long, FileAnswer, IsLongAnswer, OfWords}

@@ -1,7 +1,7 @@
 -- What the tool answers: a text and a status, by the words and the contents of the file that they name. It is defined
 -- where that file is held.
 use Rattle.std.specs.Prelude.{◌≡◌, ◌<◌, ◌≤◌, ℕ, false, List, length, Option, IfSome, IsSomeAnd}
-use Rattle.named_files.specs.Files.{OfFile}
+use Rattle.tool_frame.specs.Files.{OfFile}
 use Rattle.named_files.specs.Texts.{usage_line}
 use Rattle.pin_lines.specs.PinLines.{has_bad_line}
 use Rattle.pin_lines.specs.FirstFaults.{IsFirstBadLine}

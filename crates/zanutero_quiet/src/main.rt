@@ -1,7 +1,7 @@
 //! Whether a play is quiet, over the real files and the real output.
 #![tactic(auto)]
 
-use command_texts::{NO_WORDS, words_of};
+use tool_frame::{NO_WORDS, words_of};
 use dev_card::Device;
 use device_rack::{fill_rack, is_rack};
 use quiet_tool::{QuietStatus, run_command};

@@ -1,7 +1,7 @@
 //! The program `zanutero-rewrite` over the real files and the real output.
 #![tactic(auto)]
 
-use command_texts::{NO_WORDS, words_of};
+use tool_frame::{NO_WORDS, words_of};
 use rewrite_tool::run_command;
 use std::io;
 use std::process::ExitCode;

@@ -1,7 +1,7 @@
 //! The comparison of a trace with a board, over the real files and the real output.
 #![tactic(auto)]
 
-use command_texts::{NO_WORDS, text_asked, words_of, write_text};
+use tool_frame::{NO_WORDS, text_asked, words_of, write_text};
 use dev_card::Device;
 use device_rack::{fill_rack, is_rack};
 use std::alloc::AllocError;

@@ -1,7 +1,7 @@
 //! The wave of a trace, over the real files and the real output.
 #![tactic(auto)]
 
-use command_texts::{NO_WORDS, text_asked, words_of, write_text};
+use tool_frame::{NO_WORDS, text_asked, words_of, write_text};
 use std::io;
 use std::process::ExitCode;
 use tool_io::{FileShelf, StdSink};

@@ -1,5 +1,5 @@
 use Rattle.stapl_meaning.specs.Choices.{no_action, bad_choice, chosen}
-use Rattle.tool_answers.proofs.AnswerLemmas.{on_ok}
+use Rattle.tool_frame.proofs.AnswerLemmas.{on_ok}
 use Rattle.code_plays.proofs.CodeLemmas.{code_comes_to}
 use Rattle.code_plays.proofs.playing.choose_asked.Goals as goal
 

@@ -1,7 +1,7 @@
 use Rattle.std.proofs.Common.{sym, ap, ◌∙◌, Err, codes}
 use Rattle.stapl_meaning.specs.Choices.{chosen}
 use Rattle.play_status.specs.declared.status.Status.TheVariants.{NoAction, BadChoice, BadPlace}
-use Rattle.tool_answers.proofs.AnswerLemmas.{says_within, says_failed, said_text, said_front}
+use Rattle.tool_frame.proofs.AnswerLemmas.{says_within, says_failed, said_text, said_front}
 use Rattle.code_plays.specs.Plays.{no_action, bad_choice, bad_place}
 use Rattle.code_plays.specs.CodePlays.{task_play}
 use Rattle.code_plays.proofs.PlayLemmas.{ends_played, rack_played}

@@ -1,5 +1,5 @@
 use Rattle.std.proofs.Common.{refl}
-use Rattle.tool_answers.proofs.AnswerLemmas.{says_failed, says_no_memory}
+use Rattle.tool_frame.proofs.AnswerLemmas.{says_failed, says_no_memory}
 use Rattle.code_plays.specs.CodePlays.{task_play}
 use Rattle.code_plays.proofs.PlayLemmas.{run_said, run_said_front}
 use Rattle.code_plays.proofs.playing.play_on_board.Goals as goal

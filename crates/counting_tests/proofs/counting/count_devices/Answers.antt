@@ -1,5 +1,5 @@
 use Rattle.named_files.specs.Texts.{usage_line}
-use Rattle.tool_answers.proofs.AnswerLemmas.{says_within, says_failed, said_text, said_front}
+use Rattle.tool_frame.proofs.AnswerLemmas.{says_within, says_failed, said_text, said_front}
 use Rattle.counting_tests.specs.declared.counting.Ending.TheVariants.{Usage}
 use Rattle.counting_tests.specs.Counts.{of_board, usage}
 use Rattle.counting_tests.proofs.counting.count_devices.Goals as goal

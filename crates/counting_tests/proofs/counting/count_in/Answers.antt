@@ -1,5 +1,5 @@
 use Rattle.std.proofs.Common.{Err, ap}
-use Rattle.tool_answers.proofs.AnswerLemmas.{says_failed, said_text, said_front}
+use Rattle.tool_frame.proofs.AnswerLemmas.{says_failed, said_text, said_front}
 use Rattle.counting_tests.specs.Counts.{counted, refused}
 use Rattle.counting_tests.proofs.counting.count_in.Goals as goal
 

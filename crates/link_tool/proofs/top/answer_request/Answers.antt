@@ -1,8 +1,8 @@
 use Rattle.std.proofs.Common.{sym, ap, Err, Some, refl, rules}
-use Rattle.tool_answers.specs.declared.no_answer.NoAnswer.TheVariants.{Memory}
+use Rattle.tool_frame.specs.declared.no_answer.NoAnswer.TheVariants.{Memory}
 use Rattle.named_files.proofs.BoardLemmas.{fault_is}
-use Rattle.board_and_file.specs.Named.{files_named}
-use Rattle.board_and_file.proofs.ContentLemmas.{file_cause}
+use Rattle.named_files.specs.Named.{files_named}
+use Rattle.named_files.proofs.ContentLemmas.{file_cause}
 use Rattle.link_tool.proofs.AnswerLemmas.{request_of_file, board_is_refused, no_board, no_board_memory}
 use Rattle.link_tool.proofs.top.answer_request.Goals as goal
 

@@ -1,5 +1,5 @@
-use Rattle.board_and_file.specs.Named.{files_named}
-use Rattle.board_and_file.proofs.ContentLemmas.{reached_by}
+use Rattle.named_files.specs.Named.{files_named}
+use Rattle.named_files.proofs.ContentLemmas.{reached_by}
 use Rattle.link_tool.proofs.AnswerLemmas.{words_of_request, words_refused}
 use Rattle.link_tool.proofs.top.run.Goals as goal
 

@@ -1,5 +1,5 @@
 use Rattle.std.proofs.Common.{sym, subst}
-use Rattle.board_and_file.proofs.ContentLemmas.{of_words_as}
+use Rattle.named_files.proofs.ContentLemmas.{of_words_as}
 use Rattle.link_tool.specs.Statuses.{IsFault}
 use Rattle.link_tool.proofs.AnswerLemmas.{answer_status}
 use Rattle.link_tool.proofs.top.run_link.Goals as goal

@@ -1,6 +1,6 @@
 use Rattle.std.proofs.Common.{ap, Err}
 use Rattle.board_text.specs.declared.reason.BoardReason.TheVariants as reasons
-use Rattle.tool_answers.proofs.AnswerLemmas.{on_ok}
+use Rattle.tool_frame.proofs.AnswerLemmas.{on_ok}
 use Rattle.named_files.proofs.BoardLemmas.{of_whole_file, reads_long, fault_is}
 use Rattle.named_files.proofs.boards.board_in.Goals as goal
 

@@ -2,7 +2,7 @@ use Rattle.std.proofs.Common.{refl, pos}
 use Rattle.stapl_syntax.specs.ProgramValues.{trees_of}
 use Rattle.play_status.specs.declared.status.Status.TheVariants.{Done}
 use Rattle.program_reports.specs.Listings.{list_text}
-use Rattle.tool_answers.proofs.AnswerLemmas.{says_failed, said_text, said_front}
+use Rattle.tool_frame.proofs.AnswerLemmas.{says_failed, said_text, said_front}
 use Rattle.play_tool.proofs.programs.list_program.Goals as goal
 
 pub returns-in_err-put_list-clause-says : goal.returns-in_err-put_list-clause-says

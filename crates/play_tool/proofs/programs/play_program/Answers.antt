@@ -1,6 +1,6 @@
 use Rattle.std.proofs.Common.{refl}
 use Rattle.stapl_syntax.specs.ProgramValues.{trees_of}
-use Rattle.tool_answers.proofs.AnswerLemmas.{says_within, says_no_memory}
+use Rattle.tool_frame.proofs.AnswerLemmas.{says_within, says_no_memory}
 use Rattle.code_plays.proofs.PlayLemmas.{rack_as}
 use Rattle.play_tool.proofs.ProgramLemmas.{code_to_program, program_final}
 use Rattle.play_tool.proofs.programs.play_program.Goals as goal

@@ -1,7 +1,7 @@
 use Rattle.std.proofs.Common.{◌≡◌, ◌≤◌, ◌+◌, ℕ, List, length, refl, ap, subst, ◌∙◌, arith}
 use Rattle.tool_io.specs.Lines.{Puts, gathered}
 use Rattle.play_words.proofs.RequestLemmas.{has_seed}
-use Rattle.tool_answers.proofs.AnswerLemmas.{says_within, says_no_memory}
+use Rattle.tool_frame.proofs.AnswerLemmas.{says_within, says_no_memory}
 use Rattle.play_tool.proofs.SoakLemmas.{line_is, texts_to_soak, soak_says}
 use Rattle.play_tool.proofs.soaking.answer_soak.Goals as goal
 

@@ -3,7 +3,7 @@ use Rattle.play_words.specs.declared.mode.Mode.TheVariants.{Play}
 use Rattle.play_words.specs.Words.{plays}
 use Rattle.play_words.proofs.RequestLemmas.{has_board}
 use Rattle.play_status.specs.declared.status.Status.TheVariants.{BoardRefused}
-use Rattle.tool_answers.proofs.AnswerLemmas.{says_within, says_failed, said_text, said_front}
+use Rattle.tool_frame.proofs.AnswerLemmas.{says_within, says_failed, said_text, said_front}
 use Rattle.code_plays.proofs.PlayLemmas.{rack_as}
 use Rattle.play_tool.proofs.SoakLemmas.{text_to_request, text_final, refused_at, board_fault_is}
 use Rattle.play_tool.proofs.soaking.answer_texts.Goals as goal

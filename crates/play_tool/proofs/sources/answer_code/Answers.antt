@@ -3,7 +3,7 @@ use Rattle.code_files.specs.CodeFaults.{NamesFault}
 use Rattle.play_words.specs.declared.mode.Mode.TheVariants.{Run}
 use Rattle.play_words.specs.Words.{plays}
 use Rattle.play_words.proofs.RequestLemmas.{has_action, has_board}
-use Rattle.tool_answers.proofs.AnswerLemmas.{says_within, says_failed, said_text, said_front}
+use Rattle.tool_frame.proofs.AnswerLemmas.{says_within, says_failed, said_text, said_front}
 use Rattle.code_plays.proofs.PlayLemmas.{rack_as}
 use Rattle.play_tool.specs.Answers.{code_refused}
 use Rattle.play_tool.proofs.AnswerLemmas.{code_fault_is}

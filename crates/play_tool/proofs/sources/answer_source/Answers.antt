@@ -1,6 +1,6 @@
 use Rattle.std.proofs.Common.{sym, ◌∙◌}
 use Rattle.play_words.proofs.RequestLemmas.{run_mode}
-use Rattle.tool_answers.proofs.AnswerLemmas.{says_within}
+use Rattle.tool_frame.proofs.AnswerLemmas.{says_within}
 use Rattle.play_words.specs.Words.{reads_text}
 use Rattle.play_tool.proofs.AnswerLemmas.{text_to_source, code_to_source}
 use Rattle.play_tool.proofs.sources.answer_source.Goals as goal

@@ -3,7 +3,7 @@ use Rattle.stapl_syntax.specs.ProgramValues.{trees_of}
 use Rattle.play_words.specs.declared.mode.Mode.TheVariants.{Play}
 use Rattle.play_words.specs.Words.{plays}
 use Rattle.play_words.proofs.RequestLemmas.{has_action, has_board}
-use Rattle.tool_answers.proofs.AnswerLemmas.{says_within}
+use Rattle.tool_frame.proofs.AnswerLemmas.{says_within}
 use Rattle.code_plays.proofs.PlayLemmas.{rack_as}
 use Rattle.play_tool.proofs.AnswerLemmas.{plays_asked}
 use Rattle.play_tool.proofs.sources.work.Goals as goal

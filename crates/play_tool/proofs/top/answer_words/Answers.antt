@@ -2,8 +2,8 @@ use Rattle.std.proofs.Common.{ℕ, List, map, string_bytes, Global, refl, sym, s
 use Rattle.play_words.specs.Words.{IsUsage, IsWordsRefused}
 use Rattle.play_words.proofs.OneRequest.{no_usage}
 use Rattle.play_status.specs.declared.status.Status.TheVariants.{Usage}
-use Rattle.tool_answers.specs.declared.no_answer.NoAnswer.TheVariants.{Memory}
-use Rattle.tool_answers.proofs.AnswerLemmas.{says_failed, said_text, said_front}
+use Rattle.tool_frame.specs.declared.no_answer.NoAnswer.TheVariants.{Memory}
+use Rattle.tool_frame.proofs.AnswerLemmas.{says_failed, said_text, said_front}
 use Rattle.code_plays.proofs.PlayLemmas.{rack_failed, rack_refused, rack_unread}
 use Rattle.play_tool.specs.Answers.{usage}
 use Rattle.play_tool.proofs.RequestLemmas.{usage_is, words_of_mode, of_no_request, of_any_words, reached_by}

@@ -1,6 +1,6 @@
 use Rattle.std.proofs.Common.{sym, subst}
 use Rattle.play_status.specs.Statuses.{IsFault}
-use Rattle.tool_answers.proofs.AnswerLemmas.{wrote_within}
+use Rattle.tool_frame.proofs.AnswerLemmas.{wrote_within}
 use Rattle.play_tool.proofs.AloneLemmas.{answers_alone}
 use Rattle.play_tool.proofs.CompiledLemmas.{answers_source}
 use Rattle.play_tool.proofs.RequestLemmas.{of_words_as}

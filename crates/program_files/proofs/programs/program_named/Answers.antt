@@ -1,5 +1,5 @@
 use Rattle.std.proofs.Common.{ap, Err}
-use Rattle.tool_answers.proofs.AnswerLemmas.{on_ok}
+use Rattle.tool_frame.proofs.AnswerLemmas.{on_ok}
 use Rattle.named_files.proofs.BoardLemmas.{of_whole_file}
 use Rattle.program_files.proofs.ProgramLemmas.{reads_text, reads_long, fault_is}
 use Rattle.program_files.proofs.programs.program_named.Goals as goal

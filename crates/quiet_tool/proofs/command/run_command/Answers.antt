@@ -1,8 +1,8 @@
 use Rattle.std.proofs.Common.{◌≡◌, ◌∙◌, sym, ap, map, string_bytes, Global, List, ℕ, None, Some}
 use Rattle.std.specs.Option.{option_map}
-use Rattle.tool_answers.proofs.AnswerLemmas.{wrote_within, front_within_written}
-use Rattle.command_texts.specs.Commands.{text_asked, shown}
-use Rattle.command_texts.proofs.CommandLemmas.{tool_answers}
+use Rattle.tool_frame.proofs.AnswerLemmas.{wrote_within, front_within_written}
+use Rattle.tool_frame.specs.Commands.{text_asked, shown}
+use Rattle.tool_frame.proofs.ShownLemmas.{tool_answers}
 use Rattle.play_tool.proofs.RequestLemmas.{of_words_as, of_any_words}
 use Rattle.quiet_tool.specs.declared.help.TheConstants.{HELP, VERSION}
 use Rattle.quiet_tool.specs.declared.status.QuietStatus.TheVariants.{Shown}

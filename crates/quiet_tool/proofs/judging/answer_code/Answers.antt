@@ -1,6 +1,6 @@
 use Rattle.std.proofs.Common.{sym, ap, ◌∙◌, Err}
 use Rattle.stapl_meaning.specs.Choices.{chosen}
-use Rattle.tool_answers.proofs.AnswerLemmas.{on_ok}
+use Rattle.tool_frame.proofs.AnswerLemmas.{on_ok}
 use Rattle.quiet_tool.specs.Answers.{no_action, bad_choice, bad_place, judged}
 use Rattle.quiet_tool.proofs.AnswerLemmas.{answer_is}
 use Rattle.quiet_tool.proofs.judging.answer_code.Goals as goal

@@ -1,7 +1,7 @@
 use Rattle.std.proofs.Common.{sym, ◌∙◌}
 use Rattle.stapl_syntax.specs.ProgramValues.{trees_of}
 use Rattle.stapl_meaning.specs.Choices.{no_action, bad_choice, chosen}
-use Rattle.tool_answers.proofs.AnswerLemmas.{on_ok}
+use Rattle.tool_frame.proofs.AnswerLemmas.{on_ok}
 use Rattle.code_plays.proofs.CodeLemmas.{code_comes_to}
 use Rattle.play_tool.proofs.ChoiceLemmas.{same_choice}
 use Rattle.quiet_tool.proofs.judging.choose_asked.Goals as goal

@@ -1,5 +1,5 @@
 use Rattle.std.proofs.Common.{sym, ap, Err, Some, refl}
-use Rattle.tool_answers.proofs.AnswerLemmas.{says_within}
+use Rattle.tool_frame.proofs.AnswerLemmas.{says_within}
 use Rattle.named_files.proofs.BoardLemmas.{of_any_file}
 use Rattle.program_files.proofs.ProgramLemmas.{of_text, fault_is, refusal_failed, refusal_put}
 use Rattle.quiet_tool.specs.Answers.{TextAnswer, refused}

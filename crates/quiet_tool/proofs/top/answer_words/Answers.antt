@@ -1,5 +1,5 @@
 use Rattle.std.proofs.Common.{ℕ, List, map, string_bytes, Global, refl, sym, subst}
-use Rattle.tool_answers.proofs.AnswerLemmas.{says_failed, said_text, said_front}
+use Rattle.tool_frame.proofs.AnswerLemmas.{says_failed, said_text, said_front}
 use Rattle.play_tool.proofs.RequestLemmas.{of_no_request, of_any_words, reached_by}
 use Rattle.quiet_tool.specs.declared.status.QuietStatus.TheVariants.{Usage}
 use Rattle.quiet_tool.specs.Words.{play_words, HasUsage, IsRefused}

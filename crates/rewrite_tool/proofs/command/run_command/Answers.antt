@@ -1,9 +1,9 @@
 use Rattle.std.proofs.Common.{◌≡◌, ◌∙◌, sym, ap, map, string_bytes, Global, List, ℕ, None, Some}
 use Rattle.std.specs.Option.{option_map}
-use Rattle.tool_answers.proofs.AnswerLemmas.{wrote_within, front_within_written}
-use Rattle.command_texts.specs.Commands.{text_asked, shown}
-use Rattle.command_texts.proofs.CommandLemmas.{tool_answers}
-use Rattle.board_and_file.proofs.ContentLemmas.{of_words_as}
+use Rattle.tool_frame.proofs.AnswerLemmas.{wrote_within, front_within_written}
+use Rattle.tool_frame.specs.Commands.{text_asked, shown}
+use Rattle.tool_frame.proofs.ShownLemmas.{tool_answers}
+use Rattle.named_files.proofs.ContentLemmas.{of_words_as}
 use Rattle.rewrite_tool.specs.declared.command.TheConstants.{HELP, VERSION}
 use Rattle.rewrite_tool.specs.declared.status.RewriteStatus.TheVariants.{Done}
 use Rattle.rewrite_tool.specs.Answers.{WordsAnswer}

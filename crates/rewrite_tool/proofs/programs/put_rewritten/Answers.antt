@@ -1,6 +1,6 @@
 use Rattle.std.proofs.Common.{Err, ap, arith}
 use Rattle.stapl_syntax.specs.ProgramValues.{trees_of}
-use Rattle.tool_answers.proofs.AnswerLemmas.{says_failed, said_text, said_front}
+use Rattle.tool_frame.proofs.AnswerLemmas.{says_failed, said_text, said_front}
 use Rattle.rewrite_tool.specs.declared.status.RewriteStatus.TheVariants.{Done, BadPlace, OwnPadding, TooLarge}
 use Rattle.rewrite_tool.specs.Texts.{place_line, padding_line, too_large_line}
 use Rattle.rewrite_tool.specs.Answers.{bad_place, own_padding, too_large}

@@ -1,7 +1,7 @@
 use Rattle.std.proofs.Common.{sym, ap, Err, Some, refl, rules}
 use Rattle.named_files.proofs.BoardLemmas.{fault_is}
-use Rattle.tool_answers.specs.declared.no_answer.NoAnswer.TheVariants.{Memory}
-use Rattle.board_and_file.proofs.ContentLemmas.{file_cause}
+use Rattle.tool_frame.specs.declared.no_answer.NoAnswer.TheVariants.{Memory}
+use Rattle.named_files.proofs.ContentLemmas.{file_cause}
 use Rattle.rewrite_tool.specs.Named.{request_of}
 use Rattle.rewrite_tool.proofs.RequestLemmas.{request_of_file, board_failed, board_is_refused, no_board, no_board_memory}
 use Rattle.rewrite_tool.proofs.top.answer_request.Goals as goal

@@ -1,5 +1,5 @@
 use Rattle.named_files.specs.Texts.{usage_line}
-use Rattle.tool_answers.proofs.AnswerLemmas.{says_failed, said_text, said_front}
+use Rattle.tool_frame.proofs.AnswerLemmas.{says_failed, said_text, said_front}
 use Rattle.rewrite_tool.specs.declared.status.RewriteStatus.TheVariants.{Usage}
 use Rattle.rewrite_tool.specs.Named.{request_of}
 use Rattle.rewrite_tool.specs.Answers.{usage}

@@ -1,12 +1,12 @@
 use Rattle.std.proofs.Common.{◌≡◌, ◌∙◌, sym, ap, map, string_bytes, Global, List, ℕ, None, Some}
 use Rattle.std.proofs.lemmas.Bool.{false≢true}
 use Rattle.std.specs.Option.{option_map}
-use Rattle.tool_answers.proofs.AnswerLemmas.{wrote_within, front_within_written}
+use Rattle.tool_frame.proofs.AnswerLemmas.{wrote_within, front_within_written}
 use Rattle.play_tool.specs.Answers.{WordsAnswer}
 use Rattle.play_tool.proofs.RequestLemmas.{of_any_words, of_words_as}
 use Rattle.tool_questions.proofs.StatusLemmas.{question_status}
-use Rattle.command_texts.specs.Commands.{text_asked, shown}
-use Rattle.command_texts.proofs.CommandLemmas.{tool_answers}
+use Rattle.tool_frame.specs.Commands.{text_asked, shown}
+use Rattle.tool_frame.proofs.ShownLemmas.{tool_answers}
 use Rattle.tool_command.specs.declared.help.TheConstants.{HELP, VERSION}
 use Rattle.tool_command.specs.Commands.{by_tool, by_question}
 use Rattle.tool_command.proofs.CommandLemmas.{has_no_mode}

@@ -1,5 +1,5 @@
 use Rattle.std.proofs.Common.{rules, map, string_bytes, Global}
-use Rattle.tool_answers.proofs.AnswerLemmas.{wrote_all, unfinished, not_answered}
+use Rattle.tool_frame.proofs.AnswerLemmas.{wrote_all, unfinished, not_answered}
 use Rattle.tool_questions.specs.Questions.{QuestionAnswer}
 use Rattle.tool_command.proofs.QuestionLemmas.{of_question_as}
 use Rattle.tool_command.proofs.command.run_question.Goals as goal

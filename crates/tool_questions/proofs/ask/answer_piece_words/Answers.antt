@@ -1,5 +1,5 @@
 use Rattle.std.proofs.Common.{None, Some}
-use Rattle.tool_answers.proofs.AnswerLemmas.{says_within}
+use Rattle.tool_frame.proofs.AnswerLemmas.{says_within}
 use Rattle.named_files.proofs.BoardLemmas.{of_file_as, of_any_file}
 use Rattle.tool_questions.specs.Questions.{asked, refused}
 use Rattle.tool_questions.proofs.ask.answer_piece_words.Goals as goal

@@ -1,6 +1,6 @@
 use Rattle.std.proofs.Common.{string_bytes, Global, None, map, take, drop, length, ◌-◌, ◌∷◌, codes, sym, ap, ◌∙◌}
 use Rattle.std.proofs.lemmas.Slice.Eq.{bytes_eq-Decides}
-use Rattle.tool_answers.proofs.AnswerLemmas.{says_within}
+use Rattle.tool_frame.proofs.AnswerLemmas.{says_within}
 use Rattle.named_files.proofs.BoardLemmas.{of_file_as, of_any_file}
 use Rattle.tool_questions.specs.Questions.{ask_question, is_question, of_word, of_piece}
 use Rattle.tool_questions.proofs.WordLemmas.{after_first, is_piece, named_as, shelf_as}

@@ -1,6 +1,6 @@
 use Rattle.std.proofs.Common.{ap, Err, Some, refl}
 use Rattle.stapl_lexer.specs.Pieces.{text_limit}
-use Rattle.tool_answers.proofs.AnswerLemmas.{says_within}
+use Rattle.tool_frame.proofs.AnswerLemmas.{says_within}
 use Rattle.named_files.proofs.BoardLemmas.{of_whole_file, of_long_file, of_file_as, of_any_file}
 use Rattle.tool_questions.proofs.ReportLemmas.{long_within}
 use Rattle.tool_questions.proofs.piece.answer_piece.Goals as goal

@@ -1,9 +1,9 @@
 use Rattle.std.proofs.Common.{refl}
 use Rattle.named_files.specs.Texts.{usage_line}
-use Rattle.tool_answers.proofs.AnswerLemmas.{says_failed, said_text, said_front}
-use Rattle.board_and_file.specs.Named.{files_named}
-use Rattle.board_and_file.proofs.WordLemmas.{no_usage}
-use Rattle.board_and_file.proofs.ContentLemmas.{of_no_request, reached_by}
+use Rattle.tool_frame.proofs.AnswerLemmas.{says_failed, said_text, said_front}
+use Rattle.named_files.specs.Named.{files_named}
+use Rattle.named_files.proofs.WordLemmas.{no_usage}
+use Rattle.named_files.proofs.ContentLemmas.{of_no_request, reached_by}
 use Rattle.trace_tool.specs.declared.status.TraceStatus.TheVariants.{Usage}
 use Rattle.trace_tool.specs.Answers.{trace_key, usage}
 use Rattle.trace_tool.proofs.RackLemmas.{rack_failed, rack_same}

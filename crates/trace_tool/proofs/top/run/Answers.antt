@@ -1,6 +1,6 @@
 use Rattle.std.proofs.Common.{rules, map, string_bytes, Global}
-use Rattle.tool_answers.proofs.AnswerLemmas.{wrote_all, unfinished, not_answered}
-use Rattle.board_and_file.proofs.ContentLemmas.{of_words_as}
+use Rattle.tool_frame.proofs.AnswerLemmas.{wrote_all, unfinished, not_answered}
+use Rattle.named_files.proofs.ContentLemmas.{of_words_as}
 use Rattle.trace_tool.specs.Answers.{WordsAnswer}
 use Rattle.trace_tool.proofs.top.run.Goals as goal
 

@@ -1,5 +1,5 @@
 use Rattle.std.proofs.Common.{sym, subst}
-use Rattle.board_and_file.proofs.ContentLemmas.{of_words_as}
+use Rattle.named_files.proofs.ContentLemmas.{of_words_as}
 use Rattle.trace_tool.specs.Statuses.{IsFault}
 use Rattle.trace_tool.proofs.OneAnswer.{answer_status}
 use Rattle.trace_tool.proofs.top.run_trace.Goals as goal

@@ -1,5 +1,5 @@
 use Rattle.std.proofs.Common.{ap, Err, Some, refl}
-use Rattle.tool_answers.proofs.AnswerLemmas.{says_within}
+use Rattle.tool_frame.proofs.AnswerLemmas.{says_within}
 use Rattle.named_files.proofs.BoardLemmas.{of_whole_file, of_long_file, of_file_as, of_any_file}
 use Rattle.wave_tool.specs.Answers.{most_bytes}
 use Rattle.wave_tool.proofs.AnswerLemmas.{long_within}

@@ -1,5 +1,5 @@
 use Rattle.std.proofs.Common.{refl}
-use Rattle.tool_answers.proofs.AnswerLemmas.{says_failed, said_text, said_front}
+use Rattle.tool_frame.proofs.AnswerLemmas.{says_failed, said_text, said_front}
 use Rattle.wave_tool.specs.declared.status.WaveStatus.TheVariants.{Written, BadLine}
 use Rattle.wave_tool.specs.Answers.{bad_line, written}
 use Rattle.wave_tool.proofs.top.answer_text.Goals as goal

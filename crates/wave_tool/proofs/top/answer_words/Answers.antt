@@ -1,5 +1,5 @@
 use Rattle.std.proofs.Common.{map, string_bytes, Global, None, Some, sym, subst}
-use Rattle.tool_answers.proofs.AnswerLemmas.{says_within}
+use Rattle.tool_frame.proofs.AnswerLemmas.{says_within}
 use Rattle.named_files.proofs.BoardLemmas.{of_file_as, of_any_file}
 use Rattle.wave_tool.specs.Words.{IsRequest}
 use Rattle.wave_tool.specs.Answers.{usage, asked}

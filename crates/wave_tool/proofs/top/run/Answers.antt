@@ -1,5 +1,5 @@
 use Rattle.std.proofs.Common.{rules, map, string_bytes, Global}
-use Rattle.tool_answers.proofs.AnswerLemmas.{wrote_all, unfinished, not_answered}
+use Rattle.tool_frame.proofs.AnswerLemmas.{wrote_all, unfinished, not_answered}
 use Rattle.wave_tool.specs.Answers.{WordsAnswer}
 use Rattle.wave_tool.proofs.AnswerLemmas.{of_words_as}
 use Rattle.wave_tool.proofs.top.run.Goals as goal

@@ -1,3 +1,0 @@
-pub mod Words
-pub mod Named
-pub mod Contents

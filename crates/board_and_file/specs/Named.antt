@@ -1,6 +1,0 @@
--- The names of the files as the code has them.
-use Rattle.board_and_file.specs.declared.words.Named.{Named}
-use Rattle.board_and_file.specs.Words.{FileNames}
-
-abbrev pub files_named : Named → FileNames
-files_named named = record { board = named.board.now; file = named.file.now }

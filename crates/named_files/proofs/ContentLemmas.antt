@@ -1,0 +1,100 @@
+-- On the contents of the two files: the board comes first, and the other file after it.
+use Rattle.std.proofs.Common.{◌≡◌, ◌∙◌, ℕ, List, Option, None, Some, IfSome, refl, sym, ap, subst}
+use Rattle.tool_io.specs.Causes.{NoneFalls}
+use Rattle.tool_io.proofs.CauseLemmas.{rose_after_at}
+use Rattle.dev_card.specs.declared.desc.Desc.{Desc}
+use Rattle.tool_frame.specs.Files.{file_named, AreRead, OfFile, HasReadCause}
+use Rattle.named_files.specs.Boards.{HasBoard, ReadsBoard}
+use Rattle.named_files.specs.Words.{FileNames, IsRequest}
+use Rattle.named_files.specs.Contents.{Contents, contents_in, OfContents, OfAsked, OfWords, HoldsBoard, IsReached, file_reached, IsAskedAndReached, IsReachedBy}
+use Rattle.named_files.proofs.WordLemmas.{one_request}
+
+abbrev pub both : Option (List ℕ) → Option (List ℕ) → Contents
+both board file = record { board = board; file = file }
+
+both_read : (told : Option (List (List ℕ × List ℕ))) (named : FileNames) (board file : Option (List ℕ)) → AreRead told (Some named.board) board →
+    AreRead told (Some named.file) file → IfSome told (λ files. contents_in files named ≡ both board file)
+both_read None named board file b s = tt
+both_read (Some files) named board file b s =
+    ap (λ (x : Option (List ℕ)). both x (file_named files (Some named.file))) b.same ∙ ap (both board) s.same
+
+-- what stands of all contents
+pub of_any_contents : (told : Option (List (List ℕ × List ℕ))) (named : FileNames) {P : Contents → Type 0} → ((contents : Contents) → P contents) → OfContents told named P
+of_any_contents None named f = record { contents = both None None; read = tt; holds = f (both None None) }
+of_any_contents (Some files) named f = record { contents = contents_in files named; read = refl; holds = f (contents_in files named) }
+
+-- the board was read, and it does not matter what else
+pub of_board : (told : Option (List (List ℕ × List ℕ))) (named : FileNames) (board : Option (List ℕ)) {P : Contents → Type 0} → AreRead told (Some named.board) board →
+    ((file : Option (List ℕ)) → P (both board file)) → OfContents told named P
+of_board None named board b f = record { contents = both board None; read = tt; holds = f None }
+of_board (Some files) named board b f = record {
+  contents = both board (file_named files (Some named.file));
+  read = both_read (Some files) named board (file_named files (Some named.file)) b (record { same = refl });
+  holds = f (file_named files (Some named.file));
+}
+
+-- the board was read, and then the other file
+pub of_both : (told : Option (List (List ℕ × List ℕ))) (named : FileNames) (board : Option (List ℕ)) {P : Option (List ℕ) → Type 0} {Q : Contents → Type 0} →
+    AreRead told (Some named.board) board → OfFile told (Some named.file) P → ((file : Option (List ℕ)) → P file → Q (both board file)) → OfContents told named Q
+of_both told named board b o f = record {
+  contents = both board o.held;
+  read = both_read told named board o.held b o.read;
+  holds = f o.held o.holds;
+}
+
+-- these files are asked for, and no others
+pub of_asked : (asks : FileNames → Type 0) → ((a b : FileNames) → asks a → asks b → a ≡ b) → (told : Option (List (List ℕ × List ℕ))) {named : FileNames} {P Q : Contents → Type 0} →
+    asks named → OfContents told named P → ((contents : Contents) → P contents → Q contents) → OfAsked asks told Q
+of_asked asks one told {named = named} is o f = record {
+  contents = o.contents;
+  read = λ other others. subst (λ (n : FileNames). IfSome told (λ files. contents_in files n ≡ o.contents)) (one named other is others) o.read;
+  holds = f o.contents o.holds;
+}
+
+-- the words are this request
+pub of_request : {key : List ℕ} (told : Option (List (List ℕ × List ℕ))) {words : List (List ℕ)} {named : FileNames} {P Q : Contents → Type 0} → IsRequest key words named →
+    OfContents told named P → ((contents : Contents) → P contents → Q contents) → OfWords key told words Q
+of_request {key = key} told {words = words} asks o f = of_asked (IsRequest key words) (one_request key words) told asks o f
+
+-- no files are asked for
+pub of_none_asked : (asks : FileNames → Type 0) (told : Option (List (List ℕ × List ℕ))) {Q : Contents → Type 0} → ((named : FileNames) → asks named → ⊥) →
+    ((contents : Contents) → Q contents) → OfAsked asks told Q
+of_none_asked asks told none f = record { contents = both None None; read = λ named is. absurd (none named is); holds = f (both None None) }
+
+-- words that are no request
+pub of_no_request : (key : List ℕ) (told : Option (List (List ℕ × List ℕ))) {words : List (List ℕ)} {Q : Contents → Type 0} → ((named : FileNames) → IsRequest key words named → ⊥) →
+    ((contents : Contents) → Q contents) → OfWords key told words Q
+of_no_request key told {words = words} none f = of_none_asked (IsRequest key words) told none f
+
+pub of_words_as : {asks : FileNames → Type 0} {told : Option (List (List ℕ × List ℕ))} {P Q : Contents → Type 0} → ((contents : Contents) → P contents → Q contents) →
+    OfAsked asks told P → OfAsked asks told Q
+of_words_as f o = record { contents = o.contents; read = o.read; holds = f o.contents o.holds }
+
+-- the board that was read is the one that the store holds
+holds_board : (named : FileNames) (devices : List Desc) (told : Option (List (List ℕ × List ℕ))) → ReadsBoard told (Some named.board) devices → IfSome told (HoldsBoard named)
+holds_board named devices None reads = tt
+holds_board named devices (Some files) reads = record {
+  devices = devices;
+  board = subst (λ (h : Option (List ℕ)). HasBoard (Some named.board) h devices) (sym (reads.read).same) reads.holds;
+}
+
+-- the other file could not be read after a board that is right
+pub file_cause : {S : Type 0} {faults : S → List ℕ → ℕ} {is_last : S → List ℕ → Type 0} (before between after : S) (named : FileNames) (devices : List Desc)
+    (told : Option (List (List ℕ × List ℕ))) → ReadsBoard told (Some named.board) devices → NoneFalls faults is_last before between →
+    HasReadCause faults is_last (λ read. read ≡ named.file) between after → HasReadCause faults is_last (IsReached told named) before after
+file_cause {faults = faults} {is_last = is_last} before between after named devices told reads kept c = record {
+  path = c.path;
+  is_reached = file_reached (sym c.is_reached) (holds_board named devices told reads);
+  rose = rose_after_at kept c.rose;
+}
+
+-- a file that was reached is one that is asked for
+pub reached_asked : {S : Type 0} {faults : S → List ℕ → ℕ} {is_last : S → List ℕ → Type 0} {before after : S} (asks : FileNames → Type 0) {told : Option (List (List ℕ × List ℕ))}
+    {named : FileNames} → asks named → HasReadCause faults is_last (IsReached told named) before after → HasReadCause faults is_last (IsAskedAndReached asks told) before after
+reached_asked asks {named = named} is c = record { path = c.path; is_reached = record { named = named; asked = is; reached = c.is_reached }; rose = c.rose }
+
+-- a file of the request that was reached is one of the words
+pub reached_by : {S : Type 0} {faults : S → List ℕ → ℕ} {is_last : S → List ℕ → Type 0} {before after : S} {key : List ℕ} {told : Option (List (List ℕ × List ℕ))}
+    {words : List (List ℕ)} {named : FileNames} → IsRequest key words named → HasReadCause faults is_last (IsReached told named) before after →
+    HasReadCause faults is_last (IsReachedBy key told words) before after
+reached_by {key = key} {words = words} asks c = reached_asked (IsRequest key words) asks c

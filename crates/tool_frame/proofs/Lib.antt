@@ -1,0 +1,5 @@
+pub mod AnswerLemmas
+pub mod ShownLemmas
+pub mod FileLemmas
+pub mod FrameLemmas
+pub mod CommandLemmas
