@@ -1,12 +1,12 @@
 -- On the contents of the two files: the board comes first, and the other file after it.
-use Rattle.std.proofs.Common.{◌≡◌, ◌∙◌, ℕ, List, Option, None, Some, IfSome, refl, sym, ap, subst}
+use Rattle.std.proofs.Common.{◌≡◌, ◌∙◌, ℕ, List, [], ◌∷◌, map, Option, None, Some, IfSome, refl, sym, ap, subst}
 use Rattle.tool_io.specs.Causes.{NoneFalls}
 use Rattle.tool_io.proofs.CauseLemmas.{rose_after_at}
 use Rattle.dev_card.specs.declared.desc.Desc.{Desc}
-use Rattle.tool_frame.specs.Files.{file_named, AreRead, OfFile, HasReadCause}
+use Rattle.tool_frame.specs.Files.{file_named, AreRead, OfFile, OfFiles, HasReadCause}
 use Rattle.named_files.specs.Boards.{HasBoard, ReadsBoard}
 use Rattle.named_files.specs.Words.{FileNames, IsRequest}
-use Rattle.named_files.specs.Contents.{Contents, contents_in, OfContents, OfAsked, OfWords, HoldsBoard, IsReached, file_reached, IsAskedAndReached, IsReachedBy}
+use Rattle.named_files.specs.Contents.{Contents, contents_in, OfContents, OfAsked, NamesBoth, OfWords, HoldsBoard, IsReached, file_reached, IsAskedAndReached, IsReachedBy}
 use Rattle.named_files.proofs.WordLemmas.{one_request}
 
 abbrev pub both : Option (List ℕ) → Option (List ℕ) → Contents
@@ -69,6 +69,21 @@ of_no_request key told {words = words} none f = of_none_asked (IsRequest key wor
 pub of_words_as : {asks : FileNames → Type 0} {told : Option (List (List ℕ × List ℕ))} {P Q : Contents → Type 0} → ((contents : Contents) → P contents → Q contents) →
     OfAsked asks told P → OfAsked asks told Q
 of_words_as f o = record { contents = o.contents; read = o.read; holds = f o.contents o.holds }
+
+places_read : (told : Option (List (List ℕ × List ℕ))) (named : List (Option (List ℕ))) (names : FileNames) (contents : Contents) →
+    named ≡ Some names.board ∷ Some names.file ∷ [] → IfSome told (λ files. contents_in files names ≡ contents) →
+    IfSome told (λ files. map (file_named files) named ≡ contents.board ∷ contents.file ∷ [])
+places_read None named names contents e same = tt
+places_read (Some files) named names contents e same = ap (map (file_named files)) e ∙ ap (λ (c : Contents). c.board ∷ c.file ∷ []) same
+
+-- the same by the places of the files
+pub of_both_files : (asks : FileNames → Type 0) (told : Option (List (List ℕ × List ℕ))) {P : Contents → Type 0} {Q : List (Option (List ℕ)) → Type 0} →
+    ((contents : Contents) → P contents → Q (contents.board ∷ contents.file ∷ [])) → OfAsked asks told P → OfFiles (NamesBoth asks) told Q
+of_both_files asks told f o = record {
+  contents = o.contents.board ∷ o.contents.file ∷ [];
+  read = λ named n. places_read told named n.files o.contents n.both (o.read n.files n.asked);
+  holds = f o.contents o.holds;
+}
 
 -- the board that was read is the one that the store holds
 holds_board : (named : FileNames) (devices : List Desc) (told : Option (List (List ℕ × List ℕ))) → ReadsBoard told (Some named.board) devices → IfSome told (HoldsBoard named)

@@ -1,7 +1,7 @@
 -- The contents of the two files, as they were read, and which of them is read. The rules are these tools' own.
-use Rattle.std.specs.Prelude.{◌≡◌, ℕ, List, Option, Some, IfSome}
+use Rattle.std.specs.Prelude.{◌≡◌, ℕ, List, [], ◌∷◌, Option, Some, IfSome}
 use Rattle.dev_card.specs.declared.desc.Desc.{Desc}
-use Rattle.tool_frame.specs.Files.{file_named}
+use Rattle.tool_frame.specs.Files.{file_named, first_of, second_of}
 use Rattle.named_files.specs.Boards.{HasBoard}
 use Rattle.named_files.specs.Words.{FileNames, IsRequest}
 
@@ -9,6 +9,10 @@ use Rattle.named_files.specs.Words.{FileNames, IsRequest}
 pub record Contents : Type 0 where
   pub board : Option (List ℕ)
   pub file : Option (List ℕ)
+
+-- by their places, the board first
+abbrev pub both_of : List (Option (List ℕ)) → Contents
+both_of contents = record { board = first_of contents; file = second_of contents }
 
 -- those that a store holds
 abbrev pub contents_in : List (List ℕ × List ℕ) → FileNames → Contents
@@ -29,6 +33,12 @@ pub record OfAsked (asks : FileNames → Type 0) (told : Option (List (List ℕ 
   pub contents : Contents
   pub read : (named : FileNames) → asks named → IfSome told (λ files. contents_in files named ≡ contents)
   pub holds : stands contents
+
+-- The files that are asked for are named, the board at the first place.
+pub record NamesBoth (asks : FileNames → Type 0) (named : List (Option (List ℕ))) : Type 0 where
+  pub files : FileNames
+  pub asked : asks files
+  pub both : named ≡ Some files.board ∷ Some files.file ∷ []
 
 -- The same of words that are a board and one more file.
 abbrev pub OfWords : List ℕ → Option (List (List ℕ × List ℕ)) → List (List ℕ) → (Contents → Type 0) → Type 0
