@@ -8,6 +8,10 @@ use Rattle.base.specs.Decimals.{is_decimal}
 use Rattle.stapl_lexer.specs.ReservedWords.{is_free_name}
 use Rattle.command_words.specs.declared.place_run.PlaceRun.{PlaceRun}
 
+-- the highest place that words may name
+abbrev pub most_place : ℕ
+most_place = 999
+
 -- the word names this file under this key
 abbrev pub NamesPath : List ℕ → List ℕ → List ℕ → Type 0
 NamesPath key word path = (word ≡ key ++ path) × (path ≢ [])

@@ -11,4 +11,4 @@ mod spellings;
 pub use file_name::FileName;
 pub use given::{file_named, names_given};
 pub use keyed::{answer_under, free_name_under, names_under, number_under, path_under, run_under};
-pub use place_run::PlaceRun;
+pub use place_run::{MOST_PLACE, PlaceRun};

@@ -1,6 +1,9 @@
 //! Runs of neighbours.
 ghost use Rattle.std.specs.Prelude.{◌≡◌};
 
+/// The highest place that words may name.
+pub const MOST_PLACE: u32 = 999;
+
 /// A run of neighbours of a board, by the places of its first and its last device, which are counted from 1. A single
 /// device is a run whose places are the same.
 #[derive(Clone, Copy)]

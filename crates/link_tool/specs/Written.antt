@@ -1,8 +1,7 @@
 -- What a call that answers has written. The answers to each piece are written before the next piece is read, so that a
 -- read fault leaves the answers to what was read. The rules are this tool's own.
-use Rattle.std.specs.Prelude.{◌≡◌, ℕ, List, Option, Result, Ok, Err, IsErrOf}
+use Rattle.std.specs.Prelude.{◌≡◌, ℕ, List, Option, Result, Ok, Err}
 use Rattle.tool_io.specs.Bytes.{then_bytes}
-use Rattle.tool_io.specs.Causes.{HasRisen, NeverFalls}
 use Rattle.dev_card.specs.Sound.{SoundCard}
 use Rattle.tool_frame.specs.declared.no_answer.NoAnswer.{NoAnswer}
 use Rattle.tool_frame.specs.declared.no_answer.NoAnswer.TheVariants.{Read, Write, Memory}
@@ -35,12 +34,6 @@ pub record Answers {D Kind : Type 0} (kind_of : D → Kind) (fitted : D → Opti
     : Type 0 where
   pub written : HasAnswered answers due said_before said_after result
   pub rack : KeepsRack kind_of fitted final before after result
-
--- What such a call keeps of the count of its sink, which has the cause of a write fault.
-pub record KeepsCount {K : Type 0} (faults : K → ℕ) (is_last : K → Type 0) (before after : K)
-    (result : Result LinkStatus NoAnswer) : Type 0 where
-  pub later : NeverFalls faults is_last before after
-  pub write : IsErrOf result Write → HasRisen faults is_last before after
 
 -- What the tool has done for words, with these contents of their files: it has written the answer, and nothing else,
 -- and its status is the answer's. After a session the rack holds the board as the session leaves it: device i of the

@@ -3,10 +3,10 @@ ghost use Rattle.std.specs.Prelude.{◌≡◌, ℕ, [], List, map, IsTrue, IsSom
 ghost use Rattle.tool_io.specs.Causes.{HasRisenAt, NoneFalls};
 ghost use Rattle.tool_io.specs.Lines.{gathered, taken, IsWhole};
 ghost use Rattle.tool_frame.specs.Answers.{KeepsOutput};
+ghost use Rattle.tool_frame.specs.Frame.{KeepsCount};
 ghost use Rattle.dev_card.specs.Card.{Card};
 ghost use Rattle.chain_sim.specs.Places.{cards_at, is_chain, AreApart};
 ghost use Rattle.link_tool.specs.Pieces.{HasServed};
-ghost use Rattle.link_tool.specs.Written.{KeepsCount};
 
 use crate::LinkStatus;
 use crate::session::{PIECE, Session};

@@ -2,6 +2,7 @@
 ghost use Rattle.std.specs.Prelude.{◌≡◌, Some, map, string_bytes};
 ghost use Rattle.tool_io.specs.Causes.{HasRisen, NeverFalls, NoneFalls};
 ghost use Rattle.tool_frame.specs.Answers.{WroteFront};
+ghost use Rattle.tool_frame.specs.Frame.{KeepsCount};
 ghost use Rattle.board_text.specs.Boards.{CanBeFitted};
 ghost use Rattle.chain_sim.specs.Rack.{IsRack};
 ghost use Rattle.tool_frame.specs.Files.{OfFile, HasReadCause, KeepsShelf};
@@ -11,7 +12,7 @@ ghost use Rattle.link_tool.specs.Statuses.{IsFault, ComesBeforeFitting};
 ghost use Rattle.link_tool.specs.Answers.{link_key, FileAnswer, RequestAnswer, WordsAnswer};
 ghost use Rattle.link_tool.specs.Answers.{FileDue, RequestDue, WordsDue};
 ghost use Rattle.link_tool.specs.FinalRacks.{HeldLeft, RequestHoldsLeft, WordsHoldLeft};
-ghost use Rattle.link_tool.specs.Written.{WroteDue, Answers, KeepsCount, Answered};
+ghost use Rattle.link_tool.specs.Written.{WroteDue, Answers, Answered};
 
 use crate::LinkStatus;
 use crate::serving::serve_to;

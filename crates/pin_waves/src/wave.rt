@@ -1,5 +1,6 @@
 //! The wave of a trace, put item by item.
 ghost use Rattle.std.specs.Prelude.{◌≡◌, ◌≤◌, ◌<◌, ◌+◌, ◌*◌, ◌^◌, ◌++◌, ℕ, pos, false, codes, map, length, slice_index_or, IfOk, IfSome};
+ghost use Rattle.trace_check.specs.Limits.{trace_limit};
 ghost use Rattle.tool_io.specs.Lines.{IsWhole, HasPut, KeepsLines};
 ghost use Rattle.pin_lines.specs.PinLines.{is_bad_line, has_bad_line};
 ghost use Rattle.pin_waves.specs.Items.{Clocked, Waited, most_usec, line_items, items_in};
@@ -327,7 +328,7 @@ fn put_line<K: Sink>(lines: &mut Lines<K>, wave: Wave, line: &[u8]) -> Result<Wa
 // Puts the clocks and the waits of a text, and gives the wave after them.
 fn put_items<K: Sink>(lines: &mut Lines<K>, text: &[u8]) -> Result<Wave, Failed>
     requires whole { IsWhole lines.old }
-    requires few { length text.now ≤ 67108864 }
+    requires few { length text.now ≤ trace_limit }
     requires good { has_bad_line text.now ≡ false }
     ensures next { IfOk result (λ after. after ≡ after_items first_wave (items_in text.now)) }
     ensures small { IfOk result (λ after. after.time < 2 ^ 63) }
@@ -381,7 +382,7 @@ fn put_end<K: Sink>(lines: &mut Lines<K>, wave: Wave) -> Result<(), Failed>
 /// `Failed` as of the sink.
 pub fn put_wave<K: Sink>(lines: &mut Lines<K>, text: &[u8]) -> Result<(), Failed>
     requires whole { IsWhole lines.old }
-    requires few { length text.now ≤ 67108864 }
+    requires few { length text.now ≤ trace_limit }
     requires good { has_bad_line text.now ≡ false }
     ensures put { HasPut K.written lines.old (wave_text (items_in text.now)) lines.new result }
     ensures kept { KeepsLines K.faults K.is_last lines.old lines.new result }

@@ -2,11 +2,11 @@
 -- after it gives a part or gives none, whose key the mode takes or not, and which is given already or not.
 use Rattle.std.proofs.Common.{◌≡◌, ◌<◌, ◌+◌, ℕ, zero, suc, List, [], ◌∷◌, length, refl, sym, subst, arith, codes, Option, None, Some, Bool, true, false, ◌⊎◌, inl, inr}
 use Rattle.command_words.proofs.FoundOrNot.{IsFoundOrNot, path_or_not, free_name_or_not, list_or_not, number_or_not, run_or_not, answer_or_not, same_or_not}
-use Rattle.command_words.specs.KeyedWords.{NamesPath, NamesFreeName, NamesList, NamesNumber, NamesRun, SaysAnswer, names_or_none}
+use Rattle.command_words.specs.KeyedWords.{most_place, NamesPath, NamesFreeName, NamesList, NamesNumber, NamesRun, SaysAnswer, names_or_none}
 use Rattle.play_words.specs.declared.mode.Mode.{Mode}
 use Rattle.play_words.specs.declared.mode.Mode.TheVariants as modes
 use Rattle.play_words.specs.declared.words.Request.{Request}
-use Rattle.play_words.specs.Words.{mode_word, takes, Part, BoardIn, ProgramIn, CodeIn, ActionNamed, NamesAsked, NamesSkipped, PlaceAsked, TurnsAtMost, PinsWritten, DevicesReported, SeedGiven, key_of, most_place, most_turns, most_seed, GivesPart, word_at, HasMode, IsRequest, IsFirstUnread, IsUsage, is_unread}
+use Rattle.play_words.specs.Words.{mode_word, takes, Part, BoardIn, ProgramIn, CodeIn, ActionNamed, NamesAsked, NamesSkipped, PlaceAsked, TurnsAtMost, PinsWritten, DevicesReported, SeedGiven, key_of, most_turns, most_seed, GivesPart, word_at, HasMode, IsRequest, IsFirstUnread, IsUsage, is_unread}
 use Rattle.play_words.specs.ReadParts.{Values, given_of, with_part, not_taken, given_already, AddsWord, AddsNothing, AreReadUpTo, is_complete, turns_or_usual, answer_or_no, HasValues}
 use Rattle.play_words.proofs.WordLemmas.{gives_no_part, adds_part, adds_refused, adds_no_part, no_mode_word, nothing_read, one_word_more, adds_nothing, request_read, key_lacks, no_mode}
 

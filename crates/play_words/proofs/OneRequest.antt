@@ -4,13 +4,13 @@ use Rattle.std.proofs.lemmas.Bool.{cases_lt}
 use Rattle.std.specs.Prelude.{is_some}
 use Rattle.std.specs.Option.{option_map}
 use Rattle.command_words.specs.declared.place_run.PlaceRun.{PlaceRun}
-use Rattle.command_words.specs.KeyedWords.{SpellsRun, of_one, of_two}
+use Rattle.command_words.specs.KeyedWords.{most_place, SpellsRun, of_one, of_two}
 use Rattle.play_words.specs.declared.mode.Mode.{Mode}
 use Rattle.play_words.specs.declared.mode.Mode.TheVariants as modes
 use Rattle.play_words.specs.declared.mode.WordKey.{WordKey}
 use Rattle.play_words.specs.declared.mode.WordKey.TheVariants.{Board, Program, Code, Action, Do, Skip, Place, Turns, Pins, Report, Seed}
 use Rattle.play_words.specs.declared.words.Request.{Request}
-use Rattle.play_words.specs.Words.{HasMode, needs, Part, BoardIn, ProgramIn, CodeIn, ActionNamed, NamesAsked, NamesSkipped, PlaceAsked, TurnsAtMost, PinsWritten, DevicesReported, SeedGiven, key_of, most_place, IsGiven, GiveOf, IsKeyGiven, AskNames, names_given, names_missing, AskTurns, turns_given, turns_usual, AskAnswer, answer_given, answer_missing, AreRead, IsRequest, Lack, lack_mode, lack_key, IsUsage, is_unread, is_missing}
+use Rattle.play_words.specs.Words.{HasMode, needs, Part, BoardIn, ProgramIn, CodeIn, ActionNamed, NamesAsked, NamesSkipped, PlaceAsked, TurnsAtMost, PinsWritten, DevicesReported, SeedGiven, key_of, IsGiven, GiveOf, IsKeyGiven, AskNames, names_given, names_missing, AskTurns, turns_given, turns_usual, AskAnswer, answer_given, answer_missing, AreRead, IsRequest, Lack, lack_mode, lack_key, IsUsage, is_unread, is_missing}
 use Rattle.play_words.proofs.WordLemmas.{one_mode, one_given, not_needed}
 
 one_of : (words : List (List ℕ)) (key : WordKey) (a b : Option Part) → AreRead words → GiveOf words (length words) key a →

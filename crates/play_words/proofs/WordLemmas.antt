@@ -6,7 +6,7 @@ use Rattle.std.proofs.lemmas.Bool.{cases_lt}
 use Rattle.std.specs.Option.{option_map}
 use Rattle.std.specs.Prelude.{is_some}
 use Rattle.command_words.specs.declared.place_run.PlaceRun.{PlaceRun}
-use Rattle.command_words.specs.KeyedWords.{NamesPath, NamesFreeName, NamesList, NamesNumber, NamesRun, SaysAnswer, names_or_none}
+use Rattle.command_words.specs.KeyedWords.{most_place, NamesPath, NamesFreeName, NamesList, NamesNumber, NamesRun, SaysAnswer, names_or_none}
 use Rattle.command_words.proofs.ValueLemmas.{one_path, one_free_name, one_number, one_list, one_answer}
 use Rattle.command_words.proofs.RunLemmas.{one_run}
 use Rattle.play_words.specs.declared.mode.Mode.{Mode}
@@ -14,7 +14,7 @@ use Rattle.play_words.specs.declared.mode.Mode.TheVariants as modes
 use Rattle.play_words.specs.declared.mode.WordKey.{WordKey}
 use Rattle.play_words.specs.declared.mode.WordKey.TheVariants.{Board, Program, Code, Action, Do, Skip, Place, Turns, Pins, Report, Seed}
 use Rattle.play_words.specs.declared.words.Request.{Request}
-use Rattle.play_words.specs.Words.{mode_word, takes, needs, Part, BoardIn, ProgramIn, CodeIn, ActionNamed, NamesAsked, NamesSkipped, PlaceAsked, TurnsAtMost, PinsWritten, DevicesReported, SeedGiven, key_of, most_place, most_turns, most_seed, GivesPart, word_at, HasMode, IsGivenBefore, GivesNew, IsRead, AreReadBefore, IsKeyGiven, GiveOf, AskNames, names_given, names_missing, AskTurns, turns_given, turns_usual, AskAnswer, answer_given, answer_missing, has_key, IsRequest, lack_mode, lack_key, IsFirstUnread, IsUsage, is_unread, is_missing}
+use Rattle.play_words.specs.Words.{mode_word, takes, needs, Part, BoardIn, ProgramIn, CodeIn, ActionNamed, NamesAsked, NamesSkipped, PlaceAsked, TurnsAtMost, PinsWritten, DevicesReported, SeedGiven, key_of, most_turns, most_seed, GivesPart, word_at, HasMode, IsGivenBefore, GivesNew, IsRead, AreReadBefore, IsKeyGiven, GiveOf, AskNames, names_given, names_missing, AskTurns, turns_given, turns_usual, AskAnswer, answer_given, answer_missing, has_key, IsRequest, lack_mode, lack_key, IsFirstUnread, IsUsage, is_unread, is_missing}
 use Rattle.play_words.specs.ReadParts.{Values, given_of, with_part, Adds, Refuses, not_taken, given_already, GivesNoPart, AddsWord, AddsNothing, one_if_some, count_of, AreReadUpTo, lacks, is_complete, turns_or_usual, answer_or_no, HasValues}
 
 -- A word gives at most one part.

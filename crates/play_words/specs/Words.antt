@@ -3,7 +3,7 @@ use Rattle.std.specs.Prelude.{◌≡◌, ◌≢◌, ℕ, ◌+◌, ◌<◌, List,
 use Rattle.std.specs.List.{list_any}
 use Rattle.std.specs.Option.{option_map}
 use Rattle.command_words.specs.declared.place_run.PlaceRun.{PlaceRun}
-use Rattle.command_words.specs.KeyedWords.{NamesPath, NamesFreeName, NamesList, NamesNumber, NamesRun, SaysAnswer}
+use Rattle.command_words.specs.KeyedWords.{most_place, NamesPath, NamesFreeName, NamesList, NamesNumber, NamesRun, SaysAnswer}
 use Rattle.play_words.specs.declared.mode.Mode.{Mode}
 use Rattle.play_words.specs.declared.mode.Mode.TheVariants as modes
 use Rattle.play_words.specs.declared.mode.WordKey.{WordKey}
@@ -108,10 +108,6 @@ key_of (TurnsAtMost n) = Turns
 key_of (PinsWritten written) = Pins
 key_of (DevicesReported reported) = Report
 key_of (SeedGiven n) = Seed
-
--- the highest place that words may name
-abbrev pub most_place : ℕ
-most_place = 999
 
 -- the most turns that words may ask for, and how many there are where they ask for none
 abbrev pub most_turns : ℕ

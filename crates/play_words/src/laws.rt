@@ -2,7 +2,8 @@
 ghost use Rattle.std.specs.Prelude.{◌≡◌, ◌≤◌, ◌⊎◌, ℕ, List, Some};
 ghost use Rattle.command_words.specs.declared.place_run.PlaceRun.{PlaceRun};
 ghost use Rattle.play_words.specs.declared.words.Request.{Request};
-ghost use Rattle.play_words.specs.Words.{IsRequest, IsUsage, most_place};
+ghost use Rattle.command_words.specs.KeyedWords.{most_place};
+ghost use Rattle.play_words.specs.Words.{IsRequest, IsUsage};
 
 /// Words are one request at most.
 pub fn one_request()

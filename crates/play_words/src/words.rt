@@ -8,15 +8,12 @@ use crate::Mode;
 use crate::mode::WordKey;
 use base::ItemList;
 use command_words::{
-    FileName, PlaceRun, answer_under, file_named, free_name_under, names_given, names_under,
+    FileName, MOST_PLACE, PlaceRun, answer_under, file_named, free_name_under, names_given, names_under,
     number_under, path_under, run_under,
 };
 use stapl_lexer::Name;
 use std::alloc::{AllocError, Global};
 use thiserror::Error;
-
-/// The highest place that words may name.
-const MOST_PLACE: u32 = 999;
 
 /// The most turns that words may ask for.
 const MOST_TURNS: u32 = 1_000_000_000;

@@ -7,4 +7,4 @@ mod lines;
 mod trace;
 
 pub use lines::{digits_of, first_bad_line, first_line};
-pub use trace::{TraceRefused, check_trace};
+pub use trace::{TRACE_LIMIT, TraceRefused, check_trace};

@@ -1,5 +1,6 @@
 //! The lines of a text, and the digits of those that have clocks.
 ghost use Rattle.std.specs.Prelude.{◌≡◌, ◌≤◌, ◌<◌, ◌+◌, ℕ, ◌∷◌, ◌==◌, length, drop, None, Some, false};
+ghost use Rattle.trace_check.specs.Limits.{trace_limit};
 ghost use Rattle.std.specs.List.{position, list_all};
 ghost use Rattle.pin_lines.specs.PinLines.{lines_of, is_pin_digit, are_pin_digits, is_bad_line, has_bad_line, line_digits};
 ghost use Rattle.pin_lines.specs.FirstFaults.{IsFirstBadLine};
@@ -71,7 +72,7 @@ pub fn digits_of(line: &[u8]) -> &[u8]
 
 /// The number of the first bad line of a text, counted from 1. The time is linear in the length of the text.
 pub fn first_bad_line(text: &[u8]) -> Option<u32>
-    requires few { length text.now ≤ 67108864 }
+    requires few { length text.now ≤ trace_limit }
     ensures none { result ≡ None → has_bad_line text.now ≡ false }
     ensures some { (n : ℕ) → result ≡ Some n → IsFirstBadLine text.now n }
 {

@@ -1,5 +1,6 @@
 //! A text with lines of clocks, against a board (IEEE 1149.1, test access port).
 ghost use Rattle.std.specs.Prelude.{◌≡◌, ◌≤◌, ℕ, List, map, length, IsTrue, IsSome, None, Some, Ok, Err, IsOk, ◌↔◌, slice_get, false};
+ghost use Rattle.trace_check.specs.Limits.{trace_limit};
 ghost use Rattle.dev_card.specs.Card.{Card};
 ghost use Rattle.chain_sim.specs.Places.{cards_at, is_chain, AreApart, IsAbsent};
 ghost use Rattle.pin_lines.specs.PinLines.{has_bad_line, pins_in};
@@ -12,6 +13,9 @@ use crate::clocks::clock_digits;
 use crate::lines::{digits_of, first_bad_line, first_line};
 use dev_card::Device;
 use thiserror::Error;
+
+/// The most bytes of the text of a trace.
+pub const TRACE_LIMIT: u32 = 67_108_864;
 
 /// Why a text is no trace of a board. Lines and clocks are counted from 1.
 #[derive(Clone, Copy, Debug, PartialEq, Eq, Error)]
@@ -26,7 +30,7 @@ pub enum TraceRefused {
 
 // Clocks the digits of all lines, until the board answers one otherwise: its number, or how many there are.
 fn clock_lines<D: Device>(rack: &mut Vec<D>, places: &[u32], text: &[u8]) -> Result<u32, u32>
-    requires few { length text.now ≤ 67108864 }
+    requires few { length text.now ≤ trace_limit }
     requires good { has_bad_line text.now ≡ false }
     requires fitted { IsSome (cards_at (map D.fitted rack.old.items) places.now) }
     requires apart { AreApart places.now }
@@ -60,7 +64,7 @@ fn check_devices<D: Device>(
     places: &[u32],
     text: &[u8],
 ) -> Result<u32, TraceRefused>
-    requires few { length text.now ≤ 67108864 }
+    requires few { length text.now ≤ trace_limit }
     requires fitted { IsSome (cards_at (map D.fitted rack.old.items) places.now) }
     requires apart { AreApart places.now }
     ensures kinds { map D.kind_of rack.new.items ≡ map D.kind_of rack.old.items }
@@ -99,7 +103,7 @@ pub fn check_trace(
     text: &[u8],
 ) -> Result<u32, TraceRefused>
     requires chain { IsTrue (is_chain (map fitted rack.old.items) places.now) }
-    requires few { length text.now ≤ 67108864 }
+    requires few { length text.now ≤ trace_limit }
 
     // It is Ok exactly if no line is bad and the board answers all clocks so. Then the devices are as the clocks leave
     // them, and their number is answered.

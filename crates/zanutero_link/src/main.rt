@@ -4,42 +4,11 @@
 use tool_frame::{NO_WORDS, text_asked, words_of, write_text};
 use dev_card::Device;
 use device_rack::{fill_rack, is_rack};
-use link_tool::{LinkStatus, run_link};
+use link_tool::{HELP, LinkStatus, VERSION, run_link};
 use std::alloc::AllocError;
 use std::io;
 use std::process::ExitCode;
 use tool_io::{FileShelf, StdSink};
-
-const HELP: &[u8] = b"zanutero-link: answers a debugger that drives a board over remote bitbang
-
-  zanutero-link board=PATH link=PATH
-      reads the bytes of a session from the file link=PATH, which may be a named
-      pipe, takes them against the board in the file board=PATH from power-up on,
-      and writes what the board answers, as soon as it is due, and nothing else
-  zanutero-link --help
-  zanutero-link --version
-
-Bytes:
-  0 to 7            the levels of 4 TCK + 2 TMS + TDI; the board is clocked if
-                    TCK rises
-  R                 asks for TDO: 0 or 1 is written
-  B, b, r, s, t, u  lamp and reset lines: nothing changes
-  Q                 ends the session
-  any other         is refused
-
-Exit codes:
-  0  the session ended with a Q, or with the file
-  5  the board is refused
-  7  the words are refused
-  9  the board or the bytes could not be read
-  10 the output could not be written
-  11 there was no memory, or a word is not UTF-8
-  12 the session took 16777216 bytes, and there are more
-  14 a byte is refused
-";
-
-const VERSION: &[u8] = b"zanutero-link 0.1.0
-";
 
 // Writes a text.
 fn show(rt: &HostRuntime, text: &[u8]) -> LinkStatus {
