@@ -3,5 +3,4 @@ pub mod OneAnswer
 pub mod EveryRequest
 pub mod ProgramLemmas
 pub mod RequestLemmas
-pub mod CommandLemmas
 pub mod PlayedAlike

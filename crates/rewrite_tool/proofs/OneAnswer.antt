@@ -1,5 +1,5 @@
--- The words and the files have at most one answer, and no answer has the status of a fault.
-use Rattle.std.proofs.Common.{◌≡◌, ◌≤◌, ℕ, List, length, Option, None, Some, refl, ap, subst, arith}
+-- The words and the files have at most one answer.
+use Rattle.std.proofs.Common.{◌≡◌, ℕ, List, Option, None, Some, refl, ap, subst, arith}
 use Rattle.stapl_syntax.specs.Trees.{StmtTree}
 use Rattle.stapl_checker.proofs.UniqueLemmas.{one_first_fault, no_fault, one_program}
 use Rattle.dev_card.specs.declared.desc.Desc.{Desc}
@@ -14,10 +14,9 @@ use Rattle.named_files.proofs.BoardLemmas.{one_held, one_fault, board_or_fault}
 use Rattle.named_files.specs.Contents.{Contents, contents_in}
 use Rattle.rewrite_tool.specs.declared.status.RewriteStatus.{RewriteStatus}
 use Rattle.rewrite_tool.specs.declared.status.RewriteStatus.TheVariants.{Done, Refused, BoardRefused, OwnPadding, Usage}
-use Rattle.rewrite_tool.specs.Statuses.{IsFault}
 use Rattle.rewrite_tool.specs.Texts.{padding_line}
 use Rattle.rewrite_tool.specs.Words.{Request}
-use Rattle.rewrite_tool.specs.Answers.{run_base, ProgramAnswer, refused, bad_place, own_padding, too_large, rewritten, FileAnswer, RequestAnswer, board_refused, board_read, WordsAnswer, usage, asked, Answer}
+use Rattle.rewrite_tool.specs.Answers.{run_base, ProgramAnswer, refused, bad_place, own_padding, too_large, rewritten, FileAnswer, RequestAnswer, board_refused, board_read, usage, asked, Answer}
 use Rattle.rewrite_tool.proofs.WordLemmas.{one_request, one_usage, no_usage}
 
 -- the text and the status of an answer
@@ -27,10 +26,6 @@ record Said : Type 0 where
 
 abbrev said : List ℕ → RewriteStatus → Said
 said text status = record { text = text; status = status }
-
--- what the program of a text comes to: a name for each case, and what it says of the program
-abbrev IsPlaced : List Desc → PlaceRun → Type 0
-IsPlaced devices run = run.last ≤ length devices
 
 module _ (devices : List Desc) (run : PlaceRun) (bytes : List ℕ) where
   -- the same program has one first padding, and none if it is rewritten or too large
@@ -114,25 +109,3 @@ one_said words files a b s t (asked request text status x z) (asked other text2 
 pub one_words : (words : List (List ℕ)) (files : List (List ℕ × List ℕ)) (a b : List ℕ) (s t : RewriteStatus) → Answer words files a s → Answer words files b t →
     (a ≡ b) × (s ≡ t)
 one_words words files a b s t x y = let same = one_said words files a b s t x y in (ap (λ (z : Said). z.text) same, ap (λ (z : Said). z.status) same)
-
--- ---- the status of a fault
-
-program_status : (devices : List Desc) (run : PlaceRun) (bytes text : List ℕ) (status : RewriteStatus) → ProgramAnswer devices run bytes text status → IsFault status → ⊥
-program_status devices run bytes text status (refused p l r x) fault = fault
-program_status devices run bytes text status (bad_place program is lacks) fault = fault
-program_status devices run bytes text status (own_padding program piece is has first) fault = fault
-program_status devices run bytes text status (too_large program is has large) fault = fault
-program_status devices run bytes text status (rewritten program new is has x) fault = fault
-
-file_status : (devices : List Desc) (run : PlaceRun) (held : Option (List ℕ)) (text : List ℕ) (status : RewriteStatus) → FileAnswer devices run held text status → IsFault status → ⊥
-file_status devices run None text status a fault = a
-file_status devices run (Some bytes) text status a fault = program_status devices run bytes text status a fault
-
-request_status : (request : Request) (contents : Contents) (text : List ℕ) (status : RewriteStatus) → RequestAnswer request contents text status → IsFault status → ⊥
-request_status request contents text status (board_refused m r x) fault = fault
-request_status request contents text status (board_read devices text2 status2 x a) fault = file_status devices request.run contents.file text status a fault
-
-pub answer_status : {words : List (List ℕ)} {contents_of : Request → Contents} {text : List ℕ} {status : RewriteStatus} → WordsAnswer words contents_of text status →
-    IsFault status → ⊥
-answer_status (usage n u) fault = fault
-answer_status {contents_of = contents_of} (asked request text status asks a) fault = request_status request (contents_of request) text status a fault

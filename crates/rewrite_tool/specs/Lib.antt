@@ -3,5 +3,4 @@ pub mod Words
 pub mod Named
 pub mod Texts
 pub mod Answers
-pub mod Commands
 pub mod PlayedAlike

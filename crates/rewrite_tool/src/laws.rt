@@ -3,10 +3,10 @@ ghost use Rattle.std.specs.Prelude.{◌≡◌, ◌⊎◌, ℕ, List, Some, IsSom
 ghost use Rattle.dev_card.specs.declared.desc.Desc.{Desc};
 ghost use Rattle.board_text.specs.Boards.{CanBeFitted};
 ghost use Rattle.command_words.specs.declared.place_run.PlaceRun.{PlaceRun};
-ghost use Rattle.named_files.specs.Contents.{Contents, OfAsked};
+ghost use Rattle.tool_frame.specs.Files.{OfFiles};
+ghost use Rattle.named_files.specs.Contents.{Contents, NamesBoth, both_of};
 ghost use Rattle.rewrite_tool.specs.declared.status.RewriteStatus.{RewriteStatus};
 ghost use Rattle.rewrite_tool.specs.declared.status.RewriteStatus.TheVariants.{Done};
-ghost use Rattle.rewrite_tool.specs.Statuses.{IsFault};
 ghost use Rattle.rewrite_tool.specs.Words.{Request, IsRequest, Asks, IsUsage};
 ghost use Rattle.rewrite_tool.specs.Answers.{ProgramAnswer, RequestAnswer, WordsAnswer, Answer};
 ghost use Rattle.rewrite_tool.specs.PlayedAlike.{IsPlayedAlike};
@@ -38,17 +38,11 @@ pub fn requests_are_answered()
     every_text_is_a_board_or_has_a_fault();
 }
 
-/// The status of an answer is that of no fault.
-pub fn answers_are_no_faults()
-    ensures { (words : List (List ℕ)) (contents_of : Request → Contents) (text : List ℕ) (status : RewriteStatus) →
-        WordsAnswer words contents_of text status → IsFault status → ⊥ }
-{}
-
 /// With a store that tells its files, the answer for the contents that were read is that for its files.
 pub fn told_files_are_answered()
     ensures { (words : List (List ℕ)) (files : List (List ℕ × List ℕ)) (text : List ℕ) (status : RewriteStatus) →
-        OfAsked (Asks words) (Some files) (λ contents. WordsAnswer words (λ request. contents) text status) →
-        Answer words files text status }
+        OfFiles (NamesBoth (Asks words)) (Some files) (λ contents.
+        WordsAnswer words (λ request. both_of contents) text status) → Answer words files text status }
 {}
 
 /// A program that is written plays on the whole board, without base padding and for five turns more, as the program of

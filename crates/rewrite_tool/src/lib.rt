@@ -1,13 +1,13 @@
-//! The program `zanutero-rewrite` as one call: it writes the program of a file with the padding for a run of devices.
+//! The tool of the program `zanutero-rewrite`: it writes the program of a file with the padding for a run of devices.
 #![tactic(auto)]
 
-mod command;
+mod help;
 pub mod laws;
 mod programs;
+mod requests;
+mod rewriter;
 mod status;
-mod top;
 mod words;
 
-pub use command::run_command;
+pub use rewriter::Rewriter;
 pub use status::RewriteStatus;
-pub use top::run_rewrite;

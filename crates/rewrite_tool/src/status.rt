@@ -23,16 +23,10 @@ pub enum RewriteStatus {
     TooLarge,
     /// The first word, counted from 1, that is not as stated, or the number of words plus 1 if one is missing.
     Usage(u32),
-    /// A file that the words name could not be read. Nothing is written.
-    ReadFault,
-    /// The output could not be written. What is written is a prefix of the text.
-    WriteFault,
-    /// There was no memory. Nothing is written.
-    Memory,
 }
 
 impl RewriteStatus {
-    /// The exit code of the process: those of the tool, and 13 for a program with a padding of its own.
+    /// The exit code of the process.
     pub fn exit_code(&self) -> u8
         ensures { result ≡ exit_code_of self.now }
     {
@@ -42,9 +36,6 @@ impl RewriteStatus {
             RewriteStatus::BoardRefused(_, _) => 5,
             RewriteStatus::BadPlace => 6,
             RewriteStatus::Usage(_) => 7,
-            RewriteStatus::ReadFault => 9,
-            RewriteStatus::WriteFault => 10,
-            RewriteStatus::Memory => 11,
             RewriteStatus::TooLarge => 12,
             RewriteStatus::OwnPadding(_) => 13,
         }

@@ -4,8 +4,8 @@ ghost use Rattle.command_words.specs.declared.place_run.PlaceRun.{PlaceRun};
 ghost use Rattle.rewrite_tool.specs.Words.{NamesPlace, IsRun, IsRequest, IsUsage};
 ghost use Rattle.rewrite_tool.specs.Named.{request_of};
 
-use named_files::path_at;
 use command_words::{PlaceRun, run_under};
+use named_files::path_at;
 
 /// The most that a place is.
 const MOST_PLACE: u32 = 999;

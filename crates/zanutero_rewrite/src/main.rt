@@ -1,10 +1,10 @@
 //! The program `zanutero-rewrite` over the real files and the real output.
 #![tactic(auto)]
 
-use tool_frame::{NO_WORDS, words_of};
-use rewrite_tool::run_command;
+use rewrite_tool::Rewriter;
 use std::io;
 use std::process::ExitCode;
+use tool_frame::{NO_WORDS, run_program, words_of};
 use tool_io::{FileShelf, StdSink};
 
 fn main(rt: HostRuntime) -> ExitCode {
@@ -13,6 +13,5 @@ fn main(rt: HostRuntime) -> ExitCode {
     };
     let mut shelf = FileShelf::new(&rt);
     let mut out = StdSink::new(io::writer(&rt));
-    let status = run_command(rt.alloc(), &words, &mut shelf, &mut out);
-    ExitCode::from(status.exit_code())
+    ExitCode::from(run_program(&Rewriter, rt.alloc(), &words, &mut shelf, &mut (), &mut out))
 }

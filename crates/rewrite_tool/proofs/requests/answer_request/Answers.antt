@@ -4,7 +4,7 @@ use Rattle.tool_frame.specs.declared.no_answer.NoAnswer.TheVariants.{Memory}
 use Rattle.named_files.proofs.ContentLemmas.{file_cause}
 use Rattle.rewrite_tool.specs.Named.{request_of}
 use Rattle.rewrite_tool.proofs.RequestLemmas.{request_of_file, board_failed, board_is_refused, no_board, no_board_memory}
-use Rattle.rewrite_tool.proofs.top.answer_request.Goals as goal
+use Rattle.rewrite_tool.proofs.requests.answer_request.Goals as goal
 
 pub returns-in_err-name-clause-says : goal.returns-in_err-name-clause-says
 returns-in_err-name-clause-says g c = no_board_memory g.K.Sink.written c.args.lines.now (g.S.Shelf.told c.args.shelf.now) (request_of c.args.named) c.from_residual.result c.from_residual.ensures.1
