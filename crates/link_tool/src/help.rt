@@ -32,4 +32,3 @@ Exit codes:
 /// The text of `--version`.
 pub const VERSION: &[u8] = b"zanutero-link 0.1.0
 ";
-

@@ -16,11 +16,10 @@ ghost use Rattle.link_tool.specs.Written.{WroteDue, Answers, Answered};
 
 use crate::LinkStatus;
 use crate::serving::serve_to;
-use named_files::{Named, read_words};
 use chain_sim::fit_board;
 use command_words::FileName;
 use dev_card::{Desc, Device};
-use named_files::{BoardNotRead, board_named};
+use named_files::{BoardNotRead, Named, board_named, read_words};
 use std::alloc::Global;
 use tool_frame::NoAnswer;
 use tool_io::{Shelf, Sink};

@@ -8,8 +8,8 @@ use crate::Mode;
 use crate::mode::WordKey;
 use base::ItemList;
 use command_words::{
-    FileName, MOST_PLACE, PlaceRun, answer_under, file_named, free_name_under, names_given, names_under,
-    number_under, path_under, run_under,
+    FileName, MOST_PLACE, PlaceRun, answer_under, file_named, free_name_under, names_given,
+    names_under, number_under, path_under, run_under,
 };
 use stapl_lexer::Name;
 use std::alloc::{AllocError, Global};

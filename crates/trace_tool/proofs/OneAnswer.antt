@@ -1,4 +1,4 @@
--- The words and the files have at most one answer, and no answer has the status of a fault.
+-- The words and the files have at most one answer.
 use Rattle.std.proofs.Common.{◌≡◌, ◌∙◌, ℕ, List, Option, Some, refl, sym, ap, subst, arith}
 use Rattle.std.proofs.lemmas.Option.{same_Some}
 use Rattle.dev_card.specs.declared.desc.Desc.{Desc}
@@ -13,9 +13,8 @@ use Rattle.named_files.specs.Contents.{Contents, contents_in}
 use Rattle.named_files.proofs.WordLemmas.{one_request, one_usage, no_usage}
 use Rattle.trace_tool.specs.declared.status.TraceStatus.{TraceStatus}
 use Rattle.trace_tool.specs.declared.status.TraceStatus.TheVariants.{Good, Differs, BadLine, BoardRefused, Usage}
-use Rattle.trace_tool.specs.Statuses.{IsFault}
 use Rattle.trace_tool.specs.Texts.{good_text, differs_line, bad_line_text}
-use Rattle.trace_tool.specs.Answers.{trace_key, new_board, TraceAnswer, too_long, bad_line, differs, good, FileAnswer, RequestAnswer, board_refused, board_read, WordsAnswer, usage, asked, Answer}
+use Rattle.trace_tool.specs.Answers.{trace_key, new_board, TraceAnswer, too_long, bad_line, differs, good, FileAnswer, RequestAnswer, board_refused, board_read, usage, asked, Answer}
 
 -- two texts and two statuses are the same
 abbrev pub AreSame : List ℕ → TraceStatus → List ℕ → TraceStatus → Type 0
@@ -67,20 +66,3 @@ one_words words files a b s t (asked named text status x z) (usage m y) = absurd
 one_words words files a b s t (asked named text status x z) (asked other text2 status2 y w) =
     one_asked other (contents_in files other) a b s t
     (subst (λ (n : FileNames). RequestAnswer n (contents_in files n) a s) (one_request trace_key words named other x y) z) w
-
--- the status of a fault
-
-trace_status : (devices : List Desc) (bytes text : List ℕ) (status : TraceStatus) → TraceAnswer devices bytes text status → IsFault status → ⊥
-trace_status devices bytes text status (too_long x) p = p
-trace_status devices bytes text status (bad_line n x f) p = p
-trace_status devices bytes text status (differs i x g f) p = p
-trace_status devices bytes text status (good n x g f e) p = p
-
-request_status : (named : FileNames) (contents : Contents) (text : List ℕ) (status : TraceStatus) → RequestAnswer named contents text status → IsFault status → ⊥
-request_status named contents text status (board_refused m r x) p = p
-request_status named contents text status (board_read devices text2 status2 x a) p = trace_status devices a.bytes text status a.answer p
-
-pub answer_status : {words : List (List ℕ)} {contents_of : FileNames → Contents} {text : List ℕ} {status : TraceStatus} → WordsAnswer words contents_of text status →
-    IsFault status → ⊥
-answer_status (usage n u) p = p
-answer_status {contents_of = contents_of} (asked named text status asks a) p = request_status named (contents_of named) text status a p

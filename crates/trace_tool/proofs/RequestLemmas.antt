@@ -1,5 +1,5 @@
 -- On answers to requests: the board comes first, and the trace after it.
-use Rattle.std.proofs.Common.{◌≡◌, ◌<◌, ℕ, List, length, Option, None, Some, Result, Ok, Err, IfSome, IsSomeAnd, refl, sym, subst}
+use Rattle.std.proofs.Common.{◌≡◌, ◌<◌, ℕ, List, [], ◌∷◌, length, Option, None, Some, Result, Ok, Err, IfSome, IsSomeAnd, refl, sym, ap, subst}
 use Rattle.std.specs.Prelude.{IsErrAnd}
 use Rattle.tool_io.specs.declared.lines.Lines.{Lines}
 use Rattle.tool_io.specs.Files.{file_of}
@@ -11,28 +11,28 @@ use Rattle.tool_frame.specs.declared.no_answer.NoAnswer.{NoAnswer}
 use Rattle.tool_frame.specs.declared.no_answer.NoAnswer.TheVariants.{Read, Write, Memory}
 use Rattle.tool_frame.specs.Answers.{Says}
 use Rattle.tool_frame.proofs.AnswerLemmas.{IsWithin, says_within, says_failed, said_text, said_front}
-use Rattle.tool_frame.specs.Files.{OfFile}
+use Rattle.tool_frame.specs.Files.{OfFile, OfFiles}
+use Rattle.tool_frame.specs.Frame.{SaysAndLeaves}
 use Rattle.named_files.specs.Boards.{HasBoard, ReadsBoard, ReadsBoardFault}
 use Rattle.named_files.specs.Texts.{board_refusal_line}
 use Rattle.named_files.proofs.BoardLemmas.{of_file_as, of_any_file, of_whole_file, of_long_file}
 use Rattle.named_files.specs.Words.{FileNames, IsRequest}
-use Rattle.named_files.specs.Contents.{Contents, contents_in, OfContents, OfWords}
+use Rattle.named_files.specs.Contents.{Contents, both_of, contents_in, OfContents, NamesBoth, OfWords}
 use Rattle.named_files.proofs.ContentLemmas.{both, of_any_contents, of_board, of_both, of_request}
 use Rattle.trace_tool.specs.declared.status.TraceStatus.{TraceStatus}
 use Rattle.trace_tool.specs.declared.status.TraceStatus.TheVariants.{TooLong, BoardRefused}
 use Rattle.trace_tool.specs.Texts.{too_long_line}
 use Rattle.trace_tool.specs.Answers.{trace_key, most_bytes, TraceAnswer, too_long, FileAnswer, RequestAnswer, board_refused, board_read, WordsAnswer, usage, asked}
-use Rattle.trace_tool.specs.FinalRacks.{HoldsLed, HeldLed, RequestHoldsLed, WordsHoldLed, KeepsRack}
-use Rattle.trace_tool.specs.Written.{IsUntouched, Answers}
-use Rattle.trace_tool.proofs.RackLemmas.{rack_as, rack_failed, rack_same, rack_unread}
+use Rattle.trace_tool.specs.FinalRacks.{HoldsLed, HeldLed, RequestHoldsLed, WordsHoldLed, KeepsRack, LeavesRack}
+use Rattle.trace_tool.proofs.RackLemmas.{rack_as, rack_compared, rack_failed, rack_same, rack_unread}
 
-answers_as : {K D Kind R T : Type 0} (written : K → Option (List ℕ)) (kind_of : D → Kind) (fitted : D → Option SoundCard) {A B : List ℕ → TraceStatus → Type 0}
-    {F G : TraceStatus → List (Option SoundCard) → Type 0} {old new : Lines K} {olds news : List D} (r : Result TraceStatus NoAnswer) → IsWithin A B → (R → T) →
-    ((status : TraceStatus) (rack : List (Option SoundCard)) → F status rack → G status rack) → Answers written kind_of fitted A R F old new olds news r →
-    Answers written kind_of fitted B T G old new olds news r
-answers_as written kind_of fitted {old = old} {new = new} r within read final a = record {
-  says = says_within written _ _ old new r within read a.says;
-  rack = rack_as r final a.rack;
+answers_as : {K D Kind : Type 0} (written : K → Option (List ℕ)) (kind_of : D → Kind) (fitted : D → Option SoundCard) {A B : List ℕ → TraceStatus → Type 0}
+    {F G : TraceStatus → List (Option SoundCard) → Type 0} {old new : Lines K} {olds news : List D} (r : Result TraceStatus NoAnswer) → IsWithin A B →
+    ((status : TraceStatus) (rack : List (Option SoundCard)) → F status rack → G status rack) →
+    SaysAndLeaves written A (LeavesRack kind_of fitted F) old new olds news r → SaysAndLeaves written B (LeavesRack kind_of fitted G) old new olds news r
+answers_as written kind_of fitted {old = old} {new = new} r within final a = record {
+  says = says_within written _ _ old new r within (λ same. same) a.says;
+  left = rack_as r final a.left;
 }
 
 -- ---- the trace in a file
@@ -48,7 +48,7 @@ long_file devices (Some bytes) long = record { bytes = bytes; held = refl; answe
 abbrev pub FileSays : {K D Kind : Type 0} → (K → Option (List ℕ)) → (D → Kind) → (D → Option SoundCard) → Option (List (List ℕ × List ℕ)) → List ℕ → List Desc →
     Lines K → Lines K → List D → List D → Result TraceStatus NoAnswer → Type 0
 FileSays written kind_of fitted told path devices old new olds news r = OfFile told (Some path) (λ held.
-    Answers written kind_of fitted (FileAnswer devices held) (IsUntouched old new olds news) (HeldLed devices held) old new olds news r)
+    SaysAndLeaves written (FileAnswer devices held) (LeavesRack kind_of fitted (HeldLed devices held)) old new olds news r)
 
 -- the file was read whole
 pub whole_file : {K D Kind : Type 0} (written : K → Option (List ℕ)) (kind_of : D → Kind) (fitted : D → Option SoundCard) (old new : Lines K) (olds news : List D)
@@ -58,7 +58,7 @@ pub whole_file : {K D Kind : Type 0} (written : K → Option (List ℕ)) (kind_o
 whole_file written kind_of fitted old new olds news told path devices bytes r whole says rack =
     of_whole_file told path bytes whole (record {
       says = says_within written _ _ old new r (held_answer devices bytes) (λ (z : ⊥). absurd z) says;
-      rack = rack_as r (λ status (rest : List (Option SoundCard)) f. f) rack;
+      left = rack_as r (λ status (rest : List (Option SoundCard)) f. f) (rack_compared written _ old new r says rack);
     })
 
 -- it is too long
@@ -69,7 +69,7 @@ pub long_failed : {K D Kind : Type 0} (written : K → Option (List ℕ)) (kind_
 long_failed written kind_of fitted old new items told path devices r long is front =
     of_file_as (λ held l. record {
       says = says_failed written (FileAnswer devices held) _ old new r is (said_front _ _ (long_file devices held l) front);
-      rack = rack_failed r is refl;
+      left = rack_failed r is;
     })
     (of_long_file told path most_bytes long)
 
@@ -78,16 +78,16 @@ pub long_refused : {K D Kind : Type 0} (written : K → Option (List ℕ)) (kind
     IfSome told (λ files. IsSomeAnd (file_of files path) (λ bytes. most_bytes < length bytes)) →
     Puts written old too_long_line new → FileSays written kind_of fitted told path devices old new items items (Ok TooLong)
 long_refused written kind_of fitted old new items told path devices long put =
-    of_file_as (λ held l. record { says = said_text _ (long_file devices held l) put; rack = rack_same TooLong (λ p. p) }) (of_long_file told path most_bytes long)
+    of_file_as (λ held l. record { says = said_text _ (long_file devices held l) put; left = rack_same TooLong (λ p. p) }) (of_long_file told path most_bytes long)
 
 -- it could not be read, or there was no room for it
 pub not_read : {K D Kind : Type 0} {written : K → Option (List ℕ)} {kind_of : D → Kind} {fitted : D → Option SoundCard} {lines : Lines K} {items : List D}
     (told : Option (List (List ℕ × List ℕ))) (path : List ℕ) (devices : List Desc) → FileSays written kind_of fitted told path devices lines lines items items (Err Read)
-not_read told path devices = of_any_file told (Some path) (λ held. record { says = record { sink = refl; rack = refl }; rack = rack_unread Read })
+not_read told path devices = of_any_file told (Some path) (λ held. record { says = refl; left = rack_unread Read })
 
 pub no_room : {K D Kind : Type 0} {written : K → Option (List ℕ)} {kind_of : D → Kind} {fitted : D → Option SoundCard} {lines : Lines K} {items : List D}
     (told : Option (List (List ℕ × List ℕ))) (path : List ℕ) (devices : List Desc) → FileSays written kind_of fitted told path devices lines lines items items (Err Memory)
-no_room told path devices = of_any_file told (Some path) (λ held. record { says = refl; rack = rack_unread Memory })
+no_room told path devices = of_any_file told (Some path) (λ held. record { says = refl; left = rack_unread Memory })
 
 -- ---- the board is right
 
@@ -105,22 +105,24 @@ in_told files words contents read (asked named text status asks a) =
     asked named text status asks (subst (λ (c : Contents). RequestAnswer named c text status) (sym (read named asks)) a)
 
 -- With a store that tells its files, the answer for the contents that were read is that for its files.
-pub told_answer : (files : List (List ℕ × List ℕ)) (words : List (List ℕ)) (contents : Contents) →
-    ((named : FileNames) → IsRequest trace_key words named → contents_in files named ≡ contents) →
-    IsWithin (WordsAnswer words (λ named. contents)) (WordsAnswer words (contents_in files))
-told_answer files words contents read = record { to = λ text status a. in_told files words contents read a }
+pub told_answer : (files : List (List ℕ × List ℕ)) (words : List (List ℕ)) {text : List ℕ} {status : TraceStatus} →
+    OfFiles (NamesBoth (IsRequest trace_key words)) (Some files) (λ contents. WordsAnswer words (λ named. both_of contents) text status) →
+    WordsAnswer words (contents_in files) text status
+told_answer files words o =
+    in_told files words (both_of o.contents)
+    (λ named asks. ap both_of (o.read (Some named.board ∷ Some named.file ∷ []) (record { files = named; asked = asks; both = refl }))) o.holds
 
 -- ---- what is answered to a request, and to words
 
 abbrev pub RequestSays : {K D Kind : Type 0} → (K → Option (List ℕ)) → (D → Kind) → (D → Option SoundCard) → Option (List (List ℕ × List ℕ)) → FileNames →
     Lines K → Lines K → List D → List D → Result TraceStatus NoAnswer → Type 0
 RequestSays written kind_of fitted told named old new olds news r = OfContents told named (λ contents.
-    Answers written kind_of fitted (RequestAnswer named contents) (IsUntouched old new olds news) (RequestHoldsLed named contents) old new olds news r)
+    SaysAndLeaves written (RequestAnswer named contents) (LeavesRack kind_of fitted (RequestHoldsLed named contents)) old new olds news r)
 
 abbrev pub WordsSay : {K D Kind : Type 0} → (K → Option (List ℕ)) → (D → Kind) → (D → Option SoundCard) → Option (List (List ℕ × List ℕ)) → List (List ℕ) →
     Lines K → Lines K → List D → List D → Result TraceStatus NoAnswer → Type 0
 WordsSay written kind_of fitted told words old new olds news r = OfWords trace_key told words (λ contents.
-    Answers written kind_of fitted (WordsAnswer words (λ named. contents)) (IsUntouched old new olds news) (WordsHoldLed words contents) old new olds news r)
+    SaysAndLeaves written (WordsAnswer words (λ named. contents)) (LeavesRack kind_of fitted (WordsHoldLed words contents)) old new olds news r)
 
 -- the board is right
 pub request_of_file : {K D Kind : Type 0} (written : K → Option (List ℕ)) (kind_of : D → Kind) (fitted : D → Option SoundCard) (old new : Lines K) (olds news : List D)
@@ -128,7 +130,7 @@ pub request_of_file : {K D Kind : Type 0} (written : K → Option (List ℕ)) (k
     FileSays written kind_of fitted told named.file devices old new olds news r → RequestSays written kind_of fitted told named old new olds news r
 request_of_file written kind_of fitted old new olds news told named r devices reads o =
     of_both told named reads.held reads.read o (λ trace a.
-    answers_as written kind_of fitted r (file_within named devices reads.held trace reads.holds) (λ u. u)
+    answers_as written kind_of fitted r (file_within named devices reads.held trace reads.holds)
     (λ status rack final. record { devices = devices; board = reads.holds; final = final }) a)
 
 -- the words are this request
@@ -137,7 +139,7 @@ pub words_of_request : {K D Kind : Type 0} (written : K → Option (List ℕ)) (
     RequestSays written kind_of fitted told named old new olds news r → WordsSay written kind_of fitted told words old new olds news r
 words_of_request written kind_of fitted old new olds news told named r asks o =
     of_request told asks o (λ contents.
-    answers_as written kind_of fitted r (record { to = λ text status a. asked named text status asks a }) (λ u. u)
+    answers_as written kind_of fitted r (record { to = λ text status a. asked named text status asks a })
     (λ status rack final. record { named = named; asked = asks; final = final }))
 
 -- the board is refused
@@ -149,22 +151,22 @@ module _ {K D Kind : Type 0} {written : K → Option (List ℕ)} {kind_of : D �
   board_failed r is front = of_board told named reads.held reads.read (λ trace. record {
     says = says_failed written (RequestAnswer named (both reads.held trace)) _ old new r is
         (said_front (board_refusal_line line reason) (BoardRefused line reason) (board_refused line reason reads.holds) front);
-    rack = rack_failed r is refl;
+    left = rack_failed r is;
   })
 
   pub board_is_refused : Puts written old (board_refusal_line line reason) new → RequestSays written kind_of fitted told named old new items items (Ok (BoardRefused line reason))
   board_is_refused put = of_board told named reads.held reads.read (λ trace. record {
     says = said_text (board_refusal_line line reason) (board_refused line reason reads.holds) put;
-    rack = rack_same (BoardRefused line reason) (λ p. p);
+    left = rack_same (BoardRefused line reason) (λ p. p);
   })
 
 -- it could not be read, or there was no memory
 pub no_board : {K D Kind : Type 0} {written : K → Option (List ℕ)} {kind_of : D → Kind} {fitted : D → Option SoundCard} {lines : Lines K} {items : List D}
     (told : Option (List (List ℕ × List ℕ))) (named : FileNames) → RequestSays written kind_of fitted told named lines lines items items (Err Read)
-no_board told named = of_any_contents told named (λ contents. record { says = record { sink = refl; rack = refl }; rack = rack_unread Read })
+no_board told named = of_any_contents told named (λ contents. record { says = refl; left = rack_unread Read })
 
 pub no_board_memory : {K D Kind : Type 0} {written : K → Option (List ℕ)} {kind_of : D → Kind} {fitted : D → Option SoundCard} {lines : Lines K} {items : List D}
     (told : Option (List (List ℕ × List ℕ))) (named : FileNames) (r : Result TraceStatus NoAnswer) → IsErrAnd r (λ e. e ≡ Memory) →
     RequestSays written kind_of fitted told named lines lines items items r
 no_board_memory told named (Ok status) is = absurd is
-no_board_memory told named (Err e) is = rw is (of_any_contents told named (λ contents. record { says = refl; rack = rack_unread Memory }))
+no_board_memory told named (Err e) is = rw is (of_any_contents told named (λ contents. record { says = refl; left = rack_unread Memory }))

@@ -1,5 +1,5 @@
 -- What the rack holds after a trace was compared with a board. The rules are this tool's own.
-use Rattle.std.specs.Prelude.{◌≡◌, ◌-◌, ℕ, List, [], map, take, Option, None, Some, Result, IfOk}
+use Rattle.std.specs.Prelude.{◌≡◌, ◌-◌, ℕ, List, [], map, take, Option, None, Some, Result, Ok, Err, IfOk, IsErrOf}
 use Rattle.dev_card.specs.declared.desc.Desc.{Desc}
 use Rattle.dev_card.specs.Sound.{SoundCard}
 use Rattle.chain_sim.specs.Places.{cards_at}
@@ -8,10 +8,11 @@ use Rattle.named_files.specs.Boards.{HasBoard}
 use Rattle.pin_lines.specs.PinLines.{pins_in}
 use Rattle.pin_lines.specs.Traces.{board_led_to}
 use Rattle.tool_frame.specs.declared.no_answer.NoAnswer.{NoAnswer}
+use Rattle.tool_frame.specs.declared.no_answer.NoAnswer.TheVariants.{Read, Write}
 use Rattle.named_files.specs.Words.{FileNames, IsRequest}
 use Rattle.named_files.specs.Contents.{Contents}
 use Rattle.trace_tool.specs.declared.status.TraceStatus.{TraceStatus}
-use Rattle.trace_tool.specs.declared.status.TraceStatus.TheVariants.{Good, Differs, BadLine, TooLong, BoardRefused, Usage, ReadFault, WriteFault, Memory}
+use Rattle.trace_tool.specs.declared.status.TraceStatus.TheVariants.{Good, Differs, BadLine, TooLong, BoardRefused, Usage}
 use Rattle.trace_tool.specs.Statuses.{IsCompared, ComesBeforeFitting}
 use Rattle.trace_tool.specs.Answers.{trace_key, new_board}
 
@@ -24,9 +25,6 @@ clocks_made text (BadLine n) = []
 clocks_made text TooLong = []
 clocks_made text (BoardRefused line reason) = []
 clocks_made text (Usage n) = []
-clocks_made text ReadFault = []
-clocks_made text WriteFault = []
-clocks_made text Memory = []
 
 -- The devices of a board, at their places in the rack, are as these clocks leave them from power-up on.
 abbrev pub HoldsLed : List Desc → List ℕ → TraceStatus → List (Option SoundCard) → Type 0
@@ -60,3 +58,20 @@ pub record KeepsRack {D Kind : Type 0} (kind_of : D → Kind) (fitted : D → Op
   pub kinds : map kind_of after ≡ map kind_of before
   pub early : IfOk result (λ status. ComesBeforeFitting status → after ≡ before)
   pub leaves : IfOk result (λ status. IsCompared status → final status (map fitted after))
+
+-- The same, and after a read fault they are as they were. Of want of memory and of a write fault the cause does not say
+-- when it came.
+pub record LeavesRack {D Kind : Type 0} (kind_of : D → Kind) (fitted : D → Option SoundCard)
+    (final : TraceStatus → List (Option SoundCard) → Type 0) (before after : List D)
+    (result : Result TraceStatus NoAnswer) : Type 0 where
+  pub rack : KeepsRack kind_of fitted final before after result
+  pub unread : IsErrOf result Read → after ≡ before
+
+-- a write fault after an answer
+pub left_at_write_fault : {D Kind : Type 0} {kind_of : D → Kind} {fitted : D → Option SoundCard}
+    {final : TraceStatus → List (Option SoundCard) → Type 0} {before after : List D} {status : TraceStatus} →
+    LeavesRack kind_of fitted final before after (Ok status) → LeavesRack kind_of fitted final before after (Err Write)
+left_at_write_fault left = record {
+  rack = record { kinds = left.rack.kinds; early = tt; leaves = tt };
+  unread = λ e. absurd cc;
+}

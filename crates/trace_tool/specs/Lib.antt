@@ -2,4 +2,3 @@ pub mod Texts
 pub mod Statuses
 pub mod Answers
 pub mod FinalRacks
-pub mod Written

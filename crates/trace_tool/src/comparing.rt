@@ -5,9 +5,9 @@ ghost use Rattle.tool_frame.specs.Answers.{Says, KeepsOutput};
 ghost use Rattle.board_text.specs.Boards.{CanBeFitted};
 ghost use Rattle.chain_sim.specs.Rack.{IsRack};
 ghost use Rattle.tool_frame.specs.Files.{OfFile, KeepsShelf};
+ghost use Rattle.tool_frame.specs.Frame.{SaysAndLeaves};
 ghost use Rattle.trace_tool.specs.Answers.{TraceAnswer, FileAnswer};
-ghost use Rattle.trace_tool.specs.FinalRacks.{HoldsLed, HeldLed, KeepsRack};
-ghost use Rattle.trace_tool.specs.Written.{Answers, IsUntouched};
+ghost use Rattle.trace_tool.specs.FinalRacks.{HoldsLed, HeldLed, KeepsRack, LeavesRack};
 
 use crate::TraceStatus;
 use crate::lines::{put_bad_line, put_differs, put_good, put_too_long};
@@ -67,9 +67,9 @@ pub(crate) fn answer_file<S: Shelf, K: Sink>(
     requires devices { CanBeFitted devices.now }
     requires rack { IsRack (map kind_of rack.old.items) }
     requires whole { IsWhole lines.old }
-    ensures answers { OfFile (S.told shelf.old) (Some path.now) (λ held. Answers K.written kind_of fitted
-        (FileAnswer devices.now held) (IsUntouched lines.old lines.new rack.old.items rack.new.items)
-        (HeldLed devices.now held) lines.old lines.new rack.old.items rack.new.items result) }
+    ensures answers { OfFile (S.told shelf.old) (Some path.now) (λ held. SaysAndLeaves K.written
+        (FileAnswer devices.now held) (LeavesRack kind_of fitted (HeldLed devices.now held))
+        lines.old lines.new rack.old.items rack.new.items result) }
     ensures shelf { KeepsShelf S.told S.faults S.is_last (λ read. read ≡ path.now) shelf.old shelf.new result }
     ensures output { KeepsOutput K.faults K.is_last lines.old lines.new result }
 {

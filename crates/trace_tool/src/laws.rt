@@ -1,9 +1,9 @@
 //! Laws of the definitions.
 ghost use Rattle.std.specs.Prelude.{◌≡◌, ℕ, List, Some, IsSome};
-ghost use Rattle.named_files.specs.Words.{FileNames};
-ghost use Rattle.named_files.specs.Contents.{Contents, OfWords};
+ghost use Rattle.tool_frame.specs.Files.{OfFiles};
+ghost use Rattle.named_files.specs.Words.{FileNames, IsRequest};
+ghost use Rattle.named_files.specs.Contents.{Contents, NamesBoth, both_of};
 ghost use Rattle.trace_tool.specs.declared.status.TraceStatus.{TraceStatus};
-ghost use Rattle.trace_tool.specs.Statuses.{IsFault};
 ghost use Rattle.trace_tool.specs.Answers.{trace_key, RequestAnswer, WordsAnswer, Answer};
 
 use board_text::laws::every_text_is_a_board_or_has_a_fault;
@@ -22,15 +22,10 @@ pub fn requests_are_answered()
     every_text_is_a_board_or_has_a_fault();
 }
 
-/// The status of an answer is that of no fault.
-pub fn answers_are_no_faults()
-    ensures { (words : List (List ℕ)) (contents_of : FileNames → Contents) (text : List ℕ) (status : TraceStatus) →
-        WordsAnswer words contents_of text status → IsFault status → ⊥ }
-{}
-
 /// With a store that tells its files, the answer for the contents that were read is that for its files.
 pub fn told_files_are_answered()
     ensures { (words : List (List ℕ)) (files : List (List ℕ × List ℕ)) (text : List ℕ) (status : TraceStatus) →
-        OfWords trace_key (Some files) words (λ contents. WordsAnswer words (λ named. contents) text status) →
+        OfFiles (NamesBoth (IsRequest trace_key words)) (Some files)
+        (λ contents. WordsAnswer words (λ named. both_of contents) text status) →
         Answer words files text status }
 {}

@@ -1,12 +1,14 @@
-//! The tool that compares a trace with a board: its words, its answers, and its top call.
+//! The tool of the program `zanutero-trace`: it compares a trace with a board.
 #![tactic(auto)]
 
+mod answering;
 mod comparing;
+mod help;
 pub mod laws;
 mod lines;
 mod status;
-mod top;
+mod tracer;
 
 pub use lines::{put_bad_line, put_too_long};
 pub use status::TraceStatus;
-pub use top::run_trace;
+pub use tracer::Tracer;

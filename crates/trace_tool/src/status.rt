@@ -19,12 +19,6 @@ pub enum TraceStatus {
     BoardRefused(u32, BoardReason),
     /// The first word, counted from 1, that is not as stated, or the number of words plus 1 where words are missing.
     Usage(u32),
-    /// A file that the words name could not be read. Nothing is written.
-    ReadFault,
-    /// The output could not be written. What is written is a prefix of the text.
-    WriteFault,
-    /// There was no memory. Nothing is written.
-    Memory,
 }
 
 impl TraceStatus {
@@ -36,9 +30,6 @@ impl TraceStatus {
             TraceStatus::Good(_) => 0,
             TraceStatus::BoardRefused(_, _) => 5,
             TraceStatus::Usage(_) => 7,
-            TraceStatus::ReadFault => 9,
-            TraceStatus::WriteFault => 10,
-            TraceStatus::Memory => 11,
             TraceStatus::TooLong => 12,
             TraceStatus::Differs(_) => 15,
             TraceStatus::BadLine(_) => 16,

@@ -1,5 +1,5 @@
--- The words have one answer, which is none of a fault.
-use Rattle.std.proofs.Common.{◌≡◌, ◌<◌, ◌≤◌, ◌⊎◌, inl, inr, ◌∙◌, ℕ, false, List, length, Option, None, Some, refl, sym, ap, subst, arith}
+-- The words have one answer.
+use Rattle.std.proofs.Common.{◌≡◌, ◌<◌, ◌≤◌, ◌⊎◌, inl, inr, ℕ, false, List, length, Option, None, Some, refl, ap, arith}
 use Rattle.std.proofs.lemmas.Bool.{cases_lt}
 use Rattle.named_files.specs.Texts.{usage_line}
 use Rattle.pin_lines.specs.PinLines.{has_bad_line}
@@ -10,7 +10,6 @@ use Rattle.pin_waves.specs.Items.{items_in}
 use Rattle.pin_waves.specs.Waves.{wave_text}
 use Rattle.wave_tool.specs.declared.status.WaveStatus.{WaveStatus}
 use Rattle.wave_tool.specs.declared.status.WaveStatus.TheVariants.{Written, BadLine, TooLong, Usage}
-use Rattle.wave_tool.specs.Statuses.{IsFault}
 use Rattle.wave_tool.specs.Words.{IsRequest, IsUsage}
 use Rattle.wave_tool.specs.Answers.{most_bytes, WaveAnswer, too_long, bad_line, written, FileAnswer, WordsAnswer, usage, asked}
 use Rattle.wave_tool.proofs.WordLemmas.{one_usage, no_usage, request_or_usage}
@@ -34,25 +33,10 @@ one_file None a b s t x y = absurd x
 one_file (Some text) a b s t x y = one_wave text a b s t x y
 
 pub one_words : (held : Option (List ℕ)) (words : List (List ℕ)) (a b : List ℕ) (s t : WaveStatus) → WordsAnswer held words a s → WordsAnswer held words b t → AreSame a s b t
-one_words held words a b s t (usage n said status x r) (usage m other status2 y q) =
-    let e : n ≡ m = one_usage words n m x y in
-    (r.said_is ∙ ap usage_line e ∙ sym q.said_is, r.status_is ∙ ap Usage e ∙ sym q.status_is)
-one_words held words a b s t (usage n said status x r) (asked path other status2 y z) = absurd (no_usage words path n y x)
-one_words held words a b s t (asked path said status x z) (usage m other status2 y q) = absurd (no_usage words path m x y)
+one_words held words a b s t (usage n x) (usage m y) = let e : n ≡ m = one_usage words n m x y in (ap usage_line e, ap Usage e)
+one_words held words a b s t (usage n x) (asked path other status2 y z) = absurd (no_usage words path n y x)
+one_words held words a b s t (asked path said status x z) (usage m y) = absurd (no_usage words path m x y)
 one_words held words a b s t (asked path said status x z) (asked path2 other status2 y w) = one_file held a b s t z w
-
-wave_status : (text said : List ℕ) (status : WaveStatus) → WaveAnswer text said status → IsFault status → ⊥
-wave_status text said status (too_long x) p = p
-wave_status text said status (bad_line n x f) p = p
-wave_status text said status (written x g) p = p
-
-file_status : (held : Option (List ℕ)) (said : List ℕ) (status : WaveStatus) → FileAnswer held said status → IsFault status → ⊥
-file_status None said status x p = x
-file_status (Some text) said status x p = wave_status text said status x p
-
-pub words_status : (held : Option (List ℕ)) (words : List (List ℕ)) (said : List ℕ) (status : WaveStatus) → WordsAnswer held words said status → IsFault status → ⊥
-words_status held words said status (usage n said2 status2 x r) p = subst IsFault r.status_is p
-words_status held words said status (asked path said2 status2 x z) p = file_status held said status z p
 
 -- and there is one
 
@@ -75,4 +59,4 @@ every_words bytes words = by (request_or_usage words)
   where
     by : ((path : List ℕ) × IsRequest words path) ⊎ ((n : ℕ) × IsUsage words n) → HasAnswer (WordsAnswer (Some bytes) words)
     by (inl asks) = let a = every_wave bytes in (a.0, a.1, asked asks.0 a.0 a.1 asks.1 a.2)
-    by (inr other) = (usage_line other.0, Usage other.0, usage other.0 (usage_line other.0) (Usage other.0) other.1 (record { said_is = refl; status_is = refl }))
+    by (inr other) = (usage_line other.0, Usage other.0, usage other.0 other.1)

@@ -1,7 +1,6 @@
 -- What the tool answers: a text and a status, by the words and the contents of the file that they name. It is defined
 -- where that file is held.
-use Rattle.std.specs.Prelude.{◌≡◌, ◌<◌, ◌≤◌, ℕ, false, List, length, Option, IfSome, IsSomeAnd}
-use Rattle.tool_frame.specs.Files.{OfFile}
+use Rattle.std.specs.Prelude.{◌≡◌, ◌<◌, ◌≤◌, ℕ, false, List, length, Option, IsSomeAnd}
 use Rattle.named_files.specs.Texts.{usage_line}
 use Rattle.pin_lines.specs.PinLines.{has_bad_line}
 use Rattle.pin_lines.specs.FirstFaults.{IsFirstBadLine}
@@ -27,25 +26,8 @@ pub data WaveAnswer (text : List ℕ) : List ℕ → WaveStatus → Type 0 where
 abbrev pub FileAnswer : Option (List ℕ) → List ℕ → WaveStatus → Type 0
 FileAnswer held said status = IsSomeAnd held (λ text. WaveAnswer text said status)
 
--- the refusal of a trace that is too long, and of a word, counted from 1
-pub record IsLongAnswer (said : List ℕ) (status : WaveStatus) : Type 0 where
-  pub said_is : said ≡ too_long_line
-  pub status_is : status ≡ TooLong
-
-pub record IsRefusal (n : ℕ) (said : List ℕ) (status : WaveStatus) : Type 0 where
-  pub said_is : said ≡ usage_line n
-  pub status_is : status ≡ Usage n
-
 -- The answer to the words, if the file that they name holds this: they are refused, or their file is answered.
 pub data WordsAnswer (held : Option (List ℕ)) (words : List (List ℕ)) : List ℕ → WaveStatus → Type 0 where
-  usage : (n : ℕ) (said : List ℕ) (status : WaveStatus) → IsUsage words n → IsRefusal n said status →
-      WordsAnswer held words said status
+  usage : (n : ℕ) → IsUsage words n → WordsAnswer held words (usage_line n) (Usage n)
   asked : (path said : List ℕ) (status : WaveStatus) → IsRequest words path → FileAnswer held said status →
       WordsAnswer held words said status
-
--- This stands of the bytes of the file that the words name, as they were read, if they name one.
-pub record OfWords (told : Option (List (List ℕ × List ℕ))) (words : List (List ℕ)) (stands : Option (List ℕ) → Type 0)
-    : Type 0 where
-  pub named : Option (List ℕ)
-  pub asked : IfSome named (IsRequest words)
-  pub file : OfFile told named stands

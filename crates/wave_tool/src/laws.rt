@@ -1,7 +1,6 @@
 //! Laws of the definitions.
 ghost use Rattle.std.specs.Prelude.{◌≡◌, ◌⊎◌, ℕ, List, Option, Some};
 ghost use Rattle.wave_tool.specs.declared.status.WaveStatus.{WaveStatus};
-ghost use Rattle.wave_tool.specs.Statuses.{IsFault};
 ghost use Rattle.wave_tool.specs.Words.{IsRequest, IsUsage};
 ghost use Rattle.wave_tool.specs.Answers.{WordsAnswer};
 
@@ -25,10 +24,4 @@ pub fn one_answer()
 pub fn words_are_answered()
     ensures { (bytes : List ℕ) (words : List (List ℕ)) →
         (said : List ℕ) × (status : WaveStatus) × WordsAnswer (Some bytes) words said status }
-{}
-
-/// The status of an answer is that of no fault.
-pub fn answers_are_no_faults()
-    ensures { (held : Option (List ℕ)) (words : List (List ℕ)) (said : List ℕ) (status : WaveStatus) →
-        WordsAnswer held words said status → IsFault status → ⊥ }
 {}

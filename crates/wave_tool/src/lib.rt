@@ -1,11 +1,12 @@
-//! The tool that writes the clocks and waits of a trace as a Value Change Dump: its words, its answers, and its top
-//! call.
+//! The tool of the program `zanutero-wave`: it writes the clocks and waits of a trace as a Value Change Dump.
 #![tactic(auto)]
 
+mod answering;
+mod help;
 pub mod laws;
 mod status;
-mod top;
+mod waver;
 mod words;
 
 pub use status::WaveStatus;
-pub use top::run_wave;
+pub use waver::Waver;

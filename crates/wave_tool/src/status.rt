@@ -13,12 +13,6 @@ pub enum WaveStatus {
     TooLong,
     /// The first word, counted from 1, that is not as stated, or 1 where there is none.
     Usage(u32),
-    /// The file that the words name could not be read. Nothing is written.
-    ReadFault,
-    /// The output could not be written. What is written is a prefix of the text.
-    WriteFault,
-    /// There was no memory. Nothing is written.
-    Memory,
 }
 
 impl WaveStatus {
@@ -29,9 +23,6 @@ impl WaveStatus {
         match self {
             WaveStatus::Written => 0,
             WaveStatus::Usage(_) => 7,
-            WaveStatus::ReadFault => 9,
-            WaveStatus::WriteFault => 10,
-            WaveStatus::Memory => 11,
             WaveStatus::TooLong => 12,
             WaveStatus::BadLine(_) => 16,
         }

@@ -2,7 +2,7 @@ use Rattle.std.proofs.Common.{refl}
 use Rattle.tool_frame.proofs.AnswerLemmas.{says_failed, said_text, said_front}
 use Rattle.wave_tool.specs.declared.status.WaveStatus.TheVariants.{Written, BadLine}
 use Rattle.wave_tool.specs.Answers.{bad_line, written}
-use Rattle.wave_tool.proofs.top.answer_text.Goals as goal
+use Rattle.wave_tool.proofs.answering.answer_text.Goals as goal
 
 pub returns-in_err-put_bad_line-in-Some-clause-says : goal.returns-in_err-put_bad_line-in-Some-clause-says
 returns-in_err-put_bad_line-in-Some-clause-says g c =

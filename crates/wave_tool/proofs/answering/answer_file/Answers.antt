@@ -1,18 +1,25 @@
 use Rattle.std.proofs.Common.{ap, Err, Some, refl}
-use Rattle.tool_frame.proofs.AnswerLemmas.{says_within}
+use Rattle.tool_frame.proofs.AnswerLemmas.{says_within, says_failed, said_text, said_front}
 use Rattle.named_files.proofs.BoardLemmas.{of_whole_file, of_long_file, of_file_as, of_any_file}
+use Rattle.wave_tool.specs.declared.status.WaveStatus.TheVariants.{TooLong}
 use Rattle.wave_tool.specs.Answers.{most_bytes}
-use Rattle.wave_tool.proofs.AnswerLemmas.{long_within}
-use Rattle.wave_tool.proofs.top.answer_file.Goals as goal
+use Rattle.wave_tool.proofs.AnswerLemmas.{long_answer}
+use Rattle.wave_tool.proofs.answering.answer_file.Goals as goal
 
 pub returns-in-Ok-clause-says : goal.returns-in-Ok-clause-says
 returns-in-Ok-clause-says g c =
     of_whole_file (g.S.Shelf.told c.args.shelf.now) c.args.path.now c.in-Ok.bytes.items c.in-Ok.ensures.whole
     (says_within _ _ _ _ _ c.answer_text.result (record { to = λ text status a. a }) (λ none. absurd none) (rw c.deref.ensures.value at c.answer_text.ensures.says))
 
-pub returns-in-Err-TooLong-clause-says : goal.returns-in-Err-TooLong-clause-says
-returns-in-Err-TooLong-clause-says g c =
-    of_file_as (λ held more. long_within g.K.Sink.written _ _ _ held c.answer_long.result more c.answer_long.ensures.says)
+pub returns-in_err-put_too_long-in-Err-TooLong-clause-says : goal.returns-in_err-put_too_long-in-Err-TooLong-clause-says
+returns-in_err-put_too_long-in-Err-TooLong-clause-says g c =
+    of_file_as (λ held more. says_failed _ _ _ _ _ c.from_residual.result c.from_residual.ensures.1
+    (said_front _ TooLong (long_answer held more) c.in_err-put_too_long-in-Err-TooLong.ensures.put.front))
+    (of_long_file (g.S.Shelf.told c.args.shelf.now) c.args.path.now most_bytes (c.in-Err-TooLong.ensures.long (ap Err c.in-Err-TooLong.field-0-is)))
+
+pub returns-in_ok-put_too_long-in-Err-TooLong-clause-says : goal.returns-in_ok-put_too_long-in-Err-TooLong-clause-says
+returns-in_ok-put_too_long-in-Err-TooLong-clause-says g c =
+    of_file_as (λ held more. said_text _ (long_answer held more) c.in_ok-put_too_long-in-Err-TooLong.ensures.put.ok)
     (of_long_file (g.S.Shelf.told c.args.shelf.now) c.args.path.now most_bytes (c.in-Err-TooLong.ensures.long (ap Err c.in-Err-TooLong.field-0-is)))
 
 pub returns-in-Err-ReadFault-clause-says : goal.returns-in-Err-ReadFault-clause-says

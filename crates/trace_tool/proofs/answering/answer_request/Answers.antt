@@ -4,7 +4,7 @@ use Rattle.tool_frame.specs.declared.no_answer.NoAnswer.TheVariants.{Memory}
 use Rattle.named_files.specs.Named.{files_named}
 use Rattle.named_files.proofs.ContentLemmas.{file_cause}
 use Rattle.trace_tool.proofs.RequestLemmas.{request_of_file, board_failed, board_is_refused, no_board, no_board_memory}
-use Rattle.trace_tool.proofs.top.answer_request.Goals as goal
+use Rattle.trace_tool.proofs.answering.answer_request.Goals as goal
 
 pub returns-in_err-name-clause-answers : goal.returns-in_err-name-clause-answers
 returns-in_err-name-clause-answers g c = no_board_memory (g.S.Shelf.told c.args.shelf.now) (files_named c.args.named) c.from_residual.result c.from_residual.ensures.1

@@ -1,5 +1,0 @@
-use Rattle.trace_tool.proofs.OneAnswer.{answer_status}
-use Rattle.trace_tool.proofs.laws.answers_are_no_faults.Goals as goal
-
-pub returns : goal.returns
-returns c = λ words contents_of text status a p. answer_status a p

@@ -1,0 +1,50 @@
+//! What is answered to a request: its board, and then its trace.
+ghost use Rattle.std.specs.Prelude.{◌≡◌, Some, map};
+ghost use Rattle.tool_io.specs.Lines.{IsWhole};
+ghost use Rattle.tool_frame.specs.Answers.{KeepsOutput};
+ghost use Rattle.tool_frame.specs.Files.{KeepsShelf};
+ghost use Rattle.tool_frame.specs.Frame.{SaysAndLeaves};
+ghost use Rattle.chain_sim.specs.Rack.{IsRack};
+ghost use Rattle.named_files.specs.Named.{files_named};
+ghost use Rattle.named_files.specs.Contents.{OfContents, IsReached};
+ghost use Rattle.trace_tool.specs.Answers.{RequestAnswer};
+ghost use Rattle.trace_tool.specs.FinalRacks.{RequestHoldsLed, LeavesRack};
+
+use crate::TraceStatus;
+use crate::comparing::answer_file;
+use command_words::FileName;
+use dev_card::Device;
+use named_files::{BoardNotRead, Named, board_named, put_board_refusal};
+use std::alloc::Global;
+use tool_frame::NoAnswer;
+use tool_io::{Lines, Shelf, Sink};
+
+/// Answers a request: its board, and then its trace.
+pub(crate) fn answer_request<S: Shelf, K: Sink>(
+    alloc: Global,
+    named: Named,
+    shelf: &mut S,
+    rack: &mut Vec<Box<dyn Device>>,
+    lines: &mut Lines<K>,
+) -> Result<TraceStatus, NoAnswer>
+    requires rack { IsRack (map kind_of rack.old.items) }
+    requires whole { IsWhole lines.old }
+    ensures answers { OfContents (S.told shelf.old) (files_named named.entry) (λ contents. SaysAndLeaves K.written
+        (RequestAnswer (files_named named.entry) contents)
+        (LeavesRack kind_of fitted (RequestHoldsLed (files_named named.entry) contents))
+        lines.old lines.new rack.old.items rack.new.items result) }
+    ensures shelf { KeepsShelf S.told S.faults S.is_last (IsReached (S.told shelf.old) (files_named named.entry))
+        shelf.old shelf.new result }
+    ensures output { KeepsOutput K.faults K.is_last lines.old lines.new result }
+{
+    let name = FileName::of(alloc, named.board)?;
+    match board_named(alloc, shelf, &Some(name)) {
+        Ok(devices) => answer_file(alloc, &devices, named.file, shelf, rack, lines),
+        Err(BoardNotRead::At { line, reason }) => {
+            put_board_refusal(lines, line, reason)?;
+            Ok(TraceStatus::BoardRefused(line, reason))
+        }
+        Err(BoardNotRead::Read) => Err(NoAnswer::Read),
+        Err(BoardNotRead::Memory) => Err(NoAnswer::Memory),
+    }
+}

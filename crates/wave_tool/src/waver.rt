@@ -1,0 +1,79 @@
+//! The tool.
+ghost use Rattle.std.specs.Prelude.{map, string_bytes};
+ghost use Rattle.tool_io.specs.Lines.{IsWhole};
+ghost use Rattle.tool_frame.specs.Answers.{KeepsOutput};
+ghost use Rattle.tool_frame.specs.Files.{OfFiles, NamesOne, first_of, KeepsShelf};
+ghost use Rattle.tool_frame.specs.Frame.{SaysAndLeaves};
+ghost use Rattle.wave_tool.specs.declared.help.TheConstants.{HELP, VERSION};
+ghost use Rattle.wave_tool.specs.Statuses.{exit_code_of, no_fault_codes};
+ghost use Rattle.wave_tool.specs.Words.{IsRequest};
+ghost use Rattle.wave_tool.specs.Answers.{WordsAnswer};
+
+use crate::answering::answer_file;
+use crate::words::read_words;
+use crate::{WaveStatus, help};
+use named_files::put_usage;
+use std::alloc::Global;
+use tool_frame::{NoAnswer, Tool};
+use tool_io::{Lines, Shelf, Sink};
+
+/// Writes the clocks and waits of a trace as a Value Change Dump (IEEE 1364): the word is `trace=PATH`, alone. What is
+/// refused has a line: other words, a trace of more than 67,108,864 bytes, and a trace with a bad line.
+///
+/// All memory is taken before the first byte is put.
+pub struct Waver;
+
+impl Tool for Waver {
+    type Ending = WaveStatus;
+
+    type Loan = ();
+
+    ghost ready = { λ _. Unit {0} };
+
+    ghost names = { λ words. NamesOne (IsRequest words) };
+
+    ghost reached = { λ _ words. IsRequest words };
+
+    ghost answers = { λ words contents. WordsAnswer (first_of contents) words };
+
+    ghost leaves = { λ _ _ _ _ _. Unit {0} };
+
+    ghost exit_code_of = { exit_code_of };
+
+    ghost help_text = { HELP.now };
+
+    ghost version_text = { VERSION.now };
+
+    fn help(&self) -> &'static [u8] {
+        help::HELP
+    }
+
+    fn version(&self) -> &'static [u8] {
+        help::VERSION
+    }
+
+    fn exit_code(&self, ending: WaveStatus) -> u8 {
+        ending.exit_code()
+    }
+
+    fn answer<S: Shelf, K: Sink>(
+        &self,
+        alloc: Global,
+        words: &[String],
+        shelf: &mut S,
+        _loan: &mut (),
+        lines: &mut Lines<K>,
+    ) -> Result<WaveStatus, NoAnswer> {
+        match read_words(words) {
+            Ok(path) => answer_file(alloc, path, shelf, lines),
+            Err(n) => {
+                put_usage(lines, n)?;
+                Ok(WaveStatus::Usage(n))
+            }
+        }
+    }
+
+    ghost leaves_at_write_fault = { λ words contents before after ending left. left };
+
+    ghost answers_are_no_faults = { λ words contents text ending answer. no_fault_codes ending };
+}
