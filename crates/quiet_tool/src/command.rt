@@ -12,9 +12,9 @@ ghost use Rattle.quiet_tool.specs.Commands.{CommandAnswer};
 
 use crate::help::{HELP, VERSION};
 use crate::{QuietStatus, run_quiet};
-use tool_frame::{text_asked, write_text};
 use dev_card::Device;
 use std::alloc::Global;
+use tool_frame::{text_asked, write_text};
 use tool_io::{Shelf, Sink};
 
 /// Writes the text that the words ask for, or what `run_quiet` writes of them.

@@ -1,7 +1,7 @@
 -- The words of the program: `program=PATH`, `board=PATH` and `place=RUN`, in this order. The rules are this tool's own.
 use Rattle.std.specs.Prelude.{◌≡◌, ◌<◌, ◌≤◌, ℕ, List, length, codes, slice_get, IsSomeAnd}
 use Rattle.command_words.specs.declared.place_run.PlaceRun.{PlaceRun}
-use Rattle.command_words.specs.KeyedWords.{NamesRun}
+use Rattle.command_words.specs.KeyedWords.{most_place, NamesRun}
 use Rattle.named_files.specs.Words.{NamesAt, FileNames}
 
 abbrev pub NamesProgram : List (List ℕ) → List ℕ → Type 0
@@ -10,9 +10,9 @@ NamesProgram words path = NamesAt (codes "program=") words 0 path
 abbrev pub NamesBoard : List (List ℕ) → List ℕ → Type 0
 NamesBoard words path = NamesAt (codes "board=") words 1 path
 
--- the third word names this run of devices, whose places are at most 999
+-- the third word names this run of devices
 abbrev pub NamesPlace : List (List ℕ) → PlaceRun → Type 0
-NamesPlace words run = IsSomeAnd (slice_get words 2) (λ word. NamesRun (codes "place=") 999 word run)
+NamesPlace words run = IsSomeAnd (slice_get words 2) (λ word. NamesRun (codes "place=") most_place word run)
 
 -- a run of places, which are counted from 1
 pub record IsRun (run : PlaceRun) : Type 0 where

@@ -4,11 +4,8 @@ ghost use Rattle.command_words.specs.declared.place_run.PlaceRun.{PlaceRun};
 ghost use Rattle.rewrite_tool.specs.Words.{NamesPlace, IsRun, IsRequest, IsUsage};
 ghost use Rattle.rewrite_tool.specs.Named.{request_of};
 
-use command_words::{PlaceRun, run_under};
+use command_words::{MOST_PLACE, PlaceRun, run_under};
 use named_files::path_at;
-
-/// The most that a place is.
-const MOST_PLACE: u32 = 999;
 
 /// What the words name.
 #[derive(Clone, Copy)]

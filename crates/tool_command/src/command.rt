@@ -11,12 +11,11 @@ ghost use Rattle.tool_questions.specs.Questions.{ask_question, QuestionAnswer, O
 ghost use Rattle.tool_command.specs.Commands.{CommandAnswer, IsReachedByCommand, status_of};
 
 use crate::help::{HELP, VERSION};
-use tool_frame::{text_asked, write_text};
 use dev_card::Device;
 use play_status::Status;
 use play_tool::run_tool;
 use std::alloc::Global;
-use tool_frame::NoAnswer;
+use tool_frame::{NoAnswer, text_asked, write_text};
 use tool_io::{Lines, Shelf, Sink};
 use tool_questions::{answer_question, ask_question};
 

@@ -10,22 +10,23 @@ use Rattle.pin_lines.specs.PinLines.{has_bad_line, pins_in}
 use Rattle.pin_lines.specs.Traces.{IsGoodTrace}
 use Rattle.pin_lines.specs.FirstFaults.{IsFirstBadLine}
 use Rattle.trace_check.specs.Clocked.{IsTraced, IsTracedUpTo}
+use Rattle.trace_check.specs.Limits.{trace_limit}
 use Rattle.trace_tool.specs.declared.status.TraceStatus.TheVariants.{Good, Differs, BadLine}
 use Rattle.trace_tool.specs.Texts.{good_line, differs_line, bad_line_text}
-use Rattle.trace_tool.specs.Answers.{most_bytes, new_board, TraceAnswer, bad_line, differs, good}
+use Rattle.trace_tool.specs.Answers.{new_board, TraceAnswer, bad_line, differs, good}
 use Rattle.trace_tool.specs.FinalRacks.{HoldsLed, KeepsRack}
 
 module _ (devices : List Desc) (text : List ℕ) where
-  pub is_good : (n : ℕ) (new : Option (List Card)) → length text ≤ most_bytes → IsGoodTrace (new_board devices) text →
+  pub is_good : (n : ℕ) (new : Option (List Card)) → length text ≤ trace_limit → IsGoodTrace (new_board devices) text →
       IsTraced (new_board devices) (pins_in text) n new → TraceAnswer devices text (good_line n ++ report_in new) (Good n)
   is_good n new short g t =
       subst (λ (o : Option (List Card)). TraceAnswer devices text (good_line n ++ report_in o) (Good n)) (sym t.board) (good n short g.good t.agrees t.count)
 
-  pub is_other : (i : ℕ) (new : Option (List Card)) → length text ≤ most_bytes → has_bad_line text ≡ false →
+  pub is_other : (i : ℕ) (new : Option (List Card)) → length text ≤ trace_limit → has_bad_line text ≡ false →
       IsTracedUpTo (new_board devices) (pins_in text) i new → TraceAnswer devices text (differs_line i) (Differs i)
   is_other i new short none t = differs i short none t.first
 
-  pub is_bad : (n : ℕ) → length text ≤ most_bytes → IsFirstBadLine text n → TraceAnswer devices text (bad_line_text n) (BadLine n)
+  pub is_bad : (n : ℕ) → length text ≤ trace_limit → IsFirstBadLine text n → TraceAnswer devices text (bad_line_text n) (BadLine n)
   is_bad n short first = bad_line n short first
 
   -- what the rack holds then

@@ -13,28 +13,29 @@ use Rattle.pin_lines.proofs.FirstFaults.{a_bad_line, a_difference}
 use Rattle.named_files.specs.Words.{FileNames}
 use Rattle.named_files.specs.Contents.{Contents}
 use Rattle.named_files.proofs.ContentLemmas.{both}
+use Rattle.trace_check.specs.Limits.{trace_limit}
 use Rattle.trace_tool.specs.declared.status.TraceStatus.{TraceStatus}
 use Rattle.trace_tool.specs.declared.status.TraceStatus.TheVariants.{Good, Differs, BadLine, TooLong, BoardRefused}
 use Rattle.trace_tool.specs.Texts.{good_text, differs_line, bad_line_text, too_long_line}
-use Rattle.trace_tool.specs.Answers.{most_bytes, new_board, TraceAnswer, too_long, bad_line, differs, good, RequestAnswer, board_refused, board_read}
+use Rattle.trace_tool.specs.Answers.{new_board, TraceAnswer, too_long, bad_line, differs, good, RequestAnswer, board_refused, board_read}
 
 abbrev HasAnswer : (List ℕ → TraceStatus → Type 0) → Type 0
 HasAnswer A = (text : List ℕ) × (status : TraceStatus) × A text status
 
 every_trace : (devices : List Desc) (text : List ℕ) → HasAnswer (TraceAnswer devices text)
-every_trace devices text = by_length (cases_lt most_bytes (length text))
+every_trace devices text = by_length (cases_lt trace_limit (length text))
   where
-    by_clocks : length text ≤ most_bytes → has_bad_line text ≡ false → Agrees (new_board devices) (pins_in text) ⊎ ((i : ℕ) × IsFirstDifference (new_board devices) (pins_in text) i) →
+    by_clocks : length text ≤ trace_limit → has_bad_line text ≡ false → Agrees (new_board devices) (pins_in text) ⊎ ((i : ℕ) × IsFirstDifference (new_board devices) (pins_in text) i) →
         HasAnswer (TraceAnswer devices text)
     by_clocks short none (inl agrees) =
         (good_text (length (pins_in text)) (board_led_to (new_board devices) (pins_in text)), Good (length (pins_in text)), good (length (pins_in text)) short none agrees refl)
     by_clocks short none (inr first) = (differs_line first.0, Differs first.0, differs first.0 short none first.1)
 
-    by_lines : length text ≤ most_bytes → (has_bad_line text ≡ false) ⊎ ((n : ℕ) × IsFirstBadLine text n) → HasAnswer (TraceAnswer devices text)
+    by_lines : length text ≤ trace_limit → (has_bad_line text ≡ false) ⊎ ((n : ℕ) × IsFirstBadLine text n) → HasAnswer (TraceAnswer devices text)
     by_lines short (inl none) = by_clocks short none (a_difference (new_board devices) (pins_in text))
     by_lines short (inr first) = (bad_line_text first.0, BadLine first.0, bad_line first.0 short first.1)
 
-    by_length : (most_bytes < length text) ⊎ (length text ≤ most_bytes) → HasAnswer (TraceAnswer devices text)
+    by_length : (trace_limit < length text) ⊎ (length text ≤ trace_limit) → HasAnswer (TraceAnswer devices text)
     by_length (inl long) = (too_long_line, TooLong, too_long long)
     by_length (inr short) = by_lines short (a_bad_line text)
 

@@ -19,10 +19,11 @@ use Rattle.named_files.proofs.BoardLemmas.{of_file_as, of_any_file, of_whole_fil
 use Rattle.named_files.specs.Words.{FileNames, IsRequest}
 use Rattle.named_files.specs.Contents.{Contents, both_of, contents_in, OfContents, NamesBoth, OfWords}
 use Rattle.named_files.proofs.ContentLemmas.{both, of_any_contents, of_board, of_both, of_request}
+use Rattle.trace_check.specs.Limits.{trace_limit}
 use Rattle.trace_tool.specs.declared.status.TraceStatus.{TraceStatus}
 use Rattle.trace_tool.specs.declared.status.TraceStatus.TheVariants.{TooLong, BoardRefused}
 use Rattle.trace_tool.specs.Texts.{too_long_line}
-use Rattle.trace_tool.specs.Answers.{trace_key, most_bytes, TraceAnswer, too_long, FileAnswer, RequestAnswer, board_refused, board_read, WordsAnswer, usage, asked}
+use Rattle.trace_tool.specs.Answers.{trace_key, TraceAnswer, too_long, FileAnswer, RequestAnswer, board_refused, board_read, WordsAnswer, usage, asked}
 use Rattle.trace_tool.specs.FinalRacks.{HoldsLed, HeldLed, RequestHoldsLed, WordsHoldLed, KeepsRack, LeavesRack}
 use Rattle.trace_tool.proofs.RackLemmas.{rack_as, rack_compared, rack_failed, rack_same, rack_unread}
 
@@ -40,7 +41,7 @@ answers_as written kind_of fitted {old = old} {new = new} r within final a = rec
 held_answer : (devices : List Desc) (bytes : List ℕ) → IsWithin (TraceAnswer devices bytes) (FileAnswer devices (Some bytes))
 held_answer devices bytes = record { to = λ text status a. record { bytes = bytes; held = refl; answer = a } }
 
-long_file : (devices : List Desc) (file : Option (List ℕ)) → IsSomeAnd file (λ bytes. most_bytes < length bytes) → FileAnswer devices file too_long_line TooLong
+long_file : (devices : List Desc) (file : Option (List ℕ)) → IsSomeAnd file (λ bytes. trace_limit < length bytes) → FileAnswer devices file too_long_line TooLong
 long_file devices None long = absurd long
 long_file devices (Some bytes) long = record { bytes = bytes; held = refl; answer = too_long long }
 
@@ -64,21 +65,21 @@ whole_file written kind_of fitted old new olds news told path devices bytes r wh
 -- it is too long
 pub long_failed : {K D Kind : Type 0} (written : K → Option (List ℕ)) (kind_of : D → Kind) (fitted : D → Option SoundCard) (old new : Lines K) (items : List D)
     (told : Option (List (List ℕ × List ℕ))) (path : List ℕ) (devices : List Desc) (r : Result TraceStatus NoAnswer) →
-    IfSome told (λ files. IsSomeAnd (file_of files path) (λ bytes. most_bytes < length bytes)) → IsErrAnd r (λ x. x ≡ Write) →
+    IfSome told (λ files. IsSomeAnd (file_of files path) (λ bytes. trace_limit < length bytes)) → IsErrAnd r (λ x. x ≡ Write) →
     PutsFront written old too_long_line new → FileSays written kind_of fitted told path devices old new items items r
 long_failed written kind_of fitted old new items told path devices r long is front =
     of_file_as (λ held l. record {
       says = says_failed written (FileAnswer devices held) _ old new r is (said_front _ _ (long_file devices held l) front);
       left = rack_failed r is;
     })
-    (of_long_file told path most_bytes long)
+    (of_long_file told path trace_limit long)
 
 pub long_refused : {K D Kind : Type 0} (written : K → Option (List ℕ)) (kind_of : D → Kind) (fitted : D → Option SoundCard) (old new : Lines K) (items : List D)
     (told : Option (List (List ℕ × List ℕ))) (path : List ℕ) (devices : List Desc) →
-    IfSome told (λ files. IsSomeAnd (file_of files path) (λ bytes. most_bytes < length bytes)) →
+    IfSome told (λ files. IsSomeAnd (file_of files path) (λ bytes. trace_limit < length bytes)) →
     Puts written old too_long_line new → FileSays written kind_of fitted told path devices old new items items (Ok TooLong)
 long_refused written kind_of fitted old new items told path devices long put =
-    of_file_as (λ held l. record { says = said_text _ (long_file devices held l) put; left = rack_same TooLong (λ p. p) }) (of_long_file told path most_bytes long)
+    of_file_as (λ held l. record { says = said_text _ (long_file devices held l) put; left = rack_same TooLong (λ p. p) }) (of_long_file told path trace_limit long)
 
 -- it could not be read, or there was no room for it
 pub not_read : {K D Kind : Type 0} {written : K → Option (List ℕ)} {kind_of : D → Kind} {fitted : D → Option SoundCard} {lines : Lines K} {items : List D}

@@ -12,6 +12,7 @@ use Rattle.pin_lines.specs.Traces.{Agrees, board_led_to}
 use Rattle.pin_lines.specs.FirstFaults.{IsFirstBadLine, IsFirstDifference}
 use Rattle.named_files.specs.Words.{FileNames, IsRequest, IsUsage}
 use Rattle.named_files.specs.Contents.{Contents, contents_in}
+use Rattle.trace_check.specs.Limits.{trace_limit}
 use Rattle.trace_tool.specs.declared.status.TraceStatus.{TraceStatus}
 use Rattle.trace_tool.specs.declared.status.TraceStatus.TheVariants.{Good, Differs, BadLine, TooLong, BoardRefused, Usage}
 use Rattle.trace_tool.specs.Texts.{good_text, differs_line, bad_line_text, too_long_line}
@@ -19,10 +20,6 @@ use Rattle.trace_tool.specs.Texts.{good_text, differs_line, bad_line_text, too_l
 -- the key of the word that names the trace
 abbrev pub trace_key : List ℕ
 trace_key = codes "trace="
-
--- the most bytes of a trace
-abbrev pub most_bytes : ℕ
-most_bytes = 67108864
 
 -- a board of these devices after power-up
 abbrev pub new_board : List Desc → List Card
@@ -32,12 +29,12 @@ new_board devices = map fresh devices
 -- that the board of these devices answers otherwise, or it is good, and the devices are reported as its clocks leave
 -- them.
 pub data TraceAnswer (devices : List Desc) (text : List ℕ) : List ℕ → TraceStatus → Type 0 where
-  too_long : most_bytes < length text → TraceAnswer devices text too_long_line TooLong
-  bad_line : (n : ℕ) → length text ≤ most_bytes → IsFirstBadLine text n →
+  too_long : trace_limit < length text → TraceAnswer devices text too_long_line TooLong
+  bad_line : (n : ℕ) → length text ≤ trace_limit → IsFirstBadLine text n →
       TraceAnswer devices text (bad_line_text n) (BadLine n)
-  differs : (i : ℕ) → length text ≤ most_bytes → has_bad_line text ≡ false →
+  differs : (i : ℕ) → length text ≤ trace_limit → has_bad_line text ≡ false →
       IsFirstDifference (new_board devices) (pins_in text) i → TraceAnswer devices text (differs_line i) (Differs i)
-  good : (n : ℕ) → length text ≤ most_bytes → has_bad_line text ≡ false → Agrees (new_board devices) (pins_in text) →
+  good : (n : ℕ) → length text ≤ trace_limit → has_bad_line text ≡ false → Agrees (new_board devices) (pins_in text) →
       n ≡ length (pins_in text) →
       TraceAnswer devices text (good_text n (board_led_to (new_board devices) (pins_in text))) (Good n)
 

@@ -1,5 +1,6 @@
 //! A trace against a board.
 ghost use Rattle.std.specs.Prelude.{◌≡◌, ◌≤◌, length, map, Some};
+ghost use Rattle.trace_check.specs.Limits.{trace_limit};
 ghost use Rattle.tool_io.specs.Lines.{IsWhole};
 ghost use Rattle.tool_frame.specs.Answers.{Says, KeepsOutput};
 ghost use Rattle.board_text.specs.Boards.{CanBeFitted};
@@ -16,10 +17,7 @@ use dev_card::{Desc, Device};
 use std::alloc::Global;
 use tool_frame::NoAnswer;
 use tool_io::{Lines, ReadRefused, Shelf, Sink, read_whole};
-use trace_check::{TraceRefused, check_trace};
-
-/// The most bytes of a trace.
-const TRACE_LIMIT: u32 = 67_108_864;
+use trace_check::{TRACE_LIMIT, TraceRefused, check_trace};
 
 // Compares a text with a board, which is fitted into the rack.
 fn compare<K: Sink>(
@@ -30,7 +28,7 @@ fn compare<K: Sink>(
     lines: &mut Lines<K>,
 ) -> Result<TraceStatus, NoAnswer>
     requires devices { CanBeFitted devices.now }
-    requires few { length text.now ≤ 67108864 }
+    requires few { length text.now ≤ trace_limit }
     requires rack { IsRack (map kind_of rack.old.items) }
     requires whole { IsWhole lines.old }
     ensures says { Says K.written (TraceAnswer devices.now text.now) ⊥ lines.old lines.new result }

@@ -8,10 +8,11 @@ use Rattle.pin_lines.proofs.FirstFaults.{a_bad_line, one_bad_line, not_both_line
 use Rattle.trace_tool.specs.Texts.{bad_line_text, too_long_line}
 use Rattle.pin_waves.specs.Items.{items_in}
 use Rattle.pin_waves.specs.Waves.{wave_text}
+use Rattle.trace_check.specs.Limits.{trace_limit}
 use Rattle.wave_tool.specs.declared.status.WaveStatus.{WaveStatus}
 use Rattle.wave_tool.specs.declared.status.WaveStatus.TheVariants.{Written, BadLine, TooLong, Usage}
 use Rattle.wave_tool.specs.Words.{IsRequest, IsUsage}
-use Rattle.wave_tool.specs.Answers.{most_bytes, WaveAnswer, too_long, bad_line, written, FileAnswer, WordsAnswer, usage, asked}
+use Rattle.wave_tool.specs.Answers.{WaveAnswer, too_long, bad_line, written, FileAnswer, WordsAnswer, usage, asked}
 use Rattle.wave_tool.proofs.WordLemmas.{one_usage, no_usage, request_or_usage}
 
 abbrev AreSame : List ℕ → WaveStatus → List ℕ → WaveStatus → Type 0
@@ -44,13 +45,13 @@ abbrev HasAnswer : (List ℕ → WaveStatus → Type 0) → Type 0
 HasAnswer A = (said : List ℕ) × (status : WaveStatus) × A said status
 
 every_wave : (text : List ℕ) → HasAnswer (WaveAnswer text)
-every_wave text = by_length (cases_lt most_bytes (length text))
+every_wave text = by_length (cases_lt trace_limit (length text))
   where
-    by_lines : length text ≤ most_bytes → (has_bad_line text ≡ false) ⊎ ((n : ℕ) × IsFirstBadLine text n) → HasAnswer (WaveAnswer text)
+    by_lines : length text ≤ trace_limit → (has_bad_line text ≡ false) ⊎ ((n : ℕ) × IsFirstBadLine text n) → HasAnswer (WaveAnswer text)
     by_lines short (inl none) = (wave_text (items_in text), Written, written short none)
     by_lines short (inr first) = (bad_line_text first.0, BadLine first.0, bad_line first.0 short first.1)
 
-    by_length : (most_bytes < length text) ⊎ (length text ≤ most_bytes) → HasAnswer (WaveAnswer text)
+    by_length : (trace_limit < length text) ⊎ (length text ≤ trace_limit) → HasAnswer (WaveAnswer text)
     by_length (inl long) = (too_long_line, TooLong, too_long long)
     by_length (inr short) = by_lines short (a_bad_line text)
 

@@ -7,20 +7,17 @@ use Rattle.pin_lines.specs.FirstFaults.{IsFirstBadLine}
 use Rattle.trace_tool.specs.Texts.{bad_line_text, too_long_line}
 use Rattle.pin_waves.specs.Items.{items_in}
 use Rattle.pin_waves.specs.Waves.{wave_text}
+use Rattle.trace_check.specs.Limits.{trace_limit}
 use Rattle.wave_tool.specs.declared.status.WaveStatus.{WaveStatus}
 use Rattle.wave_tool.specs.declared.status.WaveStatus.TheVariants.{Written, BadLine, TooLong, Usage}
 use Rattle.wave_tool.specs.Words.{IsRequest, IsUsage}
 
--- the most bytes of a trace
-abbrev pub most_bytes : ℕ
-most_bytes = 67108864
-
 -- What is written of the text of a trace, and the status: it is too long, or it has a first bad line, or its clocks and
 -- waits are written as a wave.
 pub data WaveAnswer (text : List ℕ) : List ℕ → WaveStatus → Type 0 where
-  too_long : most_bytes < length text → WaveAnswer text too_long_line TooLong
-  bad_line : (n : ℕ) → length text ≤ most_bytes → IsFirstBadLine text n → WaveAnswer text (bad_line_text n) (BadLine n)
-  written : length text ≤ most_bytes → has_bad_line text ≡ false → WaveAnswer text (wave_text (items_in text)) Written
+  too_long : trace_limit < length text → WaveAnswer text too_long_line TooLong
+  bad_line : (n : ℕ) → length text ≤ trace_limit → IsFirstBadLine text n → WaveAnswer text (bad_line_text n) (BadLine n)
+  written : length text ≤ trace_limit → has_bad_line text ≡ false → WaveAnswer text (wave_text (items_in text)) Written
 
 -- The same for a file, where it is held.
 abbrev pub FileAnswer : Option (List ℕ) → List ℕ → WaveStatus → Type 0

@@ -1,5 +1,6 @@
 //! What is answered for the trace in a file.
 ghost use Rattle.std.specs.Prelude.{◌≡◌, ◌≤◌, Some, length};
+ghost use Rattle.trace_check.specs.Limits.{trace_limit};
 ghost use Rattle.tool_io.specs.Lines.{IsWhole, IsSinkUntouched};
 ghost use Rattle.tool_frame.specs.Answers.{Says, KeepsOutput};
 ghost use Rattle.tool_frame.specs.Files.{OfFile, KeepsShelf};
@@ -10,15 +11,12 @@ use pin_waves::put_wave;
 use std::alloc::Global;
 use tool_frame::NoAnswer;
 use tool_io::{Lines, ReadRefused, Shelf, Sink, read_whole};
-use trace_check::first_bad_line;
+use trace_check::{TRACE_LIMIT, first_bad_line};
 use trace_tool::{put_bad_line, put_too_long};
-
-/// The most bytes of a trace.
-const TRACE_LIMIT: u32 = 67_108_864;
 
 // Answers the text of a trace.
 fn answer_text<K: Sink>(text: &[u8], lines: &mut Lines<K>) -> Result<WaveStatus, NoAnswer>
-    requires few { length text.now ≤ 67108864 }
+    requires few { length text.now ≤ trace_limit }
     requires whole { IsWhole lines.old }
     ensures says { Says K.written (WaveAnswer text.now) ⊥ lines.old lines.new result }
     ensures output { KeepsOutput K.faults K.is_last lines.old lines.new result }

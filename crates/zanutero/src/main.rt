@@ -1,7 +1,6 @@
 //! The tool over the real files and the real output.
 #![tactic(auto)]
 
-use tool_frame::{NO_WORDS, words_of};
 use dev_card::Device;
 use device_rack::{fill_rack, is_rack};
 use play_status::Status;
@@ -9,6 +8,7 @@ use std::alloc::AllocError;
 use std::io;
 use std::process::ExitCode;
 use tool_command::run_command;
+use tool_frame::{NO_WORDS, words_of};
 use tool_io::{FileShelf, StdSink};
 
 // Makes the devices of the rack, and runs the command with them.

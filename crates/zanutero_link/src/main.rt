@@ -1,13 +1,13 @@
 //! The server of a link, over the real files and the real output.
 #![tactic(auto)]
 
-use tool_frame::{NO_WORDS, text_asked, words_of, write_text};
 use dev_card::Device;
 use device_rack::{fill_rack, is_rack};
 use link_tool::{HELP, LinkStatus, VERSION, run_link};
 use std::alloc::AllocError;
 use std::io;
 use std::process::ExitCode;
+use tool_frame::{NO_WORDS, text_asked, words_of, write_text};
 use tool_io::{FileShelf, StdSink};
 
 // Writes a text.

@@ -1,13 +1,13 @@
 //! Whether a play is quiet, over the real files and the real output.
 #![tactic(auto)]
 
-use tool_frame::{NO_WORDS, words_of};
 use dev_card::Device;
 use device_rack::{fill_rack, is_rack};
 use quiet_tool::{QuietStatus, run_command};
 use std::alloc::AllocError;
 use std::io;
 use std::process::ExitCode;
+use tool_frame::{NO_WORDS, words_of};
 use tool_io::{FileShelf, StdSink};
 
 // Makes the devices of the rack, and runs the command with them.

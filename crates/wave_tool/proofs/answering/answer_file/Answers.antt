@@ -1,8 +1,8 @@
 use Rattle.std.proofs.Common.{ap, Err, Some, refl}
 use Rattle.tool_frame.proofs.AnswerLemmas.{says_within, says_failed, said_text, said_front}
 use Rattle.named_files.proofs.BoardLemmas.{of_whole_file, of_long_file, of_file_as, of_any_file}
+use Rattle.trace_check.specs.Limits.{trace_limit}
 use Rattle.wave_tool.specs.declared.status.WaveStatus.TheVariants.{TooLong}
-use Rattle.wave_tool.specs.Answers.{most_bytes}
 use Rattle.wave_tool.proofs.AnswerLemmas.{long_answer}
 use Rattle.wave_tool.proofs.answering.answer_file.Goals as goal
 
@@ -15,12 +15,12 @@ pub returns-in_err-put_too_long-in-Err-TooLong-clause-says : goal.returns-in_err
 returns-in_err-put_too_long-in-Err-TooLong-clause-says g c =
     of_file_as (λ held more. says_failed _ _ _ _ _ c.from_residual.result c.from_residual.ensures.1
     (said_front _ TooLong (long_answer held more) c.in_err-put_too_long-in-Err-TooLong.ensures.put.front))
-    (of_long_file (g.S.Shelf.told c.args.shelf.now) c.args.path.now most_bytes (c.in-Err-TooLong.ensures.long (ap Err c.in-Err-TooLong.field-0-is)))
+    (of_long_file (g.S.Shelf.told c.args.shelf.now) c.args.path.now trace_limit (c.in-Err-TooLong.ensures.long (ap Err c.in-Err-TooLong.field-0-is)))
 
 pub returns-in_ok-put_too_long-in-Err-TooLong-clause-says : goal.returns-in_ok-put_too_long-in-Err-TooLong-clause-says
 returns-in_ok-put_too_long-in-Err-TooLong-clause-says g c =
     of_file_as (λ held more. said_text _ (long_answer held more) c.in_ok-put_too_long-in-Err-TooLong.ensures.put.ok)
-    (of_long_file (g.S.Shelf.told c.args.shelf.now) c.args.path.now most_bytes (c.in-Err-TooLong.ensures.long (ap Err c.in-Err-TooLong.field-0-is)))
+    (of_long_file (g.S.Shelf.told c.args.shelf.now) c.args.path.now trace_limit (c.in-Err-TooLong.ensures.long (ap Err c.in-Err-TooLong.field-0-is)))
 
 pub returns-in-Err-ReadFault-clause-says : goal.returns-in-Err-ReadFault-clause-says
 returns-in-Err-ReadFault-clause-says g c = of_any_file (g.S.Shelf.told c.args.shelf.now) (Some c.args.path.now) (λ held. refl)
