@@ -25,6 +25,9 @@ import threading
 import time
 
 TOP = os.path.dirname(os.path.dirname(os.path.realpath(__file__)))
+sys.path.insert(0, f"{TOP}/scripts")
+from kit import keeps_proofs
+
 TICKS = os.sysconf("SC_CLK_TCK")
 KINDS = ("proof", "proof for edits", "edits", "tests")
 DEAREST = 10
@@ -152,12 +155,6 @@ def watched(words, folder, each_line):
     return status, watch
 
 
-def gate_words():
-    """The command that proves all from nothing. A kit that keeps proofs for all checkouts has a word for that."""
-    usage = subprocess.run(["rt", "help"], stdout=subprocess.PIPE, stderr=subprocess.STDOUT, errors="replace")
-    return ["rt", "ci", "--anew"] if "--anew" in usage.stdout else ["rt", "ci"]
-
-
 def run_gate(folder):
     """Runs the gate, and shows on standard error what it says of failures."""
 
@@ -165,7 +162,8 @@ def run_gate(folder):
         if re.match(r"rt: .*(NOT |FAILED|BAD)|\d+ passed", line):
             print(line, end="", file=sys.stderr, flush=True)
 
-    return watched(gate_words(), folder, each_line)
+    # (a kit that keeps proofs for all checkouts has a word that takes none of them)
+    return watched(["rt", "ci", *["--anew"] * keeps_proofs()], folder, each_line)
 
 
 def time_tests(folder, crate):

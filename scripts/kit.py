@@ -13,6 +13,12 @@ def release_of(kit):
     return (int(found[1]), found[2]) if found else (0, "")
 
 
+def keeps_proofs():
+    """Whether `rt ci` keeps what it proves beside the kit, for later runs; such a kit has a word to prove all anew."""
+    how = {"stdout": subprocess.PIPE, "stderr": subprocess.STDOUT, "errors": "replace"}
+    return "--anew" in subprocess.run(["rt", "help"], **how).stdout
+
+
 def kit_fault():
     """What to do about a kit that is missing or too old, or nothing if there is one that serves."""
     if not shutil.which("rt"):
