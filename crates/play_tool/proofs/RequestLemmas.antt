@@ -1,5 +1,5 @@
 -- On answers to requests: the board comes first, and the program after it.
-use Rattle.std.proofs.Common.{◌≡◌, ◌∙◌, ◌⊎◌, inl, inr, ℕ, Bool, true, false, List, Option, None, Some, Result, Ok, Err, IfSome, refl, sym, ap, subst}
+use Rattle.std.proofs.Common.{◌≡◌, ◌∙◌, ◌⊎◌, inl, inr, ℕ, Bool, true, false, List, [], ◌∷◌, map, Option, None, Some, Result, Ok, Err, IfSome, refl, sym, ap, subst}
 use Rattle.std.specs.Option.{option_map}
 use Rattle.std.specs.Prelude.{IsErrAnd}
 use Rattle.tool_io.specs.declared.lines.Lines.{Lines}
@@ -12,7 +12,7 @@ use Rattle.board_text.specs.declared.reason.BoardReason.{BoardReason}
 use Rattle.tool_frame.specs.declared.no_answer.NoAnswer.{NoAnswer}
 use Rattle.tool_frame.specs.declared.no_answer.NoAnswer.TheVariants.{Read, Write, Memory}
 use Rattle.tool_frame.proofs.AnswerLemmas.{IsWithin, says_within, says_failed, said_text, said_front}
-use Rattle.tool_frame.specs.Files.{file_named, AreRead, OfFile, HasReadCause}
+use Rattle.tool_frame.specs.Files.{file_named, AreRead, OfFile, OfFiles, HasReadCause}
 use Rattle.named_files.specs.Boards.{HasBoard, HasBoardFault, ReadsBoard, ReadsBoardFault}
 use Rattle.named_files.specs.Texts.{board_refusal_line}
 use Rattle.named_files.proofs.BoardLemmas.{one_held, board_or_fault}
@@ -26,7 +26,7 @@ use Rattle.play_status.specs.declared.status.Status.TheVariants.{BoardRefused}
 use Rattle.code_plays.proofs.PlayLemmas.{rack_as, rack_failed, rack_refused, rack_unread}
 use Rattle.play_tool.specs.Answers.{FileAnswer, Contents, contents_in, RequestAnswer, board_refused, board_read, SoakAnswer, ModeAnswer, WordsAnswer, usage, asked}
 use Rattle.play_tool.specs.FinalRacks.{HeldFinal, RequestHoldsFinal, SoakHoldsFinal, ModeHoldsFinal, WordsHoldFinal}
-use Rattle.play_tool.specs.ReadContents.{OfContents, OfWords, HoldsBoard, IsReached, source_reached, IsReachedBy, IsPlaying, AskForPlay, IsUntouched, Answers}
+use Rattle.play_tool.specs.ReadContents.{OfContents, OfWords, NamesPlayFiles, HoldsBoard, IsReached, source_reached, IsReachedBy, IsPlaying, AskForPlay, IsUntouched, Answers}
 
 -- The board is right: the answer to the request is that for the program.
 
@@ -136,6 +136,21 @@ of_any_words told words {Q = Q} f = by (request_or_usage words)
     by : ((request : Request) × IsRequest words request) ⊎ ((n : ℕ) × IsUsage words n) → OfWords told words Q
     by (inl asks) = of_request told asks.1 (of_any_contents told asks.0 f) (λ contents q. q)
     by (inr unread) = of_no_request told (λ request asks. no_usage asks unread.1) f
+
+places_read : (told : Option (List (List ℕ × List ℕ))) (named : List (Option (List ℕ))) (request : Request) (contents : Contents) →
+    named ≡ request.board ∷ source_of request ∷ [] → IfSome told (λ files. contents_in files request ≡ contents) →
+    IfSome told (λ files. map (file_named files) named ≡ contents.board ∷ contents.source ∷ [])
+places_read None named request contents e same = tt
+places_read (Some files) named request contents e same = ap (map (file_named files)) e ∙ ap (λ (c : Contents). c.board ∷ c.source ∷ []) same
+
+-- the same by the places of the files
+pub of_play_files : (told : Option (List (List ℕ × List ℕ))) (words : List (List ℕ)) {P : Contents → Type 0} {Q : List (Option (List ℕ)) → Type 0} →
+    ((contents : Contents) → P contents → Q (contents.board ∷ contents.source ∷ [])) → OfWords told words P → OfFiles (NamesPlayFiles words) told Q
+of_play_files told words f o = record {
+  contents = o.contents.board ∷ o.contents.source ∷ [];
+  read = λ named n. places_read told named n.request o.contents n.both (o.read n.request n.asked);
+  holds = f o.contents o.holds;
+}
 
 in_told : (files : List (List ℕ × List ℕ)) (words : List (List ℕ)) (contents : Contents) {text : List ℕ} {status : Status} →
     ((request : Request) → IsRequest words request → contents_in files request ≡ contents) →

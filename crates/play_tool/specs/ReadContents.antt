@@ -1,5 +1,5 @@
 -- What stands of the contents of files, as they were read. The rules are this tool's own.
-use Rattle.std.specs.Prelude.{◌≡◌, ℕ, true, List, Option, Some, Result, IsErrOf, IfSome}
+use Rattle.std.specs.Prelude.{◌≡◌, ℕ, true, List, [], ◌∷◌, Option, Some, Result, IsErrOf, IfSome}
 use Rattle.tool_io.specs.declared.lines.Lines.{Lines}
 use Rattle.tool_io.specs.Lines.{IsSinkUntouched}
 use Rattle.dev_card.specs.declared.desc.Desc.{Desc}
@@ -7,7 +7,7 @@ use Rattle.dev_card.specs.Sound.{SoundCard}
 use Rattle.tool_frame.specs.declared.no_answer.NoAnswer.{NoAnswer}
 use Rattle.tool_frame.specs.declared.no_answer.NoAnswer.TheVariants.{Read}
 use Rattle.tool_frame.specs.Answers.{Says, Wrote, HasWritten}
-use Rattle.tool_frame.specs.Files.{file_named}
+use Rattle.tool_frame.specs.Files.{file_named, first_of, second_of}
 use Rattle.named_files.specs.Boards.{HasBoard}
 use Rattle.play_words.specs.declared.mode.Mode.{Mode}
 use Rattle.play_words.specs.declared.words.Request.{Request}
@@ -32,6 +32,16 @@ pub record OfWords (told : Option (List (List ℕ × List ℕ))) (words : List (
   pub contents : Contents
   pub read : (request : Request) → IsRequest words request → IfSome told (λ files. contents_in files request ≡ contents)
   pub holds : stands contents
+
+-- The files of the request that the words are: its board at the first place, and at the second its program or its code.
+pub record NamesPlayFiles (words : List (List ℕ)) (named : List (Option (List ℕ))) : Type 0 where
+  pub request : Request
+  pub asked : IsRequest words request
+  pub both : named ≡ request.board ∷ source_of request ∷ []
+
+-- the contents by these places
+abbrev pub both_of : List (Option (List ℕ)) → Contents
+both_of contents = record { board = first_of contents; source = second_of contents }
 
 -- The store holds the board of a request, and it is a board.
 pub record HoldsBoard (request : Request) (files : List (List ℕ × List ℕ)) : Type 0 where

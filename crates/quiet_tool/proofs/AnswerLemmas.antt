@@ -1,5 +1,5 @@
 -- On answers: verdicts, and which relation holds the answers of which.
-use Rattle.std.proofs.Common.{◌≡◌, ℕ, List, Option, None, Some, Bool, subst, sym}
+use Rattle.std.proofs.Common.{◌≡◌, ℕ, List, Bool, subst, sym}
 use Rattle.tool_frame.proofs.AnswerLemmas.{IsWithin}
 use Rattle.stapl_syntax.specs.Trees.{StmtTree}
 use Rattle.stapl_syntax.specs.Programs.{IsProgram}
@@ -12,12 +12,10 @@ use Rattle.quiet_runs.specs.declared.first_turns.Verdict.{Verdict}
 use Rattle.quiet_runs.specs.declared.first_turns.Verdict.TheVariants as verdicts
 use Rattle.quiet_runs.specs.Verdicts.{IsVerdict}
 use Rattle.play_words.specs.declared.words.Request.{Request}
-use Rattle.play_tool.specs.Answers.{Contents}
 use Rattle.quiet_tool.specs.declared.status.QuietStatus.{QuietStatus}
 use Rattle.quiet_tool.specs.declared.status.QuietStatus.TheVariants.{Quiet, NotQuiet}
-use Rattle.quiet_tool.specs.Statuses.{IsFault}
 use Rattle.quiet_tool.specs.Texts.{quiet_text, unquiet_line, IsLineOf}
-use Rattle.quiet_tool.specs.Answers.{VerdictAnswer, quiet, unquiet, ChoiceAnswer, no_action, bad_choice, bad_place, judged, AskedAnswer, TextAnswer, refused, accepted, HeldAnswer, RequestAnswer, board_refused, board_read, WordsAnswer, usage, asked}
+use Rattle.quiet_tool.specs.Answers.{VerdictAnswer, quiet, unquiet, ChoiceAnswer, AskedAnswer, TextAnswer, accepted}
 
 module _ {bytes : List ℕ} {turns : ℕ} {verdict : Verdict} where
   pub verdict_quiet : (ending : Ending) (text : List ℕ) → verdict ≡ verdicts.Quiet ending → text ≡ quiet_text turns ending →
@@ -52,34 +50,3 @@ module _ {bytes : List ℕ} {program : Played} {choice : Choice} {placed : Bool}
 pub asked_within : (request : Request) (devices : List Desc) (bytes : List ℕ) (program : List StmtTree) → IsProgram bytes program →
     IsWithin (AskedAnswer bytes program request devices) (TextAnswer request devices bytes)
 asked_within request devices bytes program is = record { to = λ text status a. accepted program text status is a }
-
--- ---- no answer has the status of a fault
-
-verdict_status : {bytes : List ℕ} {program : Played} {procedures : List ℕ} {n : ℕ} {run : List Desc} {text : List ℕ} {status : QuietStatus} →
-    VerdictAnswer bytes program procedures n run text status → IsFault status → ⊥
-verdict_status (quiet ending q e) fault = fault
-verdict_status (unquiet turn piece line why first within at) fault = fault
-
-choice_status : {bytes : List ℕ} {program : Played} {choice : Choice} {placed : Bool} {n : ℕ} {run : List Desc} {text : List ℕ} {status : QuietStatus} →
-    ChoiceAnswer bytes program choice placed n run text status → IsFault status → ⊥
-choice_status (no_action e) fault = fault
-choice_status (bad_choice e) fault = fault
-choice_status (bad_place procedures e lacks) fault = fault
-choice_status (judged procedures text status e has v) fault = verdict_status v fault
-
-text_status : {request : Request} {devices : List Desc} {bytes text : List ℕ} {status : QuietStatus} → TextAnswer request devices bytes text status → IsFault status → ⊥
-text_status (refused piece line reason is) fault = fault
-text_status (accepted program text status is a) fault = choice_status a.answer fault
-
-held_status : (request : Request) (devices : List Desc) (held : Option (List ℕ)) (text : List ℕ) (status : QuietStatus) → HeldAnswer request devices held text status →
-    IsFault status → ⊥
-held_status request devices None text status a fault = a
-held_status request devices (Some bytes) text status a fault = text_status a fault
-
-request_status : {request : Request} {contents : Contents} {text : List ℕ} {status : QuietStatus} → RequestAnswer request contents text status → IsFault status → ⊥
-request_status (board_refused line reason is) fault = fault
-request_status {request = request} {contents = contents} (board_read devices text status board a) fault = held_status request devices contents.source text status a fault
-
-pub answer_status : {words : List (List ℕ)} {contents : Contents} {text : List ℕ} {status : QuietStatus} → WordsAnswer words contents text status → IsFault status → ⊥
-answer_status (usage n is) fault = fault
-answer_status (asked request text status asks a) fault = request_status a fault

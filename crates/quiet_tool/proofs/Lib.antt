@@ -4,4 +4,3 @@ pub mod RequestLemmas
 pub mod OneAnswer
 pub mod Answered
 pub mod Everywhere
-pub mod CommandLemmas

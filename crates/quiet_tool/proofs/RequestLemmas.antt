@@ -9,7 +9,8 @@ use Rattle.tool_frame.specs.Answers.{Says}
 use Rattle.tool_frame.proofs.AnswerLemmas.{IsWithin, says_within, says_failed, said_text, said_front}
 use Rattle.dev_card.specs.declared.desc.Desc.{Desc}
 use Rattle.board_text.specs.declared.reason.BoardReason.{BoardReason}
-use Rattle.tool_frame.specs.Files.{file_named, AreRead, OfFile}
+use Rattle.tool_frame.specs.Files.{file_named, AreRead, OfFile, OfFiles}
+use Rattle.tool_frame.specs.Frame.{SaysAndLeaves}
 use Rattle.named_files.specs.Boards.{HasBoard, HasBoardFault, ReadsBoard, ReadsBoardFault}
 use Rattle.named_files.specs.Texts.{board_refusal_line}
 use Rattle.play_words.specs.declared.mode.Mode.{Mode}
@@ -18,7 +19,8 @@ use Rattle.play_words.specs.declared.words.Request.{Request}
 use Rattle.play_words.specs.Words.{reads_text, source_in, source_of, IsRequest}
 use Rattle.play_words.proofs.OneRequest.{one_request}
 use Rattle.play_tool.specs.Answers.{Contents, contents_in}
-use Rattle.play_tool.specs.ReadContents.{OfContents, OfWords}
+use Rattle.play_tool.specs.ReadContents.{OfContents, OfWords, NamesPlayFiles, both_of}
+use Rattle.play_tool.proofs.RequestLemmas.{of_play_files}
 use Rattle.quiet_tool.specs.declared.status.QuietStatus.{QuietStatus}
 use Rattle.quiet_tool.specs.declared.status.QuietStatus.TheVariants.{BoardRefused}
 use Rattle.quiet_tool.specs.Words.{play_words, AskAbout}
@@ -111,3 +113,9 @@ pub words_of_request : {K : Type 0} (written : K → Option (List ℕ)) (old new
 words_of_request written old new told words request r asks o =
     of_request told asks o (λ contents says. says_within written (RequestAnswer request contents) (WordsAnswer words contents) old new r
     (request_within contents asks) (λ same. same) says)
+
+-- the same by the places of the files, and nothing is said of the rack
+pub words_by_places : {K R : Type 0} {written : K → Option (List ℕ)} {old new : Lines K} {told : Option (List (List ℕ × List ℕ))} {words : List (List ℕ)} {before after : R}
+    {r : Result QuietStatus NoAnswer} → OfWords told (play_words words) (λ contents. Says written (WordsAnswer words contents) (IsSinkUntouched old new) old new r) →
+    OfFiles (NamesPlayFiles (play_words words)) told (λ contents. SaysAndLeaves written (WordsAnswer words (both_of contents)) (λ a b result. Unit {0}) old new before after r)
+words_by_places {told = told} {words = words} o = of_play_files told (play_words words) (λ contents says. record { says = says; left = tt }) o

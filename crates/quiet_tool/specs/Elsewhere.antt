@@ -6,7 +6,6 @@ use Rattle.dev_card.specs.declared.desc.Desc.{Desc}
 use Rattle.dev_card.specs.Padding.{in_run}
 use Rattle.command_words.specs.declared.place_run.PlaceRun.{PlaceRun}
 use Rattle.named_files.specs.Boards.{HasBoard}
-use Rattle.tool_frame.specs.Answers.{Wrote}
 use Rattle.play_words.specs.declared.mode.Mode.TheVariants.{Play}
 use Rattle.play_words.specs.declared.words.Request.{Request}
 use Rattle.play_words.specs.Words.{IsRequest}
@@ -15,8 +14,6 @@ use Rattle.play_status.specs.declared.status.Status.{Status}
 use Rattle.play_tool.specs.Answers.{Contents, PlaysAction}
 use Rattle.play_tool.specs.Answers as plays
 use Rattle.play_tool.specs.Alone.{alone_request}
-use Rattle.quiet_tool.specs.declared.status.QuietStatus.{QuietStatus}
-use Rattle.quiet_tool.specs.declared.status.QuietStatus.TheVariants.{Quiet}
 use Rattle.quiet_tool.specs.Words.{AskAbout}
 use Rattle.quiet_tool.specs.Answers.{run_of}
 
@@ -63,11 +60,3 @@ IsQuietEverywhere words contents =
     (text : List ℕ) (status : Status) →
     plays.WordsAnswer other (λ request. held) text status →
     IsAsAlone contents.source q.played (run_of q.request.place q.devices) text status
-
--- What the program has done for words, with these contents of their files: it has written the answer and nothing else,
--- and the status is the answer's. If this says that the play is quiet, then a play of the same at each place of each
--- board that has these devices in a row is answered as the play on them alone.
-pub record Answered (answers : List ℕ → QuietStatus → Type 0) (words : List (List ℕ)) (contents : Contents)
-    (before after : Option (List ℕ)) (status : QuietStatus) : Type 0 where
-  pub wrote : Wrote answers before after status
-  pub everywhere : status ≡ Quiet → IsQuietEverywhere words contents

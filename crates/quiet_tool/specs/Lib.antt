@@ -3,4 +3,3 @@ pub mod Words
 pub mod Texts
 pub mod Answers
 pub mod Elsewhere
-pub mod Commands

@@ -4,7 +4,6 @@ ghost use Rattle.play_words.specs.declared.words.Request.{Request};
 ghost use Rattle.play_tool.specs.Answers.{Contents};
 ghost use Rattle.quiet_tool.specs.declared.status.QuietStatus.{QuietStatus};
 ghost use Rattle.quiet_tool.specs.declared.status.QuietStatus.TheVariants.{Quiet};
-ghost use Rattle.quiet_tool.specs.Statuses.{IsFault};
 ghost use Rattle.quiet_tool.specs.Words.{AskAbout, HasUsage};
 ghost use Rattle.quiet_tool.specs.Answers.{WordsAnswer};
 ghost use Rattle.quiet_tool.specs.Elsewhere.{IsQuietEverywhere};
@@ -45,12 +44,6 @@ pub fn words_are_answered()
     accepted_code_is_valid();
     never_stuck();
 }
-
-/// The status of an answer is that of no fault.
-pub fn answers_are_no_faults()
-    ensures { (words : List (List ℕ)) (contents : Contents) (text : List ℕ) (status : QuietStatus) →
-        WordsAnswer words contents text status → IsFault status → ⊥ }
-{}
 
 /// If the answer is that the play is quiet, then the tool answers a play of the same action, with the same choices and
 /// turns and without the clocks, at each place of each board that has these devices in a row, as the play on these

@@ -1,16 +1,15 @@
-//! The program `zanutero-quiet` as one call: it says whether a play is quiet on its devices alone, and else which is
+//! The tool of the program `zanutero-quiet`: it says whether a play is quiet on its devices alone, and else which is
 //! its first deed that is not, and why.
 #![tactic(auto)]
 
-mod command;
+mod answering;
 mod help;
+mod judge;
 mod judging;
 pub mod laws;
 mod lines;
 mod status;
-mod top;
 mod words;
 
-pub use command::run_command;
+pub use judge::QuietJudge;
 pub use status::QuietStatus;
-pub use top::run_quiet;

@@ -14,8 +14,6 @@ pub enum QuietStatus {
     /// The play is not quiet: the turn and the piece of its first deed that is not, counted from 1, or 0 of what sets
     /// the play up, and why it is not.
     NotQuiet(u32, u32, Unquiet),
-    /// The text of `--help` or `--version` is written.
-    Shown,
     /// The program is refused: the piece, counted from 1, of its first fault, or 0 if the text is too long, and the
     /// reason.
     Refused(u32, Reason),
@@ -30,29 +28,19 @@ pub enum QuietStatus {
     BadPlace,
     /// The first word, counted from 1, that is not as stated, or the number of words plus 1 if one is missing.
     Usage(u32),
-    /// A file that the words name could not be read. Nothing is written.
-    ReadFault,
-    /// The output could not be written. What is written is a prefix of the text.
-    WriteFault,
-    /// There was no memory. Nothing is written.
-    Memory,
 }
 
 impl QuietStatus {
-    /// The exit code of the process: those of a play for what is refused and for faults, and 17 for a play that is not
-    /// quiet.
+    /// The exit code of the process: those of a play for what is refused, and 17 for a play that is not quiet.
     pub fn exit_code(&self) -> u8
         ensures { result ≡ exit_code_of self.now }
     {
         match self {
-            QuietStatus::Quiet | QuietStatus::Shown => 0,
+            QuietStatus::Quiet => 0,
             QuietStatus::Refused(_, _) => 4,
             QuietStatus::BoardRefused(_, _) => 5,
             QuietStatus::NoAction | QuietStatus::BadChoice | QuietStatus::BadPlace => 6,
             QuietStatus::Usage(_) => 7,
-            QuietStatus::ReadFault => 9,
-            QuietStatus::WriteFault => 10,
-            QuietStatus::Memory => 11,
             QuietStatus::NotQuiet(_, _, _) => 17,
         }
     }

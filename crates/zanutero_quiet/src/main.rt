@@ -3,15 +3,18 @@
 
 use dev_card::Device;
 use device_rack::{fill_rack, is_rack};
-use quiet_tool::{QuietStatus, run_command};
+use quiet_tool::QuietJudge;
 use std::alloc::AllocError;
 use std::io;
 use std::process::ExitCode;
-use tool_frame::{NO_WORDS, words_of};
+use tool_frame::{NO_WORDS, run_program, words_of};
 use tool_io::{FileShelf, StdSink};
 
-// Makes the devices of the rack, and runs the command with them.
-fn run(rt: &HostRuntime, words: &[String]) -> Result<QuietStatus, AllocError> {
+// The exit code if there is no memory for the rack.
+const NO_RACK: u8 = 11;
+
+// Makes the devices of the rack, and runs the program with them.
+fn run(rt: &HostRuntime, words: &[String]) -> Result<u8, AllocError> {
     let alloc = rt.alloc();
     let mut rack: Vec<Box<dyn Device>> = Vec::new(alloc);
     fill_rack!(alloc, rack);
@@ -21,13 +24,12 @@ fn run(rt: &HostRuntime, words: &[String]) -> Result<QuietStatus, AllocError> {
     }
     let mut shelf = FileShelf::new(rt);
     let mut out = StdSink::new(io::writer(rt));
-    Ok(run_command(alloc, words, &mut shelf, &mut rack, &mut out))
+    Ok(run_program(&QuietJudge, alloc, words, &mut shelf, &mut rack, &mut out))
 }
 
 fn main(rt: HostRuntime) -> ExitCode {
     let Some(words) = words_of(&rt) else {
         return ExitCode::from(NO_WORDS);
     };
-    let status = run(&rt, &words).unwrap_or(QuietStatus::Memory);
-    ExitCode::from(status.exit_code())
+    ExitCode::from(run(&rt, &words).unwrap_or(NO_RACK))
 }

@@ -4,7 +4,7 @@ use Rattle.named_files.proofs.BoardLemmas.{of_any_file}
 use Rattle.program_files.proofs.ProgramLemmas.{of_text, fault_is, refusal_failed, refusal_put}
 use Rattle.quiet_tool.specs.Answers.{TextAnswer, refused}
 use Rattle.quiet_tool.proofs.AnswerLemmas.{asked_within}
-use Rattle.quiet_tool.proofs.top.answer_file.Goals as goal
+use Rattle.quiet_tool.proofs.answering.answer_file.Goals as goal
 
 pub returns-in-Ok-clause-says : goal.returns-in-Ok-clause-says
 returns-in-Ok-clause-says g c =

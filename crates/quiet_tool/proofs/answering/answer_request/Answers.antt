@@ -6,7 +6,7 @@ use Rattle.named_files.proofs.BoardLemmas.{fault_is}
 use Rattle.play_tool.specs.ReadContents.{board_reached}
 use Rattle.play_tool.proofs.RequestLemmas.{source_cause, of_any_contents}
 use Rattle.quiet_tool.proofs.RequestLemmas.{play_source, request_of_file, board_failed, board_is_refused}
-use Rattle.quiet_tool.proofs.top.answer_request.Goals as goal
+use Rattle.quiet_tool.proofs.answering.answer_request.Goals as goal
 
 pub unreachable-requires : goal.unreachable-requires
 unreachable-requires g c =
