@@ -15,9 +15,9 @@ def shown(text):
     return whole if len(whole) <= SHOWN else f"{whole[:SHOWN]}.. ({len(text)} bytes)"
 
 
-def ran(command, folder, out=subprocess.PIPE):
+def ran(command, folder, out=subprocess.PIPE, seconds=SECONDS):
     """What a command writes on its two outputs, and its exit code."""
-    how = {"stdin": subprocess.DEVNULL, "stdout": out, "stderr": subprocess.PIPE, "timeout": SECONDS}
+    how = {"stdin": subprocess.DEVNULL, "stdout": out, "stderr": subprocess.PIPE, "timeout": seconds}
     done = subprocess.run(command, cwd=folder, **how)
     return done.stdout or b"", done.stderr, done.returncode
 

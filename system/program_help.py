@@ -8,6 +8,11 @@ def answer(program, word):
     return subprocess.run([program, word], stdout=subprocess.PIPE, check=True, universal_newlines=True).stdout
 
 
+def parts_of_help(program):
+    """The paragraphs of the program's --help."""
+    return answer(program, "--help").split("\n\n")
+
+
 class Help:
     """The parts of the program's --help: what it is, its modes with their keys, the other first words with what follows
     them, examples and exit codes.
@@ -16,7 +21,7 @@ class Help:
     """
 
     def __init__(self, program):
-        title, usage, examples, codes = answer(program, "--help").split("\n\n")
+        title, usage, examples, codes = parts_of_help(program)
         self.title = title.partition(": ")[2]
         self.examples, *self.commands = examples.split("\n")
         lines = re.sub(r"\n +\[", " [", usage)
