@@ -3,7 +3,6 @@
 use Rattle.std.proofs.Common.{◌≡◌, ◌≤◌, ◌↔◌, ℕ, Bool, true, false, List, [], ◌∷◌, All, Option, None, Some, length, map, refl, sym, ap, ◌∙◌, subst, arith}
 use Rattle.std.proofs.lemmas.Bool.{true≢false}
 use Rattle.std.proofs.lemmas.List.{take_all}
-use Rattle.std.proofs.lemmas.Option.{same_Some}
 use Rattle.std.specs.Str.Lines.{lines}
 use Rattle.stapl_syntax.specs.Programs.{IsProgram}
 use Rattle.stapl_syntax.specs.Trees.{StmtTree}
@@ -25,17 +24,15 @@ use Rattle.stapl_meaning.specs.Texts.{asked_report, text_of}
 use Rattle.command_words.specs.declared.place_run.PlaceRun.{PlaceRun}
 use Rattle.named_files.specs.Boards.{HasBoard}
 use Rattle.play_status.specs.declared.status.Status.{Status}
-use Rattle.play_words.specs.declared.mode.Mode.{Mode}
-use Rattle.play_words.specs.declared.mode.Mode.TheVariants.{Play}
-use Rattle.play_words.specs.declared.words.Request.{Request}
-use Rattle.play_words.specs.Words.{reads_text}
+use Rattle.tool_frame.specs.Files.{first_of, second_of}
+use Rattle.play_words.specs.declared.requests.PlayRequest.{PlayRequest}
 use Rattle.code_plays.specs.Plays.{done_with, has_place, neighbours, reported_far, asked_text, base_at, Plays, no_action, bad_choice, bad_place, played}
-use Rattle.play_tool.specs.Answers.{Contents, PlaysAction, PlaysAsked, Work, TextAnswer, FileAnswer, RequestAnswer, board_read}
-use Rattle.play_tool.proofs.AnswerLemmas.{plays_asked, asked_plays, work_answers, answers_work, text_to_source, source_to_text}
-use Rattle.play_tool.proofs.RequestLemmas.{the_file}
+use Rattle.play_tool.specs.declared.sources.Source.TheVariants.{Program}
+use Rattle.play_tool.specs.Answers.{PlaysAction, SourceAnswer, HeldAnswer, PlayAnswer}
+use Rattle.play_tool.proofs.AnswerLemmas.{text_of_program, program_in_text, bytes_of_held, held_of_bytes, devices_of_board, board_of_devices}
 use Rattle.carried_plays.specs.CarriedPrograms.{padding_number, choice_with}
 use Rattle.carried_padding.specs.CarriedPadding.{AreSamePlays, CarriesPaddingOf}
-use Rattle.carried_answers.specs.CarriedRequests.{carried_request, with_program, IsCarriedRequest}
+use Rattle.carried_answers.specs.CarriedRequests.{carried_request, IsCarriedRequest}
 
 -- ---- the board
 
@@ -44,15 +41,13 @@ begun text devices b =
     let all = lines text in
     subst AreBegun (ap devices_of (take_all (length all) all (omega arith)) ∙ sym b.described) (all_begun all (length all) (omega arith) b.faultless)
 
-pub devices_good : (named held : Option (List ℕ)) (devices : List Desc) → HasBoard named held devices → All IsGood devices
-devices_good None held devices none = subst (λ (ds : List Desc). All IsGood ds) (sym none) (λ k d h. absurd (omega (arith, h)))
-devices_good (Some path) None devices h = absurd h
-devices_good (Some path) (Some bytes) devices b = good_at_end devices (begun bytes devices b) b.finished
+pub devices_good : (held : Option (List ℕ)) (devices : List Desc) → HasBoard held devices → All IsGood devices
+devices_good None devices h = absurd h
+devices_good (Some bytes) devices b = good_at_end devices (begun bytes devices b) b.finished
 
-pub devices_few : (named held : Option (List ℕ)) (devices : List Desc) → HasBoard named held devices → length devices ≤ most_devices
-devices_few None held devices none = let e : length devices ≡ 0 = ap (λ (ds : List Desc). length ds) none in omega (arith, e)
-devices_few (Some path) None devices h = absurd h
-devices_few (Some path) (Some bytes) devices b = (begun bytes devices b).few
+pub devices_few : (held : Option (List ℕ)) (devices : List Desc) → HasBoard held devices → length devices ≤ most_devices
+devices_few None devices h = absurd h
+devices_few (Some bytes) devices b = (begun bytes devices b).few
 
 -- ---- an action that is played
 
@@ -80,7 +75,7 @@ chosen_only p (choices.chosen qs) ps e = record { others = qs; are = refl; whole
     inner : choices.chosen (p ∷ qs) ≡ choices.chosen ps → p ∷ qs ≡ ps
     inner e = cc
 
-module _ (request : Request) (no_report : request.report ≡ false) (p : ℕ) (old new : Choice) (same : new ≡ choice_with p old) (placed : Bool) (there : placed ≡ true)
+module _ (request : PlayRequest) (no_report : request.report ≡ false) (p : ℕ) (old new : Choice) (same : new ≡ choice_with p old) (placed : Bool) (there : placed ≡ true)
     (old_play new_play : List ℕ → Run) (plays : (ps : List ℕ) → old ≡ choices.chosen ps → AreSamePlays (old_play ps) (new_play (p ∷ ps))) where
   abbrev PlaysOld : List ℕ → Status → Type 0
   PlaysOld = Plays old placed old_play request
@@ -116,51 +111,42 @@ module _ (request : Request) (no_report : request.report ≡ false) (p : ℕ) (o
       (subst (λ (bytes : List ℕ). PlaysOld bytes (done_with ending)) (text_same (old_play c.others) (new_play (p ∷ c.others)) ending s)
       (played c.others ending c.are there (sym (ap ending_of s.same_outcome) ∙ over)))
 
--- ---- the answer to a request for a play of a program
+-- ---- the answer to a play of a program
 
-module _ (request : Request) (contents : Contents) (plays : request.mode ≡ Play) (action : List ℕ) (named : request.action ≡ Some action) (devices : List Desc)
-    (board : HasBoard request.board contents.board devices) (bytes : List ℕ) (held : contents.source ≡ Some bytes) (program : List StmtTree) (is : IsProgram bytes program) where
-  answer_action : (text : List ℕ) (status : Status) → RequestAnswer request contents text status → PlaysAction program action request devices text status
+module _ (request : PlayRequest) (board held : Option (List ℕ)) (devices : List Desc) (has : HasBoard board devices) (bytes : List ℕ) (is_held : held ≡ Some bytes)
+    (program : List StmtTree) (is : IsProgram bytes program) where
+  answer_action : (text : List ℕ) (status : Status) → PlayAnswer Program request board held text status → PlaysAction request devices program text status
   answer_action text status a =
-      let file : FileAnswer request devices contents.source text status = the_file {contents = contents} devices board a in
-      let own : TextAnswer request devices file.bytes text status =
-      (source_to_text request devices file.bytes (reads_text request.mode) (ap reads_text plays)).to text status file.answer in
-      let read : TextAnswer request devices bytes text status =
-      subst (λ (z : List ℕ). TextAnswer request devices z text status) (same_Some file.bytes bytes (sym file.held ∙ held)) own in
-      let work : Work request devices bytes program request.mode text status = (answers_work request devices bytes bytes program refl is).to text status read in
-      (asked_plays request devices program named).to text status (subst (λ (m : Mode). Work request devices bytes program m text status) plays work)
+      let source = (devices_of_board {held = board} {answers = λ (ds : List Desc). HeldAnswer (SourceAnswer Program request ds) held} devices has).to text status a in
+      let read = (bytes_of_held (SourceAnswer Program request devices) held bytes is_held).to text status source in
+      (text_of_program {answers = PlaysAction request devices} program is).to text status read
 
-  action_answer : (text : List ℕ) (status : Status) → PlaysAction program action request devices text status → RequestAnswer request contents text status
+  action_answer : (text : List ℕ) (status : Status) → PlaysAction request devices program text status → PlayAnswer Program request board held text status
   action_answer text status a =
-      let asked : PlaysAsked program request devices text status = (plays_asked request devices program named).to text status a in
-      let work : Work request devices bytes program request.mode text status = subst (λ (m : Mode). Work request devices bytes program m text status) (sym plays) asked in
-      let read : TextAnswer request devices bytes text status = (work_answers request devices bytes bytes program refl is).to text status work in
-      board_read devices text status board (record {
-        bytes = bytes;
-        held = held;
-        answer = (text_to_source request devices bytes (reads_text request.mode) (ap reads_text plays)).to text status read;
-      })
+      let read = (program_in_text {answers = PlaysAction request devices} {bytes = bytes} program is).to text status a in
+      let source = (held_of_bytes (SourceAnswer Program request devices) held bytes is_held).to text status read in
+      (board_of_devices {held = board} {answers = λ (ds : List Desc). HeldAnswer (SourceAnswer Program request ds) held} devices has).to text status source
 
 -- ---- both
 
-pub answered_alike : (request : Request) (contents : Contents) (new : List ℕ) (q : IsCarriedRequest request contents new) →
+pub answered_alike : (request : PlayRequest) (contents : List (Option (List ℕ))) (new : List ℕ) (q : IsCarriedRequest request contents new) →
     CarriesPaddingOf q.devices (neighbours q.run) q.program q.own → (text : List ℕ) (status : Status) →
-    RequestAnswer request contents text status ↔ RequestAnswer (carried_request request) (with_program new contents) text status
+    PlayAnswer Program request (first_of contents) (second_of contents) text status ↔ PlayAnswer Program (carried_request request) (first_of contents) (Some new) text status
 answered_alike request contents new q carries text status =
     let p : ℕ = padding_number q.program in
-    let old : Choice = choice_of (as_played q.program) q.action request.todo request.skip in
-    let other : Choice = choice_of (as_played q.own) q.action request.todo request.skip in
-    let same : other ≡ choice_with p old = carries.choices q.action request.todo request.skip in
+    let old : Choice = choice_of (as_played q.program) request.action request.todo request.skip in
+    let other : Choice = choice_of (as_played q.own) request.action request.todo request.skip in
+    let same : other ≡ choice_with p old = carries.choices request.action request.todo request.skip in
     let old_play : List ℕ → Run = λ ps. play (as_played q.program) ps request.turns (base_at q.devices request.place) (Told (map fresh q.devices)) in
     let new_play : List ℕ → Run = λ ps. play (as_played q.own) ps (carried_request request).turns (base_at q.devices None) (Told (map fresh q.devices)) in
     let alike : (ps : List ℕ) → old ≡ choices.chosen ps → AreSamePlays (old_play ps) (new_play (p ∷ ps)) =
     λ ps e. subst (λ (at : Option PlaceRun). AreSamePlays (play (as_played q.program) ps request.turns (base_at q.devices at) (Told (map fresh q.devices))) (new_play (p ∷ ps)))
-    (sym q.for_run) (carries.plays q.action request.todo request.skip ps e request.turns) in
+    (sym q.for_run) (carries.plays request.action request.todo request.skip ps e request.turns) in
     let there : has_place request.place q.devices ≡ true = ap (λ (at : Option PlaceRun). has_place at q.devices) q.for_run ∙ q.placed in (
-      λ a. action_answer (carried_request request) (with_program new contents) q.plays q.action q.named q.devices q.board new refl q.own q.read text status
+      λ a. action_answer (carried_request request) (first_of contents) (Some new) q.devices q.board new refl q.own q.read text status
           (to_new request q.no_report p old other same (has_place request.place q.devices) there old_play new_play alike text status
-          (answer_action request contents q.plays q.action q.named q.devices q.board q.bytes q.held q.program q.is text status a)),
-      λ a. action_answer request contents q.plays q.action q.named q.devices q.board q.bytes q.held q.program q.is text status
+          (answer_action request (first_of contents) (second_of contents) q.devices q.board q.bytes q.held q.program q.is text status a)),
+      λ a. action_answer request (first_of contents) (second_of contents) q.devices q.board q.bytes q.held q.program q.is text status
           (to_old request q.no_report p old other same (has_place request.place q.devices) there old_play new_play alike text status
-          (answer_action (carried_request request) (with_program new contents) q.plays q.action q.named q.devices q.board new refl q.own q.read text status a)),
+          (answer_action (carried_request request) (first_of contents) (Some new) q.devices q.board new refl q.own q.read text status a)),
     )

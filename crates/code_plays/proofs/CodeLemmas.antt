@@ -1,5 +1,5 @@
 -- On a code and what is chosen of it.
-use Rattle.std.proofs.Common.{◌≡◌, ◌∙◌, ℕ, true, List, Option, Some, refl, sym, ap, subst}
+use Rattle.std.proofs.Common.{◌≡◌, ◌∙◌, ℕ, true, List, Option, refl, sym, ap, subst}
 use Rattle.stapl_meaning.specs.Choices.{Choice, chosen}
 use Rattle.stapl_meaning.specs.Plays.{Run}
 use Rattle.stapl_code.specs.declared.raw.CodeLists.{CodeLists}
@@ -11,7 +11,7 @@ use Rattle.dev_card.specs.declared.desc.Desc.{Desc}
 use Rattle.dev_card.specs.Sound.{SoundCard}
 use Rattle.chain_sim.specs.Rack.{places_of}
 use Rattle.code_plays.specs.declared.playing.Task.{Task}
-use Rattle.play_words.specs.declared.words.Request.{Request}
+use Rattle.play_words.specs.declared.requests.PlayRequest.{PlayRequest}
 use Rattle.code_plays.specs.Plays.{has_place, code_play_on}
 use Rattle.code_plays.specs.CodePlays.{task_play, IsPlayOf}
 use Rattle.code_plays.specs.Racks.{AreLeft, CodeHoldsFinal}
@@ -42,12 +42,10 @@ code_play_of task code procedures e placed = record {
 }
 
 -- the run that left the devices is that of the chosen procedures
-pub code_left_final : {code : CodeLists} {request : Request} {devices : List Desc} {rack : List (Option SoundCard)} {run : Run} {action : List ℕ} → request.action ≡ Some action →
-    IsPlayOf (code_choice code action request.todo request.skip) (has_place request.place devices) (code_play_on code request devices) run →
+pub code_left_final : {code : CodeLists} {request : PlayRequest} {devices : List Desc} {rack : List (Option SoundCard)} {run : Run} →
+    IsPlayOf (code_choice code request.action request.todo request.skip) (has_place request.place devices) (code_play_on code request devices) run →
     AreLeft rack (places_of devices) devices run.chain.far → CodeHoldsFinal code request devices rack
-code_left_final {devices = devices} {rack = rack} {action = action} asked p l = record {
-  action = action;
-  asked = asked;
+code_left_final {devices = devices} {rack = rack} p l = record {
   procedures = p.procedures;
   choice = p.are_chosen;
   left = subst (AreLeft rack (places_of devices) devices) p.same_far l;

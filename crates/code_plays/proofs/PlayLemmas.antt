@@ -39,7 +39,7 @@ use Rattle.written_cable.specs.Ports.{IfFault}
 use Rattle.play_status.specs.declared.status.Status.{Status}
 use Rattle.play_status.specs.Statuses.{IsPlayed, ComesBeforeFitting}
 use Rattle.command_words.specs.declared.place_run.PlaceRun.{PlaceRun}
-use Rattle.play_words.specs.declared.words.Request.{Request}
+use Rattle.play_words.specs.declared.requests.PlayRequest.{PlayRequest}
 use Rattle.code_plays.specs.Plays.{done_with, has_place, reported_far, asked_text, Plays, played}
 use Rattle.code_plays.specs.CodePlays.{NeverRises, HasEnding, line_of, run_lines, Ends, IsPlayOf}
 use Rattle.code_plays.specs.Racks.{far_at, AreLeft, KeepsRack}
@@ -54,7 +54,7 @@ has_ending run goes = of_outcome run.outcome refl
     of_outcome Stopped e = absurd (goes e)
 
 -- With a choice, the text of a run is that of the play.
-plays_so : {choice : Choice} {placed : Bool} {plays : List ℕ → Run} (request : Request) (run : Run) (ending : Ending) → IsPlayOf choice placed plays run →
+plays_so : {choice : Choice} {placed : Bool} {plays : List ℕ → Run} (request : PlayRequest) (run : Run) (ending : Ending) → IsPlayOf choice placed plays run →
     ending_of run.outcome ≡ Some ending → Plays choice placed plays request (asked_text request run.events run.chain.far ending) (done_with ending)
 plays_so {choice = choice} {placed = placed} {plays = plays} request run ending p e =
     subst (λ (events : List Event). Plays choice placed plays request (asked_text request events run.chain.far ending) (done_with ending)) (sym p.same_events)
@@ -62,33 +62,33 @@ plays_so {choice = choice} {placed = placed} {plays = plays} request run ending 
     (played p.procedures ending p.are_chosen p.is_placed (sym p.same_ending ∙ e)))
 
 -- With a choice, what a run comes to is what is written of the play.
-pub ends_played : {choice : Choice} {placed : Bool} {plays : List ℕ → Run} (request : Request) (run : Run) → IsPlayOf choice placed plays run →
+pub ends_played : {choice : Choice} {placed : Bool} {plays : List ℕ → Run} (request : PlayRequest) (run : Run) → IsPlayOf choice placed plays run →
     IsWithin (Ends request run) (Plays choice placed plays request)
 ends_played request run p = record { to = λ text status e. rw (e.text_is, e.status_is) (plays_so request run e.ending p e.comes) }
 
 -- The lines of a run.
 
-lines_are : (request : Request) (run : Run) (ending : Ending) → ending_of run.outcome ≡ Some ending →
+lines_are : (request : PlayRequest) (run : Run) (ending : Ending) → ending_of run.outcome ≡ Some ending →
     run_lines request run ≡ asked_text request run.events run.chain.far ending
 lines_are request run ending e =
     ap (λ (o : Option Ending). events_text request.pins [] run.events ++ asked_report request.report (reported_far request.place run.chain.far) ++ line_of o) e
 
 -- those of the events failed, or the report, or the line of the ending; or all were put
-pub events_failed : {K : Type 0} {written : K → Option (List ℕ)} {a b : Lines K} (request : Request) (run : Run) →
+pub events_failed : {K : Type 0} {written : K → Option (List ℕ)} {a b : Lines K} (request : PlayRequest) (run : Run) →
     PutsFront written a (events_text request.pins [] run.events) b → PutsFront written a (run_lines request run) b
 events_failed request run front = front_with (line_of (ending_of run.outcome)) (front_with (asked_report request.report (reported_far request.place run.chain.far)) front)
 
-pub report_failed : {K : Type 0} {written : K → Option (List ℕ)} {a b c : Lines K} (request : Request) (run : Run) → Puts written a (events_text request.pins [] run.events) b →
+pub report_failed : {K : Type 0} {written : K → Option (List ℕ)} {a b c : Lines K} (request : PlayRequest) (run : Run) → Puts written a (events_text request.pins [] run.events) b →
     PutsFront written b (asked_report request.report (reported_far request.place run.chain.far)) c → PutsFront written a (run_lines request run) c
 report_failed request run puts front = front_with (line_of (ending_of run.outcome)) (put_then_front puts front)
 
-pub ending_failed : {K : Type 0} {written : K → Option (List ℕ)} {a b c d : Lines K} (request : Request) (run : Run) (ending : Ending) → ending_of run.outcome ≡ Some ending →
+pub ending_failed : {K : Type 0} {written : K → Option (List ℕ)} {a b c d : Lines K} (request : PlayRequest) (run : Run) (ending : Ending) → ending_of run.outcome ≡ Some ending →
     Puts written a (events_text request.pins [] run.events) b → Puts written b (asked_report request.report (reported_far request.place run.chain.far)) c →
     PutsFront written c (ending_line ending) d → PutsFront written a (run_lines request run) d
 ending_failed {written = written} {c = c} {d = d} request run ending e puts reported front =
     put_then_front (put_then puts reported) (subst (λ (o : Option Ending). PutsFront written c (line_of o) d) (sym e) front)
 
-pub run_put : {K : Type 0} {written : K → Option (List ℕ)} {a b c d : Lines K} (request : Request) (run : Run) (ending : Ending) → ending_of run.outcome ≡ Some ending →
+pub run_put : {K : Type 0} {written : K → Option (List ℕ)} {a b c d : Lines K} (request : PlayRequest) (run : Run) (ending : Ending) → ending_of run.outcome ≡ Some ending →
     Puts written a (events_text request.pins [] run.events) b → Puts written b (asked_report request.report (reported_far request.place run.chain.far)) c →
     Puts written c (ending_line ending) d → Puts written a (run_lines request run) d
 run_put {written = written} {c = c} {d = d} request run ending e puts reported ended =
@@ -96,7 +96,7 @@ run_put {written = written} {c = c} {d = d} request run ending e puts reported e
 
 -- What was put of a run is its text.
 
-pub run_said : {K : Type 0} {written : K → Option (List ℕ)} {a b : Lines K} (request : Request) (run : Run) (ending : Ending) (status : Status) →
+pub run_said : {K : Type 0} {written : K → Option (List ℕ)} {a b : Lines K} (request : PlayRequest) (run : Run) (ending : Ending) (status : Status) →
     ending_of run.outcome ≡ Some ending → status ≡ done_with ending → Puts written a (run_lines request run) b → Said written (Ends request run) a b status
 run_said {written = written} {a = a} {b = b} request run ending status e is puts = record {
   text = asked_text request run.events run.chain.far ending;
@@ -104,7 +104,7 @@ run_said {written = written} {a = a} {b = b} request run ending status e is puts
   puts = subst (λ (text : List ℕ). Puts written a text b) (lines_are request run ending e) puts;
 }
 
-pub run_said_front : {K : Type 0} {written : K → Option (List ℕ)} {a b : Lines K} (request : Request) (run : Run) → HasEnding run →
+pub run_said_front : {K : Type 0} {written : K → Option (List ℕ)} {a b : Lines K} (request : PlayRequest) (run : Run) → HasEnding run →
     PutsFront written a (run_lines request run) b → SaidFront written (Ends request run) a b
 run_said_front {written = written} {a = a} {b = b} request run h front = record {
   text = asked_text request run.events run.chain.far h.ending;
@@ -122,7 +122,7 @@ not_early endings.Spent p = p
 
 -- a play was played
 pub rack_played : {D Kind K : Type 0} {kind_of : D → Kind} {fitted : D → Option SoundCard} {final : List (Option SoundCard) → Type 0} {before after : List D} {L : Type 0}
-    (written : K → Option (List ℕ)) (request : Request) (run : Run) (old new : Lines K) (r : Result Status NoAnswer) → Says written (Ends request run) ⊥ old new r →
+    (written : K → Option (List ℕ)) (request : PlayRequest) (run : Run) (old new : Lines K) (r : Result Status NoAnswer) → Says written (Ends request run) ⊥ old new r →
     map kind_of after ≡ map kind_of before → OnOk r L → (L → final (map fitted after)) → KeepsRack kind_of fitted (Unit {0}) final before after r
 rack_played written request run old new (Ok status) says kinds left f = record {
   kinds = kinds;

@@ -12,7 +12,7 @@ use Rattle.stapl_meaning.specs.Texts.{events_text, asked_report, ending_line}
 use Rattle.stapl_code.specs.declared.raw.CodeLists.{CodeLists}
 use Rattle.stapl_player.specs.Plays.{whole_play}
 use Rattle.code_plays.specs.declared.playing.Task.{Task}
-use Rattle.play_words.specs.declared.words.Request.{Request}
+use Rattle.play_words.specs.declared.requests.PlayRequest.{PlayRequest}
 use Rattle.play_status.specs.declared.status.Status.{Status}
 use Rattle.code_plays.specs.Plays.{asked_text, base_at, reported_far, done_with}
 
@@ -48,13 +48,13 @@ line_of None = []
 line_of (Some ending) = ending_line ending
 
 -- the lines of a run, as a request asks for it: those of its events, the report if it is asked for, and its ending
-abbrev pub run_lines : Request → Run → List ℕ
+abbrev pub run_lines : PlayRequest → Run → List ℕ
 run_lines request run =
     events_text request.pins [] run.events ++ asked_report request.report (reported_far request.place run.chain.far)
     ++ line_of (ending_of run.outcome)
 
 -- The run ends, or its turns are spent: its text, as a request asks for it, and the status.
-pub record Ends (request : Request) (run : Run) (text : List ℕ) (status : Status) : Type 0 where
+pub record Ends (request : PlayRequest) (run : Run) (text : List ℕ) (status : Status) : Type 0 where
   pub ending : Ending
   pub comes : ending_of run.outcome ≡ Some ending
   pub text_is : text ≡ asked_text request run.events run.chain.far ending

@@ -16,7 +16,7 @@ use Rattle.dev_card.specs.Card.{fresh}
 use Rattle.dev_card.specs.FarEnds.{FarEnd, Told, Heard}
 use Rattle.dev_card.specs.Padding.{BaseLengths, Neighbours, in_run, base_lengths}
 use Rattle.command_words.specs.declared.place_run.PlaceRun.{PlaceRun}
-use Rattle.play_words.specs.declared.words.Request.{Request}
+use Rattle.play_words.specs.declared.requests.PlayRequest.{PlayRequest}
 use Rattle.play_status.specs.declared.status.Status.{Status}
 use Rattle.play_status.specs.declared.status.Status.TheVariants.{Done, Fault, Spent, NoAction, BadChoice, BadPlace}
 
@@ -47,13 +47,13 @@ reported_far (Some run) (Heard answers) = Heard answers
 
 -- The text of a play as a request asks for it, by its events, what stands at the far end after them, and its ending:
 -- the clocks stand in it if they are asked for, and so does the report.
-abbrev pub asked_text : Request → List Event → FarEnd → Ending → List ℕ
+abbrev pub asked_text : PlayRequest → List Event → FarEnd → Ending → List ℕ
 asked_text request events far ending = text_of request.pins events (asked_report request.report (reported_far request.place far)) ending
 
 -- What is written of a play, and the status, by what a choice came to: the program has no such action, a name cannot be
 -- chosen, the board lacks the run, or the chosen procedures are played. A play that still goes on after its turns is
 -- spent.
-pub data Plays (choice : Choice) (placed : Bool) (plays : List ℕ → Run) (request : Request) : List ℕ → Status → Type 0 where
+pub data Plays (choice : Choice) (placed : Bool) (plays : List ℕ → Run) (request : PlayRequest) : List ℕ → Status → Type 0 where
   no_action : choice ≡ choices.no_action → Plays choice placed plays request (codes "R action\n") NoAction
   bad_choice : choice ≡ choices.bad_choice → Plays choice placed plays request (codes "R choice\n") BadChoice
   bad_place : (chosen : List ℕ) → choice ≡ choices.chosen chosen → placed ≡ false → Plays choice placed plays request (codes "R place\n") BadPlace
@@ -61,10 +61,10 @@ pub data Plays (choice : Choice) (placed : Bool) (plays : List ℕ → Run) (req
       Plays choice placed plays request (asked_text request (plays chosen).events (plays chosen).chain.far ending) (done_with ending)
 
 -- The play of chosen procedures of a code that a request asks for, on a board of these devices after power-up.
-abbrev pub code_play_on : CodeLists → Request → List Desc → List ℕ → Run
+abbrev pub code_play_on : CodeLists → PlayRequest → List Desc → List ℕ → Run
 code_play_on code request devices chosen = whole_play code chosen request.turns (base_at devices request.place) (Told (map fresh devices))
 
--- the play of the action of this name in a code
-abbrev pub PlaysCodeAction : CodeLists → List ℕ → Request → List Desc → (List ℕ → Status → Type 0)
-PlaysCodeAction code action request devices =
-    Plays (code_choice code action request.todo request.skip) (has_place request.place devices) (code_play_on code request devices) request
+-- the play of a code that a request asks for
+abbrev pub PlaysCode : CodeLists → PlayRequest → List Desc → (List ℕ → Status → Type 0)
+PlaysCode code request devices =
+    Plays (code_choice code request.action request.todo request.skip) (has_place request.place devices) (code_play_on code request devices) request

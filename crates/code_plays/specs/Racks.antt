@@ -11,7 +11,7 @@ use Rattle.stapl_player.specs.Choices.{code_choice}
 use Rattle.chain_sim.specs.Places.{cards_at}
 use Rattle.chain_sim.specs.Rack.{places_of}
 use Rattle.tool_frame.specs.declared.no_answer.NoAnswer.{NoAnswer}
-use Rattle.play_words.specs.declared.words.Request.{Request}
+use Rattle.play_words.specs.declared.requests.PlayRequest.{PlayRequest}
 use Rattle.play_status.specs.declared.status.Status.{Status}
 use Rattle.play_status.specs.Statuses.{IsPlayed, ComesBeforeFitting}
 use Rattle.code_plays.specs.Plays.{code_play_on}
@@ -28,11 +28,9 @@ pub record AreLeft (rack : List (Option SoundCard)) (places : List ℕ) (devices
   pub described : descriptions_of cards ≡ devices
 
 -- The devices of a board, at their places in the rack, are as the play of a code leaves them that a request asks for.
-pub record CodeHoldsFinal (code : CodeLists) (request : Request) (devices : List Desc) (rack : List (Option SoundCard)) : Type 0 where
-  pub action : List ℕ
-  pub asked : request.action ≡ Some action
+pub record CodeHoldsFinal (code : CodeLists) (request : PlayRequest) (devices : List Desc) (rack : List (Option SoundCard)) : Type 0 where
   pub procedures : List ℕ
-  pub choice : code_choice code action request.todo request.skip ≡ chosen procedures
+  pub choice : code_choice code request.action request.todo request.skip ≡ chosen procedures
   pub left : AreLeft rack (places_of devices) devices (code_play_on code request devices procedures).chain.far
 
 -- What a call that answers leaves of the rack. The devices keep their kinds. They stay as they were if no play is asked

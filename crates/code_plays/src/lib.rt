@@ -5,4 +5,4 @@ mod endings;
 mod over_cable;
 mod playing;
 
-pub use playing::{Task, play_code};
+pub use playing::{Task, choose_asked, has_place, play_code};

@@ -17,7 +17,7 @@ ghost use Rattle.chain_sim.specs.Chains.{devices_of, chain_places};
 ghost use Rattle.chain_sim.specs.Chains.{IsOverSame as IsSameRack};
 ghost use Rattle.chain_sim.specs.Places.{cards_at, is_chain};
 ghost use Rattle.chain_sim.specs.Rack.{IsRack, places_of};
-ghost use Rattle.code_plays.specs.Plays.{done_with, has_place, reported_far, PlaysCodeAction};
+ghost use Rattle.code_plays.specs.Plays.{done_with, has_place, reported_far, PlaysCode};
 ghost use Rattle.code_plays.specs.CodePlays.{task_play, NeverRises, WasClocked, HasEnding, run_lines, Ends};
 ghost use Rattle.code_plays.specs.Racks.{far_at, AreLeft, CodeHoldsFinal, KeepsRack};
 
@@ -26,10 +26,9 @@ use crate::over_cable::play_over_cable;
 use chain_sim::{Chain, fit_board, put_report};
 use dev_card::{Desc, Device};
 use play_status::Status;
-use play_words::Request;
+use play_words::PlayRequest;
 use scan_paths::Cable;
 use stapl_code::laws::never_stuck;
-use stapl_lexer::Name;
 use stapl_machine::Machine;
 use stapl_meaning::Ending;
 use stapl_player::{ChoiceRefused, choose};
@@ -40,10 +39,10 @@ use tool_frame::NoAnswer;
 use tool_io::{Failed, Lines, Sink};
 use valid_codes::Code;
 
-/// What is asked: the request, and the devices of the board that it names, the first nearest TDO.
+/// What is asked: a play, and the devices of the board that it takes place on, the first nearest TDO.
 #[derive(Clone, Copy)]
 pub struct Task<'a> {
-    pub request: &'a Request,
+    pub request: &'a PlayRequest,
     pub devices: &'a [Desc],
 }
 
@@ -265,28 +264,30 @@ fn play_on_board<K: Sink>(
     Ok(status_of(ending))
 }
 
-// The procedures of an action of a code that run, by the choices of a request.
-fn choose_asked(
+/// The procedures of a code that run, by the action and the choices of a request, in their order.
+///
+/// `NoAction` says that the code has no such action, `BadChoice` that a name cannot be chosen in it; `Memory` is want of
+/// memory.
+pub fn choose_asked(
     alloc: Global,
     code: &Code,
-    action: &Name,
-    request: &Request,
+    request: &PlayRequest,
 ) -> Result<Vec<u32>, ChoiceRefused>
-    ensures ok { IfOk result (λ procedures. code_choice code.now action.now request.now.todo request.now.skip
+    ensures ok { IfOk result (λ procedures. code_choice code.now request.now.action request.now.todo request.now.skip
         ≡ chosen procedures.items) }
     ensures below { IfOk result (λ procedures. AllBelow (length code.now.procedures) procedures.items) }
     ensures action { IsErrOf result ChoiceRefused.NoAction →
-        code_choice code.now action.now request.now.todo request.now.skip ≡ no_action }
+        code_choice code.now request.now.action request.now.todo request.now.skip ≡ no_action }
     ensures choice { IsErrOf result ChoiceRefused.BadChoice →
-        code_choice code.now action.now request.now.todo request.now.skip ≡ bad_choice }
+        code_choice code.now request.now.action request.now.todo request.now.skip ≡ bad_choice }
 {
     let asked = request.todo.as_slice();
     let skipped = request.skip.as_slice();
-    choose(alloc, code, action, asked, skipped)
+    choose(alloc, code, &request.action, asked, skipped)
 }
 
-// Whether the board of a task has the run of devices that its request names, if it names one.
-fn has_place(task: &Task) -> bool
+/// Whether the board of a task has the run of devices that its request names, if it names one.
+pub fn has_place(task: &Task) -> bool
     ensures { result ≡ has_place task.now.request.now.place task.now.devices.now }
 {
     match task.request.place {
@@ -297,7 +298,7 @@ fn has_place(task: &Task) -> bool
     }
 }
 
-/// Plays an action of a code, as a task asks for it: on its board, which is fitted into the rack, the procedures that
+/// Plays a code, as a task asks for it: on its board, which is fitted into the rack, the procedures that
 /// run by the choices of the request, for at most so many turns.
 ///
 /// If the code has no such action, or a name cannot be chosen in it, or the board lacks the run, the rack stays as it
@@ -305,23 +306,21 @@ fn has_place(task: &Task) -> bool
 pub fn play_code<K: Sink>(
     alloc: Global,
     code: &Code,
-    action: &Name,
     task: &Task,
     rack: &mut Vec<Box<dyn Device>>,
     lines: &mut Lines<K>,
 ) -> Result<Status, NoAnswer>
-    requires asked { task.now.request.now.action ≡ Some action.now }
     requires rack { IsRack (map kind_of rack.old.items) }
     requires devices { CanBeFitted task.now.devices.now }
     requires whole { IsWhole lines.old }
-    ensures says { Says K.written (PlaysCodeAction code.now action.now task.now.request.now task.now.devices.now) ⊥
+    ensures says { Says K.written (PlaysCode code.now task.now.request.now task.now.devices.now) ⊥
         lines.old lines.new result }
     ensures output { KeepsOutput K.faults K.is_last lines.old lines.new result }
     ensures rack { KeepsRack kind_of fitted (Unit {0})
         (CodeHoldsFinal code.now task.now.request.now task.now.devices.now)
         rack.old.items rack.new.items result }
 {
-    match choose_asked(alloc, code, action, task.request) {
+    match choose_asked(alloc, code, task.request) {
         Ok(chosen) if has_place(task) => play_on_board(alloc, task, code, &chosen, rack, lines),
         Ok(_) => {
             lines.put(b"R place\n")?;

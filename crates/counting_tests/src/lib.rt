@@ -1,10 +1,16 @@
-//! A small program over the crates that several programs share, and its tests: it counts the devices of a board. It has
-//! words, a status and an answer of its own, and knows nothing of the tool.
+//! A small tool over the crates that all programs share, and its tests: it counts the devices of a board. It has words,
+//! a status and an answer of its own, and knows nothing of other tools.
 #![tactic(auto)]
 
-mod counting;
+mod answering;
+mod counter;
+mod help;
+pub mod laws;
+mod status;
+mod words;
 
-pub use counting::{Ending, count_devices};
+pub use counter::Counter;
+pub use status::CountStatus;
 
 #[cfg(test)]
 mod counts;

@@ -39,23 +39,23 @@ one_file devices (Some bytes) a b s t x y = (x.text_is ∙ sym y.text_is, one_en
 refused_same : {m n : ℕ} {r s : BoardReason} → (m ≡ n) × (r ≡ s) → AreSame [] (BoardRefused m r) [] (BoardRefused n s)
 refused_same {n = n} {r = r} e = (refl, ap (λ k. BoardRefused k r) e.0 ∙ ap (BoardRefused n) e.1)
 
-one_asked : (named : FileNames) (contents : Contents) (a b : List ℕ) (s t : LinkStatus) → RequestAnswer named contents a s → RequestAnswer named contents b t → AreSame a s b t
-one_asked named contents a b s t (board_refused m r x) (board_refused n q y) = refused_same (one_fault (Some named.board) contents.board m n r q x y)
-one_asked named contents a b s t (board_refused m r x) (board_read devices text status y z) =
-    absurd (board_or_fault (Some named.board) contents.board devices m r y x)
-one_asked named contents a b s t (board_read devices text status x z) (board_refused n q y) =
-    absurd (board_or_fault (Some named.board) contents.board devices n q x y)
-one_asked named contents a b s t (board_read devices text status x z) (board_read others text2 status2 y w) =
+one_asked : (contents : Contents) (a b : List ℕ) (s t : LinkStatus) → RequestAnswer contents a s → RequestAnswer contents b t → AreSame a s b t
+one_asked contents a b s t (board_refused m r x) (board_refused n q y) = refused_same (one_fault contents.board m n r q x y)
+one_asked contents a b s t (board_refused m r x) (board_read devices text status y z) =
+    absurd (board_or_fault contents.board devices m r y x)
+one_asked contents a b s t (board_read devices text status x z) (board_refused n q y) =
+    absurd (board_or_fault contents.board devices n q x y)
+one_asked contents a b s t (board_read devices text status x z) (board_read others text2 status2 y w) =
     one_file others contents.file a b s t
-    (subst (λ (ds : List Desc). FileAnswer ds contents.file a s) (one_held (Some named.board) contents.board devices others x y) z) w
+    (subst (λ (ds : List Desc). FileAnswer ds contents.file a s) (one_held contents.board devices others x y) z) w
 
 pub one_words : (words : List (List ℕ)) (files : List (List ℕ × List ℕ)) (a b : List ℕ) (s t : LinkStatus) → Answer words files a s → Answer words files b t → AreSame a s b t
 one_words words files a b s t (usage n x) (usage m y) = (refl, ap Usage (one_usage link_key words n m x y))
 one_words words files a b s t (usage n x) (asked named text status y z) = absurd (no_usage link_key words named n y x)
 one_words words files a b s t (asked named text status x z) (usage m y) = absurd (no_usage link_key words named m x y)
 one_words words files a b s t (asked named text status x z) (asked other text2 status2 y w) =
-    one_asked other (contents_in files other) a b s t
-    (subst (λ (n : FileNames). RequestAnswer n (contents_in files n) a s) (one_request link_key words named other x y) z) w
+    one_asked (contents_in files other) a b s t
+    (subst (λ (n : FileNames). RequestAnswer (contents_in files n) a s) (one_request link_key words named other x y) z) w
 
 -- ---- always an answer
 
@@ -66,21 +66,21 @@ AreBoards = (text : List ℕ) → ((devices : List Desc) × IsBoard text devices
 abbrev HasAnswer : (List ℕ → LinkStatus → Type 0) → Type 0
 HasAnswer A = (text : List ℕ) × (status : LinkStatus) × A text status
 
-held_request : (named : FileNames) (board bytes : List ℕ) → ((devices : List Desc) × IsBoard board devices) ⊎ ((line : ℕ) × (reason : BoardReason) × IsFirstFault board line reason) →
-    HasAnswer (RequestAnswer named (both (Some board) (Some bytes)))
-held_request named board bytes (inr fault) = ([], BoardRefused fault.0 fault.1, board_refused fault.0 fault.1 fault.2)
-held_request named board bytes (inl devices) =
+held_request : (board bytes : List ℕ) → ((devices : List Desc) × IsBoard board devices) ⊎ ((line : ℕ) × (reason : BoardReason) × IsFirstFault board line reason) →
+    HasAnswer (RequestAnswer (both (Some board) (Some bytes)))
+held_request board bytes (inr fault) = ([], BoardRefused fault.0 fault.1, board_refused fault.0 fault.1 fault.2)
+held_request board bytes (inl devices) =
     let end = some_end bytes in
     let text : List ℕ = session_answers (new_board devices.0) bytes in
     (text, end.0, board_read devices.0 text end.0 devices.1 (record { text_is = refl; ends = end.1 }))
 
-pub every_request : AreBoards → (named : FileNames) (contents : Contents) → IsSome contents.board → IsSome contents.file → HasAnswer (RequestAnswer named contents)
-every_request boards named contents = by contents.board contents.file
+pub every_request : AreBoards → (contents : Contents) → IsSome contents.board → IsSome contents.file → HasAnswer (RequestAnswer contents)
+every_request boards contents = by contents.board contents.file
   where
-    by : (board file : Option (List ℕ)) → IsSome board → IsSome file → HasAnswer (RequestAnswer named (both board file))
+    by : (board file : Option (List ℕ)) → IsSome board → IsSome file → HasAnswer (RequestAnswer (both board file))
     by None file b t = absurd (false≢true b)
     by (Some board) None b t = absurd (false≢true t)
-    by (Some board) (Some bytes) b t = held_request named board bytes (boards board)
+    by (Some board) (Some bytes) b t = held_request board bytes (boards board)
 
 -- ---- the status of a fault
 
@@ -88,14 +88,14 @@ file_status : (devices : List Desc) (held : Option (List ℕ)) (text : List ℕ)
 file_status devices None text status a p = a
 file_status devices (Some bytes) text status a p = end_is_no_fault a.ends p
 
-request_status : (named : FileNames) (contents : Contents) (text : List ℕ) (status : LinkStatus) → RequestAnswer named contents text status → IsFault status → ⊥
-request_status named contents text status (board_refused m r x) p = p
-request_status named contents text status (board_read devices text2 status2 x a) p = file_status devices contents.file text status a p
+request_status : (contents : Contents) (text : List ℕ) (status : LinkStatus) → RequestAnswer contents text status → IsFault status → ⊥
+request_status contents text status (board_refused m r x) p = p
+request_status contents text status (board_read devices text2 status2 x a) p = file_status devices contents.file text status a p
 
 pub answer_status : {words : List (List ℕ)} {contents_of : FileNames → Contents} {text : List ℕ} {status : LinkStatus} → WordsAnswer words contents_of text status →
     IsFault status → ⊥
 answer_status (usage n u) p = p
-answer_status {contents_of = contents_of} (asked named text status asks a) p = request_status named (contents_of named) text status a p
+answer_status {contents_of = contents_of} (asked named text status asks a) p = request_status (contents_of named) text status a p
 
 -- ---- told files
 
@@ -104,7 +104,7 @@ in_told : (files : List (List ℕ × List ℕ)) (words : List (List ℕ)) (conte
     WordsAnswer words (λ named. contents) text status → WordsAnswer words (contents_in files) text status
 in_told files words contents read (usage n u) = usage n u
 in_told files words contents read (asked named text status asks a) =
-    asked named text status asks (subst (λ (c : Contents). RequestAnswer named c text status) (sym (read named asks)) a)
+    asked named text status asks (subst (λ (c : Contents). RequestAnswer c text status) (sym (read named asks)) a)
 
 pub told_answer : (words : List (List ℕ)) (files : List (List ℕ × List ℕ)) (text : List ℕ) (status : LinkStatus) →
     OfWords link_key (Some files) words (λ contents. WordsAnswer words (λ named. contents) text status) → Answer words files text status
@@ -143,11 +143,11 @@ module _ {D Kind : Type 0} {kind_of : D → Kind} {fitted : D → Option SoundCa
 module _ {D Kind : Type 0} (kind_of : D → Kind) (fitted : D → Option SoundCard) where
   abbrev pub RequestSays : Option (List (List ℕ × List ℕ)) → FileNames → Option (List ℕ) → Option (List ℕ) → List D → List D → Result LinkStatus NoAnswer → Type 0
   RequestSays told named before after olds news r = OfContents told named (λ contents.
-      Answers kind_of fitted (RequestAnswer named contents) (RequestDue named contents) (RequestHoldsLeft named contents) before after olds news r)
+      Answers kind_of fitted (RequestAnswer contents) (RequestDue contents) (RequestHoldsLeft contents) before after olds news r)
 
   -- the board is right
   pub request_of_file : (before after : Option (List ℕ)) (olds news : List D) (told : Option (List (List ℕ × List ℕ))) (named : FileNames) (r : Result LinkStatus NoAnswer)
-      (devices : List Desc) → ReadsBoard told (Some named.board) devices → FileSays kind_of fitted devices told named.file before after olds news r →
+      (devices : List Desc) → ReadsBoard told named.board devices → FileSays kind_of fitted devices told named.file before after olds news r →
       RequestSays told named before after olds news r
   request_of_file before after olds news told named r devices reads o =
       of_both told named reads.held reads.read o (λ file a.
@@ -156,7 +156,7 @@ module _ {D Kind : Type 0} (kind_of : D → Kind) (fitted : D → Option SoundCa
 
   -- it is refused
   pub board_is_refused : (before : Option (List ℕ)) (items : List D) (told : Option (List (List ℕ × List ℕ))) (named : FileNames) (line : ℕ) (reason : BoardReason) →
-      ReadsBoardFault told (Some named.board) line reason → RequestSays told named before before items items (Ok (BoardRefused line reason))
+      ReadsBoardFault told named.board line reason → RequestSays told named before before items items (Ok (BoardRefused line reason))
   board_is_refused before items told named line reason reads = of_board told named reads.held reads.read (λ file. record {
     written = record { text = []; answer = board_refused line reason reads.holds; written = sym (then_bytes-nothing before) };
     rack = rack_same (BoardRefused line reason) (λ p. p);

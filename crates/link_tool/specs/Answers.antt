@@ -32,20 +32,18 @@ FileAnswer devices held text status = IsSomeAnd held (λ bytes. LinkAnswer devic
 
 -- The answer to a request: its board is refused at its first fault, or is of these devices, and the answer is that for
 -- the bytes of its link.
-pub data RequestAnswer (named : FileNames) (contents : Contents) : List ℕ → LinkStatus → Type 0 where
-  board_refused : (line : ℕ) (reason : BoardReason) → HasBoardFault (Some named.board) contents.board line reason →
-      RequestAnswer named contents [] (BoardRefused line reason)
-  board_read : (devices : List Desc) (text : List ℕ) (status : LinkStatus) →
-      HasBoard (Some named.board) contents.board devices →
-      FileAnswer devices contents.file text status → RequestAnswer named contents text status
+pub data RequestAnswer (contents : Contents) : List ℕ → LinkStatus → Type 0 where
+  board_refused : (line : ℕ) (reason : BoardReason) → HasBoardFault contents.board line reason →
+      RequestAnswer contents [] (BoardRefused line reason)
+  board_read : (devices : List Desc) (text : List ℕ) (status : LinkStatus) → HasBoard contents.board devices →
+      FileAnswer devices contents.file text status → RequestAnswer contents text status
 
 -- The answer to the words, with these contents of the files of each request: they are refused, or what they ask is
 -- answered.
 pub data WordsAnswer (words : List (List ℕ)) (contents_of : FileNames → Contents) : List ℕ → LinkStatus → Type 0 where
   usage : (n : ℕ) → IsUsage link_key words n → WordsAnswer words contents_of [] (Usage n)
   asked : (named : FileNames) (text : List ℕ) (status : LinkStatus) → IsRequest link_key words named →
-      RequestAnswer named (contents_of named) text status →
-      WordsAnswer words contents_of text status
+      RequestAnswer (contents_of named) text status → WordsAnswer words contents_of text status
 
 -- The answer to the words and the files of a store.
 abbrev pub Answer : List (List ℕ) → List (List ℕ × List ℕ) → (List ℕ → LinkStatus → Type 0)
@@ -59,13 +57,13 @@ pub data FileDue (devices : List Desc) (held : Option (List ℕ)) (text : List �
       text ≡ first_answers (new_board devices) (take n (session_bytes bytes)) → FileDue devices held text
 
 -- the same of a request, whose board may have been what could not be read
-pub data RequestDue (named : FileNames) (contents : Contents) (text : List ℕ) : Type 0 where
-  before_session : text ≡ [] → RequestDue named contents text
-  in_session : (devices : List Desc) → HasBoard (Some named.board) contents.board devices →
-      FileDue devices contents.file text → RequestDue named contents text
+pub data RequestDue (contents : Contents) (text : List ℕ) : Type 0 where
+  before_session : text ≡ [] → RequestDue contents text
+  in_session : (devices : List Desc) → HasBoard contents.board devices →
+      FileDue devices contents.file text → RequestDue contents text
 
 -- the same of words
 pub record WordsDue (words : List (List ℕ)) (contents : Contents) (text : List ℕ) : Type 0 where
   pub named : FileNames
   pub asked : IsRequest link_key words named
-  pub due : RequestDue named contents text
+  pub due : RequestDue contents text

@@ -21,17 +21,17 @@ HoldsLeft devices bytes rack = cards_at rack (places_of devices) ≡ Some (board
 abbrev pub HeldLeft : List Desc → Option (List ℕ) → List (Option SoundCard) → Type 0
 HeldLeft devices held rack = IsSomeAnd held (λ bytes. HoldsLeft devices bytes rack)
 
--- the same of a request, with the board that it names
-pub record RequestHoldsLeft (named : FileNames) (contents : Contents) (rack : List (Option SoundCard)) : Type 0 where
+-- the same of a request, with its board
+pub record RequestHoldsLeft (contents : Contents) (rack : List (Option SoundCard)) : Type 0 where
   pub devices : List Desc
-  pub board : HasBoard (Some named.board) contents.board devices
+  pub board : HasBoard contents.board devices
   pub final : HeldLeft devices contents.file rack
 
 -- the same of words
 pub record WordsHoldLeft (words : List (List ℕ)) (contents : Contents) (rack : List (Option SoundCard)) : Type 0 where
   pub named : FileNames
   pub asked : IsRequest link_key words named
-  pub final : RequestHoldsLeft named contents rack
+  pub final : RequestHoldsLeft contents rack
 
 -- What a call that answers leaves of the rack. The devices keep their kinds. They stay as they were if the cause of the
 -- status comes before the board is fitted, and after a session they are as it leaves them.

@@ -23,8 +23,8 @@ pub fn one_answer()
 
 /// A request whose files are held has an answer, whatever they hold.
 pub fn requests_are_answered()
-    ensures { (named : FileNames) (contents : Contents) → IsSome contents.board → IsSome contents.file →
-        (text : List ℕ) × (status : LinkStatus) × RequestAnswer named contents text status }
+    ensures { (contents : Contents) → IsSome contents.board → IsSome contents.file →
+        (text : List ℕ) × (status : LinkStatus) × RequestAnswer contents text status }
 {
     every_text_is_a_board_or_has_a_fault();
 }

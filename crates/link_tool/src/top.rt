@@ -17,7 +17,6 @@ ghost use Rattle.link_tool.specs.Written.{WroteDue, Answers, Answered};
 use crate::LinkStatus;
 use crate::serving::serve_to;
 use chain_sim::fit_board;
-use command_words::FileName;
 use dev_card::{Desc, Device};
 use named_files::{BoardNotRead, Named, board_named, read_words};
 use std::alloc::Global;
@@ -59,15 +58,13 @@ fn answer_request<S: Shelf, K: Sink>(
 ) -> Result<LinkStatus, NoAnswer>
     requires { IsRack (map kind_of rack.old.items) }
     ensures answers { OfContents (S.told shelf.old) (files_named named.entry) (λ contents. Answers kind_of fitted
-        (RequestAnswer (files_named named.entry) contents) (RequestDue (files_named named.entry) contents)
-        (RequestHoldsLeft (files_named named.entry) contents)
+        (RequestAnswer contents) (RequestDue contents) (RequestHoldsLeft contents)
         (K.written out.old) (K.written out.new) rack.old.items rack.new.items result) }
     ensures shelf { KeepsShelf S.told S.faults S.is_last (IsReached (S.told shelf.old) (files_named named.entry))
         shelf.old shelf.new result }
     ensures output { KeepsCount K.faults K.is_last out.old out.new result }
 {
-    let name = FileName::of(alloc, named.board)?;
-    match board_named(alloc, shelf, &Some(name)) {
+    match board_named(alloc, shelf, named.board) {
         Ok(devices) => answer_file(alloc, &devices, named.file, shelf, rack, out),
         Err(BoardNotRead::At { line, reason }) => Ok(LinkStatus::BoardRefused(line, reason)),
         Err(BoardNotRead::Read) => Err(NoAnswer::Read),

@@ -1,5 +1,5 @@
 -- On boards in files, and on the contents of files.
-use Rattle.std.proofs.Common.{◌≡◌, ◌<◌, ◌+◌, ℕ, List, length, Option, None, Some, IfSome, IsSomeAnd, refl, sym, ◌∙◌, subst, replicate, arith, inl}
+use Rattle.std.proofs.Common.{◌≡◌, ◌<◌, ◌+◌, ℕ, List, length, Option, None, Some, IfSome, IsSomeAnd, refl, subst, replicate, arith, inl}
 use Rattle.std.proofs.lemmas.List.{length-replicate}
 use Rattle.tool_io.specs.Files.{file_of}
 use Rattle.dev_card.specs.declared.desc.Desc.{Desc}
@@ -59,26 +59,23 @@ long_held None long = long
 long_held (Some bytes) long = too_long bytes long
 
 pub reads_long : (told : Option (List (List ℕ × List ℕ))) (path : List ℕ) → IfSome told (λ files. IsSomeAnd (file_of files path) (λ bytes. most_bytes < length bytes)) →
-    ReadsBoardFault told (Some path) 0 reasons.TooLong
+    ReadsBoardFault told path 0 reasons.TooLong
 reads_long told path long = of_file_as long_held (of_long_file told path most_bytes long)
 
 -- There is one board, or one fault.
 
-pub one_held : (named held : Option (List ℕ)) (a b : List Desc) → HasBoard named held a → HasBoard named held b → a ≡ b
-one_held None held a b x y = x ∙ sym y
-one_held (Some path) None a b x y = absurd x
-one_held (Some path) (Some bytes) a b x y = one_board bytes a b x y
+pub one_held : (held : Option (List ℕ)) (a b : List Desc) → HasBoard held a → HasBoard held b → a ≡ b
+one_held None a b x y = absurd x
+one_held (Some bytes) a b x y = one_board bytes a b x y
 
-pub one_fault : (named held : Option (List ℕ)) (m n : ℕ) (r s : BoardReason) → HasBoardFault named held m r → HasBoardFault named held n s → (m ≡ n) × (r ≡ s)
-one_fault None held m n r s x y = absurd x
-one_fault (Some path) None m n r s x y = absurd x
-one_fault (Some path) (Some bytes) m n r s x y = one_first_fault bytes m n r s x y
+pub one_fault : (held : Option (List ℕ)) (m n : ℕ) (r s : BoardReason) → HasBoardFault held m r → HasBoardFault held n s → (m ≡ n) × (r ≡ s)
+one_fault None m n r s x y = absurd x
+one_fault (Some bytes) m n r s x y = one_first_fault bytes m n r s x y
 
-pub board_or_fault : (named held : Option (List ℕ)) (devices : List Desc) (n : ℕ) (r : BoardReason) → HasBoard named held devices → HasBoardFault named held n r → ⊥
-board_or_fault None held devices n r x y = y
-board_or_fault (Some path) None devices n r x y = y
-board_or_fault (Some path) (Some bytes) devices n r x y = no_board_has_a_fault bytes devices n r x y
+pub board_or_fault : (held : Option (List ℕ)) (devices : List Desc) (n : ℕ) (r : BoardReason) → HasBoard held devices → HasBoardFault held n r → ⊥
+board_or_fault None devices n r x y = y
+board_or_fault (Some bytes) devices n r x y = no_board_has_a_fault bytes devices n r x y
 
-pub fault_is : {told : Option (List (List ℕ × List ℕ))} {named : Option (List ℕ)} (m n : ℕ) (r s : BoardReason) → m ≡ n → r ≡ s → ReadsBoardFault told named m r →
-    ReadsBoardFault told named n s
-fault_is {told = told} {named = named} m n r s e f x = subst (λ (k : ℕ). ReadsBoardFault told named k s) e (subst (ReadsBoardFault told named m) f x)
+pub fault_is : {told : Option (List (List ℕ × List ℕ))} {path : List ℕ} (m n : ℕ) (r s : BoardReason) → m ≡ n → r ≡ s → ReadsBoardFault told path m r →
+    ReadsBoardFault told path n s
+fault_is {told = told} {path = path} m n r s e f x = subst (λ (k : ℕ). ReadsBoardFault told path k s) e (subst (ReadsBoardFault told path m) f x)

@@ -86,16 +86,16 @@ of_both_files asks told f o = record {
 }
 
 -- the board that was read is the one that the store holds
-holds_board : (named : FileNames) (devices : List Desc) (told : Option (List (List ℕ × List ℕ))) → ReadsBoard told (Some named.board) devices → IfSome told (HoldsBoard named)
+holds_board : (named : FileNames) (devices : List Desc) (told : Option (List (List ℕ × List ℕ))) → ReadsBoard told named.board devices → IfSome told (HoldsBoard named)
 holds_board named devices None reads = tt
 holds_board named devices (Some files) reads = record {
   devices = devices;
-  board = subst (λ (h : Option (List ℕ)). HasBoard (Some named.board) h devices) (sym (reads.read).same) reads.holds;
+  board = subst (λ (h : Option (List ℕ)). HasBoard h devices) (sym (reads.read).same) reads.holds;
 }
 
 -- the other file could not be read after a board that is right
 pub file_cause : {S : Type 0} {faults : S → List ℕ → ℕ} {is_last : S → List ℕ → Type 0} (before between after : S) (named : FileNames) (devices : List Desc)
-    (told : Option (List (List ℕ × List ℕ))) → ReadsBoard told (Some named.board) devices → NoneFalls faults is_last before between →
+    (told : Option (List (List ℕ × List ℕ))) → ReadsBoard told named.board devices → NoneFalls faults is_last before between →
     HasReadCause faults is_last (λ read. read ≡ named.file) between after → HasReadCause faults is_last (IsReached told named) before after
 file_cause {faults = faults} {is_last = is_last} before between after named devices told reads kept c = record {
   path = c.path;

@@ -47,7 +47,7 @@ OfWords key told words stands = OfAsked (IsRequest key words) told stands
 -- The store holds the board of a request, and it is a board.
 pub record HoldsBoard (named : FileNames) (files : List (List ℕ × List ℕ)) : Type 0 where
   pub devices : List Desc
-  pub board : HasBoard (Some named.board) (file_named files (Some named.board)) devices
+  pub board : HasBoard (file_named files (Some named.board)) devices
 
 -- A file of a request that is read: its board; or its other file, and if the store tells its files, the board is held
 -- there and is a board.

@@ -1,14 +1,12 @@
 //! Boards in files.
-ghost use Rattle.std.specs.Prelude.{◌≡◌, ◌≤◌, ℕ, List, Option, Some, IsSome, length, IfSome, IfOk, IsErrOf, Err};
+ghost use Rattle.std.specs.Prelude.{◌≡◌, ℕ, IfOk, IsErrOf, Err};
 ghost use Rattle.tool_io.specs.Causes.{HasRisenAt, NoneFalls};
-ghost use Rattle.tool_io.specs.Files.{file_of};
 ghost use Rattle.board_text.specs.declared.reason.BoardReason.{BoardReason};
 ghost use Rattle.board_text.specs.Boards.{IsBoard, IsFirstFault, CanBeFitted};
 ghost use Rattle.named_files.specs.declared.boards.BoardNotRead.TheVariants as refusals;
 ghost use Rattle.named_files.specs.Boards.{ReadsBoard, ReadsBoardFault};
 
 use board_text::{BoardReason, BoardTextRefused, read_board};
-use command_words::FileName;
 use dev_card::Desc;
 use std::alloc::Global;
 use thiserror::Error;
@@ -46,12 +44,19 @@ pub fn board_of(alloc: Global, bytes: &[u8]) -> Result<Vec<Desc>, BoardNotRead>
     }
 }
 
-// The devices of the board in a file.
-fn board_in<S: Shelf>(alloc: Global, shelf: &mut S, path: &str) -> Result<Vec<Desc>, BoardNotRead>
-    ensures board { IfOk result (λ devices. ReadsBoard (S.told shelf.old) (Some path.now) devices.items) }
+/// The devices of the board in the file at this path, in the order of its lines: the first is nearest TDO.
+///
+/// `At` is the first fault of the bytes in the file. `Read` comes only if the count of the file rose, or stands at its
+/// last value; `Memory` is want of memory.
+pub fn board_named<S: Shelf>(
+    alloc: Global,
+    shelf: &mut S,
+    path: &str,
+) -> Result<Vec<Desc>, BoardNotRead>
+    ensures board { IfOk result (λ devices. ReadsBoard (S.told shelf.old) path.now devices.items) }
     ensures fitting { IfOk result (λ devices. CanBeFitted devices.items) }
     ensures fault { (line : ℕ) (reason : BoardReason) → result ≡ Err (refusals.At line reason) →
-        ReadsBoardFault (S.told shelf.old) (Some path.now) line reason }
+        ReadsBoardFault (S.told shelf.old) path.now line reason }
     ensures read { IsErrOf result BoardNotRead.Read → HasRisenAt S.faults S.is_last path.now shelf.old shelf.new }
     ensures keeps { S.told shelf.new ≡ S.told shelf.old }
     ensures later { NoneFalls S.faults S.is_last shelf.old shelf.new }
@@ -64,30 +69,5 @@ fn board_in<S: Shelf>(alloc: Global, shelf: &mut S, path: &str) -> Result<Vec<De
         }),
         Err(ReadRefused::ReadFault) => Err(BoardNotRead::Read),
         Err(ReadRefused::Memory) => Err(BoardNotRead::Memory),
-    }
-}
-
-/// The devices of the board in the file of this name, in the order of its lines: the first is nearest TDO. There are
-/// none if no file is named.
-///
-/// `At` is the first fault of the bytes in the file. `Read` comes only if the count of the file rose, or stands at its
-/// last value; `Memory` is want of memory.
-pub fn board_named<S: Shelf>(
-    alloc: Global,
-    shelf: &mut S,
-    named: &Option<FileName>,
-) -> Result<Vec<Desc>, BoardNotRead>
-    ensures board { IfOk result (λ devices. ReadsBoard (S.told shelf.old) named.now devices.items) }
-    ensures fitting { IfOk result (λ devices. IsSome named.now → CanBeFitted devices.items) }
-    ensures fault { (line : ℕ) (reason : BoardReason) → result ≡ Err (refusals.At line reason) →
-        ReadsBoardFault (S.told shelf.old) named.now line reason }
-    ensures read { IsErrOf result BoardNotRead.Read → (path : List ℕ) × (named.now ≡ Some path)
-        × HasRisenAt S.faults S.is_last path shelf.old shelf.new }
-    ensures keeps { S.told shelf.new ≡ S.told shelf.old }
-    ensures later { NoneFalls S.faults S.is_last shelf.old shelf.new }
-{
-    match named {
-        Some(path) => board_in(alloc, shelf, path.as_str()),
-        None => Ok(Vec::new(alloc)),
     }
 }

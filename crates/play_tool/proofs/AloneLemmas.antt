@@ -2,13 +2,10 @@
 use Rattle.std.proofs.Common.{◌≡◌, ◌≤◌, ◌-◌, ℕ, true, false, Bool, List, [], length, map, zero, suc, take, drop, ◌++◌, ◌&&◌, All, Option, None, Some, nat_le, refl, sym, ap, ◌∙◌, subst, arith}
 use Rattle.std.proofs.lemmas.Bool.{and_parts}
 use Rattle.std.proofs.lemmas.Bool.Decides.{nat_tests}
-use Rattle.std.proofs.lemmas.Option.{same_Some}
 use Rattle.std.proofs.lemmas.List.{take_all}
 use Rattle.std.specs.Str.Lines.{lines}
-use Rattle.stapl_syntax.specs.Trees.{StmtTree}
 use Rattle.stapl_meaning.specs.declared.events.Ending.{Ending}
 use Rattle.stapl_meaning.specs.Choices.{Choice, chosen, choice_of}
-use Rattle.stapl_meaning.specs.Choices as choices
 use Rattle.stapl_meaning.specs.Scopes.{Played, as_played}
 use Rattle.stapl_meaning.specs.Plays.{Run, play}
 use Rattle.stapl_meaning.specs.Texts.{events_text, ending_line, far_report, asked_report, text_of}
@@ -26,16 +23,17 @@ use Rattle.board_text.proofs.BoardLemmas.{good_at_end}
 use Rattle.padded_plays.specs.QuietPlays.{IsQuietPlay}
 use Rattle.padded_plays.specs.SamePlays.{cards_from, IsSameText}
 use Rattle.padded_plays.proofs.SameTexts.{text_of_run}
-use Rattle.play_words.specs.declared.mode.Mode.{Mode}
-use Rattle.play_words.specs.declared.mode.Mode.TheVariants.{Play}
 use Rattle.play_status.specs.declared.status.Status.{Status}
-use Rattle.play_words.specs.declared.words.Request.{Request}
-use Rattle.play_words.specs.Words.{reads_text, soaks}
-use Rattle.play_tool.specs.Answers.{play_on, PlaysAction, PlaysAsked, Work, TextAnswer, FileAnswer, Contents, WordsAnswer}
+use Rattle.play_words.specs.declared.requests.PlayRequest.{PlayRequest}
+use Rattle.play_words.specs.declared.requests.Request.{Request}
+use Rattle.play_words.specs.declared.requests.Request.TheVariants.{Play}
+use Rattle.play_tool.specs.declared.sources.Source.TheVariants.{Program}
+use Rattle.play_tool.specs.Answers.{play_on, PlaysAction, SourceAnswer, WordsAnswer}
 use Rattle.named_files.specs.Boards.{HasBoard}
 use Rattle.play_tool.specs.Alone.{alone_request, IsQuietAlone, PlaysAlone}
-use Rattle.play_tool.proofs.AnswerLemmas.{answers_work, asked_plays, source_to_text}
-use Rattle.play_tool.proofs.RequestLemmas.{words_request, mode_of_request, the_file}
+use Rattle.play_tool.proofs.OneChoice.{none_or_chosen, bad_or_chosen, one_choice, has_or_lacks}
+use Rattle.play_tool.proofs.AnswerLemmas.{text_of_program, bytes_of_held, devices_of_board, request_of_words}
+use Rattle.tool_frame.specs.Files.{first_of, second_of}
 use Rattle.tool_frame.proofs.AnswerLemmas.{IsWithin}
 use Rattle.code_plays.specs.Plays.{done_with, has_place, neighbours, reported_far, asked_text, Plays, no_action, bad_choice, bad_place, played, base_at}
 
@@ -46,10 +44,9 @@ board_good text devices b =
     let begun : AreBegun (devices_of (take (length all) all)) = all_begun all (length all) (omega arith) b.faultless in
     good_at_end devices (subst AreBegun (ap devices_of (take_all (length all) all (omega arith)) ∙ sym b.described) begun) b.finished
 
-has_good : (named held : Option (List ℕ)) (devices : List Desc) → HasBoard named held devices → All IsGood devices
-has_good None held devices none = subst (λ (ds : List Desc). All IsGood ds) (sym none) (λ k d h. absurd (omega (arith, h)))
-has_good (Some path) None devices h = absurd h
-has_good (Some path) (Some bytes) devices b = board_good bytes devices b
+has_good : (held : Option (List ℕ)) (devices : List Desc) → HasBoard held devices → All IsGood devices
+has_good None devices h = absurd h
+has_good (Some bytes) devices b = board_good bytes devices b
 
 -- how many places a run has
 abbrev count_of : PlaceRun → ℕ
@@ -71,7 +68,7 @@ same_asked false a b e = refl
 same_asked true a b e = e
 
 -- the texts of both plays
-module _ (request : Request) (run : PlaceRun) (padded alone : Run) (same : IsSameText (run.first - 1) (count_of run) padded alone) where
+module _ (request : PlayRequest) (run : PlaceRun) (padded alone : Run) (same : IsSameText (run.first - 1) (count_of run) padded alone) where
   same_reports : far_report (reported_far (Some run) padded.chain.far) ≡ far_report alone.chain.far
   same_reports = run_report run padded.chain.far ∙ same.same_report
 
@@ -80,18 +77,6 @@ module _ (request : Request) (run : PlaceRun) (padded alone : Run) (same : IsSam
   same_texts ending =
       ap (λ (front : List ℕ). front ++ asked_report request.report (reported_far (Some run) padded.chain.far) ++ ending_line ending) same.same_text
       ∙ ap (λ (report : List ℕ). events_text false [] alone.events ++ report ++ ending_line ending) (same_asked request.report _ _ same_reports)
-
-one_choice : {choice : Choice} {a b : List ℕ} → choice ≡ chosen a → choice ≡ chosen b → a ≡ b
-one_choice e f = cc
-
-no_action_chosen : {choice : Choice} {procedures : List ℕ} → choice ≡ choices.no_action → choice ≡ chosen procedures → ⊥
-no_action_chosen e f = cc
-
-bad_choice_chosen : {choice : Choice} {procedures : List ℕ} → choice ≡ choices.bad_choice → choice ≡ chosen procedures → ⊥
-bad_choice_chosen e f = cc
-
-true_and_false : {b : Bool} → b ≡ true → b ≡ false → ⊥
-true_and_false e f = cc
 
 -- a run that a board has begins at its first device or later, is in order, and ends at its last device or earlier
 record IsInside (run : PlaceRun) (n : ℕ) : Type 0 where
@@ -106,7 +91,7 @@ is_inside run n h =
     record { one = grind (arith, nat_tests, begins.0); order = grind (arith, nat_tests, begins.1); within = grind (arith, nat_tests, ends.1) }
 
 -- the play of the action for a run is that on the run alone
-module _ (request : Request) (run : PlaceRun) (devices : List Desc) (program : Played) (choice : Choice) (procedures : List ℕ) (no_pins : request.pins ≡ false)
+module _ (request : PlayRequest) (run : PlaceRun) (devices : List Desc) (program : Played) (choice : Choice) (procedures : List ℕ) (no_pins : request.pins ≡ false)
     (for_run : request.place ≡ Some run) (placed : has_place (Some run) devices ≡ true) (good : All IsGood devices)
     (is_chosen : choice ≡ chosen procedures) (quiet : IsQuietPlay program procedures request.turns (in_run (neighbours run) devices)) where
   abbrev targets : List Desc
@@ -136,38 +121,28 @@ module _ (request : Request) (run : PlaceRun) (devices : List Desc) (program : P
       ∙ sym (ap (λ (pins : Bool). text_of pins alone.events (asked_report request.report alone.chain.far) ending) no_pins)
 
   alone_plays : (text : List ℕ) (status : Status) → PlaysPadded text status → PlaysOne text status
-  alone_plays text status (no_action e) = absurd (no_action_chosen e is_chosen)
-  alone_plays text status (bad_choice e) = absurd (bad_choice_chosen e is_chosen)
-  alone_plays text status (bad_place other e lacks) = absurd (true_and_false (ap (λ (p : Option PlaceRun). has_place p devices) for_run ∙ placed) lacks)
+  alone_plays text status (no_action e) = absurd (none_or_chosen e is_chosen)
+  alone_plays text status (bad_choice e) = absurd (bad_or_chosen e is_chosen)
+  alone_plays text status (bad_place other e lacks) = absurd (has_or_lacks (ap (λ (p : Option PlaceRun). has_place p devices) for_run ∙ placed) lacks)
   alone_plays text status (played other ending e has ended) =
       let same = same_run other (one_choice e is_chosen) in
       subst (λ (bytes : List ℕ). PlaysOne bytes (done_with ending)) (sym (text_alone _ _ ending same))
       (played other ending e refl (sym same.same_ending ∙ ended))
 
-file_text : {request : Request} {devices : List Desc} {file : Option (List ℕ)} {bytes text : List ℕ} {status : Status} → request.mode ≡ Play → file ≡ Some bytes →
-    FileAnswer request devices file text status → TextAnswer request devices bytes text status
-file_text {request = request} {devices = devices} {text = text} {status = status} mode e a =
-    subst (λ (z : List ℕ). TextAnswer request devices z text status) (same_Some a.bytes _ (sym a.held ∙ e))
-    ((source_to_text request devices a.bytes (reads_text request.mode) (ap reads_text mode)).to text status a.answer)
-
-mode_work : {request : Request} {devices : List Desc} (bytes : List ℕ) {program : List StmtTree} {text : List ℕ} {status : Status} → request.mode ≡ Play →
-    Work request devices bytes program request.mode text status → PlaysAsked program request devices text status
-mode_work {request = request} {devices = devices} bytes {program = program} {text = text} {status = status} e w =
-    subst (λ (m : Mode). Work request devices bytes program m text status) e w
-
-action_alone : {words : List (List ℕ)} {contents_of : Request → Contents} (q : IsQuietAlone words contents_of) (text : List ℕ) (status : Status) →
-    PlaysAction q.program q.action q.request q.devices text status → PlaysAlone q text status
+action_alone : {words : List (List ℕ)} {contents_of : Request → List (Option (List ℕ))} (q : IsQuietAlone words contents_of) (text : List ℕ) (status : Status) →
+    PlaysAction q.play.request q.devices q.program text status → PlaysAlone q text status
 action_alone {contents_of = contents_of} q text status a =
-    alone_plays q.request q.run q.devices (as_played q.program) (choice_of (as_played q.program) q.action q.request.todo q.request.skip) q.procedures q.no_pins q.for_run q.placed
-    (has_good q.request.board (contents_of q.request).board q.devices q.board) q.choice q.quiet text status a
+    let request = q.play.request in
+    alone_plays request q.run q.devices (as_played q.program) (choice_of (as_played q.program) request.action request.todo request.skip) q.procedures q.no_pins q.for_run q.placed
+    (has_good (first_of (contents_of (Play q.play))) q.devices q.board) q.choice q.quiet text status a
 
 -- each answer is that of the play alone
-pub answers_alone : {words : List (List ℕ)} {contents_of : Request → Contents} (q : IsQuietAlone words contents_of) → IsWithin (WordsAnswer words contents_of) (PlaysAlone q)
+pub answers_alone : {words : List (List ℕ)} {contents_of : Request → List (Option (List ℕ))} (q : IsQuietAlone words contents_of) →
+    IsWithin (WordsAnswer words contents_of) (PlaysAlone q)
 answers_alone {contents_of = contents_of} q = record {
   to = λ text status a.
-      let answer = (words_request {contents_of = contents_of} q.asked).to text status a in
-      let request = (mode_of_request q.request (contents_of q.request) (soaks q.request.mode) (ap soaks q.plays)).to text status answer in
-      let file = the_file {contents = contents_of q.request} q.devices q.board request in
-      let work = (answers_work q.request q.devices q.bytes q.bytes q.program refl q.is).to text status (file_text q.plays q.held file) in
-      action_alone q text status ((asked_plays q.request q.devices q.program q.named).to text status (mode_work q.bytes q.plays work));
+      let request = (request_of_words {contents_of = contents_of} q.asked).to text status a in
+      let held = (devices_of_board {held = first_of (contents_of (Play q.play))} q.devices q.board).to text status request in
+      let source = (bytes_of_held (SourceAnswer Program q.play.request q.devices) (second_of (contents_of (Play q.play))) q.bytes q.held).to text status held in
+      action_alone q text status ((text_of_program q.program q.is).to text status source);
 }

@@ -1,104 +1,70 @@
 -- On answers: which relation holds the answers of which.
-use Rattle.std.proofs.Common.{◌≡◌, ◌<◌, ℕ, List, length, Option, None, Some, IsSomeAnd, refl, sym, ◌∙◌, subst, true, false, Bool}
-use Rattle.std.proofs.lemmas.Option.{same_Some}
-use Rattle.stapl_lexer.specs.Pieces.{text_limit}
-use Rattle.stapl_lexer.specs.declared.reason.Reason.{Reason}
-use Rattle.stapl_lexer.specs.declared.reason.Reason.TheVariants as reasons
+use Rattle.std.proofs.Common.{◌≡◌, ℕ, List, Option, Some, sym, subst}
 use Rattle.stapl_syntax.specs.Trees.{StmtTree}
-use Rattle.stapl_syntax.specs.Programs.{IsProgram, FirstFault, is_too_long}
+use Rattle.stapl_syntax.specs.Programs.{IsProgram}
 use Rattle.stapl_checker.proofs.UniqueLemmas.{one_program, no_fault}
-use Rattle.stapl_code.specs.Files.{most_bytes}
-use Rattle.stapl_code.specs.declared.reason.CodeReason.{CodeReason}
-use Rattle.stapl_code.specs.declared.reason.CodeReason.TheVariants as code_reasons
-use Rattle.code_files.specs.CodeFaults.{IsCodeFault, too_long}
 use Rattle.dev_card.specs.declared.desc.Desc.{Desc}
-use Rattle.named_files.specs.Texts.{refusal_line}
-use Rattle.play_words.specs.declared.words.Request.{Request}
-use Rattle.play_words.specs.Words.{reads_text}
+use Rattle.named_files.specs.Boards.{HasBoard}
+use Rattle.named_files.proofs.BoardLemmas.{one_held, board_or_fault}
+use Rattle.play_words.specs.declared.requests.Request.{Request}
+use Rattle.play_words.specs.Words.{IsRequest}
+use Rattle.play_words.proofs.OneRequest.{one_request, no_usage}
 use Rattle.play_status.specs.declared.status.Status.{Status}
-use Rattle.play_status.specs.declared.status.Status.TheVariants.{Refused}
 use Rattle.tool_frame.proofs.AnswerLemmas.{IsWithin}
-use Rattle.play_tool.specs.ProgramFiles.{most_of_source, long_line, long_status}
-use Rattle.play_tool.specs.Answers.{PlaysAction, PlaysAsked, Work, TextAnswer, refused, accepted, CodeAnswer, code_refused, SourceAnswer, FileAnswer}
+use Rattle.play_tool.specs.Answers.{TextAnswer, refused, accepted, HeldAnswer, BoardAnswer, board_refused, board_read, RequestAnswer, WordsAnswer, usage, asked}
 
--- The play that a request asks for is that of the action that it names.
+-- The answer for a text that is a program is the program's.
 
-pub plays_asked : (request : Request) (devices : List Desc) (program : List StmtTree) {action : List ℕ} → request.action ≡ Some action →
-    IsWithin (PlaysAction program action request devices) (PlaysAsked program request devices)
-plays_asked request devices program {action = action} a = record { to = λ text status p. record { action = action; asked = a; plays = p } }
+pub program_in_text : {answers : List StmtTree → List ℕ → Status → Type 0} {bytes : List ℕ} (program : List StmtTree) → IsProgram bytes program →
+    IsWithin (answers program) (TextAnswer answers bytes)
+program_in_text program is = record { to = λ text status a. accepted program text status is a }
 
-asked_play : {request : Request} {devices : List Desc} {program : List StmtTree} {action text : List ℕ} {status : Status} → request.action ≡ Some action →
-    PlaysAsked program request devices text status → PlaysAction program action request devices text status
-asked_play {request = request} {devices = devices} {program = program} {action = action} {text = text} {status = status} a p =
-    subst (λ (z : List ℕ). PlaysAction program z request devices text status) (same_Some p.action action (sym p.asked ∙ a)) p.plays
+text_answers : {answers : List StmtTree → List ℕ → Status → Type 0} {bytes text : List ℕ} {status : Status} (program : List StmtTree) → IsProgram bytes program →
+    TextAnswer answers bytes text status → answers program text status
+text_answers program is (refused piece line reason fault) = absurd (no_fault program is fault)
+text_answers {answers = answers} {bytes = bytes} program is (accepted other text status other_is a) =
+    subst (λ (z : List StmtTree). answers z text status) (one_program bytes other program other_is is) a
 
-pub asked_plays : (request : Request) (devices : List Desc) (program : List StmtTree) {action : List ℕ} → request.action ≡ Some action →
-    IsWithin (PlaysAsked program request devices) (PlaysAction program action request devices)
-asked_plays request devices program a = record { to = λ text status p. asked_play a p }
+pub text_of_program : {answers : List StmtTree → List ℕ → Status → Type 0} {bytes : List ℕ} (program : List StmtTree) → IsProgram bytes program →
+    IsWithin (TextAnswer answers bytes) (answers program)
+text_of_program program is = record { to = λ text status a. text_answers program is a }
 
--- The answer for a text that is a program is the work on it.
+-- The answer for a file that is held is that for its bytes.
 
-pub work_answers : (request : Request) (devices : List Desc) (own bytes : List ℕ) (program : List StmtTree) → own ≡ bytes → IsProgram bytes program →
-    IsWithin (Work request devices own program request.mode) (TextAnswer request devices bytes)
-work_answers request devices own bytes program same is =
-    subst (λ (z : List ℕ). IsWithin (Work request devices z program request.mode) (TextAnswer request devices bytes)) (sym same)
-    (record { to = λ text status w. accepted program text status is w })
+pub bytes_of_held : (answers : List ℕ → List ℕ → Status → Type 0) (held : Option (List ℕ)) (bytes : List ℕ) → held ≡ Some bytes → IsWithin (HeldAnswer answers held) (answers bytes)
+bytes_of_held answers held bytes e = record { to = λ text status a. subst (λ (h : Option (List ℕ)). HeldAnswer answers h text status) e a }
 
-answer_works : {request : Request} {devices : List Desc} {bytes text : List ℕ} {status : Status} (program : List StmtTree) → IsProgram bytes program →
-    TextAnswer request devices bytes text status → Work request devices bytes program request.mode text status
-answer_works program is (refused piece line reason fault) = absurd (no_fault program is fault)
-answer_works {request = request} {devices = devices} {bytes = bytes} program is (accepted other text status other_is w) =
-    subst (λ (z : List StmtTree). Work request devices bytes z request.mode text status) (one_program bytes other program other_is is) w
+pub held_of_bytes : (answers : List ℕ → List ℕ → Status → Type 0) (held : Option (List ℕ)) (bytes : List ℕ) → held ≡ Some bytes → IsWithin (answers bytes) (HeldAnswer answers held)
+held_of_bytes answers held bytes e = record { to = λ text status a. subst (λ (h : Option (List ℕ)). HeldAnswer answers h text status) (sym e) a }
 
-pub answers_work : (request : Request) (devices : List Desc) (own bytes : List ℕ) (program : List StmtTree) → own ≡ bytes → IsProgram bytes program →
-    IsWithin (TextAnswer request devices bytes) (Work request devices own program request.mode)
-answers_work request devices own bytes program same is =
-    subst (λ (z : List ℕ). IsWithin (TextAnswer request devices bytes) (Work request devices z program request.mode)) (sym same)
-    (record { to = λ text status a. answer_works program is a })
+-- The board is right: the answer is that of its devices.
 
--- A text is too long.
+board_answers : {held : Option (List ℕ)} {answers : List Desc → List ℕ → Status → Type 0} {text : List ℕ} {status : Status} (devices : List Desc) → HasBoard held devices →
+    BoardAnswer held answers text status → answers devices text status
+board_answers {held = held} devices board (board_refused line reason fault) = absurd (board_or_fault held devices line reason board fault)
+board_answers {held = held} {answers = answers} devices board (board_read others text status other a) =
+    subst (λ (ds : List Desc). answers ds text status) (one_held held others devices other board) a
 
-long_answer : {request : Request} {devices : List Desc} {bytes : List ℕ} → text_limit < length bytes →
-    TextAnswer request devices bytes (refusal_line 0 0 reasons.TooLong) (Refused 0 reasons.TooLong)
-long_answer long = refused 0 0 reasons.TooLong (is_too_long long)
+pub devices_of_board : {held : Option (List ℕ)} {answers : List Desc → List ℕ → Status → Type 0} (devices : List Desc) → HasBoard held devices →
+    IsWithin (BoardAnswer held answers) (answers devices)
+devices_of_board devices board = record { to = λ text status a. board_answers devices board a }
 
-long_source : (request : Request) (devices : List Desc) (bytes : List ℕ) (text : Bool) → most_of_source text < length bytes →
-    SourceAnswer text request devices bytes (long_line text) (long_status text)
-long_source request devices bytes true long = long_answer long
-long_source request devices bytes false long = code_refused most_bytes code_reasons.TooLong (too_long long)
+pub board_of_devices : {held : Option (List ℕ)} {answers : List Desc → List ℕ → Status → Type 0} (devices : List Desc) → HasBoard held devices →
+    IsWithin (answers devices) (BoardAnswer held answers)
+board_of_devices devices board = record { to = λ text status a. board_read devices text status board a }
 
-pub long_file : (request : Request) (devices : List Desc) (file : Option (List ℕ)) → IsSomeAnd file (λ bytes. most_of_source (reads_text request.mode) < length bytes) →
-    FileAnswer request devices file (long_line (reads_text request.mode)) (long_status (reads_text request.mode))
-long_file request devices None long = absurd long
-long_file request devices (Some bytes) long = record {
-  bytes = bytes;
-  held = refl;
-  answer = long_source request devices bytes (reads_text request.mode) long;
-}
+-- The answer to the words is that to the request that they are.
 
--- The answer for what a mode reads is that for a text or for a code.
+pub request_in_words : {words : List (List ℕ)} {contents_of : Request → List (Option (List ℕ))} {request : Request} → IsRequest words request →
+    IsWithin (RequestAnswer request (contents_of request)) (WordsAnswer words contents_of)
+request_in_words {request = request} asks = record { to = λ text status a. asked request text status asks a }
 
-pub text_to_source : (request : Request) (devices : List Desc) (bytes : List ℕ) (text : Bool) → text ≡ true →
-    IsWithin (TextAnswer request devices bytes) (SourceAnswer text request devices bytes)
-text_to_source request devices bytes text e = record { to = λ xs s a. rw e a }
+words_answer : {words : List (List ℕ)} {contents_of : Request → List (Option (List ℕ))} {request : Request} {text : List ℕ} {status : Status} → IsRequest words request →
+    WordsAnswer words contents_of text status → RequestAnswer request (contents_of request) text status
+words_answer asks (usage n u) = absurd (no_usage asks u)
+words_answer {contents_of = contents_of} asks (asked other text status others a) =
+    subst (λ (r : Request). RequestAnswer r (contents_of r) text status) (one_request others asks) a
 
-pub source_to_text : (request : Request) (devices : List Desc) (bytes : List ℕ) (text : Bool) → text ≡ true →
-    IsWithin (SourceAnswer text request devices bytes) (TextAnswer request devices bytes)
-source_to_text request devices bytes text e = record { to = λ xs s a. rw e at a }
-
-pub code_to_source : (request : Request) (devices : List Desc) (bytes : List ℕ) (text : Bool) → text ≡ false →
-    IsWithin (CodeAnswer request devices bytes) (SourceAnswer text request devices bytes)
-code_to_source request devices bytes text e = record { to = λ xs s a. rw e a }
-
-pub source_to_code : (request : Request) (devices : List Desc) (bytes : List ℕ) (text : Bool) → text ≡ false →
-    IsWithin (SourceAnswer text request devices bytes) (CodeAnswer request devices bytes)
-source_to_code request devices bytes text e = record { to = λ xs s a. rw e at a }
-
--- A fault, by equal numbers and an equal reason.
-
-pub text_fault_is : {bytes : List ℕ} {p q l m : ℕ} {r s : Reason} → p ≡ q → l ≡ m → r ≡ s → FirstFault bytes p l r → FirstFault bytes q m s
-text_fault_is {bytes = bytes} {q = q} {l = l} {m = m} {r = r} a b c f =
-    subst (λ (x : Reason). FirstFault bytes q m x) c (subst (λ (k : ℕ). FirstFault bytes q k r) b (subst (λ (k : ℕ). FirstFault bytes k l r) a f))
-
-pub code_fault_is : {bytes : List ℕ} {i j : ℕ} {r s : CodeReason} → i ≡ j → r ≡ s → IsCodeFault bytes i r → IsCodeFault bytes j s
-code_fault_is {bytes = bytes} {j = j} {r = r} a b f = subst (IsCodeFault bytes j) b (subst (λ (k : ℕ). IsCodeFault bytes k r) a f)
+pub request_of_words : {words : List (List ℕ)} {contents_of : Request → List (Option (List ℕ))} {request : Request} → IsRequest words request →
+    IsWithin (WordsAnswer words contents_of) (RequestAnswer request (contents_of request))
+request_of_words {contents_of = contents_of} asks = record { to = λ text status a. words_answer {contents_of = contents_of} asks a }

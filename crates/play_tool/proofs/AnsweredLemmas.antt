@@ -1,6 +1,5 @@
 -- Each request whose files are held has an answer, whatever they hold.
-use Rattle.std.proofs.Common.{◌≡◌, ◌⊎◌, ◌&&◌, ◌≤◌, ◌<◌, ◌+◌, ◌*◌, ◌++◌, ℕ, pos, Bool, true, false, List, [], length, codes, All, Option, None, Some, if◌then◌else◌, refl, subst, ap, inl, inr, arith, map}
-use Rattle.std.specs.Prelude.{IsSome, is_some}
+use Rattle.std.proofs.Common.{◌≡◌, ◌⊎◌, ◌&&◌, ◌≤◌, ◌<◌, ◌+◌, ◌*◌, ◌++◌, ℕ, pos, Bool, true, false, List, length, codes, All, Option, None, Some, if◌then◌else◌, refl, subst, inl, inr, arith, map}
 use Rattle.std.specs.List.{find}
 use Rattle.std.specs.Str.{bytes_eq}
 use Rattle.stapl_lexer.specs.Pieces.{text_limit}
@@ -30,29 +29,26 @@ use Rattle.dev_card.specs.Card.{fresh}
 use Rattle.dev_card.specs.FarEnds.{Told}
 use Rattle.board_text.specs.declared.reason.BoardReason.{BoardReason}
 use Rattle.board_text.specs.Boards.{IsBoard, IsFirstFault}
-use Rattle.soak_texts.specs.Boards.{soak_place}
 use Rattle.program_reports.specs.Checks.{IsCheckText}
 use Rattle.program_reports.specs.Listings.{list_text}
-use Rattle.named_files.specs.Boards.{HasBoard}
 use Rattle.named_files.specs.Texts.{refusal_line, board_refusal_line}
-use Rattle.play_words.specs.declared.mode.Mode.{Mode}
-use Rattle.play_words.specs.declared.mode.Mode.TheVariants.{Play, Check, List as Listed, Compile, Run, Soak}
-use Rattle.play_words.specs.declared.mode.WordKey.TheVariants.{Action, Seed}
-use Rattle.play_words.specs.declared.words.Request.{Request}
-use Rattle.play_words.specs.Words.{reads_text, soaks, HasNeeded}
-use Rattle.play_words.proofs.RequestLemmas.{has_needed, none_there, run_mode, soak_mode}
+use Rattle.play_words.specs.declared.requests.PlayRequest.{PlayRequest}
+use Rattle.play_words.specs.declared.requests.Request.{Request}
+use Rattle.play_words.specs.declared.requests.Request.TheVariants as requests
 use Rattle.play_status.specs.declared.status.Status.{Status}
 use Rattle.play_status.specs.declared.status.Status.TheVariants as statuses
-use Rattle.code_plays.specs.Plays.{done_with, has_place, asked_text, Plays, played, bad_place, code_play_on, PlaysCodeAction, base_at}
+use Rattle.code_plays.specs.Plays.{done_with, has_place, asked_text, Plays, played, bad_place, code_play_on, PlaysCode, base_at}
 use Rattle.code_plays.specs.Plays as answers
 use Rattle.code_plays.specs.CodePlays.{HasEnding}
 use Rattle.code_plays.proofs.CodeLemmas.{zeros_of_code_fit}
 use Rattle.code_plays.proofs.PlayLemmas.{has_ending}
 use Rattle.play_tool.specs.Texts.{code_refusal_line}
-use Rattle.play_tool.specs.Answers.{PlaysAsked, Compiles, Work, TextAnswer, refused, accepted, CodeAnswer, code_refused, code_accepted, SourceAnswer, Contents, RequestAnswer, board_refused, board_read, soak_request, soak_contents, soak_head, ModeAnswer}
-use Rattle.play_tool.specs.Held.{AreHeld}
+use Rattle.play_tool.specs.declared.sources.Source.TheVariants.{Program, Code}
+use Rattle.play_tool.specs.declared.programs.Work.TheVariants.{Check, List as Lists, Compile}
+use Rattle.play_tool.specs.Answers.{PlaysAction, Compiles, Works, TextAnswer, refused, accepted, CodeAnswer, code_refused, code_accepted, SourceAnswer, HeldAnswer, BoardAnswer, board_refused, board_read, PlayAnswer, soak_request, soak_head, RequestAnswer}
+use Rattle.play_tool.specs.Held.{IsHeld, AreHeld}
+use Rattle.play_tool.proofs.AnswerLemmas.{held_of_bytes}
 use Rattle.play_tool.proofs.ProgramLemmas.{code_to_program, compiled_file}
-use Rattle.play_tool.proofs.SoakLemmas.{soak_needed}
 
 -- some text and status is an answer
 abbrev pub HasAnswer : (List ℕ → Status → Type 0) → Type 0
@@ -71,13 +67,14 @@ chosen_below procedures asked skipped n (Some action) chosen_now below e =
     by false f = absurd cc
 
 -- the play of a valid code in range
-module _ (never : NeverStuck) (code : CodeLists) (ranges : IsInRange code) (valid : IsValid code) (action : List ℕ) (request : Request) (devices : List Desc) where
-  comes_to_an_end : (procedures : List ℕ) → code_choice code action request.todo request.skip ≡ chosen procedures → HasEnding (code_play_on code request devices procedures)
+module _ (never : NeverStuck) (code : CodeLists) (ranges : IsInRange code) (valid : IsValid code) (request : PlayRequest) (devices : List Desc) where
+  -- the play of the procedures that are chosen ends, or its turns are spent
+  pub comes_to_an_end : (procedures : List ℕ) → code_choice code request.action request.todo request.skip ≡ chosen procedures → HasEnding (code_play_on code request devices procedures)
   comes_to_an_end procedures e =
       has_ending (code_play_on code request devices procedures)
       (never code ranges valid procedures
-      (chosen_below code.procedures request.todo request.skip (length code.procedures) (find (λ (a : ActionDef). bytes_eq action a.name) code.actions) procedures
-      (λ found is. found_below (λ (a : ActionDef). bytes_eq action a.name) code.procedures request.todo request.skip (length code.procedures) code.actions found ranges.actions.each is) e)
+      (chosen_below code.procedures request.todo request.skip (length code.procedures) (find (λ (a : ActionDef). bytes_eq request.action a.name) code.actions) procedures
+      (λ found is. found_below (λ (a : ActionDef). bytes_eq request.action a.name) code.procedures request.todo request.skip (length code.procedures) code.actions found ranges.actions.each is) e)
       (zeros_of_code code) (zeros_of_code_fit code ranges) request.turns (chain_reset (base_at devices request.place) (Told (map fresh devices))) refl)
 
   play_answered : (choice : Choice) (placed : Bool) → ((procedures : List ℕ) → choice ≡ chosen procedures → HasEnding (code_play_on code request devices procedures)) →
@@ -90,12 +87,8 @@ module _ (never : NeverStuck) (code : CodeLists) (ranges : IsInRange code) (vali
       let run = code_play_on code request devices procedures in
       (asked_text request run.events run.chain.far h.ending, done_with h.ending, played procedures h.ending refl refl h.comes)
 
-  pub code_answered : HasAnswer (PlaysCodeAction code action request devices)
-  code_answered = play_answered (code_choice code action request.todo request.skip) (has_place request.place devices) comes_to_an_end
-
-named : {A : Type 0} (found : Option A) → IsSome found → (x : A) × (found ≡ Some x)
-named None some = absurd cc
-named (Some x) some = (x, refl)
+  pub code_answered : HasAnswer (PlaysCode code request devices)
+  code_answered = play_answered (code_choice code request.action request.todo request.skip) (has_place request.place devices) comes_to_an_end
 
 -- what is known of boards, programs and their codes
 pub record Known : Type 0 where
@@ -116,21 +109,13 @@ short_file : (text : List ℕ) (program : List StmtTree) → IsProgram text prog
     length (file (lists_of (as_played program))) ≤ most_bytes
 short_file text program is few = let small : length text ≤ text_limit = is.short in omega (arith, few, small)
 
-module _ (known : Known) (request : Request) (needed : HasNeeded request) where
-  program_answered : request.mode ≡ Play → (devices : List Desc) (bytes : List ℕ) (program : List StmtTree) → IsProgram bytes program → HasAnswer (PlaysAsked program request devices)
-  program_answered plays devices bytes program is =
-      let a = named request.action (has_needed request Play needed plays Action refl) in
+module _ (known : Known) where
+  program_answered : (request : PlayRequest) (devices : List Desc) (bytes : List ℕ) (program : List StmtTree) → IsProgram bytes program → HasAnswer (PlaysAction request devices program)
+  program_answered request devices bytes program is =
       let took = known.taken bytes program is in
       let code = lists_of (as_played program) in
-      let c = code_answered known.never code (known.in_range (as_played program) took) (known.valid (as_played program) took) a.0 request devices in (
-        c.0,
-        c.1,
-        record {
-          action = a.0;
-          asked = a.1;
-          plays = (code_to_program program code a.0 request devices (known.typed bytes program is) (known.code (as_played program) took)).to c.0 c.1 c.2;
-        },
-      )
+      let c = code_answered known.never code (known.in_range (as_played program) took) (known.valid (as_played program) took) request devices in
+      (c.0, c.1, (code_to_program program code request devices (known.typed bytes program is) (known.code (as_played program) took)).to c.0 c.1 c.2)
 
   compile_answered : (bytes : List ℕ) (program : List StmtTree) → IsProgram bytes program → IsFitting (lists_of (as_played program)) → HasAnswer (Compiles program)
   compile_answered bytes program is fits =
@@ -149,81 +134,56 @@ module _ (known : Known) (request : Request) (needed : HasNeeded request) where
         }),
       )
 
-  work_answered : (devices : List Desc) (bytes : List ℕ) (program : List StmtTree) → IsProgram bytes program →
-      (request.mode ≡ Compile → IsFitting (lists_of (as_played program))) → (mode : Mode) → request.mode ≡ mode → reads_text mode ≡ true →
-      HasAnswer (Work request devices bytes program mode)
-  work_answered devices bytes program is fits Play e reads = program_answered e devices bytes program is
-  work_answered devices bytes program is fits Check e reads = let c = known.checks bytes program is in (c.0, statuses.Done (pos 0), record { said = c.1; done = refl })
-  work_answered devices bytes program is fits Listed e reads = (list_text program, statuses.Done (pos 0), record { said = refl; done = refl })
-  work_answered devices bytes program is fits Compile e reads = compile_answered bytes program is (fits e)
-  work_answered devices bytes program is fits Run e reads = absurd cc
-  work_answered devices bytes program is fits Soak e reads = absurd cc
-
-  text_answered : (devices : List Desc) (bytes : List ℕ) →
-      ((program : List StmtTree) → IsProgram bytes program → request.mode ≡ Compile → IsFitting (lists_of (as_played program))) → reads_text request.mode ≡ true →
-      HasAnswer (TextAnswer request devices bytes)
-  text_answered devices bytes fits reads = by (known.programs bytes)
+  text_answered : (answers : List StmtTree → List ℕ → Status → Type 0) (bytes : List ℕ) → ((program : List StmtTree) → IsProgram bytes program → HasAnswer (answers program)) →
+      HasAnswer (TextAnswer answers bytes)
+  text_answered answers bytes answered = by (known.programs bytes)
     where
       by : ((statements : List StmtTree) × IsProgram bytes statements) ⊎ ((piece : ℕ) × (line : ℕ) × (reason : Reason) × FirstFault bytes piece line reason) →
-          HasAnswer (TextAnswer request devices bytes)
-      by (inl (program, is)) =
-          let a = work_answered devices bytes program is (fits program is) request.mode refl reads in (a.0, a.1, accepted program a.0 a.1 is a.2)
+          HasAnswer (TextAnswer answers bytes)
+      by (inl (program, is)) = let a = answered program is in (a.0, a.1, accepted program a.0 a.1 is a.2)
       by (inr (piece, line, reason, fault)) = (refusal_line piece line reason, statuses.Refused piece reason, refused piece line reason fault)
 
-  file_answered : request.mode ≡ Run → (devices : List Desc) (bytes : List ℕ) → All (λ b. b < 256) bytes → HasAnswer (CodeAnswer request devices bytes)
-  file_answered runs devices bytes are = by (known.files bytes are)
+  file_answered : (request : PlayRequest) (devices : List Desc) (bytes : List ℕ) → All (λ b. b < 256) bytes → HasAnswer (CodeAnswer request devices bytes)
+  file_answered request devices bytes are = by (known.files bytes are)
     where
       by : ((code : CodeLists) × IsFileOf bytes code) ⊎ ((offset : ℕ) × ((reason : CodeReason) × IsCodeFault bytes offset reason)) → HasAnswer (CodeAnswer request devices bytes)
-      by (inl (code, is)) =
-          let a = named request.action (has_needed request Run needed runs Action refl) in
-          let c = code_answered known.never code is.has.in_range is.valid a.0 request devices in
-          (c.0, c.1, code_accepted code c.0 c.1 is (record { action = a.0; asked = a.1; plays = c.2 }))
+      by (inl (code, is)) = let c = code_answered known.never code is.has.in_range is.valid request devices in (c.0, c.1, code_accepted code c.0 c.1 is c.2)
       by (inr (offset, (reason, fault))) = (code_refusal_line offset reason, statuses.CodeRefused offset reason, code_refused offset reason fault)
 
-  source_answered : (devices : List Desc) (bytes : List ℕ) → (request.mode ≡ Run → All (λ b. b < 256) bytes) →
-      ((program : List StmtTree) → IsProgram bytes program → request.mode ≡ Compile → IsFitting (lists_of (as_played program))) → soaks request.mode ≡ false →
-      HasAnswer (SourceAnswer (reads_text request.mode) request devices bytes)
-  source_answered devices bytes are fits other = by (reads_text request.mode) refl
+  -- the same of a file that is held
+  held_answered : (answers : List ℕ → List ℕ → Status → Type 0) (held : Option (List ℕ)) (is : IsHeld held) → HasAnswer (answers is.bytes) → HasAnswer (HeldAnswer answers held)
+  held_answered answers held is a = (a.0, a.1, (held_of_bytes answers held is.bytes is.there).to a.0 a.1 a.2)
+
+  -- and of a board that is held
+  board_answered : (answers : List Desc → List ℕ → Status → Type 0) (held : Option (List ℕ)) (is : IsHeld held) → ((devices : List Desc) → HasAnswer (answers devices)) →
+      HasAnswer (BoardAnswer held answers)
+  board_answered answers held is answered = by (known.boards is.bytes)
     where
-      by : (reads : Bool) → reads_text request.mode ≡ reads → HasAnswer (SourceAnswer reads request devices bytes)
-      by true e = text_answered devices bytes fits e
-      by false e = let runs = run_mode request.mode e other in file_answered runs devices bytes (are runs)
+      by : ((devices : List Desc) × IsBoard is.bytes devices) ⊎ ((line : ℕ) × (reason : BoardReason) × IsFirstFault is.bytes line reason) → HasAnswer (BoardAnswer held answers)
+      by (inl (devices, board)) = let a = answered devices in (a.0, a.1, board_read devices a.0 a.1 (rw is.there board) a.2)
+      by (inr (line, reason, fault)) = (board_refusal_line line reason, statuses.BoardRefused line reason, board_refused line reason (rw is.there fault))
 
-  request_answered : (contents : Contents) → AreHeld request contents → soaks request.mode ≡ false → HasAnswer (RequestAnswer request contents)
-  request_answered contents held other = by request.board contents.board refl refl
-    where
-      with_devices : (devices : List Desc) → HasBoard request.board contents.board devices → HasAnswer (RequestAnswer request contents)
-      with_devices devices board =
-          let source = named contents.source (held.source other) in
-          let a = source_answered devices source.0 (λ runs. held.bytes runs source.0 source.1) (λ program is compiles. held.fits compiles source.0 source.1 program is) other in
-          (a.0, a.1, board_read devices a.0 a.1 board (record { bytes = source.0; held = source.1; answer = a.2 }))
+  play_answer : (request : PlayRequest) (board held : Option (List ℕ)) → IsHeld board → IsHeld held → HasAnswer (PlayAnswer Program request board held)
+  play_answer request board held on is =
+      board_answered _ board on (λ devices. held_answered (SourceAnswer Program request devices) held is
+      (text_answered (PlaysAction request devices) is.bytes (λ program p. program_answered request devices is.bytes program p)))
 
-      of_text : (path bytes : List ℕ) → request.board ≡ Some path → contents.board ≡ Some bytes →
-          ((devices : List Desc) × IsBoard bytes devices) ⊎ ((line : ℕ) × (reason : BoardReason) × IsFirstFault bytes line reason) → HasAnswer (RequestAnswer request contents)
-      of_text path bytes e f (inl (devices, is)) = with_devices devices (rw (e, f) is)
-      of_text path bytes e f (inr (line, reason, fault)) = (board_refusal_line line reason, statuses.BoardRefused line reason, board_refused line reason (rw (e, f) fault))
+  run_answer : (request : PlayRequest) (board held : Option (List ℕ)) → IsHeld board → (is : IsHeld held) → All (λ b. b < 256) is.bytes → HasAnswer (PlayAnswer Code request board held)
+  run_answer request board held on is are =
+      board_answered _ board on (λ devices. held_answered (SourceAnswer Code request devices) held is (file_answered request devices is.bytes are))
 
-      by : (board read : Option (List ℕ)) → request.board ≡ board → contents.board ≡ read → HasAnswer (RequestAnswer request contents)
-      by None read e f = with_devices [] (rw e refl)
-      by (Some path) None e f = absurd (none_there contents.board (held.board (ap is_some e)) f)
-      by (Some path) (Some bytes) e f = of_text path bytes e f (known.boards bytes)
-
--- a soak plays
-soak_held : (seed : ℕ) → AreHeld (soak_request seed) (soak_contents seed)
-soak_held seed = record {
-  board = λ some. refl;
-  source = λ other. refl;
-  bytes = λ runs. absurd cc;
-  fits = λ compiles. absurd cc;
-}
-
-pub mode_answered : (known : Known) (request : Request) → HasNeeded request → (contents : Contents) → AreHeld request contents →
-    HasAnswer (ModeAnswer (soaks request.mode) request contents)
-mode_answered known request needed contents held = by (soaks request.mode) refl
-  where
-    by : (soak : Bool) → soaks request.mode ≡ soak → HasAnswer (ModeAnswer soak request contents)
-    by false e = request_answered known request needed contents held e
-    by true e =
-        let seed = named request.seed (has_needed request Soak needed (soak_mode request.mode e) Seed refl) in
-        let a = request_answered known (soak_request seed.0) (soak_needed (soak_place seed.0) refl) (soak_contents seed.0) (soak_held seed.0) refl in
-        (soak_head seed.0 ++ a.0, a.1, record { seed = seed.0; given = seed.1; rest = a.0; text_is = refl; play = a.2 })
+  pub request_answered : (request : Request) (contents : List (Option (List ℕ))) → AreHeld request contents → HasAnswer (RequestAnswer request contents)
+  request_answered (requests.Play play) contents held = play_answer play.request _ _ held.board held.source
+  request_answered (requests.Run play) contents held = run_answer play.request _ _ held.board held.source held.are_bytes
+  request_answered (requests.Check path) contents held =
+      held_answered (λ bytes. TextAnswer (Works Check bytes) bytes) _ held
+      (text_answered (Works Check held.bytes) held.bytes (λ program is. let c = known.checks held.bytes program is in (c.0, statuses.Done (pos 0), record { said = c.1; done = refl })))
+  request_answered (requests.List path) contents held =
+      held_answered (λ bytes. TextAnswer (Works Lists bytes) bytes) _ held
+      (text_answered (Works Lists held.bytes) held.bytes (λ program is. (list_text program, statuses.Done (pos 0), record { said = refl; done = refl })))
+  request_answered (requests.Compile path) contents held =
+      held_answered (λ bytes. TextAnswer (Works Compile bytes) bytes) _ held.source
+      (text_answered (Works Compile held.source.bytes) held.source.bytes (λ program is. compile_answered held.source.bytes program is (held.fits program is)))
+  request_answered (requests.Soak seed) contents held =
+      let a = play_answer (soak_request seed) _ _ (record { bytes = _; there = refl }) (record { bytes = _; there = refl }) in
+      (soak_head seed ++ a.0, a.1, record { rest = a.0; text_is = refl; play = a.2 })

@@ -5,7 +5,7 @@ pub mod AnswerLemmas
 pub mod FileLemmas
 pub mod RequestLemmas
 pub mod SoakLemmas
-pub mod StatusLemmas
+pub mod OneChoice
 pub mod OneAnswer
 pub mod AnsweredLemmas
 pub mod AloneLemmas

@@ -31,14 +31,14 @@ use Rattle.dev_card.specs.Sound.{SoundCard}
 use Rattle.chain_sim.specs.Rack.{places_of}
 use Rattle.play_status.specs.declared.status.Status.{Status}
 use Rattle.play_status.specs.declared.status.Status.TheVariants.{Done}
-use Rattle.play_words.specs.declared.words.Request.{Request}
+use Rattle.play_words.specs.declared.requests.PlayRequest.{PlayRequest}
 use Rattle.play_tool.specs.Answers.{play_on, PlaysAction, Compiles}
 use Rattle.code_plays.specs.CodePlays.{IsPlayOf}
 use Rattle.play_tool.specs.FinalRacks.{HoldsFinal}
 use Rattle.play_tool.proofs.ChoiceLemmas.{same_choice}
 use Rattle.tool_frame.proofs.AnswerLemmas.{IsWithin}
 use Rattle.code_plays.specs.Racks.{AreLeft, CodeHoldsFinal}
-use Rattle.code_plays.specs.Plays.{done_with, has_place, asked_text, Plays, no_action, bad_choice, bad_place, played, code_play_on, PlaysCodeAction}
+use Rattle.code_plays.specs.Plays.{done_with, has_place, asked_text, Plays, no_action, bad_choice, bad_place, played, code_play_on, PlaysCode}
 
 -- The variables of the code of a program begin as the program's do.
 
@@ -65,7 +65,7 @@ ending_placed place (Ended ending) = refl
 ending_placed place (Going i) = refl
 ending_placed place Stopped = refl
 
-pub code_run : {program : Played} {choice : Choice} (request : Request) (devices : List Desc) (code : CodeLists) (procedures : List ℕ) → IsCodeOf program code → choice ≡ chosen procedures →
+pub code_run : {program : Played} {choice : Choice} (request : PlayRequest) (devices : List Desc) (code : CodeLists) (procedures : List ℕ) → IsCodeOf program code → choice ≡ chosen procedures →
     IsPlayOf choice true (play_on program request devices) (code_play_on code request devices procedures)
 code_run {program = program} request devices code procedures is e =
     let base = base_at devices request.place in let turns = request.turns in
@@ -86,13 +86,13 @@ pub record SaySame (one other : List ℕ → Run) : Type 0 where
   pub far : (procedures : List ℕ) → (one procedures).chain.far ≡ (other procedures).chain.far
   pub endings : (procedures : List ℕ) → ending_of (one procedures).outcome ≡ ending_of (other procedures).outcome
 
-said_so : {choice : Choice} {placed : Bool} {one other : List ℕ → Run} (request : Request) (procedures : List ℕ) (ending : Ending) → SaySame one other →
+said_so : {choice : Choice} {placed : Bool} {one other : List ℕ → Run} (request : PlayRequest) (procedures : List ℕ) (ending : Ending) → SaySame one other →
     Plays choice placed other request (asked_text request (other procedures).events (other procedures).chain.far ending) (done_with ending) →
     Plays choice placed other request (asked_text request (one procedures).events (one procedures).chain.far ending) (done_with ending)
 said_so {choice = choice} {placed = placed} {one = one} {other = other} request procedures ending same p =
     rw (same.events procedures, same.far procedures) p
 
-same_plays : {choice : Choice} {placed : Bool} {one other : List ℕ → Run} {request : Request} {text : List ℕ} {status : Status} → SaySame one other →
+same_plays : {choice : Choice} {placed : Bool} {one other : List ℕ → Run} {request : PlayRequest} {text : List ℕ} {status : Status} → SaySame one other →
     Plays choice placed one request text status → Plays choice placed other request text status
 same_plays same (no_action e) = no_action e
 same_plays same (bad_choice e) = bad_choice e
@@ -112,47 +112,46 @@ procedures_in (chosen procedures) = procedures
 procedures_in _ = []
 
 -- a program and its code, for a request and the devices of its board
-module _ (program : List StmtTree) (code : CodeLists) (action : List ℕ) (request : Request) (devices : List Desc) (typed : IsTyped (as_played program)) (is : IsCodeOf (as_played program) code) where
+module _ (program : List StmtTree) (code : CodeLists) (request : PlayRequest) (devices : List Desc) (typed : IsTyped (as_played program)) (is : IsCodeOf (as_played program) code) where
   same_run : (procedures : List ℕ) → IsPlayOf (chosen procedures) true (play_on (as_played program) request devices) (code_play_on code request devices procedures)
   same_run procedures = code_run request devices code procedures is refl
 
   listed : (procedures : List ℕ) → (same_run procedures).procedures ≡ procedures
   listed procedures = sym (ap (λ (c : Choice). procedures_in c) (same_run procedures).are_chosen)
 
-  say_same : SaySame (code_play_on code request devices) (play_on (as_played program) request devices)
+  -- the plays of the code say what those of the program say
+  pub say_same : SaySame (code_play_on code request devices) (play_on (as_played program) request devices)
   say_same = record {
     events = λ procedures. (same_run procedures).same_events ∙ ap (λ (ps : List ℕ). (play_on (as_played program) request devices ps).events) (listed procedures);
     far = λ procedures. (same_run procedures).same_far ∙ ap (λ (ps : List ℕ). (play_on (as_played program) request devices ps).chain.far) (listed procedures);
     endings = λ procedures. (same_run procedures).same_ending ∙ ap (λ (ps : List ℕ). ending_of (play_on (as_played program) request devices ps).outcome) (listed procedures);
   }
 
-  choices_same : code_choice code action request.todo request.skip ≡ choice_of (as_played program) action request.todo request.skip
-  choices_same = same_choice action request.todo request.skip typed is
+  choices_same : code_choice code request.action request.todo request.skip ≡ choice_of (as_played program) request.action request.todo request.skip
+  choices_same = same_choice request.action request.todo request.skip typed is
 
-  to_program : (text : List ℕ) (status : Status) → PlaysCodeAction code action request devices text status → PlaysAction program action request devices text status
+  to_program : (text : List ℕ) (status : Status) → PlaysCode code request devices text status → PlaysAction request devices program text status
   to_program text status p =
       subst (λ (c : Choice). Plays c (has_place request.place devices) (play_on (as_played program) request devices) request text status) choices_same (same_plays say_same p)
 
-  to_code : (text : List ℕ) (status : Status) → PlaysAction program action request devices text status → PlaysCodeAction code action request devices text status
+  to_code : (text : List ℕ) (status : Status) → PlaysAction request devices program text status → PlaysCode code request devices text status
   to_code text status p =
       subst (λ (c : Choice). Plays c (has_place request.place devices) (code_play_on code request devices) request text status) (sym choices_same) (same_plays (turned say_same) p)
 
-  pub code_to_program : IsWithin (PlaysCodeAction code action request devices) (PlaysAction program action request devices)
+  pub code_to_program : IsWithin (PlaysCode code request devices) (PlaysAction request devices program)
   code_to_program = record { to = to_program }
 
-  pub program_to_code : IsWithin (PlaysAction program action request devices) (PlaysCodeAction code action request devices)
+  pub program_to_code : IsWithin (PlaysAction request devices program) (PlaysCode code request devices)
   program_to_code = record { to = to_code }
 
 -- and so the devices are left
-pub program_final : {program : List StmtTree} {code : CodeLists} {request : Request} {devices : List Desc} {rack : List (Option SoundCard)} →
+pub program_final : {program : List StmtTree} {code : CodeLists} {request : PlayRequest} {devices : List Desc} {rack : List (Option SoundCard)} →
     IsTyped (as_played program) → IsCodeOf (as_played program) code →
-    CodeHoldsFinal code request devices rack → HoldsFinal program request devices rack
+    CodeHoldsFinal code request devices rack → HoldsFinal request devices program rack
 program_final {program = program} {code = code} {request = request} {devices = devices} {rack = rack} typed is final = record {
-  action = final.action;
-  asked = final.asked;
   procedures = final.procedures;
-  choice = sym (choices_same program code final.action request devices typed is) ∙ final.choice;
-  left = subst (AreLeft rack (places_of devices) devices) ((say_same program code final.action request devices typed is).far final.procedures) final.left;
+  choice = sym (choices_same program code request devices typed is) ∙ final.choice;
+  left = subst (AreLeft rack (places_of devices) devices) ((say_same program code request devices typed is).far final.procedures) final.left;
 }
 
 -- what is written if a program is compiled

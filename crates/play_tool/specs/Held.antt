@@ -1,20 +1,41 @@
 -- Files that are held of a request. The rules are this tool's own.
-use Rattle.std.specs.Prelude.{◌≡◌, ℕ, ◌<◌, false, List, Some, IsSome, All}
+use Rattle.std.specs.Prelude.{◌≡◌, ℕ, ◌<◌, List, Option, Some, All}
 use Rattle.stapl_syntax.specs.Trees.{StmtTree}
 use Rattle.stapl_syntax.specs.Programs.{IsProgram}
 use Rattle.stapl_meaning.specs.Scopes.{as_played}
 use Rattle.stapl_code.specs.Files.{IsFitting}
 use Rattle.stapl_codegen.specs.Generated.{lists_of}
-use Rattle.play_words.specs.declared.mode.Mode.TheVariants.{Compile, Run}
-use Rattle.play_words.specs.declared.words.Request.{Request}
-use Rattle.play_words.specs.Words.{soaks}
-use Rattle.play_tool.specs.Answers.{Contents}
+use Rattle.play_words.specs.declared.requests.Request.{Request}
+use Rattle.play_words.specs.declared.requests.Request.TheVariants as requests
+use Rattle.tool_frame.specs.Files.{first_of, second_of}
 
--- The files that a request names are held. A code is read from bytes. A program is compiled if the numbers of its code
--- have four bytes each, as those of each code have that the compiler makes.
-pub record AreHeld (request : Request) (contents : Contents) : Type 0 where
-  pub board : IsSome request.board → IsSome contents.board
-  pub source : soaks request.mode ≡ false → IsSome contents.source
-  pub bytes : request.mode ≡ Run → (bytes : List ℕ) → contents.source ≡ Some bytes → All (λ b. b < 256) bytes
-  pub fits : request.mode ≡ Compile → (bytes : List ℕ) → contents.source ≡ Some bytes → (program : List StmtTree) → IsProgram bytes program →
-      IsFitting (lists_of (as_played program))
+-- a file is held
+pub record IsHeld (held : Option (List ℕ)) : Type 0 where
+  pub bytes : List ℕ
+  pub there : held ≡ Some bytes
+
+-- the board of a play is held, and so is what is played
+pub record ArePlayFilesHeld (contents : List (Option (List ℕ))) : Type 0 where
+  pub board : IsHeld (first_of contents)
+  pub source : IsHeld (second_of contents)
+
+-- The same, and what is played is read from bytes.
+pub record AreCodeFilesHeld (contents : List (Option (List ℕ))) : Type 0 where
+  pub board : IsHeld (first_of contents)
+  pub source : IsHeld (second_of contents)
+  pub are_bytes : All (λ b. b < 256) source.bytes
+
+-- A program is held, and the numbers of its code have four bytes each, as those of each code have that the compiler
+-- makes.
+pub record IsCompiledHeld (held : Option (List ℕ)) : Type 0 where
+  pub source : IsHeld held
+  pub fits : (program : List StmtTree) → IsProgram source.bytes program → IsFitting (lists_of (as_played program))
+
+-- The files that a request names are held.
+abbrev pub AreHeld : Request → List (Option (List ℕ)) → Type 0
+AreHeld (requests.Play play) contents = ArePlayFilesHeld contents
+AreHeld (requests.Run play) contents = AreCodeFilesHeld contents
+AreHeld (requests.Check path) contents = IsHeld (first_of contents)
+AreHeld (requests.List path) contents = IsHeld (first_of contents)
+AreHeld (requests.Compile path) contents = IsCompiledHeld (first_of contents)
+AreHeld (requests.Soak seed) contents = Unit {0}

@@ -1,9 +1,10 @@
 pub mod Texts
 pub mod SoakLines
-pub mod ProgramFiles
 pub mod Answers
 pub mod FinalRacks
 pub mod Alone
 pub mod Compiled
 pub mod ReadContents
 pub mod Held
+pub mod CodesInFiles
+pub mod NoFaults

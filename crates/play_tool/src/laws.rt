@@ -1,10 +1,9 @@
 //! Laws of the definitions.
-ghost use Rattle.std.specs.Prelude.{◌≡◌, ℕ, List, Some, map};
-ghost use Rattle.play_words.specs.declared.words.Request.{Request};
-ghost use Rattle.play_words.specs.Words.{soaks, HasNeeded};
+ghost use Rattle.std.specs.Prelude.{◌≡◌, ℕ, List, Option, Some};
+ghost use Rattle.play_words.specs.declared.requests.Request.{Request};
 ghost use Rattle.play_status.specs.declared.status.Status.{Status};
 ghost use Rattle.play_status.specs.Statuses.{IsFault};
-ghost use Rattle.play_tool.specs.Answers.{Contents, Answer, ModeAnswer, WordsAnswer};
+ghost use Rattle.play_tool.specs.Answers.{Answer, RequestAnswer, WordsAnswer};
 ghost use Rattle.play_tool.specs.Alone.{IsQuietAlone, PlaysAlone};
 ghost use Rattle.play_tool.specs.Compiled.{RunsCompiled, PlaysProgram};
 ghost use Rattle.play_tool.specs.ReadContents.{OfWords};
@@ -24,10 +23,10 @@ pub fn one_answer()
         Answer words files a s → Answer words files b t → (a ≡ b) × (s ≡ t) }
 {}
 
-/// A request of any mode whose files are held has an answer, whatever they hold.
+/// A request whose files are held has an answer, whatever they hold.
 pub fn requests_are_answered()
-    ensures { (request : Request) (contents : Contents) → HasNeeded request → AreHeld request contents →
-        (text : List ℕ) × (status : Status) × ModeAnswer (soaks request.mode) request contents text status }
+    ensures { (request : Request) (contents : List (Option (List ℕ))) → AreHeld request contents →
+        (text : List ℕ) × (status : Status) × RequestAnswer request contents text status }
 {
     every_text_is_a_board_or_has_a_fault();
     each_text_is_a_program_or_has_a_fault();
@@ -42,7 +41,7 @@ pub fn requests_are_answered()
 
 /// The status of an answer is that of no fault.
 pub fn answers_are_no_faults()
-    ensures { (words : List (List ℕ)) (contents_of : Request → Contents) (text : List ℕ) (status : Status) →
+    ensures { (words : List (List ℕ)) (contents_of : Request → List (Option (List ℕ))) (text : List ℕ) (status : Status) →
         WordsAnswer words contents_of text status → IsFault status → ⊥ }
 {}
 
@@ -57,13 +56,13 @@ pub fn told_files_are_answered()
 /// that run alone, if this is quiet for all its turns: the text, which has the report of these devices in order, and the
 /// status.
 pub fn quiet_plays_are_as_alone()
-    ensures { (words : List (List ℕ)) (contents_of : Request → Contents) (q : IsQuietAlone words contents_of)
+    ensures { (words : List (List ℕ)) (contents_of : Request → List (Option (List ℕ))) (q : IsQuietAlone words contents_of)
         (text : List ℕ) (status : Status) → WordsAnswer words contents_of text status → PlaysAlone q text status }
 {}
 
 /// What is answered to a play of a code that a program was compiled to is what is answered to the play of the program.
 pub fn compiled_programs_play_as_programs()
-    ensures { (words : List (List ℕ)) (contents_of : Request → Contents) (q : RunsCompiled words contents_of)
+    ensures { (words : List (List ℕ)) (contents_of : Request → List (Option (List ℕ))) (q : RunsCompiled words contents_of)
         (text : List ℕ) (status : Status) → WordsAnswer words contents_of text status → PlaysProgram q text status }
 {
     programs_are_typed();

@@ -1,5 +1,5 @@
 //! What is done with a program.
-ghost use Rattle.std.specs.Prelude.{◌≡◌, map, Some};
+ghost use Rattle.std.specs.Prelude.{◌≡◌, map};
 ghost use Rattle.tool_io.specs.Lines.{IsWhole};
 ghost use Rattle.tool_frame.specs.Answers.{Says, KeepsOutput};
 ghost use Rattle.stapl_syntax.specs.Programs.{IsProgram};
@@ -9,7 +9,7 @@ ghost use Rattle.board_text.specs.Boards.{CanBeFitted};
 ghost use Rattle.program_reports.specs.Checks.{IsCheckText};
 ghost use Rattle.program_reports.specs.Listings.{list_text};
 ghost use Rattle.code_plays.specs.Racks.{KeepsRack};
-ghost use Rattle.play_tool.specs.Answers.{IsDone, Compiles, PlaysAction};
+ghost use Rattle.play_tool.specs.Answers.{IsDone, Compiles, Works, PlaysAction};
 ghost use Rattle.play_tool.specs.FinalRacks.{HoldsFinal};
 
 use code_files::encode_code;
@@ -18,45 +18,52 @@ use dev_card::Device;
 use play_status::Status;
 use program_reports::{check_words, put_check, put_list};
 use stapl_codegen::generate;
-use stapl_lexer::Name;
 use stapl_meaning::laws::programs_are_typed;
 use stapl_syntax::Program;
 use std::alloc::Global;
 use tool_frame::NoAnswer;
 use tool_io::{Lines, Sink};
 
-/// Plays an action of a program, as a task asks for it: that of its code.
+/// What is done with a program that is not played.
+#[derive(Clone, Copy)]
+pub enum Work {
+    /// It is checked.
+    Check,
+    /// What it offers is listed.
+    List,
+    /// It is written as the file of a code.
+    Compile,
+}
+
+/// Plays a program, as a task asks for it: its code.
 ///
 /// If the program has no such action, or a name cannot be chosen in it, or the board lacks the run, the rack stays as
 /// it was. If it is played, the devices of the board are as the play leaves them.
 pub fn play_program<K: Sink>(
     alloc: Global,
     program: &Program,
-    action: &Name,
     task: &Task,
     rack: &mut Vec<Box<dyn Device>>,
     lines: &mut Lines<K>,
 ) -> Result<Status, NoAnswer>
     requires program { IsProgram program.now.text (trees_of program.now) }
-    requires asked { task.now.request.now.action ≡ Some action.now }
     requires rack { IsRack (map kind_of rack.old.items) }
     requires devices { CanBeFitted task.now.devices.now }
     requires whole { IsWhole lines.old }
-    ensures says { Says K.written
-        (PlaysAction (trees_of program.now) action.now task.now.request.now task.now.devices.now) ⊥
+    ensures says { Says K.written (PlaysAction task.now.request.now task.now.devices.now (trees_of program.now)) ⊥
         lines.old lines.new result }
     ensures output { KeepsOutput K.faults K.is_last lines.old lines.new result }
     ensures rack { KeepsRack kind_of fitted (Unit {0})
-        (HoldsFinal (trees_of program.now) task.now.request.now task.now.devices.now)
+        (HoldsFinal task.now.request.now task.now.devices.now (trees_of program.now))
         rack.old.items rack.new.items result }
 {
     programs_are_typed();
     let code = generate(alloc, program)?;
-    play_code(alloc, &code, action, task, rack, lines)
+    play_code(alloc, &code, task, rack, lines)
 }
 
-/// Says how many statements a program has, and whether its check word is that of its text.
-pub fn check_program<K: Sink>(
+// Says how many statements a program has, and whether its check word is that of its text.
+fn check_program<K: Sink>(
     alloc: Global,
     program: &Program,
     lines: &mut Lines<K>,
@@ -72,8 +79,8 @@ pub fn check_program<K: Sink>(
     Ok(Status::Done(0))
 }
 
-/// Lists the notes of a program, and its actions with their procedures.
-pub fn list_program<K: Sink>(program: &Program, lines: &mut Lines<K>) -> Result<Status, NoAnswer>
+// Lists the notes of a program, and its actions with their procedures.
+fn list_program<K: Sink>(program: &Program, lines: &mut Lines<K>) -> Result<Status, NoAnswer>
     requires whole { IsWhole lines.old }
     ensures says { Says K.written (IsDone (λ text. text ≡ list_text (trees_of program.now))) ⊥
         lines.old lines.new result }
@@ -83,8 +90,8 @@ pub fn list_program<K: Sink>(program: &Program, lines: &mut Lines<K>) -> Result<
     Ok(Status::Done(0))
 }
 
-/// Puts the file of the code of a program.
-pub fn compile_program<K: Sink>(
+// Puts the file of the code of a program.
+fn compile_program<K: Sink>(
     alloc: Global,
     program: &Program,
     lines: &mut Lines<K>,
@@ -98,4 +105,23 @@ pub fn compile_program<K: Sink>(
     let file = encode_code(alloc, &code)?;
     lines.put(&file)?;
     Ok(Status::Done(0))
+}
+
+/// Does some work on a program.
+pub fn work_on<K: Sink>(
+    alloc: Global,
+    work: Work,
+    program: &Program,
+    lines: &mut Lines<K>,
+) -> Result<Status, NoAnswer>
+    requires program { IsProgram program.now.text (trees_of program.now) }
+    requires whole { IsWhole lines.old }
+    ensures says { Says K.written (Works work program.now.text (trees_of program.now)) ⊥ lines.old lines.new result }
+    ensures output { KeepsOutput K.faults K.is_last lines.old lines.new result }
+{
+    match work {
+        Work::Check => check_program(alloc, program, lines),
+        Work::List => list_program(program, lines),
+        Work::Compile => compile_program(alloc, program, lines),
+    }
 }

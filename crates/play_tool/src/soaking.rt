@@ -1,52 +1,45 @@
 //! The play of a program that is made from a number, on a board that is made from it.
-ghost use Rattle.std.specs.Prelude.{◌≡◌, ◌≤◌, ◌==◌, [], Some, count_by, length, map, IfOk};
+ghost use Rattle.std.specs.Prelude.{◌≡◌, ◌≤◌, ◌==◌, [], Some, count_by, length, map};
 ghost use Rattle.tool_io.specs.Lines.{IsWhole, gathered};
 ghost use Rattle.tool_frame.specs.Answers.{Says, KeepsOutput};
 ghost use Rattle.chain_sim.specs.Rack.{IsRack};
-ghost use Rattle.play_words.specs.declared.mode.Mode.TheVariants.{Play, Soak as Soaks};
-ghost use Rattle.play_words.specs.Words.{HasNeeded};
+ghost use Rattle.board_text.specs.Boards.{CanBeFitted};
 ghost use Rattle.code_plays.specs.Racks.{KeepsRack};
-ghost use Rattle.play_tool.specs.Answers.{request_at, RequestAnswer, SoakAnswer};
-ghost use Rattle.play_tool.specs.FinalRacks.{RequestHoldsFinal, SoakHoldsFinal};
+ghost use Rattle.play_tool.specs.declared.sources.Source.TheVariants.{Program as OfProgram};
+ghost use Rattle.play_tool.specs.Answers.{request_at, PlaysAction, TextAnswer, PlayAnswer, SoakAnswer};
+ghost use Rattle.play_tool.specs.FinalRacks.{TextHoldsFinal, PlayHoldsFinal, SoakHoldsFinal};
 
 use crate::lines::{SoakSummary, soak_line};
-use crate::sources::answer_text;
+use crate::programs::play_program;
 use base::ItemList;
 use code_plays::Task;
-use command_words::FileName;
 use dev_card::Device;
-use named_files::{BoardNotRead, board_of, put_board_refusal};
+use named_files::{BoardNotRead, board_of, put_board_refusal, put_refusal};
 use play_status::Status;
-use play_words::{Mode, PlaceRun, Request, USUAL_TURNS};
+use play_words::{PlaceRun, PlayRequest, USUAL_TURNS};
 use soak_texts::soak_texts;
+use stapl_checker::{CheckRefused, check};
 use stapl_lexer::Name;
-use std::alloc::{AllocError, Global};
+use std::alloc::Global;
 use tool_frame::NoAnswer;
 use tool_io::{Lines, Sink};
 
 // The play of action A that a soak asks for, for the device at a place.
-fn request_at(alloc: Global, place: u32) -> Result<Request, AllocError>
-    ensures { IfOk result (λ request. request ≡ request_at place) }
+fn request_at(alloc: Global, place: u32) -> PlayRequest
+    ensures { result ≡ request_at place }
 {
     let Some(action) = Name::read_free(b"A") else {
         unreachable!()
     };
-    let board = FileName::of(alloc, "board")?;
-    let program = FileName::of(alloc, "program")?;
-    Ok(Request {
-        mode: Mode::Play,
-        board: Some(board),
-        program: Some(program),
-        code: None,
-        action: Some(action),
+    PlayRequest {
+        action,
         todo: ItemList::of(Vec::new(alloc)),
         skip: ItemList::of(Vec::new(alloc)),
         place: Some(PlaceRun::only(place)),
         turns: USUAL_TURNS,
         pins: false,
         report: true,
-        seed: None,
-    })
+    }
 }
 
 // How many pieces a text has in which each semicolon ends one.
@@ -58,25 +51,55 @@ fn piece_count(text: &[u8]) -> usize
     text.iter().filter(|byte| **byte == b';').count()
 }
 
-// Answers a play whose board and program have these bytes.
-fn answer_texts<K: Sink>(
+// Plays a program with these bytes, as a task asks for it.
+fn play_text<K: Sink>(
     alloc: Global,
-    request: &Request,
+    task: &Task,
+    bytes: &[u8],
+    rack: &mut Vec<Box<dyn Device>>,
+    lines: &mut Lines<K>,
+) -> Result<Status, NoAnswer>
+    requires rack { IsRack (map kind_of rack.old.items) }
+    requires devices { CanBeFitted task.now.devices.now }
+    requires whole { IsWhole lines.old }
+    ensures says { Says K.written (TextAnswer (PlaysAction task.now.request.now task.now.devices.now) bytes.now) ⊥
+        lines.old lines.new result }
+    ensures output { KeepsOutput K.faults K.is_last lines.old lines.new result }
+    ensures rack { KeepsRack kind_of fitted (Unit {0})
+        (TextHoldsFinal task.now.request.now task.now.devices.now bytes.now) rack.old.items rack.new.items result }
+{
+    match check(alloc, bytes) {
+        Ok(program) => play_program(alloc, &program, task, rack, lines),
+        Err(
+            CheckRefused::Refused {
+                piece,
+                line,
+                reason,
+            },
+        ) => {
+            put_refusal(lines, piece, line, reason)?;
+            Ok(Status::Refused(piece, reason))
+        }
+        Err(CheckRefused::Memory) => Err(NoAnswer::Memory),
+    }
+}
+
+// Plays a program with these bytes on a board with these, as a request asks for it.
+fn play_texts<K: Sink>(
+    alloc: Global,
+    request: &PlayRequest,
     board: &[u8],
     program: &[u8],
     rack: &mut Vec<Box<dyn Device>>,
     lines: &mut Lines<K>,
 ) -> Result<Status, NoAnswer>
-    requires needed { HasNeeded request.now }
-    requires plays { request.now.mode ≡ Play }
     requires rack { IsRack (map kind_of rack.old.items) }
     requires whole { IsWhole lines.old }
-    ensures says { Says K.written
-        (RequestAnswer request.now (record { board = Some board.now; source = Some program.now })) ⊥
+    ensures says { Says K.written (PlayAnswer OfProgram request.now (Some board.now) (Some program.now)) ⊥
         lines.old lines.new result }
     ensures output { KeepsOutput K.faults K.is_last lines.old lines.new result }
     ensures rack { KeepsRack kind_of fitted (Unit {0})
-        (RequestHoldsFinal request.now (record { board = Some board.now; source = Some program.now }))
+        (PlayHoldsFinal OfProgram request.now (Some board.now) (Some program.now))
         rack.old.items rack.new.items result }
 {
     match board_of(alloc, board) {
@@ -85,7 +108,7 @@ fn answer_texts<K: Sink>(
                 request,
                 devices: &devices,
             };
-            answer_text(alloc, &task, program, rack, lines)
+            play_text(alloc, &task, program, rack, lines)
         }
         Err(BoardNotRead::At { line, reason }) => {
             put_board_refusal(lines, line, reason)?;
@@ -98,27 +121,21 @@ fn answer_texts<K: Sink>(
 
 /// Answers a soak: tells its board and its program in one line, and plays the program. The line waits in the lines
 /// until all memory is taken.
-pub fn answer_soak<K: Sink>(
+pub(crate) fn answer_soak<K: Sink>(
     alloc: Global,
-    request: &Request,
+    seed: u32,
     rack: &mut Vec<Box<dyn Device>>,
     lines: &mut Lines<K>,
 ) -> Result<Status, NoAnswer>
-    requires needed { HasNeeded request.now }
-    requires soaks { request.now.mode ≡ Soaks }
     requires rack { IsRack (map kind_of rack.old.items) }
     requires whole { IsWhole lines.old }
     requires empty { gathered lines.old ≡ [] }
-    ensures says { Says K.written (SoakAnswer request.now) ⊥ lines.old lines.new result }
+    ensures says { Says K.written (SoakAnswer seed) ⊥ lines.old lines.new result }
     ensures output { KeepsOutput K.faults K.is_last lines.old lines.new result }
-    ensures rack { KeepsRack kind_of fitted (Unit {0}) (SoakHoldsFinal request.now)
-        rack.old.items rack.new.items result }
+    ensures rack { KeepsRack kind_of fitted (Unit {0}) (SoakHoldsFinal seed) rack.old.items rack.new.items result }
 {
-    let Some(seed) = request.seed else {
-        unreachable!()
-    };
     let soak = soak_texts(alloc, seed)?;
-    let asked = request_at(alloc, soak.place)?;
+    let request = request_at(alloc, soak.place);
     let summary = SoakSummary {
         seed,
         devices: soak.devices,
@@ -127,5 +144,5 @@ pub fn answer_soak<K: Sink>(
     };
     let line = soak_line(alloc, summary)?;
     lines.put(&line)?;
-    answer_texts(alloc, &asked, &soak.board, &soak.program, rack, lines)
+    play_texts(alloc, &request, &soak.board, &soak.program, rack, lines)
 }

@@ -5,10 +5,14 @@ use Rattle.command_words.proofs.FoundOrNot.{IsFoundOrNot, path_or_not, free_name
 use Rattle.command_words.specs.KeyedWords.{most_place, NamesPath, NamesFreeName, NamesList, NamesNumber, NamesRun, SaysAnswer, names_or_none}
 use Rattle.play_words.specs.declared.mode.Mode.{Mode}
 use Rattle.play_words.specs.declared.mode.Mode.TheVariants as modes
-use Rattle.play_words.specs.declared.words.Request.{Request}
-use Rattle.play_words.specs.Words.{mode_word, takes, Part, BoardIn, ProgramIn, CodeIn, ActionNamed, NamesAsked, NamesSkipped, PlaceAsked, TurnsAtMost, PinsWritten, DevicesReported, SeedGiven, key_of, most_turns, most_seed, GivesPart, word_at, HasMode, IsRequest, IsFirstUnread, IsUsage, is_unread}
-use Rattle.play_words.specs.ReadParts.{Values, given_of, with_part, not_taken, given_already, AddsWord, AddsNothing, AreReadUpTo, is_complete, turns_or_usual, answer_or_no, HasValues}
-use Rattle.play_words.proofs.WordLemmas.{gives_no_part, adds_part, adds_refused, adds_no_part, no_mode_word, nothing_read, one_word_more, adds_nothing, request_read, key_lacks, no_mode}
+use Rattle.play_words.specs.declared.mode.WordKey.TheVariants.{Program}
+use Rattle.play_words.specs.declared.requests.PlayRequest.{PlayRequest}
+use Rattle.play_words.specs.declared.requests.FilePlay.{FilePlay}
+use Rattle.play_words.specs.declared.requests.Request.{Request}
+use Rattle.play_words.specs.declared.requests.Request.TheVariants as requests
+use Rattle.play_words.specs.Words.{mode_word, takes, needs, Part, BoardIn, ProgramIn, CodeIn, ActionNamed, NamesAsked, NamesSkipped, PlaceAsked, TurnsAtMost, PinsWritten, DevicesReported, SeedGiven, key_of, most_turns, most_seed, GivesPart, word_at, HasMode, IsRequest, IsFirstUnread, IsUsage, is_unread}
+use Rattle.play_words.specs.ReadParts.{Values, given_of, with_part, not_taken, given_already, AddsWord, AddsNothing, AreReadUpTo, LacksKey, turns_or_usual, answer_or_no, HasPlayValues, HasFileValues, LacksPlay, no_board, no_source, no_action, HasValues}
+use Rattle.play_words.proofs.WordLemmas.{gives_no_part, adds_part, adds_refused, adds_no_part, no_mode_word, nothing_read, one_word_more, adds_nothing, request_read, lacks_to_play, lacks_to_run, lacks_program, lacks_seed, key_lacks, no_mode}
 
 -- A word gives a part or gives none.
 
@@ -116,45 +120,79 @@ read_or_not words mode has (suc n) within = then_one (read_or_not words mode has
 
 -- Words that are all read are a request, or a key is missing.
 
-abbrev request_of : Values → Request
-request_of values = record {
-  mode = values.mode;
-  board = values.board;
-  program = values.program;
-  code = values.code;
-  action = values.action;
+abbrev asked_of : Values → List ℕ → PlayRequest
+asked_of values action = record {
+  action = action;
   todo = names_or_none values.todo;
   skip = names_or_none values.skip;
   place = values.place;
   turns = turns_or_usual values.turns;
   pins = answer_or_no values.pins;
   report = answer_or_no values.report;
-  seed = values.seed;
 }
 
-has_values : (values : Values) → HasValues values (request_of values)
-has_values values = record {
-  mode = refl;
-  board = refl;
-  program = refl;
-  code = refl;
-  action_named = refl;
+has_asked : (values : Values) (action : List ℕ) → values.action ≡ Some action → HasPlayValues values (asked_of values action)
+has_asked values action e = record {
+  action_named = e;
   todo_are = refl;
   skip_are = refl;
-  place = refl;
+  place_is = refl;
   turns_are = refl;
   pins_are = refl;
   report_is = refl;
-  seed = refl;
 }
+
+play_or_lack : (values : Values) (path : Option (List ℕ)) → ((play : FilePlay) × HasFileValues values path play) ⊎ LacksPlay values path
+play_or_lack values path = by values.board refl path refl values.action refl
+  where
+    by : (board : Option (List ℕ)) → values.board ≡ board → (source : Option (List ℕ)) → path ≡ source → (action : Option (List ℕ)) → values.action ≡ action →
+        ((play : FilePlay) × HasFileValues values path play) ⊎ LacksPlay values path
+    by None b source s action a = inr (no_board b)
+    by (Some board) b None s action a = inr (no_source s)
+    by (Some board) b (Some source) s None a = inr (no_action a)
+    by (Some board) b (Some source) s (Some action) a =
+        inl (record { board = board; source = source; request = asked_of values action }, record { board_named = b; source_named = s; asked = has_asked values action a })
+
+abbrev IsMadeOrLacks : Values → Type 0
+IsMadeOrLacks values = ((request : Request) × HasValues values request) ⊎ LacksKey values
+
+made_or_lacks : (values : Values) → IsMadeOrLacks values
+made_or_lacks values = by_mode values.mode refl
+  where
+    of_program : (mode : Mode) (request : List ℕ → Request) → needs mode Program ≡ true → values.mode ≡ mode →
+        ((path : List ℕ) → values.program ≡ Some path → HasValues values (request path)) → (program : Option (List ℕ)) → values.program ≡ program → IsMadeOrLacks values
+    of_program mode request needed e has None n = inr (lacks_program mode e needed n)
+    of_program mode request needed e has (Some path) p = inl (request path, has path p)
+
+    of_seed : values.mode ≡ modes.Soak → (seed : Option ℕ) → values.seed ≡ seed → IsMadeOrLacks values
+    of_seed e None n = inr (lacks_seed e n)
+    of_seed e (Some seed) s = inl (requests.Soak seed, (e, s))
+
+    of_play : values.mode ≡ modes.Play → ((play : FilePlay) × HasFileValues values values.program play) ⊎ LacksPlay values values.program → IsMadeOrLacks values
+    of_play e (inl made) = inl (requests.Play made.0, (e, made.1))
+    of_play e (inr lacks) = inr (lacks_to_play e lacks)
+
+    of_run : values.mode ≡ modes.Run → ((play : FilePlay) × HasFileValues values values.code play) ⊎ LacksPlay values values.code → IsMadeOrLacks values
+    of_run e (inl made) = inl (requests.Run made.0, (e, made.1))
+    of_run e (inr lacks) = inr (lacks_to_run e lacks)
+
+    by_mode : (mode : Mode) → values.mode ≡ mode → IsMadeOrLacks values
+    by_mode modes.Play e = of_play e (play_or_lack values values.program)
+    by_mode modes.Run e = of_run e (play_or_lack values values.code)
+    by_mode modes.Check e = of_program modes.Check requests.Check refl e (λ path p. (e, p)) values.program refl
+    by_mode modes.List e = of_program modes.List requests.List refl e (λ path p. (e, p)) values.program refl
+    by_mode modes.Compile e = of_program modes.Compile requests.Compile refl e (λ path p. (e, p)) values.program refl
+    by_mode modes.Soak e = of_seed e values.seed refl
 
 abbrev IsRequestOrUsage : List (List ℕ) → Type 0
 IsRequestOrUsage words = ((request : Request) × IsRequest words request) ⊎ ((n : ℕ) × IsUsage words n)
 
-all_read : (words : List (List ℕ)) (values : Values) (complete : Bool) → is_complete values ≡ complete → AreReadUpTo words (length words) values →
-    IsRequestOrUsage words
-all_read words values true e r = inl (request_of values, request_read values r e (has_values values))
-all_read words values false e r = inr (length words + 1, key_lacks values r e)
+all_read : (words : List (List ℕ)) (values : Values) → AreReadUpTo words (length words) values → IsRequestOrUsage words
+all_read words values r = by (made_or_lacks values)
+  where
+    by : IsMadeOrLacks values → IsRequestOrUsage words
+    by (inl made) = inl (made.0, request_read made.0 values r made.1)
+    by (inr lacks) = inr (length words + 1, key_lacks values r lacks)
 
 with_mode : (word : List ℕ) (words : List (List ℕ)) → IsFoundOrNot (λ (mode : Mode). word ≡ mode_word mode) → IsRequestOrUsage (word ∷ words)
 with_mode word words (inr none) = inr (1, no_mode (word ∷ words) none)
@@ -163,7 +201,7 @@ with_mode word words (inl mode) = by_reading (read_or_not (word ∷ words) mode.
     by_reading : IsReadOrNot (word ∷ words) (length words + 1) → IsRequestOrUsage (word ∷ words)
     by_reading (inl read) =
         let all : length words + 1 ≡ length (word ∷ words) = omega arith in
-        all_read (word ∷ words) read.0 (is_complete read.0) refl (subst (λ (n : ℕ). AreReadUpTo (word ∷ words) n read.0) all read.1)
+        all_read (word ∷ words) read.0 (subst (λ (n : ℕ). AreReadUpTo (word ∷ words) n read.0) all read.1)
     by_reading (inr unread) = inr (unread.0 + 1, is_unread unread.0 unread.1)
 
 pub request_or_usage : (words : List (List ℕ)) → IsRequestOrUsage words

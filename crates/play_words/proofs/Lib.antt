@@ -1,4 +1,3 @@
 pub mod WordLemmas
 pub mod OneRequest
-pub mod RequestLemmas
 pub mod EveryWords

@@ -1,6 +1,6 @@
 -- On words that are read from the first one on.
-use Rattle.std.proofs.Common.{◌≡◌, ◌≢◌, ◌<◌, ◌≤◌, ◌+◌, ◌*◌, ℕ, List, [], ◌∷◌, length, sym, refl, ap, ◌∙◌, arith, subst, suc, zero, get_or, map, codes, Option, None, Some, inl, inr, Bool, true, false, ◌&&◌, not}
-use Rattle.std.proofs.lemmas.Bool.{and_parts}
+use Rattle.std.proofs.Common.{◌≡◌, ◌≢◌, ◌<◌, ◌≤◌, ◌+◌, ◌*◌, ℕ, List, [], ◌∷◌, length, sym, refl, ap, ◌∙◌, arith, subst, suc, zero, get_or, map, codes, Option, None, Some, inl, inr, Bool, true, false}
+use Rattle.std.proofs.lemmas.Option.{same_Some}
 use Rattle.std.proofs.lemmas.List.{get_or-map}
 use Rattle.std.proofs.lemmas.Bool.{cases_lt}
 use Rattle.std.specs.Option.{option_map}
@@ -13,9 +13,12 @@ use Rattle.play_words.specs.declared.mode.Mode.{Mode}
 use Rattle.play_words.specs.declared.mode.Mode.TheVariants as modes
 use Rattle.play_words.specs.declared.mode.WordKey.{WordKey}
 use Rattle.play_words.specs.declared.mode.WordKey.TheVariants.{Board, Program, Code, Action, Do, Skip, Place, Turns, Pins, Report, Seed}
-use Rattle.play_words.specs.declared.words.Request.{Request}
-use Rattle.play_words.specs.Words.{mode_word, takes, needs, Part, BoardIn, ProgramIn, CodeIn, ActionNamed, NamesAsked, NamesSkipped, PlaceAsked, TurnsAtMost, PinsWritten, DevicesReported, SeedGiven, key_of, most_turns, most_seed, GivesPart, word_at, HasMode, IsGivenBefore, GivesNew, IsRead, AreReadBefore, IsKeyGiven, GiveOf, AskNames, names_given, names_missing, AskTurns, turns_given, turns_usual, AskAnswer, answer_given, answer_missing, has_key, IsRequest, lack_mode, lack_key, IsFirstUnread, IsUsage, is_unread, is_missing}
-use Rattle.play_words.specs.ReadParts.{Values, given_of, with_part, Adds, Refuses, not_taken, given_already, GivesNoPart, AddsWord, AddsNothing, one_if_some, count_of, AreReadUpTo, lacks, is_complete, turns_or_usual, answer_or_no, HasValues}
+use Rattle.play_words.specs.declared.requests.PlayRequest.{PlayRequest}
+use Rattle.play_words.specs.declared.requests.FilePlay.{FilePlay}
+use Rattle.play_words.specs.declared.requests.Request.{Request}
+use Rattle.play_words.specs.declared.requests.Request.TheVariants as requests
+use Rattle.play_words.specs.Words.{mode_word, takes, needs, Part, BoardIn, ProgramIn, CodeIn, ActionNamed, NamesAsked, NamesSkipped, PlaceAsked, TurnsAtMost, PinsWritten, DevicesReported, SeedGiven, key_of, most_turns, most_seed, GivesPart, word_at, HasMode, IsGivenBefore, GivesNew, IsRead, AreReadBefore, IsGiven, IsKeyGiven, GiveOf, AskNames, names_given, names_missing, AskTurns, turns_given, turns_usual, AskAnswer, answer_given, answer_missing, AskPlayRequest, GivePlay, mode_of, Give, IsRequest, lack_mode, lack_key, IsFirstUnread, IsUsage, is_unread, is_missing}
+use Rattle.play_words.specs.ReadParts.{Values, given_of, with_part, Adds, Refuses, not_taken, given_already, GivesNoPart, AddsWord, AddsNothing, one_if_some, count_of, AreReadUpTo, LacksKey, turns_or_usual, answer_or_no, HasPlayValues, HasFileValues, LacksPlay, no_board, no_source, no_action, HasValues}
 
 -- A word gives at most one part.
 
@@ -385,118 +388,77 @@ names_read : (words : List (List ℕ)) (part : List (List ℕ) → Part) (key : 
 names_read words part key None of_key none = names_missing (λ list g. none (part list) (of_key list) g)
 names_read words part key (Some list) of_key give = names_given list give.1
 
-key_missing : (words : List (List ℕ)) (key : WordKey) (found : Option Part) → GiveOf words (length words) key found → is_some found ≡ false →
-    IsKeyGiven words key → ⊥
+key_missing : (words : List (List ℕ)) (key : WordKey) (found : Option Part) → GiveOf words (length words) key found → found ≡ None → IsKeyGiven words key → ⊥
 key_missing words key None give e g = give g.part g.of_key g.given
 key_missing words key (Some part) give e g = cc
 
-mapped_some : {A B : Type 0} (f : A → B) (found : Option A) → is_some (option_map f found) ≡ true → is_some found ≡ true
-mapped_some f None e = e
-mapped_some f (Some x) e = refl
+-- a value that is given, by the part that it makes
+given_value : {A : Type 0} {words : List (List ℕ)} (key : WordKey) (part : A → Part) (found : Option A) (x : A) → GiveOf words (length words) key (option_map part found) →
+    found ≡ Some x → IsGiven words (part x)
+given_value key part None x give e = absurd cc
+given_value {words = words} key part (Some y) x give e = subst (λ (z : _). IsGiven words (part z)) (same_Some y x e) give.1
 
-not_lacking : (needed some : Bool) → not (needed && not some) ≡ true → needed ≡ true → some ≡ true
-not_lacking true true h e = refl
-not_lacking true false h e = absurd cc
-not_lacking false some h e = absurd cc
-
--- no mode needs any of these keys
-pub not_needed : (mode : Mode) →
-    (needs mode Do ≡ false) × (needs mode Skip ≡ false) × (needs mode Place ≡ false) × (needs mode Turns ≡ false) × (needs mode Pins ≡ false) ×
-    (needs mode Report ≡ false)
-not_needed modes.Play = (refl, refl, refl, refl, refl, refl)
-not_needed modes.Check = (refl, refl, refl, refl, refl, refl)
-not_needed modes.List = (refl, refl, refl, refl, refl, refl)
-not_needed modes.Compile = (refl, refl, refl, refl, refl, refl)
-not_needed modes.Run = (refl, refl, refl, refl, refl, refl)
-not_needed modes.Soak = (refl, refl, refl, refl, refl, refl)
-
-last_two : (values : Values) → is_complete values ≡ true → (not (lacks values Action) && not (lacks values Seed)) ≡ true
-last_two values h =
-    (and_parts (not (lacks values Code)) _ (and_parts (not (lacks values Program)) _ (and_parts (not (lacks values Board)) _ h).1).1).1
-
--- if no needed key is missing, each needed key is given
-is_there : (values : Values) (key : WordKey) → is_complete values ≡ true → needs values.mode key ≡ true → is_some (given_of values key) ≡ true
-is_there values Board h e = not_lacking _ _ (and_parts (not (lacks values Board)) _ h).0 e
-is_there values Program h e = not_lacking _ _ (and_parts (not (lacks values Program)) _ (and_parts (not (lacks values Board)) _ h).1).0 e
-is_there values Code h e =
-    not_lacking _ _ (and_parts (not (lacks values Code)) _ (and_parts (not (lacks values Program)) _ (and_parts (not (lacks values Board)) _ h).1).1).0 e
-is_there values Action h e = not_lacking _ _ (and_parts (not (lacks values Action)) _ (last_two values h)).0 e
-is_there values Seed h e = not_lacking _ _ (and_parts (not (lacks values Action)) _ (last_two values h)).1 e
-is_there values Do h e = let none = (not_needed values.mode).0 in absurd cc
-is_there values Skip h e = let none = (not_needed values.mode).1 in absurd cc
-is_there values Place h e = let none = (not_needed values.mode).2 in absurd cc
-is_there values Turns h e = let none = (not_needed values.mode).3 in absurd cc
-is_there values Pins h e = let none = (not_needed values.mode).4 in absurd cc
-is_there values Report h e = let none = (not_needed values.mode).5 in absurd cc
-
--- and so the request has it
-request_has : (values : Values) (request : Request) (key : WordKey) → HasValues values request → is_some (given_of values key) ≡ true →
-    has_key request key ≡ true
-request_has values request Board h e = ap (λ (p : Option (List ℕ)). is_some p) h.board ∙ mapped_some BoardIn values.board e
-request_has values request Program h e = ap (λ (p : Option (List ℕ)). is_some p) h.program ∙ mapped_some ProgramIn values.program e
-request_has values request Action h e = ap (λ (p : Option (List ℕ)). is_some p) h.action_named ∙ mapped_some ActionNamed values.action e
-request_has values request Code h e = ap (λ (p : Option (List ℕ)). is_some p) h.code ∙ mapped_some CodeIn values.code e
-request_has values request Seed h e = ap (λ (p : Option ℕ). is_some p) h.seed ∙ mapped_some SeedGiven values.seed e
-request_has values request Do h e = refl
-request_has values request Skip h e = refl
-request_has values request Place h e = refl
-request_has values request Turns h e = refl
-request_has values request Pins h e = refl
-request_has values request Report h e = refl
-
-pub request_read : {words : List (List ℕ)} {request : Request} (values : Values) → AreReadUpTo words (length words) values → is_complete values ≡ true →
-    HasValues values request → IsRequest words request
-request_read {words = words} {request = request} values r complete h = record {
-  read = r.read;
-  mode = subst (HasMode words) (sym h.mode) r.mode;
-  needed = record {
-    has = λ key e. request_has values request key h (is_there values key complete (ap (λ (m : Mode). needs m key) (sym h.mode) ∙ e));
-  };
-  board = subst (λ (p : Option (List ℕ)). GiveOf words (length words) Board (option_map BoardIn p)) (sym h.board) (r.give Board);
-  program = subst (λ (p : Option (List ℕ)). GiveOf words (length words) Program (option_map ProgramIn p)) (sym h.program) (r.give Program);
-  code = subst (λ (p : Option (List ℕ)). GiveOf words (length words) Code (option_map CodeIn p)) (sym h.code) (r.give Code);
-  action_named = subst (λ (p : Option (List ℕ)). GiveOf words (length words) Action (option_map ActionNamed p)) (sym h.action_named) (r.give Action);
+ask_read : {words : List (List ℕ)} {request : PlayRequest} (values : Values) → AreReadUpTo words (length words) values → HasPlayValues values request → AskPlayRequest words request
+ask_read {words = words} {request = request} values r h = record {
+  action_named = given_value Action ActionNamed values.action request.action (r.give Action) h.action_named;
   todo_asked = subst (AskNames words NamesAsked) (sym h.todo_are) (names_read words NamesAsked Do values.todo (λ list. refl) (r.give Do));
   skip_asked = subst (AskNames words NamesSkipped) (sym h.skip_are) (names_read words NamesSkipped Skip values.skip (λ list. refl) (r.give Skip));
-  place = subst (λ (p : Option PlaceRun). GiveOf words (length words) Place (option_map PlaceAsked p)) (sym h.place) (r.give Place);
+  place_asked = subst (λ (p : Option PlaceRun). GiveOf words (length words) Place (option_map PlaceAsked p)) (sym h.place_is) (r.give Place);
   turns_asked = subst (AskTurns words) (sym h.turns_are) (turns_read words values.turns (r.give Turns));
   pins_asked = subst (AskAnswer words PinsWritten) (sym h.pins_are) (answer_read words PinsWritten Pins values.pins (λ written. refl) (r.give Pins));
   report_asked = subst (AskAnswer words DevicesReported) (sym h.report_is)
       (answer_read words DevicesReported Report values.report (λ written. refl) (r.give Report));
-  seed = subst (λ (p : Option ℕ). GiveOf words (length words) Seed (option_map SeedGiven p)) (sym h.seed) (r.give Seed);
 }
 
--- a needed key is missing
-pub record LackKey (values : Values) : Type 0 where
-  pub key : WordKey
-  pub needed : needs values.mode key ≡ true
-  pub absent : is_some (given_of values key) ≡ false
+play_read : {words : List (List ℕ)} (key : WordKey) (part : List ℕ → Part) (path : Option (List ℕ)) {play : FilePlay} (values : Values) → AreReadUpTo words (length words) values →
+    GiveOf words (length words) key (option_map part path) → HasFileValues values path play → GivePlay words part play
+play_read key part path {play = play} values r give h = record {
+  board_given = given_value Board BoardIn values.board play.board (r.give Board) h.board_named;
+  source_given = given_value key part path play.source give h.source_named;
+  asked = ask_read values r h.asked;
+}
 
-is_lacking : (needed some : Bool) → (needed && not some) ≡ true → (needed ≡ true) × (some ≡ false)
-is_lacking true true h = absurd cc
-is_lacking true false h = (refl, refl)
-is_lacking false some h = absurd cc
+program_read : {words : List (List ℕ)} {path : List ℕ} (values : Values) → AreReadUpTo words (length words) values → values.program ≡ Some path → IsGiven words (ProgramIn path)
+program_read {path = path} values r e = given_value Program ProgramIn values.program path (r.give Program) e
 
-lack_of : (values : Values) (key : WordKey) → lacks values key ≡ true → LackKey values
-lack_of values key h =
-    let l = is_lacking (needs values.mode key) (is_some (given_of values key)) h in
-    record { key = key; needed = l.0; absent = l.1 }
+gives_read : {words : List (List ℕ)} (request : Request) (values : Values) → AreReadUpTo words (length words) values → HasValues values request →
+    (values.mode ≡ mode_of request) × Give words request
+gives_read (requests.Play play) values r h = (h.0, play_read Program ProgramIn values.program values r (r.give Program) h.1)
+gives_read (requests.Run play) values r h = (h.0, play_read Code CodeIn values.code values r (r.give Code) h.1)
+gives_read (requests.Check path) values r h = (h.0, program_read values r h.1)
+gives_read (requests.List path) values r h = (h.0, program_read values r h.1)
+gives_read (requests.Compile path) values r h = (h.0, program_read values r h.1)
+gives_read (requests.Soak seed) values r h = (h.0, given_value Seed SeedGiven values.seed seed (r.give Seed) h.1)
 
-one_lacks : (values : Values) (a b c d e : Bool) → lacks values Board ≡ a → lacks values Program ≡ b → lacks values Code ≡ c → lacks values Action ≡ d →
-    lacks values Seed ≡ e → (not a && (not b && (not c && (not d && not e)))) ≡ false → LackKey values
-one_lacks values true b c d e p q r s t h = lack_of values Board p
-one_lacks values false true c d e p q r s t h = lack_of values Program q
-one_lacks values false false true d e p q r s t h = lack_of values Code r
-one_lacks values false false false true e p q r s t h = lack_of values Action s
-one_lacks values false false false false true p q r s t h = lack_of values Seed t
-one_lacks values false false false false false p q r s t h = absurd cc
+pub request_read : {words : List (List ℕ)} (request : Request) (values : Values) → AreReadUpTo words (length words) values → HasValues values request → IsRequest words request
+request_read {words = words} request values r h =
+    let g = gives_read request values r h in
+    record { read = r.read; mode = subst (HasMode words) g.0 r.mode; gives = g.1 }
 
-pub key_lacks : {words : List (List ℕ)} (values : Values) → AreReadUpTo words (length words) values → is_complete values ≡ false →
-    IsUsage words (length words + 1)
-key_lacks {words = words} values r h =
-    let l = one_lacks values (lacks values Board) (lacks values Program) (lacks values Code) (lacks values Action) (lacks values Seed)
-    refl refl refl refl refl h in
-    is_missing r.read (lack_key values.mode l.key r.mode l.needed (key_missing words l.key (given_of values l.key) (r.give l.key) l.absent))
+-- What is missing.
+
+lacks_key : {values : Values} (mode : Mode) (key : WordKey) → values.mode ≡ mode → needs mode key ≡ true → given_of values key ≡ None → LacksKey values
+lacks_key mode key e needed missing = record { key = key; needed = ap (λ (m : Mode). needs m key) e ∙ needed; missing = missing }
+
+pub lacks_to_play : {values : Values} → values.mode ≡ modes.Play → LacksPlay values values.program → LacksKey values
+lacks_to_play e (no_board n) = lacks_key modes.Play Board e refl (ap (option_map BoardIn) n)
+lacks_to_play e (no_source n) = lacks_key modes.Play Program e refl (ap (option_map ProgramIn) n)
+lacks_to_play e (no_action n) = lacks_key modes.Play Action e refl (ap (option_map ActionNamed) n)
+
+pub lacks_to_run : {values : Values} → values.mode ≡ modes.Run → LacksPlay values values.code → LacksKey values
+lacks_to_run e (no_board n) = lacks_key modes.Run Board e refl (ap (option_map BoardIn) n)
+lacks_to_run e (no_source n) = lacks_key modes.Run Code e refl (ap (option_map CodeIn) n)
+lacks_to_run e (no_action n) = lacks_key modes.Run Action e refl (ap (option_map ActionNamed) n)
+
+pub lacks_program : {values : Values} (mode : Mode) → values.mode ≡ mode → needs mode Program ≡ true → values.program ≡ None → LacksKey values
+lacks_program mode e needed n = lacks_key mode Program e needed (ap (option_map ProgramIn) n)
+
+pub lacks_seed : {values : Values} → values.mode ≡ modes.Soak → values.seed ≡ None → LacksKey values
+lacks_seed e n = lacks_key modes.Soak Seed e refl (ap (option_map SeedGiven) n)
+
+pub key_lacks : {words : List (List ℕ)} (values : Values) → AreReadUpTo words (length words) values → LacksKey values → IsUsage words (length words + 1)
+key_lacks {words = words} values r l =
+    is_missing r.read (lack_key values.mode l.key r.mode l.needed (key_missing words l.key (given_of values l.key) (r.give l.key) l.missing))
 
 -- Words that do not begin with a mode.
 

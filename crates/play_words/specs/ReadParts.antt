@@ -9,7 +9,11 @@ use Rattle.play_words.specs.declared.mode.WordKey.TheVariants.{Board, Program, C
 use Rattle.play_words.specs.declared.words.Given.{Given}
 use Rattle.play_words.specs.declared.words.GivenPart.{GivenPart}
 use Rattle.play_words.specs.declared.words.GivenPart.TheVariants as given
-use Rattle.play_words.specs.declared.words.Request.{Request}
+use Rattle.play_words.specs.declared.mode.Mode.TheVariants as modes
+use Rattle.play_words.specs.declared.requests.PlayRequest.{PlayRequest}
+use Rattle.play_words.specs.declared.requests.FilePlay.{FilePlay}
+use Rattle.play_words.specs.declared.requests.Request.{Request}
+use Rattle.play_words.specs.declared.requests.Request.TheVariants as requests
 use Rattle.play_words.specs.Words.{Part, BoardIn, ProgramIn, CodeIn, ActionNamed, NamesAsked, NamesSkipped, PlaceAsked, TurnsAtMost, PinsWritten, DevicesReported, SeedGiven, key_of, usual_turns, takes, needs, GivesPart, HasMode, GiveOf, AreReadBefore}
 
 -- the mode, and the values that are given, by key
@@ -132,14 +136,11 @@ pub record AreReadUpTo (words : List (List ℕ)) (n : ℕ) (values : Values) : T
   pub give : (key : WordKey) → GiveOf words n key (given_of values key)
   pub few : n ≤ 1 + count_of values
 
--- the mode needs this key, and it is not given
-abbrev pub lacks : Values → WordKey → Bool
-lacks values key = needs values.mode key && not (is_some (given_of values key))
-
--- each key is given that the mode needs; no mode needs any but these
-abbrev pub is_complete : Values → Bool
-is_complete values =
-    not (lacks values Board) && (not (lacks values Program) && (not (lacks values Code) && (not (lacks values Action) && not (lacks values Seed))))
+-- A key that the mode needs is not given.
+pub record LacksKey (values : Values) : Type 0 where
+  pub key : WordKey
+  pub needed : needs values.mode key ≡ true
+  pub missing : given_of values key ≡ None
 
 -- the number of turns that is given, or the usual one
 abbrev pub turns_or_usual : Option ℕ → ℕ
@@ -151,17 +152,33 @@ abbrev pub answer_or_no : Option Bool → Bool
 answer_or_no None = false
 answer_or_no (Some answer) = answer
 
--- the request with these values
-pub record HasValues (values : Values) (request : Request) : Type 0 where
-  pub mode : request.mode ≡ values.mode
-  pub board : request.board ≡ values.board
-  pub program : request.program ≡ values.program
-  pub code : request.code ≡ values.code
-  pub action_named : request.action ≡ values.action
+-- what is asked of a play, with these values
+pub record HasPlayValues (values : Values) (request : PlayRequest) : Type 0 where
+  pub action_named : values.action ≡ Some request.action
   pub todo_are : request.todo ≡ names_or_none values.todo
   pub skip_are : request.skip ≡ names_or_none values.skip
-  pub place : request.place ≡ values.place
+  pub place_is : request.place ≡ values.place
   pub turns_are : request.turns ≡ turns_or_usual values.turns
   pub pins_are : request.pins ≡ answer_or_no values.pins
   pub report_is : request.report ≡ answer_or_no values.report
-  pub seed : request.seed ≡ values.seed
+
+-- the play of the file at this path, with these values
+pub record HasFileValues (values : Values) (path : Option (List ℕ)) (play : FilePlay) : Type 0 where
+  pub board_named : values.board ≡ Some play.board
+  pub source_named : path ≡ Some play.source
+  pub asked : HasPlayValues values play.request
+
+-- What a play of the file at this path lacks of these values: the board, the file, or the action.
+pub data LacksPlay (values : Values) (path : Option (List ℕ)) : Type 0 where
+  no_board : values.board ≡ None → LacksPlay values path
+  no_source : path ≡ None → LacksPlay values path
+  no_action : values.action ≡ None → LacksPlay values path
+
+-- the request with these values
+abbrev pub HasValues : Values → Request → Type 0
+HasValues values (requests.Play play) = (values.mode ≡ modes.Play) × HasFileValues values values.program play
+HasValues values (requests.Run play) = (values.mode ≡ modes.Run) × HasFileValues values values.code play
+HasValues values (requests.Check path) = (values.mode ≡ modes.Check) × (values.program ≡ Some path)
+HasValues values (requests.List path) = (values.mode ≡ modes.List) × (values.program ≡ Some path)
+HasValues values (requests.Compile path) = (values.mode ≡ modes.Compile) × (values.program ≡ Some path)
+HasValues values (requests.Soak seed) = (values.mode ≡ modes.Soak) × (values.seed ≡ Some seed)

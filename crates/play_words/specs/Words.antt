@@ -1,5 +1,5 @@
 -- The words of a command: the mode, and after it keys with their values, in any order. The rules are this tool's own.
-use Rattle.std.specs.Prelude.{◌≡◌, ◌≢◌, ℕ, ◌+◌, ◌<◌, List, [], ◌∷◌, Bool, true, false, length, codes, suc, zero, slice_index_or, Option, None, Some, is_some}
+use Rattle.std.specs.Prelude.{◌≡◌, ◌≢◌, ℕ, ◌+◌, ◌<◌, List, [], ◌∷◌, Bool, true, false, length, codes, suc, zero, slice_index_or, Option, None, Some}
 use Rattle.std.specs.List.{list_any}
 use Rattle.std.specs.Option.{option_map}
 use Rattle.command_words.specs.declared.place_run.PlaceRun.{PlaceRun}
@@ -8,7 +8,10 @@ use Rattle.play_words.specs.declared.mode.Mode.{Mode}
 use Rattle.play_words.specs.declared.mode.Mode.TheVariants as modes
 use Rattle.play_words.specs.declared.mode.WordKey.{WordKey}
 use Rattle.play_words.specs.declared.mode.WordKey.TheVariants.{Board, Program, Code, Action, Do, Skip, Place, Turns, Pins, Report, Seed}
-use Rattle.play_words.specs.declared.words.Request.{Request}
+use Rattle.play_words.specs.declared.requests.PlayRequest.{PlayRequest}
+use Rattle.play_words.specs.declared.requests.FilePlay.{FilePlay}
+use Rattle.play_words.specs.declared.requests.Request.{Request}
+use Rattle.play_words.specs.declared.requests.Request.TheVariants as requests
 use Rattle.play_words.specs.declared.words.WordsRefused.{WordsRefused}
 use Rattle.play_words.specs.declared.words.WordsRefused.TheVariants as refusals
 
@@ -20,27 +23,6 @@ mode_word modes.List = codes "list"
 mode_word modes.Compile = codes "compile"
 mode_word modes.Run = codes "run"
 mode_word modes.Soak = codes "soak"
-
--- the file after the board is the text of a program
-abbrev pub reads_text : Mode → Bool
-reads_text modes.Play = true
-reads_text modes.Check = true
-reads_text modes.List = true
-reads_text modes.Compile = true
-reads_text modes.Run = false
-reads_text modes.Soak = false
-
--- the board and the program are made from a number
-abbrev pub soaks : Mode → Bool
-soaks modes.Soak = true
-soaks _ = false
-
--- the mode plays on a board
-abbrev pub plays : Mode → Bool
-plays modes.Play = true
-plays modes.Run = true
-plays modes.Soak = true
-plays _ = false
 
 -- the keys that a mode takes
 abbrev pub keys_taken : Mode → List WordKey
@@ -119,14 +101,6 @@ usual_turns = 100000000
 -- the greatest number that a soak is made from
 abbrev pub most_seed : ℕ
 most_seed = 4294967295
-
--- the file that is read after the board, by whether it is the text of a program: the program or the code
-abbrev pub source_in : Bool → Request → Option (List ℕ)
-source_in true request = request.program
-source_in false request = request.code
-
-abbrev pub source_of : Request → Option (List ℕ)
-source_of request = source_in (reads_text request.mode) request
 
 -- the word gives this part
 abbrev pub GivesPart : List ℕ → Part → Type 0
@@ -207,42 +181,73 @@ pub data AskNames (words : List (List ℕ)) (part : List (List ℕ) → Part) : 
   names_given : (names : List (List ℕ)) → IsGiven words (part names) → AskNames words part names
   names_missing : ((names : List (List ℕ)) → IsGiven words (part names) → ⊥) → AskNames words part []
 
--- what a request has of a key that a mode may need; of no other key it lacks anything, since what is missing there has
--- a meaning
-abbrev pub has_key : Request → WordKey → Bool
-has_key request Board = is_some request.board
-has_key request Program = is_some request.program
-has_key request Code = is_some request.code
-has_key request Action = is_some request.action
-has_key request Do = true
-has_key request Skip = true
-has_key request Place = true
-has_key request Turns = true
-has_key request Pins = true
-has_key request Report = true
-has_key request Seed = is_some request.seed
-
--- The request has each key that its mode needs.
-pub record HasNeeded (request : Request) : Type 0 where
-  pub has : (key : WordKey) → needs request.mode key ≡ true → has_key request key ≡ true
-
--- The words ask for this: its mode is that of the first word, it has what they give, and that is all that the mode
--- needs.
-pub record IsRequest (words : List (List ℕ)) (request : Request) : Type 0 where
-  pub read : AreRead words
-  pub mode : HasMode words request.mode
-  pub needed : HasNeeded request
-  pub board : GiveOf words (length words) Board (option_map BoardIn request.board)
-  pub program : GiveOf words (length words) Program (option_map ProgramIn request.program)
-  pub code : GiveOf words (length words) Code (option_map CodeIn request.code)
-  pub action_named : GiveOf words (length words) Action (option_map ActionNamed request.action)
+-- The words ask for this of a play.
+pub record AskPlayRequest (words : List (List ℕ)) (request : PlayRequest) : Type 0 where
+  pub action_named : IsGiven words (ActionNamed request.action)
   pub todo_asked : AskNames words NamesAsked request.todo
   pub skip_asked : AskNames words NamesSkipped request.skip
-  pub place : GiveOf words (length words) Place (option_map PlaceAsked request.place)
+  pub place_asked : GiveOf words (length words) Place (option_map PlaceAsked request.place)
   pub turns_asked : AskTurns words request.turns
   pub pins_asked : AskAnswer words PinsWritten request.pins
   pub report_asked : AskAnswer words DevicesReported request.report
-  pub seed : GiveOf words (length words) Seed (option_map SeedGiven request.seed)
+
+-- The words name the board of a play, and by this part the file of what is played, and ask for this of it.
+pub record GivePlay (words : List (List ℕ)) (part : List ℕ → Part) (play : FilePlay) : Type 0 where
+  pub board_given : IsGiven words (BoardIn play.board)
+  pub source_given : IsGiven words (part play.source)
+  pub asked : AskPlayRequest words play.request
+
+-- the mode of a request
+abbrev pub mode_of : Request → Mode
+mode_of (requests.Play play) = modes.Play
+mode_of (requests.Run play) = modes.Run
+mode_of (requests.Check path) = modes.Check
+mode_of (requests.List path) = modes.List
+mode_of (requests.Compile path) = modes.Compile
+mode_of (requests.Soak seed) = modes.Soak
+
+-- The words give what a request has.
+abbrev pub Give : List (List ℕ) → Request → Type 0
+Give words (requests.Play play) = GivePlay words ProgramIn play
+Give words (requests.Run play) = GivePlay words CodeIn play
+Give words (requests.Check path) = IsGiven words (ProgramIn path)
+Give words (requests.List path) = IsGiven words (ProgramIn path)
+Give words (requests.Compile path) = IsGiven words (ProgramIn path)
+Give words (requests.Soak seed) = IsGiven words (SeedGiven seed)
+
+-- The words ask for this: the first of them is its mode, each is read, and they give what it has.
+pub record IsRequest (words : List (List ℕ)) (request : Request) : Type 0 where
+  pub read : AreRead words
+  pub mode : HasMode words (mode_of request)
+  pub gives : Give words request
+
+-- the files of a play: its board at the first place, and at the second what is played
+abbrev pub play_files : FilePlay → List (Option (List ℕ))
+play_files play = Some play.board ∷ Some play.source ∷ []
+
+-- the files that a request names, each at its place
+abbrev pub files_of : Request → List (Option (List ℕ))
+files_of (requests.Play play) = play_files play
+files_of (requests.Run play) = play_files play
+files_of (requests.Check path) = Some path ∷ []
+files_of (requests.List path) = Some path ∷ []
+files_of (requests.Compile path) = Some path ∷ []
+files_of (requests.Soak seed) = []
+
+-- the request asks for a play
+abbrev pub plays : Request → Bool
+plays (requests.Play play) = true
+plays (requests.Run play) = true
+plays (requests.Check path) = false
+plays (requests.List path) = false
+plays (requests.Compile path) = false
+plays (requests.Soak seed) = true
+
+-- the play of a file that a request asks for, if it asks for one
+abbrev pub file_play_of : Request → Option FilePlay
+file_play_of (requests.Play play) = Some play
+file_play_of (requests.Run play) = Some play
+file_play_of _ = None
 
 -- The words lack the mode, or a key that it needs.
 pub data Lack (words : List (List ℕ)) : Type 0 where

@@ -1,10 +1,14 @@
 //! The words of the tool that plays: the mode, and after it keys with their values.
 #![tactic(auto)]
 
+mod help;
 pub mod laws;
 mod mode;
+mod requests;
 mod words;
 
 pub use command_words::PlaceRun;
+pub use help::{HELP, VERSION};
 pub use mode::{Mode, WordKey};
-pub use words::{Request, USUAL_TURNS, WordsRefused, read_words};
+pub use requests::{FilePlay, PlayRequest, Request};
+pub use words::{USUAL_TURNS, WordsRefused, read_words};

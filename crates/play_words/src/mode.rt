@@ -2,7 +2,7 @@
 ghost use Rattle.std.specs.Prelude.{◌≡◌};
 
 /// What the tool is asked to do. The first word of a command names it.
-#[derive(Clone, Copy, PartialEq, Eq)]
+#[derive(Clone, Copy)]
 pub enum Mode {
     /// To play an action of a program.
     Play,
@@ -46,14 +46,7 @@ pub enum WordKey {
 }
 
 impl Mode {
-    ghost use Rattle.play_words.specs.Words.{takes, needs, reads_text};
-
-    /// Whether the file after the board is the text of a program.
-    pub fn reads_text(self) -> bool
-        ensures { result ≡ reads_text self }
-    {
-        !matches!(self, Mode::Run | Mode::Soak)
-    }
+    ghost use Rattle.play_words.specs.Words.{takes};
 
     /// Whether words with this key may stand after the mode.
     pub(crate) fn takes(self, key: WordKey) -> bool
@@ -64,24 +57,6 @@ impl Mode {
             Mode::Check | Mode::List | Mode::Compile => matches!(key, WordKey::Program),
             Mode::Run => !matches!(key, WordKey::Program | WordKey::Seed),
             Mode::Soak => matches!(key, WordKey::Seed),
-        }
-    }
-
-    /// Whether a word with this key has to stand after the mode.
-    pub(crate) fn needs(self, key: WordKey) -> bool
-        ensures { result ≡ needs self key }
-    {
-        match key {
-            WordKey::Program => self.reads_text(),
-            WordKey::Code => matches!(self, Mode::Run),
-            WordKey::Seed => matches!(self, Mode::Soak),
-            WordKey::Board | WordKey::Action => matches!(self, Mode::Play | Mode::Run),
-            WordKey::Do
-            | WordKey::Skip
-            | WordKey::Place
-            | WordKey::Turns
-            | WordKey::Pins
-            | WordKey::Report => false,
         }
     }
 }

@@ -1,12 +1,12 @@
 //! The words of a command.
 ghost use Rattle.std.specs.Prelude.{◌≡◌, ◌≢◌, ◌≤◌, ◌<◌, ◌+◌, ℕ, Bool, List, length, map, codes, string_bytes, is_some, None, IfSome, IfNone, IfOk, IfErr, OnOk};
+ghost use Rattle.std.specs.Option.{option_map};
 ghost use Rattle.play_words.specs.Words.{mode_word, key_of, GivesPart, HasMode, IsRequest, IsFirstUnread, IsWordsRefused};
-ghost use Rattle.play_words.specs.ReadParts.{values_of, given_of, with_part, part_of, GivesNoPart, Adds, Refuses, AddsWord, AddsNothing, AreReadUpTo, lacks, is_complete, HasValues};
+ghost use Rattle.play_words.specs.ReadParts.{values_of, given_of, with_part, part_of, GivesNoPart, Adds, Refuses, AddsWord, AddsNothing, AreReadUpTo, LacksKey, HasPlayValues, HasFileValues, LacksPlay, HasValues};
 ghost use Rattle.play_words.specs.declared.mode.Mode.{Mode};
 
-use crate::Mode;
 use crate::mode::WordKey;
-use base::ItemList;
+use crate::{FilePlay, Mode, PlayRequest, Request};
 use command_words::{
     FileName, MOST_PLACE, PlaceRun, answer_under, file_named, free_name_under, names_given,
     names_under, number_under, path_under, run_under,
@@ -20,35 +20,6 @@ const MOST_TURNS: u32 = 1_000_000_000;
 
 /// How many turns there are if words ask for none.
 pub const USUAL_TURNS: u32 = 100_000_000;
-
-/// What the words ask for.
-#[derive(Drop)]
-pub struct Request {
-    pub mode: Mode,
-    /// The file of the board, whose name is not empty.
-    pub board: Option<FileName>,
-    /// The file of the program, whose name is not empty.
-    pub program: Option<FileName>,
-    /// The file of the code, whose name is not empty.
-    pub code: Option<FileName>,
-    /// The name of the action.
-    pub action: Option<Name>,
-    /// The names of OPTIONAL procedures of the action that are to run.
-    pub todo: ItemList<Name>,
-    /// The names of RECOMMENDED procedures of the action that are to be left out.
-    pub skip: ItemList<Name>,
-    /// The run of devices that the program is for: the scans are padded for the other devices of the board. Without one
-    /// the program is for the whole board.
-    pub place: Option<PlaceRun>,
-    /// The most turns that the play may take, or the usual number if the words say none.
-    pub turns: u32,
-    /// Whether the clocks are to be written, as the pins see them; no if the words do not say it.
-    pub pins: bool,
-    /// Whether what the devices hold after the play is to be written; no if the words do not say it.
-    pub report: bool,
-    /// The number that a soak is made from.
-    pub seed: Option<u32>,
-}
 
 /// Why words are no request.
 #[derive(Clone, Copy, Debug, PartialEq, Eq, Error)]
@@ -244,44 +215,58 @@ impl<'a> Given<'a> {
         }
     }
 
-    // Whether the mode needs a key that is not given.
-    fn lacks(&self, key: WordKey) -> bool
-        ensures { result ≡ lacks (values_of self.now) key }
+    // What is asked of a play of this action.
+    fn play_request(&self, alloc: Global, action: Name) -> Result<PlayRequest, AllocError>
+        requires { self.now.action ≡ Some action }
+        ensures { IfOk result (HasPlayValues (values_of self.now)) }
     {
-        self.mode.needs(key) && !self.has(key)
-    }
-
-    // Whether each key is given that the mode needs. No mode needs any but these.
-    fn is_complete(&self) -> bool
-        ensures { result ≡ is_complete (values_of self.now) }
-    {
-        !self.lacks(WordKey::Board)
-            && (!self.lacks(WordKey::Program)
-                && (!self.lacks(WordKey::Code)
-                    && (!self.lacks(WordKey::Action) && !self.lacks(WordKey::Seed))))
-    }
-
-    // The request with the values.
-    fn request(&self, alloc: Global) -> Result<Request, AllocError>
-        ensures { IfOk result (HasValues (values_of self.now)) }
-    {
-        let board = file_named(alloc, self.board)?;
-        let program = file_named(alloc, self.program)?;
-        let code = file_named(alloc, self.code)?;
-        Ok(Request {
-            mode: self.mode,
-            board,
-            program,
-            code,
-            action: self.action,
+        Ok(PlayRequest {
+            action,
             todo: names_given(alloc, self.todo)?,
             skip: names_given(alloc, self.skip)?,
             place: self.place,
             turns: self.turns.unwrap_or(USUAL_TURNS),
             pins: self.pins.unwrap_or(false),
             report: self.report.unwrap_or(false),
-            seed: self.seed,
         })
+    }
+
+    // The play of the file at a path; none if the board, the path or the action is not given.
+    fn file_play(&self, alloc: Global, path: Option<&str>) -> Result<Option<FilePlay>, AllocError>
+        ensures some { IfOk result (λ found. IfSome found
+            (HasFileValues (values_of self.now) (option_map (λ text. text.now) path.entry))) }
+        ensures none { IfOk result (λ found. IfNone found
+            (LacksPlay (values_of self.now) (option_map (λ text. text.now) path.entry))) }
+    {
+        let Some(board) = self.board else {
+            return Ok(None);
+        };
+        let Some(source) = path else {
+            return Ok(None);
+        };
+        let Some(action) = self.action else {
+            return Ok(None);
+        };
+        Ok(Some(FilePlay {
+            board: FileName::of(alloc, board)?,
+            source: FileName::of(alloc, source)?,
+            request: self.play_request(alloc, action)?,
+        }))
+    }
+
+    // The request with the values; none if a key that the mode needs is not given.
+    fn request(&self, alloc: Global) -> Result<Option<Request>, AllocError>
+        ensures some { IfOk result (λ found. IfSome found (HasValues (values_of self.now))) }
+        ensures none { IfOk result (λ found. IfNone found (LacksKey (values_of self.now))) }
+    {
+        match self.mode {
+            Mode::Play => Ok(self.file_play(alloc, self.program)?.map(Request::Play)),
+            Mode::Run => Ok(self.file_play(alloc, self.code)?.map(Request::Run)),
+            Mode::Check => Ok(file_named(alloc, self.program)?.map(Request::Check)),
+            Mode::List => Ok(file_named(alloc, self.program)?.map(Request::List)),
+            Mode::Compile => Ok(file_named(alloc, self.program)?.map(Request::Compile)),
+            Mode::Soak => Ok(self.seed.map(Request::Soak)),
+        }
     }
 }
 
@@ -407,11 +392,11 @@ pub fn read_words(alloc: Global, words: &[String]) -> Result<Request, WordsRefus
         return Err(WordsRefused::Usage(1));
     };
     match read_parts(mode, words) {
-        Ok(given) if given.is_complete() => match given.request(alloc) {
-            Ok(request) => Ok(request),
+        Ok(given) => match given.request(alloc) {
+            Ok(Some(request)) => Ok(request),
+            Ok(None) => Err(WordsRefused::Usage(words.len() as u32 + 1)),
             Err(_) => Err(WordsRefused::Memory),
         },
-        Ok(_) => Err(WordsRefused::Usage(words.len() as u32 + 1)),
         Err(place) => Err(WordsRefused::Usage(place as u32 + 1)),
     }
 }

@@ -7,12 +7,14 @@ use Rattle.stapl_meaning.specs.Scopes.{Played, as_played}
 use Rattle.dev_card.specs.declared.desc.Desc.{Desc}
 use Rattle.dev_card.specs.Padding.{in_run}
 use Rattle.padded_plays.specs.QuietPlays.{IsQuietPlay}
+use Rattle.tool_frame.specs.Files.{first_of, second_of}
 use Rattle.named_files.specs.Boards.{HasBoard}
 use Rattle.named_files.proofs.BoardLemmas.{one_held}
-use Rattle.play_words.specs.declared.words.Request.{Request}
+use Rattle.play_words.specs.declared.requests.PlayRequest.{PlayRequest}
+use Rattle.play_words.specs.declared.requests.FilePlay.{FilePlay}
 use Rattle.code_plays.specs.Plays.{neighbours}
 use Rattle.play_status.specs.declared.status.Status.{Status}
-use Rattle.play_tool.specs.Answers.{Contents, PlaysAction}
+use Rattle.play_tool.specs.Answers.{PlaysAction}
 use Rattle.play_tool.specs.Answers as plays
 use Rattle.play_tool.specs.Alone.{alone_request, IsQuietAlone}
 use Rattle.play_tool.proofs.AloneLemmas.{answers_alone}
@@ -24,15 +26,13 @@ use Rattle.quiet_tool.specs.Elsewhere.{PlaysElsewhere, IsAsAlone, IsQuietEverywh
 use Rattle.quiet_tool.proofs.WordLemmas.{one_asked}
 
 -- what an answer says that the play is quiet
-record IsFound (request : Request) (devices : List Desc) (source : Option (List ℕ)) : Type 0 where
+record IsFound (request : PlayRequest) (devices : List Desc) (source : Option (List ℕ)) : Type 0 where
   pub bytes : List ℕ
   pub held : source ≡ Some bytes
   pub program : List StmtTree
   pub is : IsProgram bytes program
-  pub action : List ℕ
-  pub named : request.action ≡ Some action
   pub procedures : List ℕ
-  pub choice : choice_of (as_played program) action request.todo request.skip ≡ chosen procedures
+  pub choice : choice_of (as_played program) request.action request.todo request.skip ≡ chosen procedures
   pub quiet : IsQuietPlay (as_played program) procedures request.turns (run_of request.place devices)
 
 -- the procedures whose play is quiet
@@ -53,55 +53,44 @@ choice_found (bad_choice f) e = absurd cc
 choice_found (bad_place procedures f lacks) e = absurd cc
 choice_found (judged procedures text status f has v) e = record { procedures = procedures; are_chosen = f; quiet = verdict_found v e }
 
-text_found : {request : Request} {devices : List Desc} {bytes text : List ℕ} {status : QuietStatus} → TextAnswer request devices bytes text status → status ≡ Quiet →
+text_found : {request : PlayRequest} {devices : List Desc} {bytes text : List ℕ} {status : QuietStatus} → TextAnswer request devices bytes text status → status ≡ Quiet →
     IsFound request devices (Some bytes)
 text_found (refused piece line reason fault) e = absurd cc
 text_found {bytes = bytes} (accepted program text status is a) e =
-    let found = choice_found a.answer e in
-    record {
-      bytes = bytes;
-      held = refl;
-      program = program;
-      is = is;
-      action = a.action;
-      named = a.asked;
-      procedures = found.procedures;
-      choice = found.are_chosen;
-      quiet = found.quiet;
-    }
+    let found = choice_found a e in
+    record { bytes = bytes; held = refl; program = program; is = is; procedures = found.procedures; choice = found.are_chosen; quiet = found.quiet }
 
-held_found : (request : Request) (devices : List Desc) (held : Option (List ℕ)) (text : List ℕ) (status : QuietStatus) → HeldAnswer request devices held text status →
+held_found : (request : PlayRequest) (devices : List Desc) (held : Option (List ℕ)) (text : List ℕ) (status : QuietStatus) → HeldAnswer request devices held text status →
     status ≡ Quiet → IsFound request devices held
 held_found request devices None text status a e = absurd a
 held_found request devices (Some bytes) text status a e = text_found a e
 
-request_found : {request : Request} {contents : Contents} {text : List ℕ} {status : QuietStatus} (devices : List Desc) → HasBoard request.board contents.board devices →
-    RequestAnswer request contents text status → status ≡ Quiet → IsFound request devices contents.source
+request_found : {request : PlayRequest} {contents : List (Option (List ℕ))} {text : List ℕ} {status : QuietStatus} (devices : List Desc) → HasBoard (first_of contents) devices →
+    RequestAnswer request contents text status → status ≡ Quiet → IsFound request devices (second_of contents)
 request_found devices board (board_refused line reason fault) e = absurd cc
 request_found {request = request} {contents = contents} devices board (board_read others text status other a) e =
-    subst (λ (ds : List Desc). IsFound request ds contents.source) (one_held request.board contents.board others devices other board)
-    (held_found request others contents.source text status a e)
+    subst (λ (ds : List Desc). IsFound request ds (second_of contents)) (one_held (first_of contents) others devices other board)
+    (held_found request others (second_of contents) text status a e)
 
-words_found : {words : List (List ℕ)} {contents : Contents} {text : List ℕ} {status : QuietStatus} (request : Request) (devices : List Desc) → AskAbout words request →
-    HasBoard request.board contents.board devices → WordsAnswer words contents text status → status ≡ Quiet → IsFound request devices contents.source
-words_found request devices asks board (usage n u) e = absurd cc
-words_found {words = words} {contents = contents} request devices asks board (asked other text status others a) e =
-    request_found devices board (subst (λ (r : Request). RequestAnswer r contents text status) (one_asked words other request others asks) a) e
+words_found : {words : List (List ℕ)} {contents : List (Option (List ℕ))} {text : List ℕ} {status : QuietStatus} (play : FilePlay) (devices : List Desc) → AskAbout words play →
+    HasBoard (first_of contents) devices → WordsAnswer words contents text status → status ≡ Quiet → IsFound play.request devices (second_of contents)
+words_found play devices asks board (usage n u) e = absurd cc
+words_found {words = words} {contents = contents} play devices asks board (asked other text status others a) e =
+    request_found devices board (subst (λ (p : FilePlay). RequestAnswer p.request contents text status) (one_asked words other play others asks) a) e
 
 -- the play elsewhere is one for a run of a board, and is quiet on that run alone
-module _ {words : List (List ℕ)} {contents : Contents} {other : List (List ℕ)} {held : Contents} (q : PlaysElsewhere words contents other held)
-    (found : IsFound q.request q.devices contents.source) where
-  same_choice : choice_of (as_played found.program) found.action q.played.todo q.played.skip ≡ chosen found.procedures
-  same_choice = rw (q.same_todo, q.same_skip) found.choice
+module _ {words : List (List ℕ)} {contents : List (Option (List ℕ))} {other : List (List ℕ)} {held : List (Option (List ℕ))} (q : PlaysElsewhere words contents other held)
+    (found : IsFound q.play.request q.devices (second_of contents)) where
+  same_choice : choice_of (as_played found.program) q.played.request.action q.played.request.todo q.played.request.skip ≡ chosen found.procedures
+  same_choice = rw (q.same_action, q.same_todo, q.same_skip) found.choice
 
-  same_quiet : IsQuietPlay (as_played found.program) found.procedures q.played.turns (in_run (neighbours q.run) q.around)
+  same_quiet : IsQuietPlay (as_played found.program) found.procedures q.played.request.turns (in_run (neighbours q.run) q.around)
   same_quiet = rw (q.same_turns, q.same_devices) found.quiet
 
   alone : IsQuietAlone other (λ request. held)
   alone = record {
-    request = q.played;
+    play = q.played;
     asked = q.asked;
-    plays = q.plays;
     no_pins = q.no_pins;
     run = q.run;
     for_run = q.for_run;
@@ -112,27 +101,23 @@ module _ {words : List (List ℕ)} {contents : Contents} {other : List (List ℕ
     held = q.same_program ∙ found.held;
     program = found.program;
     is = found.is;
-    action = found.action;
-    named = q.same_action ∙ found.named;
     procedures = found.procedures;
     choice = same_choice;
     quiet = same_quiet;
   }
 
   as_alone : (text : List ℕ) (status : Status) → plays.WordsAnswer other (λ request. held) text status →
-      IsAsAlone contents.source q.played (run_of q.request.place q.devices) text status
+      IsAsAlone (second_of contents) q.played.request (run_of q.play.request.place q.devices) text status
   unfolding alone
   as_alone text status a = record {
     bytes = found.bytes;
     held = found.held;
     program = found.program;
     is = found.is;
-    action = found.action;
-    named = q.same_action ∙ found.named;
-    plays = subst (λ (ds : List Desc). PlaysAction found.program found.action (alone_request q.played) ds text status) q.same_devices
+    plays = subst (λ (ds : List Desc). PlaysAction (alone_request q.played.request) ds found.program text status) q.same_devices
         ((answers_alone alone).to text status a);
   }
 
-pub quiet_everywhere : {words : List (List ℕ)} {contents : Contents} {said : List ℕ} {status : QuietStatus} → WordsAnswer words contents said status → status ≡ Quiet →
-    IsQuietEverywhere words contents
-quiet_everywhere a e = λ other held q text status answer. as_alone q (words_found q.request q.devices q.about q.board a e) text status answer
+pub quiet_everywhere : {words : List (List ℕ)} {contents : List (Option (List ℕ))} {said : List ℕ} {status : QuietStatus} → WordsAnswer words contents said status →
+    status ≡ Quiet → IsQuietEverywhere words contents
+quiet_everywhere a e = λ other held q text status answer. as_alone q (words_found q.play q.devices q.about q.board a e) text status answer

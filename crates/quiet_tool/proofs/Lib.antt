@@ -1,6 +1,5 @@
 pub mod WordLemmas
 pub mod AnswerLemmas
-pub mod RequestLemmas
 pub mod OneAnswer
 pub mod Answered
 pub mod Everywhere

@@ -1,5 +1,5 @@
 -- The words and the contents of their files have at most one answer.
-use Rattle.std.proofs.Common.{◌≡◌, ◌∙◌, ℕ, Bool, true, false, List, Option, None, Some, refl, sym, ap, subst}
+use Rattle.std.proofs.Common.{◌≡◌, ◌∙◌, ℕ, Bool, List, Option, None, Some, refl, sym, ap, subst}
 use Rattle.std.proofs.lemmas.Option.{same_Some}
 use Rattle.stapl_lexer.specs.declared.piece.Piece.{Piece}
 use Rattle.stapl_lexer.specs.declared.reason.Reason.{Reason}
@@ -7,7 +7,6 @@ use Rattle.stapl_lexer.proofs.PieceLemmas.{cut_one_way}
 use Rattle.stapl_syntax.specs.Trees.{StmtTree}
 use Rattle.stapl_checker.proofs.UniqueLemmas.{one_first_fault, one_program, no_fault}
 use Rattle.stapl_meaning.specs.Choices.{Choice}
-use Rattle.stapl_meaning.specs.Choices as choices
 use Rattle.stapl_meaning.specs.declared.events.Ending.{Ending}
 use Rattle.stapl_meaning.specs.Scopes.{Played}
 use Rattle.dev_card.specs.declared.desc.Desc.{Desc}
@@ -16,12 +15,14 @@ use Rattle.quiet_deeds.specs.declared.unquiet.Unquiet.{Unquiet}
 use Rattle.quiet_deeds.proofs.Firsts.{more_are_not, one_first}
 use Rattle.named_files.specs.Texts.{refusal_line, board_refusal_line, usage_line}
 use Rattle.named_files.proofs.BoardLemmas.{one_held, one_fault, board_or_fault}
-use Rattle.play_words.specs.declared.words.Request.{Request}
-use Rattle.play_tool.specs.Answers.{Contents}
+use Rattle.tool_frame.specs.Files.{first_of, second_of}
+use Rattle.play_words.specs.declared.requests.PlayRequest.{PlayRequest}
+use Rattle.play_words.specs.declared.requests.FilePlay.{FilePlay}
+use Rattle.play_tool.proofs.OneChoice.{none_or_bad, none_or_chosen, bad_or_chosen, one_choice, has_or_lacks}
 use Rattle.quiet_tool.specs.declared.status.QuietStatus.{QuietStatus}
 use Rattle.quiet_tool.specs.declared.status.QuietStatus.TheVariants.{Quiet, NotQuiet, Refused, BoardRefused, Usage}
 use Rattle.quiet_tool.specs.Texts.{quiet_text, unquiet_line, line_of_piece, IsLineOf}
-use Rattle.quiet_tool.specs.Answers.{VerdictAnswer, quiet, unquiet, ChoiceAnswer, no_action, bad_choice, bad_place, judged, ActionAnswer, AskedAnswer, TextAnswer, refused, accepted, HeldAnswer, RequestAnswer, board_refused, board_read, WordsAnswer, usage, asked}
+use Rattle.quiet_tool.specs.Answers.{VerdictAnswer, quiet, unquiet, ChoiceAnswer, no_action, bad_choice, bad_place, judged, ActionAnswer, TextAnswer, refused, accepted, HeldAnswer, RequestAnswer, board_refused, board_read, WordsAnswer, usage, asked}
 use Rattle.quiet_tool.proofs.WordLemmas.{one_asked, one_refused, not_both}
 
 -- a text and a status
@@ -52,22 +53,6 @@ one_verdict {bytes = bytes} {program = program} {procedures = procedures} {run =
     let same = one_first program procedures run turn piece turns pieces why others first also in
     said_unquiet turn piece line turns pieces lines why others same.turns same.pieces (one_line bytes piece pieces line lines same.pieces at there) same.reasons
 
--- a choice comes to one thing
-none_or_bad : {choice : Choice} → choice ≡ choices.no_action → choice ≡ choices.bad_choice → ⊥
-none_or_bad e f = cc
-
-none_or_chosen : {choice : Choice} {procedures : List ℕ} → choice ≡ choices.no_action → choice ≡ choices.chosen procedures → ⊥
-none_or_chosen e f = cc
-
-bad_or_chosen : {choice : Choice} {procedures : List ℕ} → choice ≡ choices.bad_choice → choice ≡ choices.chosen procedures → ⊥
-bad_or_chosen e f = cc
-
-has_or_lacks : {b : Bool} → b ≡ true → b ≡ false → ⊥
-has_or_lacks e f = cc
-
-one_choice : {choice : Choice} (a b : List ℕ) → choice ≡ choices.chosen a → choice ≡ choices.chosen b → a ≡ b
-one_choice a b e f = cc
-
 one_choice_answer : {bytes : List ℕ} {program : Played} {choice : Choice} {placed : Bool} {n : ℕ} {run : List Desc} {xs ys : List ℕ} {s t : QuietStatus} →
     ChoiceAnswer bytes program choice placed n run xs s → ChoiceAnswer bytes program choice placed n run ys t → said xs s ≡ said ys t
 one_choice_answer (no_action e) (no_action f) = refl
@@ -86,26 +71,20 @@ one_choice_answer (judged ps text status f has v) (no_action e) = absurd (none_o
 one_choice_answer (judged ps text status f has v) (bad_choice e) = absurd (bad_or_chosen e f)
 one_choice_answer (judged ps text status f has v) (bad_place qs g lacks) = absurd (has_or_lacks has lacks)
 one_choice_answer {bytes = bytes} {program = program} {n = n} {run = run} (judged ps text status f has v) (judged qs ys t g also u) =
-    one_verdict v (subst (λ (z : List ℕ). VerdictAnswer bytes program z n run ys t) (one_choice qs ps g f) u)
-
-one_asked_answer : {bytes : List ℕ} {program : List StmtTree} {request : Request} {devices : List Desc} {xs ys : List ℕ} {s t : QuietStatus} →
-    AskedAnswer bytes program request devices xs s → AskedAnswer bytes program request devices ys t → said xs s ≡ said ys t
-one_asked_answer {bytes = bytes} {program = program} {request = request} {devices = devices} {ys = ys} {t = t} a b =
-    one_choice_answer a.answer
-    (subst (λ (z : List ℕ). ActionAnswer bytes program z request devices ys t) (same_Some b.action a.action (sym b.asked ∙ a.asked)) b.answer)
+    one_verdict v (subst (λ (z : List ℕ). VerdictAnswer bytes program z n run ys t) (one_choice g f) u)
 
 said_refused : {p q l m : ℕ} {r u : Reason} → p ≡ q → l ≡ m → r ≡ u → said (refusal_line p l r) (Refused p r) ≡ said (refusal_line q m u) (Refused q u)
 said_refused e f g = rw (e, f, g) refl
 
-one_text : {request : Request} {devices : List Desc} {bytes : List ℕ} {xs ys : List ℕ} {s t : QuietStatus} → TextAnswer request devices bytes xs s →
+one_text : {request : PlayRequest} {devices : List Desc} {bytes : List ℕ} {xs ys : List ℕ} {s t : QuietStatus} → TextAnswer request devices bytes xs s →
     TextAnswer request devices bytes ys t → said xs s ≡ said ys t
 one_text {bytes = bytes} (refused p l r x) (refused q m u y) = let same = one_first_fault bytes p l q m r u x y in said_refused same.0 same.1 same.2
 one_text (refused p l r x) (accepted program text status is a) = absurd (no_fault program is x)
 one_text (accepted program text status is a) (refused p l r x) = absurd (no_fault program is x)
 one_text {request = request} {devices = devices} {bytes = bytes} (accepted program text status is a) (accepted other ys t also b) =
-    one_asked_answer a (subst (λ (z : List StmtTree). AskedAnswer bytes z request devices ys t) (one_program bytes other program also is) b)
+    one_choice_answer a (subst (λ (z : List StmtTree). ActionAnswer bytes z request devices ys t) (one_program bytes other program also is) b)
 
-one_held_answer : (request : Request) (devices : List Desc) (held : Option (List ℕ)) (xs ys : List ℕ) (s t : QuietStatus) → HeldAnswer request devices held xs s →
+one_held_answer : (request : PlayRequest) (devices : List Desc) (held : Option (List ℕ)) (xs ys : List ℕ) (s t : QuietStatus) → HeldAnswer request devices held xs s →
     HeldAnswer request devices held ys t → said xs s ≡ said ys t
 one_held_answer request devices None xs ys s t a b = absurd a
 one_held_answer request devices (Some bytes) xs ys s t a b = one_text a b
@@ -113,27 +92,24 @@ one_held_answer request devices (Some bytes) xs ys s t a b = one_text a b
 said_board : {l m : ℕ} {r u : BoardReason} → l ≡ m → r ≡ u → said (board_refusal_line l r) (BoardRefused l r) ≡ said (board_refusal_line m u) (BoardRefused m u)
 said_board e f = rw (e, f) refl
 
-one_request_answer : {request : Request} {contents : Contents} {xs ys : List ℕ} {s t : QuietStatus} → RequestAnswer request contents xs s → RequestAnswer request contents ys t →
-    said xs s ≡ said ys t
-one_request_answer {request = request} {contents = contents} (board_refused l r x) (board_refused m u y) =
-    let same = one_fault request.board contents.board l m r u x y in said_board same.0 same.1
-one_request_answer {request = request} {contents = contents} (board_refused l r x) (board_read devices text status board a) =
-    absurd (board_or_fault request.board contents.board devices l r board x)
-one_request_answer {request = request} {contents = contents} (board_read devices text status board a) (board_refused l r x) =
-    absurd (board_or_fault request.board contents.board devices l r board x)
+one_request_answer : {request : PlayRequest} {contents : List (Option (List ℕ))} {xs ys : List ℕ} {s t : QuietStatus} → RequestAnswer request contents xs s →
+    RequestAnswer request contents ys t → said xs s ≡ said ys t
+one_request_answer {contents = contents} (board_refused l r x) (board_refused m u y) = let same = one_fault (first_of contents) l m r u x y in said_board same.0 same.1
+one_request_answer {contents = contents} (board_refused l r x) (board_read devices text status board a) = absurd (board_or_fault (first_of contents) devices l r board x)
+one_request_answer {contents = contents} (board_read devices text status board a) (board_refused l r x) = absurd (board_or_fault (first_of contents) devices l r board x)
 one_request_answer {request = request} {contents = contents} (board_read devices xs s board a) (board_read others ys t other b) =
-    one_held_answer request devices contents.source xs ys s t a
-    (subst (λ (ds : List Desc). HeldAnswer request ds contents.source ys t) (one_held request.board contents.board others devices other board) b)
+    one_held_answer request devices (second_of contents) xs ys s t a
+    (subst (λ (ds : List Desc). HeldAnswer request ds (second_of contents) ys t) (one_held (first_of contents) others devices other board) b)
 
-one_said : (words : List (List ℕ)) (contents : Contents) (xs ys : List ℕ) (s t : QuietStatus) → WordsAnswer words contents xs s → WordsAnswer words contents ys t →
+one_said : (words : List (List ℕ)) (contents : List (Option (List ℕ))) (xs ys : List ℕ) (s t : QuietStatus) → WordsAnswer words contents xs s → WordsAnswer words contents ys t →
     said xs s ≡ said ys t
 one_said words contents _ _ _ _ (usage n x) (usage m y) = ap (λ (k : ℕ). said (usage_line k) (Usage k)) (one_refused words n m x y)
-one_said words contents _ _ _ _ (usage n x) (asked request text status asks a) = absurd (not_both words n request x asks)
-one_said words contents _ _ _ _ (asked request text status asks a) (usage n x) = absurd (not_both words n request x asks)
-one_said words contents _ _ _ _ (asked request xs s asks a) (asked other ys t others b) =
-    one_request_answer a (subst (λ (r : Request). RequestAnswer r contents ys t) (one_asked words other request others asks) b)
+one_said words contents _ _ _ _ (usage n x) (asked play text status asks a) = absurd (not_both words n play x asks)
+one_said words contents _ _ _ _ (asked play text status asks a) (usage n x) = absurd (not_both words n play x asks)
+one_said words contents _ _ _ _ (asked play xs s asks a) (asked other ys t others b) =
+    one_request_answer a (subst (λ (p : FilePlay). RequestAnswer p.request contents ys t) (one_asked words other play others asks) b)
 
-pub one_answer : (words : List (List ℕ)) (contents : Contents) (xs ys : List ℕ) (s t : QuietStatus) → WordsAnswer words contents xs s → WordsAnswer words contents ys t →
+pub one_answer : (words : List (List ℕ)) (contents : List (Option (List ℕ))) (xs ys : List ℕ) (s t : QuietStatus) → WordsAnswer words contents xs s → WordsAnswer words contents ys t →
     (xs ≡ ys) × (s ≡ t)
 one_answer words contents xs ys s t a b =
     let same = one_said words contents xs ys s t a b in (ap (λ (z : Said). z.text) same, ap (λ (z : Said). z.status) same)

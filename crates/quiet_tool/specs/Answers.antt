@@ -16,11 +16,12 @@ use Rattle.quiet_deeds.specs.declared.unquiet.Unquiet.{Unquiet}
 use Rattle.quiet_deeds.specs.FirstDeeds.{IsFirstUnquiet}
 use Rattle.board_text.specs.declared.reason.BoardReason.{BoardReason}
 use Rattle.command_words.specs.declared.place_run.PlaceRun.{PlaceRun}
+use Rattle.tool_frame.specs.Files.{first_of, second_of}
 use Rattle.named_files.specs.Boards.{HasBoard, HasBoardFault}
 use Rattle.named_files.specs.Texts.{refusal_line, board_refusal_line, usage_line}
-use Rattle.play_words.specs.declared.words.Request.{Request}
+use Rattle.play_words.specs.declared.requests.PlayRequest.{PlayRequest}
+use Rattle.play_words.specs.declared.requests.FilePlay.{FilePlay}
 use Rattle.code_plays.specs.Plays.{has_place, neighbours}
-use Rattle.play_tool.specs.Answers.{Contents}
 use Rattle.quiet_tool.specs.declared.status.QuietStatus.{QuietStatus}
 use Rattle.quiet_tool.specs.declared.status.QuietStatus.TheVariants.{Quiet, NotQuiet, Refused, BoardRefused, NoAction, BadChoice, BadPlace, Usage}
 use Rattle.quiet_tool.specs.Texts.{quiet_text, unquiet_line, IsLineOf}
@@ -56,41 +57,33 @@ pub data ChoiceAnswer (bytes : List ℕ) (program : Played) (choice : Choice) (p
       VerdictAnswer bytes program procedures n run text status →
       ChoiceAnswer bytes program choice placed n run text status
 
--- the same of the action of this name, by the choices, the run and the turns of a request
-abbrev pub ActionAnswer : List ℕ → List StmtTree → List ℕ → Request → List Desc → (List ℕ → QuietStatus → Type 0)
-ActionAnswer bytes program action request devices =
-    ChoiceAnswer bytes (as_played program) (choice_of (as_played program) action request.todo request.skip)
+-- the same of the action that a request names, by its choices, its run and its turns
+abbrev pub ActionAnswer : List ℕ → List StmtTree → PlayRequest → List Desc → (List ℕ → QuietStatus → Type 0)
+ActionAnswer bytes program request devices =
+    ChoiceAnswer bytes (as_played program) (choice_of (as_played program) request.action request.todo request.skip)
     (has_place request.place devices) request.turns (run_of request.place devices)
 
--- the same of the action that a request names
-pub record AskedAnswer (bytes : List ℕ) (program : List StmtTree) (request : Request) (devices : List Desc)
-    (text : List ℕ) (status : QuietStatus) : Type 0 where
-  pub action : List ℕ
-  pub asked : request.action ≡ Some action
-  pub answer : ActionAnswer bytes program action request devices text status
-
 -- The answer for a text: it is refused at its first fault, or it is a program, and the play of its action is judged.
-pub data TextAnswer (request : Request) (devices : List Desc) (bytes : List ℕ) : List ℕ → QuietStatus → Type 0 where
+pub data TextAnswer (request : PlayRequest) (devices : List Desc) (bytes : List ℕ) : List ℕ → QuietStatus → Type 0 where
   refused : (piece line : ℕ) (reason : Reason) → FirstFault bytes piece line reason →
       TextAnswer request devices bytes (refusal_line piece line reason) (Refused piece reason)
   accepted : (program : List StmtTree) (text : List ℕ) (status : QuietStatus) → IsProgram bytes program →
-      AskedAnswer bytes program request devices text status → TextAnswer request devices bytes text status
+      ActionAnswer bytes program request devices text status → TextAnswer request devices bytes text status
 
 -- The same for a file, where it is held.
-abbrev pub HeldAnswer : Request → List Desc → Option (List ℕ) → List ℕ → QuietStatus → Type 0
+abbrev pub HeldAnswer : PlayRequest → List Desc → Option (List ℕ) → List ℕ → QuietStatus → Type 0
 HeldAnswer request devices held text status = IsSomeAnd held (λ bytes. TextAnswer request devices bytes text status)
 
--- The answer to a request: its board is refused at its first fault, or is of these devices, and the answer is that for
--- its program.
-pub data RequestAnswer (request : Request) (contents : Contents) : List ℕ → QuietStatus → Type 0 where
-  board_refused : (line : ℕ) (reason : BoardReason) → HasBoardFault request.board contents.board line reason →
+-- The answer about a play that is asked for so, with these contents of its files: its board is refused at its first
+-- fault, or is of these devices, and the answer is that for its program.
+pub data RequestAnswer (request : PlayRequest) (contents : List (Option (List ℕ))) : List ℕ → QuietStatus → Type 0 where
+  board_refused : (line : ℕ) (reason : BoardReason) → HasBoardFault (first_of contents) line reason →
       RequestAnswer request contents (board_refusal_line line reason) (BoardRefused line reason)
-  board_read : (devices : List Desc) (text : List ℕ) (status : QuietStatus) →
-      HasBoard request.board contents.board devices → HeldAnswer request devices contents.source text status →
-      RequestAnswer request contents text status
+  board_read : (devices : List Desc) (text : List ℕ) (status : QuietStatus) → HasBoard (first_of contents) devices →
+      HeldAnswer request devices (second_of contents) text status → RequestAnswer request contents text status
 
--- The answer to words, with these contents of their files: they are refused, or the request that they are is answered.
-pub data WordsAnswer (words : List (List ℕ)) (contents : Contents) : List ℕ → QuietStatus → Type 0 where
+-- The answer to words, with these contents of their files: they are refused, or the play that they ask about is judged.
+pub data WordsAnswer (words : List (List ℕ)) (contents : List (Option (List ℕ))) : List ℕ → QuietStatus → Type 0 where
   usage : (n : ℕ) → HasUsage words n → WordsAnswer words contents (usage_line n) (Usage n)
-  asked : (request : Request) (text : List ℕ) (status : QuietStatus) → AskAbout words request →
-      RequestAnswer request contents text status → WordsAnswer words contents text status
+  asked : (play : FilePlay) (text : List ℕ) (status : QuietStatus) → AskAbout words play →
+      RequestAnswer play.request contents text status → WordsAnswer words contents text status

@@ -5,13 +5,15 @@ use Rattle.stapl_syntax.specs.Programs.{IsProgram}
 use Rattle.dev_card.specs.declared.desc.Desc.{Desc}
 use Rattle.dev_card.specs.Padding.{in_run}
 use Rattle.command_words.specs.declared.place_run.PlaceRun.{PlaceRun}
+use Rattle.tool_frame.specs.Files.{first_of, second_of}
 use Rattle.named_files.specs.Boards.{HasBoard}
-use Rattle.play_words.specs.declared.mode.Mode.TheVariants.{Play}
-use Rattle.play_words.specs.declared.words.Request.{Request}
+use Rattle.play_words.specs.declared.requests.PlayRequest.{PlayRequest}
+use Rattle.play_words.specs.declared.requests.FilePlay.{FilePlay}
+use Rattle.play_words.specs.declared.requests.Request.TheVariants.{Play}
 use Rattle.play_words.specs.Words.{IsRequest}
 use Rattle.code_plays.specs.Plays.{has_place, neighbours}
 use Rattle.play_status.specs.declared.status.Status.{Status}
-use Rattle.play_tool.specs.Answers.{Contents, PlaysAction}
+use Rattle.play_tool.specs.Answers.{PlaysAction}
 use Rattle.play_tool.specs.Answers as plays
 use Rattle.play_tool.specs.Alone.{alone_request}
 use Rattle.quiet_tool.specs.Words.{AskAbout}
@@ -19,44 +21,41 @@ use Rattle.quiet_tool.specs.Answers.{run_of}
 
 -- Other words ask for a play of the same program: of the same action, with the same choices and turns, without the
 -- clocks, for a run of a board that has in a row the devices that the words ask about.
-pub record PlaysElsewhere (words : List (List ℕ)) (contents : Contents) (other : List (List ℕ))
-    (held : Contents) : Type 0 where
-  pub request : Request
-  pub about : AskAbout words request
+pub record PlaysElsewhere (words : List (List ℕ)) (contents : List (Option (List ℕ))) (other : List (List ℕ))
+    (held : List (Option (List ℕ))) : Type 0 where
+  pub play : FilePlay
+  pub about : AskAbout words play
   pub devices : List Desc
-  pub board : HasBoard request.board contents.board devices
-  pub played : Request
-  pub asked : IsRequest other played
-  pub plays : played.mode ≡ Play
-  pub no_pins : played.pins ≡ false
+  pub board : HasBoard (first_of contents) devices
+  pub played : FilePlay
+  pub asked : IsRequest other (Play played)
+  pub no_pins : played.request.pins ≡ false
   pub run : PlaceRun
-  pub for_run : played.place ≡ Some run
+  pub for_run : played.request.place ≡ Some run
   pub around : List Desc
-  pub other_board : HasBoard played.board held.board around
+  pub other_board : HasBoard (first_of held) around
   pub placed : has_place (Some run) around ≡ true
-  pub same_devices : in_run (neighbours run) around ≡ run_of request.place devices
-  pub same_program : held.source ≡ contents.source
-  pub same_action : played.action ≡ request.action
-  pub same_todo : played.todo ≡ request.todo
-  pub same_skip : played.skip ≡ request.skip
-  pub same_turns : played.turns ≡ request.turns
+  pub same_devices : in_run (neighbours run) around ≡ run_of play.request.place devices
+  pub same_program : second_of held ≡ second_of contents
+  pub same_action : played.request.action ≡ play.request.action
+  pub same_todo : played.request.todo ≡ play.request.todo
+  pub same_skip : played.request.skip ≡ play.request.skip
+  pub same_turns : played.request.turns ≡ play.request.turns
 
 -- What is answered to a play is what is answered to it on a board of these devices alone: the text, with their report,
 -- and the status.
-pub record IsAsAlone (source : Option (List ℕ)) (request : Request) (run : List Desc) (text : List ℕ)
+pub record IsAsAlone (source : Option (List ℕ)) (request : PlayRequest) (run : List Desc) (text : List ℕ)
     (status : Status) : Type 0 where
   pub bytes : List ℕ
   pub held : source ≡ Some bytes
   pub program : List StmtTree
   pub is : IsProgram bytes program
-  pub action : List ℕ
-  pub named : request.action ≡ Some action
-  pub plays : PlaysAction program action (alone_request request) run text status
+  pub plays : PlaysAction (alone_request request) run program text status
 
 -- each play elsewhere is answered as on these devices alone
-abbrev pub IsQuietEverywhere : List (List ℕ) → Contents → Type 0
+abbrev pub IsQuietEverywhere : List (List ℕ) → List (Option (List ℕ)) → Type 0
 IsQuietEverywhere words contents =
-    (other : List (List ℕ)) (held : Contents) (q : PlaysElsewhere words contents other held)
+    (other : List (List ℕ)) (held : List (Option (List ℕ))) (q : PlaysElsewhere words contents other held)
     (text : List ℕ) (status : Status) →
     plays.WordsAnswer other (λ request. held) text status →
-    IsAsAlone contents.source q.played (run_of q.request.place q.devices) text status
+    IsAsAlone (second_of contents) q.played.request (run_of q.play.request.place q.devices) text status

@@ -1,6 +1,7 @@
 -- The words of the program: those that follow the word `play` in a play by the tool. The rules are this tool's own.
 use Rattle.std.specs.Prelude.{ℕ, ◌+◌, List, ◌∷◌, codes}
-use Rattle.play_words.specs.declared.words.Request.{Request}
+use Rattle.play_words.specs.declared.requests.FilePlay.{FilePlay}
+use Rattle.play_words.specs.declared.requests.Request.TheVariants as requests
 use Rattle.play_words.specs.declared.words.WordsRefused.{WordsRefused}
 use Rattle.play_words.specs.declared.words.WordsRefused.TheVariants as refusals
 use Rattle.play_words.specs.Words.{IsRequest, IsUsage}
@@ -10,8 +11,8 @@ abbrev pub play_words : List (List ℕ) → List (List ℕ)
 play_words words = codes "play" ∷ words
 
 -- the words ask about this play
-abbrev pub AskAbout : List (List ℕ) → Request → Type 0
-AskAbout words request = IsRequest (play_words words) request
+abbrev pub AskAbout : List (List ℕ) → FilePlay → Type 0
+AskAbout words play = IsRequest (play_words words) (requests.Play play)
 
 -- The first word, counted from 1, that is not read, or the number of words plus 1 if one is missing: one less than in
 -- the words of the play.

@@ -5,13 +5,13 @@ ghost use Rattle.tool_frame.specs.Answers.{KeepsOutput};
 ghost use Rattle.tool_frame.specs.Files.{OfFiles, KeepsShelf};
 ghost use Rattle.tool_frame.specs.Frame.{SaysAndLeaves};
 ghost use Rattle.chain_sim.specs.Rack.{IsRack};
-ghost use Rattle.play_tool.specs.ReadContents.{NamesPlayFiles, both_of, IsReachedBy};
+ghost use Rattle.play_tool.specs.ReadContents.{NamesFiles, IsReachedBy};
 ghost use Rattle.quiet_tool.specs.declared.help.TheConstants.{HELP, VERSION};
 ghost use Rattle.quiet_tool.specs.Statuses.{exit_code_of, no_fault_codes};
 ghost use Rattle.quiet_tool.specs.Words.{play_words};
 ghost use Rattle.quiet_tool.specs.Answers.{WordsAnswer};
 
-use crate::answering::answer_request;
+use crate::answering::answer_play;
 use crate::words::read_question;
 use crate::{QuietStatus, help};
 use dev_card::Device;
@@ -36,11 +36,11 @@ impl Tool for QuietJudge {
 
     ghost ready = { λ rack. IsRack (map (λ b. (Device-box b).kind_of b.value) rack.items) };
 
-    ghost names = { λ words. NamesPlayFiles (play_words words) };
+    ghost names = { λ words. NamesFiles (play_words words) };
 
     ghost reached = { λ told words. IsReachedBy told (play_words words) };
 
-    ghost answers = { λ words contents. WordsAnswer words (both_of contents) };
+    ghost answers = { λ words contents. WordsAnswer words contents };
 
     ghost leaves = { λ _ _ _ _ _. Unit {0} };
 
@@ -77,7 +77,7 @@ impl Tool for QuietJudge {
         lines: &mut Lines<K>,
     ) -> Result<QuietStatus, NoAnswer> {
         match read_question(alloc, words) {
-            Ok(request) => answer_request(alloc, &request, shelf, rack, lines),
+            Ok(play) => answer_play(alloc, &play, shelf, rack, lines),
             Err(WordsRefused::Usage(n)) => {
                 put_usage(lines, n)?;
                 Ok(QuietStatus::Usage(n))

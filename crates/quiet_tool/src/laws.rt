@@ -1,7 +1,7 @@
 //! Laws of the definitions.
-ghost use Rattle.std.specs.Prelude.{◌≡◌, ◌⊎◌, ℕ, List, IsSome};
-ghost use Rattle.play_words.specs.declared.words.Request.{Request};
-ghost use Rattle.play_tool.specs.Answers.{Contents};
+ghost use Rattle.std.specs.Prelude.{◌≡◌, ◌⊎◌, ℕ, List, Option};
+ghost use Rattle.play_words.specs.declared.requests.FilePlay.{FilePlay};
+ghost use Rattle.play_tool.specs.Held.{ArePlayFilesHeld};
 ghost use Rattle.quiet_tool.specs.declared.status.QuietStatus.{QuietStatus};
 ghost use Rattle.quiet_tool.specs.declared.status.QuietStatus.TheVariants.{Quiet};
 ghost use Rattle.quiet_tool.specs.Words.{AskAbout, HasUsage};
@@ -18,22 +18,22 @@ use stapl_meaning::laws::programs_are_typed;
 /// All words ask about one play, or they are refused at one word, and never both.
 pub fn words_ask_about_a_play_or_are_refused()
     ensures each { (words : List (List ℕ)) →
-        ((request : Request) × AskAbout words request) ⊎ ((n : ℕ) × HasUsage words n) }
-    ensures one_play { (words : List (List ℕ)) (a b : Request) → AskAbout words a → AskAbout words b → a ≡ b }
+        ((play : FilePlay) × AskAbout words play) ⊎ ((n : ℕ) × HasUsage words n) }
+    ensures one_play { (words : List (List ℕ)) (a b : FilePlay) → AskAbout words a → AskAbout words b → a ≡ b }
     ensures one_word { (words : List (List ℕ)) (n m : ℕ) → HasUsage words n → HasUsage words m → n ≡ m }
-    ensures not_both { (words : List (List ℕ)) (n : ℕ) (request : Request) → HasUsage words n →
-        AskAbout words request → ⊥ }
+    ensures not_both { (words : List (List ℕ)) (n : ℕ) (play : FilePlay) → HasUsage words n →
+        AskAbout words play → ⊥ }
 {}
 
 /// The words and the contents of their files have at most one answer.
 pub fn one_answer()
-    ensures { (words : List (List ℕ)) (contents : Contents) (a b : List ℕ) (s t : QuietStatus) →
+    ensures { (words : List (List ℕ)) (contents : List (Option (List ℕ))) (a b : List ℕ) (s t : QuietStatus) →
         WordsAnswer words contents a s → WordsAnswer words contents b t → (a ≡ b) × (s ≡ t) }
 {}
 
 /// Words have an answer, whatever the files hold that they name.
 pub fn words_are_answered()
-    ensures { (words : List (List ℕ)) (contents : Contents) → IsSome contents.board → IsSome contents.source →
+    ensures { (words : List (List ℕ)) (contents : List (Option (List ℕ))) → ArePlayFilesHeld contents →
         (text : List ℕ) × (status : QuietStatus) × WordsAnswer words contents text status }
 {
     every_text_is_a_board_or_has_a_fault();
@@ -49,6 +49,6 @@ pub fn words_are_answered()
 /// turns and without the clocks, at each place of each board that has these devices in a row, as the play on these
 /// devices alone: with its text, the report of these devices in order, and its status.
 pub fn quiet_plays_are_the_same_everywhere()
-    ensures { (words : List (List ℕ)) (contents : Contents) (text : List ℕ) → WordsAnswer words contents text Quiet →
-        IsQuietEverywhere words contents }
+    ensures { (words : List (List ℕ)) (contents : List (Option (List ℕ))) (text : List ℕ) →
+        WordsAnswer words contents text Quiet → IsQuietEverywhere words contents }
 {}

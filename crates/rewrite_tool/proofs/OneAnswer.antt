@@ -89,14 +89,14 @@ refused_same m n r s e = λ j. said (board_refusal_line (e.0 j) (e.1 j)) (BoardR
 
 one_asked : (request : Request) (contents : Contents) (a b : List ℕ) (s t : RewriteStatus) → RequestAnswer request contents a s → RequestAnswer request contents b t →
     said a s ≡ said b t
-one_asked request contents a b s t (board_refused m r x) (board_refused n q y) = refused_same m n r q (one_fault (Some request.files.board) contents.board m n r q x y)
+one_asked request contents a b s t (board_refused m r x) (board_refused n q y) = refused_same m n r q (one_fault contents.board m n r q x y)
 one_asked request contents a b s t (board_refused m r x) (board_read devices text status y z) =
-    absurd (board_or_fault (Some request.files.board) contents.board devices m r y x)
+    absurd (board_or_fault contents.board devices m r y x)
 one_asked request contents a b s t (board_read devices text status x z) (board_refused n q y) =
-    absurd (board_or_fault (Some request.files.board) contents.board devices n q x y)
+    absurd (board_or_fault contents.board devices n q x y)
 one_asked request contents a b s t (board_read devices text status x z) (board_read others text2 status2 y w) =
     one_file others request.run contents.file a b s t
-    (subst (λ (ds : List Desc). FileAnswer ds request.run contents.file a s) (one_held (Some request.files.board) contents.board devices others x y) z) w
+    (subst (λ (ds : List Desc). FileAnswer ds request.run contents.file a s) (one_held contents.board devices others x y) z) w
 
 one_said : (words : List (List ℕ)) (files : List (List ℕ × List ℕ)) (a b : List ℕ) (s t : RewriteStatus) → Answer words files a s → Answer words files b t → said a s ≡ said b t
 one_said words files a b s t (usage n x) (usage m y) = ap (λ (k : ℕ). said (usage_line k) (Usage k)) (one_usage words n m x y)

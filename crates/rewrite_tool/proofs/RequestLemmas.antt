@@ -23,7 +23,7 @@ use Rattle.rewrite_tool.proofs.WordLemmas.{one_asked}
 
 -- ---- the board is right
 
-file_within : (request : Request) (devices : List Desc) (board program : Option (List ℕ)) → HasBoard (Some request.files.board) board devices →
+file_within : (request : Request) (devices : List Desc) (board program : Option (List ℕ)) → HasBoard board devices →
     IsWithin (FileAnswer devices request.run program) (RequestAnswer request (both board program))
 file_within request devices board program is = record { to = λ text status a. board_read devices text status is a }
 
@@ -60,7 +60,7 @@ RequestSays written told request old new r = OfContents told request.files (λ c
 
 -- the board is right
 pub request_of_file : {K : Type 0} (written : K → Option (List ℕ)) (old new : Lines K) (told : Option (List (List ℕ × List ℕ))) (request : Request)
-    (r : Result RewriteStatus NoAnswer) (devices : List Desc) → ReadsBoard told (Some request.files.board) devices →
+    (r : Result RewriteStatus NoAnswer) (devices : List Desc) → ReadsBoard told request.files.board devices →
     OfFile told (Some request.files.file) (λ held. Says written (FileAnswer devices request.run held) (IsSinkUntouched old new) old new r) →
     RequestSays written told request old new r
 request_of_file written old new told request r devices reads o =
@@ -77,7 +77,7 @@ words_of_request written old new told {words = words} request r asks o =
 
 -- the board is refused
 module _ {K : Type 0} {written : K → Option (List ℕ)} {old new : Lines K} (told : Option (List (List ℕ × List ℕ))) (request : Request) (line : ℕ) (reason : BoardReason)
-    (reads : ReadsBoardFault told (Some request.files.board) line reason) where
+    (reads : ReadsBoardFault told request.files.board line reason) where
   pub board_failed : (r : Result RewriteStatus NoAnswer) → IsErrAnd r (λ e. e ≡ Write) → PutsFront written old (board_refusal_line line reason) new →
       RequestSays written told request old new r
   board_failed r is front = of_board told request.files reads.held reads.read (λ program.

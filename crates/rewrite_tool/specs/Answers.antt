@@ -45,11 +45,9 @@ FileAnswer devices run held text status = IsSomeAnd held (λ bytes. ProgramAnswe
 -- The answer to a request: its board is refused at its first fault, or is of these devices, and the answer is that for
 -- its program.
 pub data RequestAnswer (request : Request) (contents : Contents) : List ℕ → RewriteStatus → Type 0 where
-  board_refused : (line : ℕ) (reason : BoardReason) →
-      HasBoardFault (Some request.files.board) contents.board line reason →
+  board_refused : (line : ℕ) (reason : BoardReason) → HasBoardFault contents.board line reason →
       RequestAnswer request contents (board_refusal_line line reason) (BoardRefused line reason)
-  board_read : (devices : List Desc) (text : List ℕ) (status : RewriteStatus) →
-      HasBoard (Some request.files.board) contents.board devices →
+  board_read : (devices : List Desc) (text : List ℕ) (status : RewriteStatus) → HasBoard contents.board devices →
       FileAnswer devices request.run contents.file text status → RequestAnswer request contents text status
 
 -- The answer to the words, with these contents of the files of each request: they are refused, or what they ask is

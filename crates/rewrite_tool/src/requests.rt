@@ -10,7 +10,6 @@ ghost use Rattle.rewrite_tool.specs.Answers.{RequestAnswer};
 use crate::RewriteStatus;
 use crate::programs::answer_file;
 use crate::words::Named;
-use command_words::FileName;
 use named_files::{BoardNotRead, board_named, put_board_refusal};
 use std::alloc::Global;
 use tool_frame::NoAnswer;
@@ -32,8 +31,7 @@ pub(crate) fn answer_request<S: Shelf, K: Sink>(
         shelf.old shelf.new result }
     ensures output { KeepsOutput K.faults K.is_last lines.old lines.new result }
 {
-    let name = FileName::of(alloc, named.board)?;
-    match board_named(alloc, shelf, &Some(name)) {
+    match board_named(alloc, shelf, named.board) {
         Ok(devices) => answer_file(alloc, named.program, &devices, named.run, shelf, lines),
         Err(BoardNotRead::At { line, reason }) => {
             put_board_refusal(lines, line, reason)?;

@@ -5,7 +5,7 @@ use Rattle.tool_frame.specs.Commands.{text_of_word, text_asked}
 use Rattle.play_words.specs.declared.mode.Mode.{Mode}
 use Rattle.play_words.specs.declared.mode.Mode.TheVariants as modes
 use Rattle.play_words.specs.Words.{mode_word, HasMode}
-use Rattle.tool_command.specs.declared.help.TheConstants.{HELP, VERSION}
+use Rattle.play_words.specs.declared.help.TheConstants.{HELP, VERSION}
 
 -- the word of a mode asks for no text
 no_text : (mode : Mode) → text_of_word HELP.now VERSION.now (mode_word mode) ≡ None

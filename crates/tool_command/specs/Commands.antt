@@ -8,7 +8,7 @@ use Rattle.tool_frame.specs.declared.no_answer.NoAnswer.{NoAnswer}
 use Rattle.tool_frame.specs.declared.no_answer.NoAnswer.TheVariants as causes
 use Rattle.play_tool.specs.ReadContents.{IsReachedBy}
 use Rattle.tool_questions.specs.Questions.{IsAskedOf}
-use Rattle.tool_command.specs.declared.help.TheConstants.{HELP, VERSION}
+use Rattle.play_words.specs.declared.help.TheConstants.{HELP, VERSION}
 
 -- The answer to the words, if the tool's is this one.
 abbrev pub CommandAnswer : (List ℕ → Status → Type 0) → List (List ℕ) → (List ℕ → Status → Type 0)

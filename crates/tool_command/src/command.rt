@@ -1,44 +1,24 @@
 //! What a command does with its words.
-ghost use Rattle.std.specs.Prelude.{◌≡◌, true, false, map, string_bytes, IsErrOf};
+ghost use Rattle.std.specs.Prelude.{◌≡◌, true, false, map, string_bytes};
 ghost use Rattle.tool_io.specs.Causes.{HasRisen, NeverFalls, NoneFalls};
-ghost use Rattle.tool_frame.specs.Answers.{Wrote, WroteFront, HasWritten};
+ghost use Rattle.tool_frame.specs.Answers.{Wrote, WroteFront};
 ghost use Rattle.chain_sim.specs.Rack.{IsRack};
-ghost use Rattle.tool_frame.specs.Files.{HasReadCause, KeepsShelf};
+ghost use Rattle.tool_frame.specs.Files.{OfFiles, NamesOne, first_of, HasReadCause};
 ghost use Rattle.play_status.specs.Statuses.{IsFault, ComesBeforeFitting};
 ghost use Rattle.play_tool.specs.Answers.{WordsAnswer};
-ghost use Rattle.play_tool.specs.ReadContents.{OfWords, AskForPlay, Answered};
-ghost use Rattle.tool_questions.specs.Questions.{ask_question, QuestionAnswer, OfQuestion, IsAskedOf};
+ghost use Rattle.play_tool.specs.FinalRacks.{AskForPlay};
+ghost use Rattle.play_tool.specs.ReadContents.{OfWords, Answered};
+ghost use Rattle.tool_questions.specs.Questions.{ask_question, QuestionAnswer, IsAskedOf};
 ghost use Rattle.tool_command.specs.Commands.{CommandAnswer, IsReachedByCommand, status_of};
 
-use crate::help::{HELP, VERSION};
 use dev_card::Device;
 use play_status::Status;
 use play_tool::run_tool;
+use play_words::{HELP, VERSION};
 use std::alloc::Global;
-use tool_frame::{NoAnswer, text_asked, write_text};
-use tool_io::{Lines, Shelf, Sink};
-use tool_questions::{answer_question, ask_question};
-
-// Answers a question.
-fn run_question<S: Shelf, K: Sink>(
-    alloc: Global,
-    words: &[String],
-    shelf: &mut S,
-    out: &mut K,
-) -> Result<Status, NoAnswer>
-    requires { ask_question (map string_bytes words.now) ≡ true }
-    ensures wrote { OfQuestion (S.told shelf.old) (map string_bytes words.now) (λ held.
-        HasWritten (QuestionAnswer held (map string_bytes words.now)) (K.written out.old) (K.written out.new) result) }
-    ensures shelf { KeepsShelf S.told S.faults S.is_last (IsAskedOf (map string_bytes words.now))
-        shelf.old shelf.new result }
-    ensures later { NeverFalls K.faults K.is_last out.old out.new }
-    ensures write { IsErrOf result NoAnswer.Write → HasRisen K.faults K.is_last out.old out.new }
-{
-    let mut lines = Lines::new(out);
-    let status = answer_question(alloc, words, shelf, &mut lines)?;
-    lines.finish()?;
-    Ok(status)
-}
+use tool_frame::{NoAnswer, run, text_asked, write_text};
+use tool_io::{Shelf, Sink};
+use tool_questions::{Questioner, ask_question};
 
 // The status of a run.
 fn status_of(ended: Result<Status, NoAnswer>) -> Status
@@ -73,8 +53,9 @@ pub fn run_command<S: Shelf, K: Sink>(
         (map string_bytes words.now)) (map string_bytes words.now) contents (K.written out.old) (K.written out.new)
         result (map fitted rack.new.items)) }
     ensures question { (IsFault result → ⊥) → ask_question (map string_bytes words.now) ≡ true →
-        OfQuestion (S.told shelf.old) (map string_bytes words.now) (λ held.
-        Wrote (QuestionAnswer held (map string_bytes words.now)) (K.written out.old) (K.written out.new) result) }
+        OfFiles (NamesOne (IsAskedOf (map string_bytes words.now))) (S.told shelf.old) (λ contents.
+        Wrote (QuestionAnswer (first_of contents) (map string_bytes words.now)) (K.written out.old) (K.written out.new)
+        result) }
 
     // A read fault comes only where the count of a file that the words name rose, of the program only if no told board
     // is refused, and then nothing is written.
@@ -89,8 +70,9 @@ pub fn run_command<S: Shelf, K: Sink>(
         WroteFront (CommandAnswer (WordsAnswer (map string_bytes words.now) (λ request. contents))
         (map string_bytes words.now)) (K.written out.old) (K.written out.new)) }
     ensures question_front { result ≡ Status.WriteFault → ask_question (map string_bytes words.now) ≡ true →
-        OfQuestion (S.told shelf.old) (map string_bytes words.now) (λ held.
-        WroteFront (QuestionAnswer held (map string_bytes words.now)) (K.written out.old) (K.written out.new)) }
+        OfFiles (NamesOne (IsAskedOf (map string_bytes words.now))) (S.told shelf.old) (λ contents.
+        WroteFront (QuestionAnswer (first_of contents) (map string_bytes words.now))
+        (K.written out.old) (K.written out.new)) }
 
     // After want of memory nothing is written.
     ensures memory { result ≡ Status.Memory → K.written out.new ≡ K.written out.old }
@@ -107,7 +89,7 @@ pub fn run_command<S: Shelf, K: Sink>(
     ensures kinds { map kind_of rack.new.items ≡ map kind_of rack.old.items }
 {
     if ask_question(words) {
-        return status_of(run_question(alloc, words, shelf, out));
+        return status_of(run(&Questioner, alloc, words, shelf, &mut (), out));
     }
     match text_asked(words, HELP, VERSION) {
         Some(text) => match write_text(out, text) {

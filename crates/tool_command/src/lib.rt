@@ -1,8 +1,7 @@
 //! What a command does with its words, over any store and any sink: it writes the text of `--help` or `--version`, or
-//! calls the tool.
+//! runs one of its two tools, that of questions or that of plays.
 #![tactic(auto)]
 
 mod command;
-mod help;
 
 pub use command::run_command;

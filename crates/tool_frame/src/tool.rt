@@ -1,6 +1,6 @@
 //! What a tool is, and a run of it.
-ghost use Rattle.std.specs.Prelude.{◌≡◌, ℕ, List, Option, Result, Ok, Err, map, string_bytes};
-ghost use Rattle.tool_io.specs.Lines.{IsWhole};
+ghost use Rattle.std.specs.Prelude.{◌≡◌, ℕ, List, [], Option, Result, Ok, Err, map, string_bytes};
+ghost use Rattle.tool_io.specs.Lines.{IsWhole, gathered};
 ghost use Rattle.tool_frame.specs.declared.no_answer.NoAnswer.{NoAnswer as Cause};
 ghost use Rattle.tool_frame.specs.declared.no_answer.NoAnswer.TheVariants.{Write};
 ghost use Rattle.tool_frame.specs.Answers.{KeepsOutput};
@@ -56,7 +56,7 @@ pub trait Tool {
     fn exit_code(&self, ending: Self::Ending) -> u8
         ensures { result ≡ exit_code_of ending };
 
-    /// Puts the answer to the words.
+    /// Puts the answer to the words. Nothing waits in the lines yet.
     ///
     /// `Read` comes only if the count of a file rose that was reached, `Write` only if the count of the sink rose, each
     /// also if its count stands at its last value; `Memory` is want of memory. At `Read` and `Memory` nothing has
@@ -71,6 +71,7 @@ pub trait Tool {
     ) -> Result<Self::Ending, NoAnswer>
         requires ready { ready loan.old }
         requires whole { IsWhole lines.old }
+        requires empty { gathered lines.old ≡ [] }
         ensures answers { OfFiles (names (map string_bytes words.now)) (S.told shelf.old) (λ contents. SaysAndLeaves
             K.written (answers (map string_bytes words.now) contents) (leaves (map string_bytes words.now) contents)
             lines.old lines.new loan.old loan.new result) }

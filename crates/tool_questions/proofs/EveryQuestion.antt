@@ -1,6 +1,6 @@
--- Each question has an answer: each text has pieces, and a first fault or none, and each word says something or nothing.
-use Rattle.std.proofs.Common.{◌≡◌, ◌≢◌, ◌<◌, ◌≤◌, ℕ, pos, Bool, true, false, ◌||◌, List, [], ◌∷◌, length, Option, Some, None, refl, sym, ap, ◌∙◌, subst, arith, codes, ◌⊎◌, inl, inr}
-use Rattle.std.proofs.lemmas.Bool.{cases_lt, cases_eq, false≢true}
+-- All words have an answer: each text has pieces, and a first fault or none, and each word says something or nothing.
+use Rattle.std.proofs.Common.{◌≡◌, ◌<◌, ◌≤◌, ℕ, pos, Bool, true, false, List, [], ◌∷◌, length, Option, Some, None, refl, ap, subst, codes, ◌⊎◌, inl, inr}
+use Rattle.std.proofs.lemmas.Bool.{cases_lt, cases_eq, or_from}
 use Rattle.std.proofs.lemmas.Slice.Eq.{bytes_eq-Decides}
 use Rattle.std.specs.List.{flat_map}
 use Rattle.std.specs.Str.{bytes_eq}
@@ -14,15 +14,14 @@ use Rattle.stapl_syntax.specs.Trees.{StmtTree}
 use Rattle.stapl_syntax.specs.Programs.{IsProgram, FirstFault}
 use Rattle.stapl_checker.proofs.Answered.{program_or_fault}
 use Rattle.stapl_checker.proofs.UniqueLemmas.{no_fault}
-use Rattle.command_words.proofs.FoundOrNot.{IsFoundOrNot, path_or_not, number_or_not, same_or_not}
+use Rattle.command_words.proofs.FoundOrNot.{IsFoundOrNot, path_or_not, number_or_not}
 use Rattle.named_files.specs.Texts.{usage_line}
 use Rattle.program_reports.specs.Explanations.{word_paragraphs}
 use Rattle.play_status.specs.declared.status.Status.{Status}
 use Rattle.play_status.specs.declared.status.Status.TheVariants.{Done, Usage}
-use Rattle.tool_questions.specs.declared.report.PieceReport.{PieceReport}
 use Rattle.tool_questions.specs.declared.report.Refusal.{Refusal}
-use Rattle.tool_questions.specs.Pieces.{piece_numbered, RefusalAt, refusal_text, shown_text, IsReport, KnownAnswer, shown, ended, lacking, IsLongAnswer, too_long, PieceAnswer, known, long}
-use Rattle.tool_questions.specs.Questions.{is_question, ask_question, IsUsage, IsExplained, explained, unknown, WordAnswer, NamesPiece, NamesProgram, no_file, after_file, AreFileUsage, IsFileUsage, IsNumberUsage, HasPieceUsage, no_number, after_number, PieceQuestionAnswer, asked, refused, QuestionAnswer, of_word, of_piece}
+use Rattle.tool_questions.specs.Pieces.{piece_numbered, RefusalAt, refusal_text, shown_text, KnownAnswer, shown, ended, lacking, too_long, PieceAnswer, known, long}
+use Rattle.tool_questions.specs.Questions.{IsUsage, IsExplained, explained, unknown, WordAnswer, NamesPiece, NamesProgram, no_file, after_file, HasPieceUsage, no_number, after_number, PieceQuestionAnswer, asked, refused, QuestionAnswer, of_word, of_piece, no_question}
 use Rattle.tool_questions.proofs.ReportLemmas.{elsewhere}
 
 -- A relation of a text and a status has an answer.
@@ -119,21 +118,20 @@ every_piece_question : (bytes : List ℕ) (rest : List (List ℕ)) → IsAnswere
 every_piece_question bytes [] = refuses bytes [] 2 refl
 every_piece_question bytes (word ∷ rest) = by_number bytes word rest (number_or_not (codes "") 0 4294967295 word)
 
-by_first : (bytes first : List ℕ) (rest : List (List ℕ)) → (first ≡ codes "--explain") ⊎ (first ≡ codes "--explain" → ⊥) →
-    (first ≡ codes "--piece") ⊎ (first ≡ codes "--piece" → ⊥) → is_question first ≡ true → IsAnswered (QuestionAnswer (Some bytes) (first ∷ rest))
-by_first bytes first rest (inl e) piece asks =
-    let a = every_word rest in record { text = a.text; status = a.status; answer = of_word rest (ap (λ (w : List ℕ). w ∷ rest) e) a.answer }
-by_first bytes first rest (inr no_word) (inl e) asks =
-    let a = every_piece_question bytes rest in record { text = a.text; status = a.status; answer = of_piece rest (ap (λ (w : List ℕ). w ∷ rest) e) a.answer }
-by_first bytes first rest (inr no_word) (inr no_piece) asks = absurd (neither (bytes_eq first (codes "--explain")) (bytes_eq first (codes "--piece")) refl refl asks)
-  where
-    neither : (x y : Bool) → bytes_eq first (codes "--explain") ≡ x → bytes_eq first (codes "--piece") ≡ y → (x || y) ≡ true → ⊥
-    neither true y a b c = no_word ((bytes_eq-Decides first (codes "--explain")).0 a)
-    neither false true a b c = no_piece ((bytes_eq-Decides first (codes "--piece")).0 b)
-    neither false false a b c = false≢true c
+by_first : (bytes first : List ℕ) (rest : List (List ℕ)) (x y : Bool) → bytes_eq first (codes "--explain") ≡ x → bytes_eq first (codes "--piece") ≡ y →
+    IsAnswered (QuestionAnswer (Some bytes) (first ∷ rest))
+by_first bytes first rest true y is_word e =
+    let first_is = (bytes_eq-Decides first (codes "--explain")).0 is_word in
+    let a = every_word rest in record { text = a.text; status = a.status; answer = of_word rest (ap (λ (w : List ℕ). w ∷ rest) first_is) a.answer }
+by_first bytes first rest false true no_word is_piece =
+    let first_is = (bytes_eq-Decides first (codes "--piece")).0 is_piece in
+    let a = every_piece_question bytes rest in record { text = a.text; status = a.status; answer = of_piece rest (ap (λ (w : List ℕ). w ∷ rest) first_is) a.answer }
+by_first bytes first rest false false no_word no_piece =
+    let a = usage 1 in
+    let none = or_from (bytes_eq first (codes "--explain")) (bytes_eq first (codes "--piece")) no_word no_piece in
+    record { text = a.text; status = a.status; answer = no_question none a.answer }
 
-pub every_question : (bytes : List ℕ) (words : List (List ℕ)) → ask_question words ≡ true →
-    (text : List ℕ) × (status : Status) × QuestionAnswer (Some bytes) words text status
-every_question bytes [] asks = absurd (false≢true asks)
-every_question bytes (first ∷ rest) asks =
-    let a = by_first bytes first rest (same_or_not first (codes "--explain")) (same_or_not first (codes "--piece")) asks in (a.text, a.status, a.answer)
+pub every_question : (bytes : List ℕ) (words : List (List ℕ)) → (text : List ℕ) × (status : Status) × QuestionAnswer (Some bytes) words text status
+every_question bytes [] = let a = usage 1 in (a.text, a.status, no_question refl a.answer)
+every_question bytes (first ∷ rest) =
+    let a = by_first bytes first rest (bytes_eq first (codes "--explain")) (bytes_eq first (codes "--piece")) refl refl in (a.text, a.status, a.answer)

@@ -2,4 +2,3 @@ pub mod ReportLemmas
 pub mod WordLemmas
 pub mod OneAnswer
 pub mod EveryQuestion
-pub mod StatusLemmas

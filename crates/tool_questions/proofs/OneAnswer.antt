@@ -1,8 +1,6 @@
--- A question has at most one answer: a text has one list of pieces and one first fault, and words say one thing.
-use Rattle.std.proofs.Common.{◌≡◌, ◌<◌, ◌≤◌, ℕ, pos, List, [], ◌∷◌, length, Option, Some, None, refl, sym, ap, ◌∙◌, subst, arith, codes}
-use Rattle.std.proofs.lemmas.Option.{same_Some}
+-- Words have at most one answer: a text has one list of pieces and one first fault, and words say one thing.
+use Rattle.std.proofs.Common.{◌≡◌, ℕ, pos, List, [], ◌∷◌, length, Option, Some, None, refl, sym, ap, ◌∙◌, subst, arith, codes}
 use Rattle.stapl_lexer.specs.declared.piece.Piece.{Piece}
-use Rattle.stapl_lexer.specs.declared.reason.Reason.{Reason}
 use Rattle.stapl_lexer.proofs.PieceLemmas.{cut_one_way}
 use Rattle.stapl_checker.proofs.UniqueLemmas.{one_first_fault}
 use Rattle.named_files.specs.Texts.{usage_line}
@@ -12,7 +10,8 @@ use Rattle.play_status.specs.declared.status.Status.TheVariants.{Done, Usage}
 use Rattle.tool_questions.specs.declared.report.PieceReport.{PieceReport}
 use Rattle.tool_questions.specs.declared.report.Refusal.{Refusal}
 use Rattle.tool_questions.specs.Pieces.{piece_numbered, RefusalAt, refusal_text, shown_text, IsReport, KnownAnswer, shown, ended, lacking, IsLongAnswer, too_long, PieceAnswer, known, long, HeldPieceAnswer}
-use Rattle.tool_questions.specs.Questions.{IsUsage, IsExplained, explained, unknown, WordAnswer, NamesPiece, NamesProgram, IsFileNamed, IsPieceAsked, IsMoreUsage, IsFileUsage, no_file, after_file, AreFileUsage, IsNumberUsage, no_number, after_number, HasPieceUsage, PieceQuestionAnswer, asked, refused, QuestionAnswer, of_word, of_piece}
+use Rattle.tool_questions.specs.Questions.{IsUsage, IsExplained, explained, unknown, WordAnswer, NamesPiece, IsFileNamed, IsPieceAsked, IsMoreUsage, IsFileUsage, no_file, after_file, AreFileUsage, IsNumberUsage, no_number, after_number, HasPieceUsage, PieceQuestionAnswer, asked, refused, IsAskedOf, QuestionAnswer, of_word, of_piece, no_question}
+use Rattle.tool_questions.proofs.WordLemmas.{asks, same_rest}
 
 -- The text and the status of an answer.
 pub record Said : Type 0 where
@@ -94,6 +93,24 @@ one_asked : (rest : List (List ℕ)) (n m : ℕ) (path other : List ℕ) → IsP
 one_asked [] n m path other x y = absurd x
 one_asked (word ∷ rest) n m path other x y = one_number_asked word n m x.0 y.0
 
+one_file : (rest : List (List ℕ)) (path other : List ℕ) → IsFileNamed rest path → IsFileNamed rest other → path ≡ other
+one_file [] path other x y = absurd x
+one_file (file ∷ []) path other x y = one_path (codes "program=") file path other x y
+one_file (file ∷ more ∷ rest) path other x y = absurd x
+
+one_path_asked : (rest : List (List ℕ)) (n m : ℕ) (path other : List ℕ) → IsPieceAsked rest n path → IsPieceAsked rest m other → path ≡ other
+one_path_asked [] n m path other x y = absurd x
+one_path_asked (word ∷ rest) n m path other x y = one_file rest path other x.1 y.1
+
+-- the same words after `--piece`
+asked_as : (words rest : List (List ℕ)) (path : List ℕ) → words ≡ codes "--piece" ∷ rest → (is : IsAskedOf words path) → IsPieceAsked rest is.number path
+asked_as words rest path e is =
+    subst (λ (r : List (List ℕ)). IsPieceAsked r is.number path) (same_rest (codes "--piece") is.rest rest (sym is.words_are ∙ e)) is.asked
+
+-- words name one file
+pub one_asked_of : (words : List (List ℕ)) (path other : List ℕ) → IsAskedOf words path → IsAskedOf words other → path ≡ other
+one_asked_of words path other x y = one_path_asked y.rest x.number y.number path other (asked_as words y.rest path y.words_are x) y.asked
+
 named_or_usage : (rest : List (List ℕ)) (m : ℕ) (path : List ℕ) → IsFileNamed rest path → AreFileUsage rest m → ⊥
 named_or_usage [] m path x y = x
 named_or_usage (file ∷ []) m path x (no_file none at) = none path x
@@ -104,6 +121,10 @@ asked_or_usage : (rest : List (List ℕ)) (n m : ℕ) (path : List ℕ) → IsPi
 asked_or_usage [] n m path x y = x
 asked_or_usage (word ∷ rest) n m path x (no_number none at) = none n x.0
 asked_or_usage (word ∷ rest) n m path x (after_number k found y) = named_or_usage rest m path x.1 y
+
+-- and refused ones none
+pub refused_names_none : (words rest : List (List ℕ)) (m : ℕ) (path : List ℕ) → words ≡ codes "--piece" ∷ rest → HasPieceUsage rest m → IsAskedOf words path → ⊥
+refused_names_none words rest m path e usage is = asked_or_usage rest is.number m path (asked_as words rest path e is) usage
 
 same_more : (rest : List (List ℕ)) (m k : ℕ) → IsMoreUsage rest m → IsMoreUsage rest k → m ≡ k
 same_more [] m k x y = absurd x
@@ -137,7 +158,7 @@ one_piece_question held rest a b s t (asked n path x p) (refused m y q) = absurd
 one_piece_question held rest a b s t (refused m x p) (asked n path y q) = absurd (asked_or_usage rest n m path y x)
 one_piece_question held rest a b s t (refused m x p) (refused k y q) = one_usage m k a b s t (same_usage rest m k x y) p q
 
-no_both : (words rest other : List (List ℕ)) → words ≡ codes "--explain" ∷ rest → words ≡ codes "--piece" ∷ other → ⊥
+pub no_both : (words rest other : List (List ℕ)) → words ≡ codes "--explain" ∷ rest → words ≡ codes "--piece" ∷ other → ⊥
 no_both words rest other x y = differs (ap first x) (ap first y)
   where
     first : List (List ℕ) → ℕ
@@ -147,17 +168,19 @@ no_both words rest other x y = differs (ap first x) (ap first y)
     differs : first words ≡ 9 → first words ≡ 7 → ⊥
     differs p q = absurd (omega (arith, p, q))
 
-same_rest : (word : List ℕ) (a b : List (List ℕ)) → word ∷ a ≡ word ∷ b → a ≡ b
-same_rest word a b e = cc
-
 one_question : (held : Option (List ℕ)) (words : List (List ℕ)) (a b : List ℕ) (s t : Status) → QuestionAnswer held words a s →
     QuestionAnswer held words b t → said a s ≡ said b t
 one_question held words a b s t (of_word rest x p) (of_word other y q) =
     one_word other a b s t (subst (λ (l : List (List ℕ)). WordAnswer l a s) (same_rest (codes "--explain") rest other (sym x ∙ y)) p) q
 one_question held words a b s t (of_word rest x p) (of_piece other y q) = absurd (no_both words rest other x y)
+one_question held words a b s t (of_word rest x p) (no_question none q) = absurd (asks words rest (codes "--explain") x refl none)
 one_question held words a b s t (of_piece rest x p) (of_word other y q) = absurd (no_both words other rest y x)
 one_question held words a b s t (of_piece rest x p) (of_piece other y q) =
     one_piece_question held other a b s t (subst (λ (l : List (List ℕ)). PieceQuestionAnswer held l a s) (same_rest (codes "--piece") rest other (sym x ∙ y)) p) q
+one_question held words a b s t (of_piece rest x p) (no_question none q) = absurd (asks words rest (codes "--piece") x refl none)
+one_question held words a b s t (no_question none p) (of_word rest y q) = absurd (asks words rest (codes "--explain") y refl none)
+one_question held words a b s t (no_question none p) (of_piece rest y q) = absurd (asks words rest (codes "--piece") y refl none)
+one_question held words a b s t (no_question none p) (no_question also q) = one_usage 1 1 a b s t refl p q
 
 pub one_answer : (held : Option (List ℕ)) (words : List (List ℕ)) (a b : List ℕ) (s t : Status) → QuestionAnswer held words a s →
     QuestionAnswer held words b t → (a ≡ b) × (s ≡ t)

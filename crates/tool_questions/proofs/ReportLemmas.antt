@@ -1,5 +1,5 @@
 -- On reports of a piece.
-use Rattle.std.proofs.Common.{◌≡◌, ◌≢◌, ◌<◌, ◌-◌, ℕ, zero, suc, List, [], ◌∷◌, slice_get, Option, Some, None, IfSome, IsSomeAnd, Result, length, refl, ap, subst, arith}
+use Rattle.std.proofs.Common.{◌≡◌, ◌≢◌, ◌<◌, ◌-◌, ℕ, zero, suc, List, [], ◌∷◌, slice_get, Option, Some, None, IfSome, IsSomeAnd, Result, length, refl, ap, arith}
 use Rattle.std.specs.Prelude.{All}
 use Rattle.std.proofs.lemmas.List.Elements.{All-head, All-tail}
 use Rattle.tool_io.specs.declared.lines.Lines.{Lines}
@@ -11,8 +11,7 @@ use Rattle.play_status.specs.declared.status.Status.{Status}
 use Rattle.stapl_lexer.specs.Pieces.{text_limit}
 use Rattle.stapl_lexer.specs.declared.piece.Piece.{Piece}
 use Rattle.stapl_lexer.specs.declared.reason.Reason.{Reason}
-use Rattle.stapl_syntax.specs.Trees.{StmtTree}
-use Rattle.stapl_syntax.specs.Programs.{IsProgram, FirstFault}
+use Rattle.stapl_syntax.specs.Programs.{FirstFault}
 use Rattle.stapl_checker.proofs.UniqueLemmas.{one_first_fault}
 use Rattle.tool_questions.specs.Pieces.{piece_numbered, RefusalAt, IsLongAnswer, PieceAnswer, long, HeldPieceAnswer}
 

@@ -1,13 +1,10 @@
 -- On the words of a question: the first of some words, those after it, and what they say.
-use Rattle.std.proofs.Common.{◌≡◌, ◌<◌, ◌≤◌, ◌-◌, ◌==◌, ◌||◌, ℕ, Bool, true, false, List, [], ◌∷◌, length, map, take, drop, get_or, Option, None, Some, IfSome, codes, refl, sym, ap, ◌∙◌, arith}
-use Rattle.std.proofs.lemmas.Bool.{false≢true, eqb-true}
+use Rattle.std.proofs.Common.{◌≡◌, ◌≤◌, ◌-◌, ◌==◌, ℕ, Bool, true, false, List, [], ◌∷◌, length, map, take, drop, get_or, codes, refl, sym, ap, ◌∙◌, arith}
+use Rattle.std.proofs.lemmas.Bool.{false≢true, eqb-true, or_from, false_from_ne_true}
 use Rattle.std.proofs.lemmas.List.{take_all}
 use Rattle.std.proofs.lemmas.Slice.Eq.{bytes_eq-Decides}
 use Rattle.std.specs.Str.{bytes_eq}
-use Rattle.std.specs.Prelude.{Result}
-use Rattle.tool_frame.specs.declared.no_answer.NoAnswer.{NoAnswer}
-use Rattle.tool_frame.specs.Files.{KeepsShelf}
-use Rattle.tool_questions.specs.Questions.{is_question, IsMoreUsage, IsPieceFile, IsAskedOf}
+use Rattle.tool_questions.specs.Questions.{is_question, ask_question, IsMoreUsage}
 
 module _ {A : Type 0} (f : A → List ℕ) where
   -- the first one, and the others
@@ -32,25 +29,20 @@ module _ {A : Type 0} (f : A → List ℕ) where
   some_said [] b e some same none = false≢true (sym some ∙ e)
   some_said (x ∷ xs) b e some same none = absurd (cc)
 
--- a question that is not `--explain`
-pub is_piece : (word : List ℕ) → is_question word ≡ true → bytes_eq word (codes "--explain") ≡ false → word ≡ codes "--piece"
-is_piece word asks other = (bytes_eq-Decides word (codes "--piece")).0 (second (bytes_eq word (codes "--explain")) (bytes_eq word (codes "--piece")) other asks)
-  where
-    second : (a b : Bool) → a ≡ false → (a || b) ≡ true → b ≡ true
-    second true b e h = absurd (false≢true (sym e))
-    second false b e h = h
+-- words are a question if they begin with one of its two words, and only then
+pub no_question_of : (words : List (List ℕ)) → ((rest : List (List ℕ)) → words ≡ codes "--explain" ∷ rest → ⊥) →
+    ((rest : List (List ℕ)) → words ≡ codes "--piece" ∷ rest → ⊥) → ask_question words ≡ false
+no_question_of [] no_word no_piece = refl
+no_question_of (word ∷ rest) no_word no_piece =
+    or_from (bytes_eq word (codes "--explain")) (bytes_eq word (codes "--piece"))
+    (false_from_ne_true (bytes_eq word (codes "--explain")) (λ e. no_word rest (ap (λ (w : List ℕ). w ∷ rest) ((bytes_eq-Decides word (codes "--explain")).0 e))))
+    (false_from_ne_true (bytes_eq word (codes "--piece")) (λ e. no_piece rest (ap (λ (w : List ℕ). w ∷ rest) ((bytes_eq-Decides word (codes "--piece")).0 e))))
 
--- the file that the words after `--piece` name is that of the question
-pub named_as : (words rest : List (List ℕ)) (named : Option (List ℕ)) → words ≡ codes "--piece" ∷ rest → IfSome named (IsPieceFile rest) → IfSome named (IsAskedOf words)
-named_as words rest None e file = tt
-named_as words rest (Some path) e file = record { rest = rest; words_are = e; file = file }
+pub asks : (words rest : List (List ℕ)) (word : List ℕ) → words ≡ word ∷ rest → is_question word ≡ true → ask_question words ≡ false → ⊥
+asks words rest word e is none = false≢true (sym none ∙ ap ask_question e ∙ is)
 
-pub shelf_as : {S T : Type 0} {told : S → Option (List (List ℕ × List ℕ))} {faults : S → List ℕ → ℕ} {is_last : S → List ℕ → Type 0} {before after : S} {r : Result T NoAnswer}
-    (words rest : List (List ℕ)) → words ≡ codes "--piece" ∷ rest → KeepsShelf told faults is_last (IsPieceFile rest) before after r →
-    KeepsShelf told faults is_last (IsAskedOf words) before after r
-shelf_as words rest e kept = record {
-  keeps = kept.keeps;
-  later = kept.later;
-  read = λ failed. let cause = kept.read failed in
-      record { path = cause.path; is_reached = record { rest = rest; words_are = e; file = cause.is_reached }; rose = cause.rose };
-}
+pub same_first : (word other : List ℕ) (a b : List (List ℕ)) → word ∷ a ≡ other ∷ b → word ≡ other
+same_first word other a b e = cc
+
+pub same_rest : (word : List ℕ) (a b : List (List ℕ)) → word ∷ a ≡ word ∷ b → a ≡ b
+same_rest word a b e = cc

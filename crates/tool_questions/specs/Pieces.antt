@@ -1,5 +1,5 @@
 -- What is said of a piece of a program. The lines are this tool's own.
-use Rattle.std.specs.Prelude.{◌≡◌, ◌≤◌, ◌<◌, ◌-◌, ℕ, pos, zero, suc, List, [], ◌∷◌, ◌++◌, length, take, drop, codes, slice_get, slice_range, Option, None, Some, IsSomeAnd}
+use Rattle.std.specs.Prelude.{◌≡◌, ◌≤◌, ◌<◌, ◌-◌, ℕ, pos, zero, suc, List, [], ◌++◌, length, take, drop, codes, slice_get, slice_range, Option, None, Some, IsSomeAnd}
 use Rattle.std.specs.Char.{is_ascii_whitespace}
 use Rattle.std.specs.List.{prefix_len, suffix_len, flat_map}
 use Rattle.tool_io.specs.Texts.{labelled, number_line, word_line}

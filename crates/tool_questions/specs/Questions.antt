@@ -1,10 +1,9 @@
 -- Questions about what the tool says, and their answers. The rules are this tool's own.
-use Rattle.std.specs.Prelude.{◌≡◌, ◌≢◌, ℕ, pos, Bool, true, false, ◌||◌, List, [], ◌∷◌, codes, Option, None, Some, IfSome}
+use Rattle.std.specs.Prelude.{◌≡◌, ◌≢◌, ℕ, pos, Bool, false, ◌||◌, List, [], ◌∷◌, codes, Option}
 use Rattle.std.specs.Str.{bytes_eq}
 use Rattle.std.specs.List.{flat_map}
 use Rattle.tool_io.specs.Texts.{word_line}
 use Rattle.command_words.specs.KeyedWords.{NamesNumber, NamesPath}
-use Rattle.tool_frame.specs.Files.{OfFile}
 use Rattle.named_files.specs.Texts.{usage_line}
 use Rattle.program_reports.specs.Explanations.{word_paragraphs}
 use Rattle.play_status.specs.declared.status.Status.{Status}
@@ -80,30 +79,15 @@ pub data PieceQuestionAnswer (held : Option (List ℕ)) (rest : List (List ℕ))
   asked : (n : ℕ) (path : List ℕ) → IsPieceAsked rest n path → HeldPieceAnswer n held said status → PieceQuestionAnswer held rest said status
   refused : (m : ℕ) → HasPieceUsage rest m → IsUsage m said status → PieceQuestionAnswer held rest said status
 
--- the words after `--piece` name this file
-pub record IsPieceFile (rest : List (List ℕ)) (path : List ℕ) : Type 0 where
-  pub number : ℕ
-  pub asked : IsPieceAsked rest number path
-
--- The answer to a question, if the file that it names holds this.
+-- The answer to words, if the file that they name holds this. Words that are no question are refused at the first.
 pub data QuestionAnswer (held : Option (List ℕ)) (words : List (List ℕ)) (said : List ℕ) (status : Status) : Type 0 where
   of_word : (rest : List (List ℕ)) → words ≡ codes "--explain" ∷ rest → WordAnswer rest said status → QuestionAnswer held words said status
   of_piece : (rest : List (List ℕ)) → words ≡ codes "--piece" ∷ rest → PieceQuestionAnswer held rest said status → QuestionAnswer held words said status
+  no_question : ask_question words ≡ false → IsUsage 1 said status → QuestionAnswer held words said status
 
--- the question names this file
+-- the words name this file
 pub record IsAskedOf (words : List (List ℕ)) (path : List ℕ) : Type 0 where
   pub rest : List (List ℕ)
   pub words_are : words ≡ codes "--piece" ∷ rest
-  pub file : IsPieceFile rest path
-
--- This stands of the bytes of the file that the words after `--piece` name, as they were read, if they name one.
-pub record OfPieceWords (told : Option (List (List ℕ × List ℕ))) (rest : List (List ℕ)) (stands : Option (List ℕ) → Type 0) : Type 0 where
-  pub named : Option (List ℕ)
-  pub asked : IfSome named (IsPieceFile rest)
-  pub file : OfFile told named stands
-
--- The same of a question.
-pub record OfQuestion (told : Option (List (List ℕ × List ℕ))) (words : List (List ℕ)) (stands : Option (List ℕ) → Type 0) : Type 0 where
-  pub named : Option (List ℕ)
-  pub asked : IfSome named (IsAskedOf words)
-  pub file : OfFile told named stands
+  pub number : ℕ
+  pub asked : IsPieceAsked rest number path

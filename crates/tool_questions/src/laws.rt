@@ -1,18 +1,18 @@
-//! Laws of the definitions: each question has one answer.
-ghost use Rattle.std.specs.Prelude.{◌≡◌, ℕ, true, List, Option, Some};
+//! Laws of the definitions: all words have one answer.
+ghost use Rattle.std.specs.Prelude.{◌≡◌, ℕ, List, Option, Some};
 ghost use Rattle.play_status.specs.declared.status.Status.{Status};
 ghost use Rattle.play_status.specs.Statuses.{IsFault};
-ghost use Rattle.tool_questions.specs.Questions.{ask_question, QuestionAnswer};
+ghost use Rattle.tool_questions.specs.Questions.{QuestionAnswer};
 
-/// A question has at most one answer.
+/// The words and the bytes of their file have at most one answer.
 pub fn one_answer()
     ensures { (held : Option (List ℕ)) (words : List (List ℕ)) (a b : List ℕ) (s t : Status) →
         QuestionAnswer held words a s → QuestionAnswer held words b t → (a ≡ b) × (s ≡ t) }
 {}
 
-/// Each question has an answer, whatever the file holds that it names.
+/// Words have an answer, question or none, whatever the file holds that they name.
 pub fn questions_are_answered()
-    ensures { (bytes : List ℕ) (words : List (List ℕ)) → ask_question words ≡ true →
+    ensures { (bytes : List ℕ) (words : List (List ℕ)) →
         (text : List ℕ) × (status : Status) × QuestionAnswer (Some bytes) words text status }
 {}
 

@@ -6,7 +6,9 @@ mod ask;
 pub mod laws;
 mod lines;
 mod piece;
+mod questioner;
 mod report;
 mod words;
 
-pub use ask::{answer_question, ask_question};
+pub use ask::ask_question;
+pub use questioner::Questioner;

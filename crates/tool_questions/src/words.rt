@@ -1,8 +1,23 @@
 //! The words of a question.
-ghost use Rattle.std.specs.Prelude.{◌≡◌, map, string_bytes, IfOk, IfErr};
+ghost use Rattle.std.specs.Prelude.{◌≡◌, ℕ, List, ◌∷◌, map, string_bytes, IfSome, IfNone, IfOk, IfErr};
 ghost use Rattle.tool_questions.specs.Questions.{IsFileNamed, AreFileUsage, IsPieceAsked, HasPieceUsage};
 
 use command_words::{number_under, path_under};
+
+/// The words after the first, if that is this one.
+pub(crate) fn words_after<'a>(first: &str, words: &'a [String]) -> Option<&'a [String]>
+    ensures some { IfSome result (λ rest. map string_bytes words.now ≡ first.now ∷ map string_bytes rest.now) }
+    ensures none { IfNone result ((rest : List (List ℕ)) → map string_bytes words.now ≡ first.now ∷ rest → ⊥) }
+{
+    let [word, rest @ ..] = words else {
+        return None;
+    };
+    if word.as_str() == first {
+        Some(rest)
+    } else {
+        None
+    }
+}
 
 /// The highest number of a piece that words may give.
 const MOST_PIECE: u32 = 4_294_967_295;

@@ -10,7 +10,6 @@ use Rattle.pin_lines.specs.PinLines.{has_bad_line, pins_in}
 use Rattle.pin_lines.specs.Traces.{Agrees, board_led_to}
 use Rattle.pin_lines.specs.FirstFaults.{IsFirstBadLine, IsFirstDifference}
 use Rattle.pin_lines.proofs.FirstFaults.{a_bad_line, a_difference}
-use Rattle.named_files.specs.Words.{FileNames}
 use Rattle.named_files.specs.Contents.{Contents}
 use Rattle.named_files.proofs.ContentLemmas.{both}
 use Rattle.trace_check.specs.Limits.{trace_limit}
@@ -43,17 +42,17 @@ every_trace devices text = by_length (cases_lt trace_limit (length text))
 abbrev pub AreBoards : Type 0
 AreBoards = (text : List ℕ) → ((devices : List Desc) × IsBoard text devices) ⊎ ((line : ℕ) × (reason : BoardReason) × IsFirstFault text line reason)
 
-held_request : (named : FileNames) (board trace : List ℕ) → ((devices : List Desc) × IsBoard board devices) ⊎ ((line : ℕ) × (reason : BoardReason) × IsFirstFault board line reason) →
-    HasAnswer (RequestAnswer named (both (Some board) (Some trace)))
-held_request named board trace (inr fault) = (board_refusal_line fault.0 fault.1, BoardRefused fault.0 fault.1, board_refused fault.0 fault.1 fault.2)
-held_request named board trace (inl devices) =
+held_request : (board trace : List ℕ) → ((devices : List Desc) × IsBoard board devices) ⊎ ((line : ℕ) × (reason : BoardReason) × IsFirstFault board line reason) →
+    HasAnswer (RequestAnswer (both (Some board) (Some trace)))
+held_request board trace (inr fault) = (board_refusal_line fault.0 fault.1, BoardRefused fault.0 fault.1, board_refused fault.0 fault.1 fault.2)
+held_request board trace (inl devices) =
     let a = every_trace devices.0 trace in
     (a.0, a.1, board_read devices.0 a.0 a.1 devices.1 (record { bytes = trace; held = refl; answer = a.2 }))
 
-pub every_request : AreBoards → (named : FileNames) (contents : Contents) → IsSome contents.board → IsSome contents.file → HasAnswer (RequestAnswer named contents)
-every_request boards named contents = by contents.board contents.file
+pub every_request : AreBoards → (contents : Contents) → IsSome contents.board → IsSome contents.file → HasAnswer (RequestAnswer contents)
+every_request boards contents = by contents.board contents.file
   where
-    by : (board trace : Option (List ℕ)) → IsSome board → IsSome trace → HasAnswer (RequestAnswer named (both board trace))
+    by : (board trace : Option (List ℕ)) → IsSome board → IsSome trace → HasAnswer (RequestAnswer (both board trace))
     by None trace b t = absurd (false≢true b)
     by (Some board) None b t = absurd (false≢true t)
-    by (Some board) (Some trace) b t = held_request named board trace (boards board)
+    by (Some board) (Some trace) b t = held_request board trace (boards board)

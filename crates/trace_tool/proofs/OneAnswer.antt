@@ -1,5 +1,5 @@
 -- The words and the files have at most one answer.
-use Rattle.std.proofs.Common.{◌≡◌, ◌∙◌, ℕ, List, Option, Some, refl, sym, ap, subst, arith}
+use Rattle.std.proofs.Common.{◌≡◌, ◌∙◌, ℕ, List, Option, refl, sym, ap, subst, arith}
 use Rattle.std.proofs.lemmas.Option.{same_Some}
 use Rattle.dev_card.specs.declared.desc.Desc.{Desc}
 use Rattle.board_text.specs.declared.reason.BoardReason.{BoardReason}
@@ -49,20 +49,20 @@ refused_same : {m n : ℕ} {r s : BoardReason} → (m ≡ n) × (r ≡ s) → Ar
 refused_same {n = n} {r = r} e =
     (ap (λ k. board_refusal_line k r) e.0 ∙ ap (board_refusal_line n) e.1, ap (λ k. BoardRefused k r) e.0 ∙ ap (BoardRefused n) e.1)
 
-one_asked : (named : FileNames) (contents : Contents) (a b : List ℕ) (s t : TraceStatus) → RequestAnswer named contents a s → RequestAnswer named contents b t → AreSame a s b t
-one_asked named contents a b s t (board_refused m r x) (board_refused n q y) = refused_same (one_fault (Some named.board) contents.board m n r q x y)
-one_asked named contents a b s t (board_refused m r x) (board_read devices text status y z) =
-    absurd (board_or_fault (Some named.board) contents.board devices m r y x)
-one_asked named contents a b s t (board_read devices text status x z) (board_refused n q y) =
-    absurd (board_or_fault (Some named.board) contents.board devices n q x y)
-one_asked named contents a b s t (board_read devices text status x z) (board_read others text2 status2 y w) =
+one_asked : (contents : Contents) (a b : List ℕ) (s t : TraceStatus) → RequestAnswer contents a s → RequestAnswer contents b t → AreSame a s b t
+one_asked contents a b s t (board_refused m r x) (board_refused n q y) = refused_same (one_fault contents.board m n r q x y)
+one_asked contents a b s t (board_refused m r x) (board_read devices text status y z) =
+    absurd (board_or_fault contents.board devices m r y x)
+one_asked contents a b s t (board_read devices text status x z) (board_refused n q y) =
+    absurd (board_or_fault contents.board devices n q x y)
+one_asked contents a b s t (board_read devices text status x z) (board_read others text2 status2 y w) =
     one_file others contents.file a b s t
-    (subst (λ (ds : List Desc). FileAnswer ds contents.file a s) (one_held (Some named.board) contents.board devices others x y) z) w
+    (subst (λ (ds : List Desc). FileAnswer ds contents.file a s) (one_held contents.board devices others x y) z) w
 
 pub one_words : (words : List (List ℕ)) (files : List (List ℕ × List ℕ)) (a b : List ℕ) (s t : TraceStatus) → Answer words files a s → Answer words files b t → AreSame a s b t
 one_words words files a b s t (usage n x) (usage m y) = let e : n ≡ m = one_usage trace_key words n m x y in (ap usage_line e, ap Usage e)
 one_words words files a b s t (usage n x) (asked named text status y z) = absurd (no_usage trace_key words named n y x)
 one_words words files a b s t (asked named text status x z) (usage m y) = absurd (no_usage trace_key words named m x y)
 one_words words files a b s t (asked named text status x z) (asked other text2 status2 y w) =
-    one_asked other (contents_in files other) a b s t
-    (subst (λ (n : FileNames). RequestAnswer n (contents_in files n) a s) (one_request trace_key words named other x y) z) w
+    one_asked (contents_in files other) a b s t
+    (subst (λ (n : FileNames). RequestAnswer (contents_in files n) a s) (one_request trace_key words named other x y) z) w

@@ -92,9 +92,9 @@ no_room told path devices = of_any_file told (Some path) (λ held. record { says
 
 -- ---- the board is right
 
-file_within : (named : FileNames) (devices : List Desc) (board trace : Option (List ℕ)) → HasBoard (Some named.board) board devices →
-    IsWithin (FileAnswer devices trace) (RequestAnswer named (both board trace))
-file_within named devices board trace is = record { to = λ text status a. board_read devices text status is a }
+file_within : (devices : List Desc) (board trace : Option (List ℕ)) → HasBoard board devices →
+    IsWithin (FileAnswer devices trace) (RequestAnswer (both board trace))
+file_within devices board trace is = record { to = λ text status a. board_read devices text status is a }
 
 -- ---- told files
 
@@ -103,7 +103,7 @@ in_told : (files : List (List ℕ × List ℕ)) (words : List (List ℕ)) (conte
     WordsAnswer words (λ named. contents) text status → WordsAnswer words (contents_in files) text status
 in_told files words contents read (usage n u) = usage n u
 in_told files words contents read (asked named text status asks a) =
-    asked named text status asks (subst (λ (c : Contents). RequestAnswer named c text status) (sym (read named asks)) a)
+    asked named text status asks (subst (λ (c : Contents). RequestAnswer c text status) (sym (read named asks)) a)
 
 -- With a store that tells its files, the answer for the contents that were read is that for its files.
 pub told_answer : (files : List (List ℕ × List ℕ)) (words : List (List ℕ)) {text : List ℕ} {status : TraceStatus} →
@@ -118,7 +118,7 @@ told_answer files words o =
 abbrev pub RequestSays : {K D Kind : Type 0} → (K → Option (List ℕ)) → (D → Kind) → (D → Option SoundCard) → Option (List (List ℕ × List ℕ)) → FileNames →
     Lines K → Lines K → List D → List D → Result TraceStatus NoAnswer → Type 0
 RequestSays written kind_of fitted told named old new olds news r = OfContents told named (λ contents.
-    SaysAndLeaves written (RequestAnswer named contents) (LeavesRack kind_of fitted (RequestHoldsLed named contents)) old new olds news r)
+    SaysAndLeaves written (RequestAnswer contents) (LeavesRack kind_of fitted (RequestHoldsLed contents)) old new olds news r)
 
 abbrev pub WordsSay : {K D Kind : Type 0} → (K → Option (List ℕ)) → (D → Kind) → (D → Option SoundCard) → Option (List (List ℕ × List ℕ)) → List (List ℕ) →
     Lines K → Lines K → List D → List D → Result TraceStatus NoAnswer → Type 0
@@ -127,11 +127,11 @@ WordsSay written kind_of fitted told words old new olds news r = OfWords trace_k
 
 -- the board is right
 pub request_of_file : {K D Kind : Type 0} (written : K → Option (List ℕ)) (kind_of : D → Kind) (fitted : D → Option SoundCard) (old new : Lines K) (olds news : List D)
-    (told : Option (List (List ℕ × List ℕ))) (named : FileNames) (r : Result TraceStatus NoAnswer) (devices : List Desc) → ReadsBoard told (Some named.board) devices →
+    (told : Option (List (List ℕ × List ℕ))) (named : FileNames) (r : Result TraceStatus NoAnswer) (devices : List Desc) → ReadsBoard told named.board devices →
     FileSays written kind_of fitted told named.file devices old new olds news r → RequestSays written kind_of fitted told named old new olds news r
 request_of_file written kind_of fitted old new olds news told named r devices reads o =
     of_both told named reads.held reads.read o (λ trace a.
-    answers_as written kind_of fitted r (file_within named devices reads.held trace reads.holds)
+    answers_as written kind_of fitted r (file_within devices reads.held trace reads.holds)
     (λ status rack final. record { devices = devices; board = reads.holds; final = final }) a)
 
 -- the words are this request
@@ -146,11 +146,11 @@ words_of_request written kind_of fitted old new olds news told named r asks o =
 -- the board is refused
 module _ {K D Kind : Type 0} {written : K → Option (List ℕ)} {kind_of : D → Kind} {fitted : D → Option SoundCard} {old new : Lines K} {items : List D}
     (told : Option (List (List ℕ × List ℕ))) (named : FileNames) (line : ℕ) (reason : BoardReason)
-    (reads : ReadsBoardFault told (Some named.board) line reason) where
+    (reads : ReadsBoardFault told named.board line reason) where
   pub board_failed : (r : Result TraceStatus NoAnswer) → IsErrAnd r (λ e. e ≡ Write) → PutsFront written old (board_refusal_line line reason) new →
       RequestSays written kind_of fitted told named old new items items r
   board_failed r is front = of_board told named reads.held reads.read (λ trace. record {
-    says = says_failed written (RequestAnswer named (both reads.held trace)) _ old new r is
+    says = says_failed written (RequestAnswer (both reads.held trace)) _ old new r is
         (said_front (board_refusal_line line reason) (BoardRefused line reason) (board_refused line reason reads.holds) front);
     left = rack_failed r is;
   })

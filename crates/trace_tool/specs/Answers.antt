@@ -47,20 +47,18 @@ pub record FileAnswer (devices : List Desc) (file : Option (List ℕ)) (text : L
 
 -- The answer to a request: its board is refused at its first fault, or is of these devices, and the answer is that for
 -- its trace.
-pub data RequestAnswer (named : FileNames) (contents : Contents) : List ℕ → TraceStatus → Type 0 where
-  board_refused : (line : ℕ) (reason : BoardReason) → HasBoardFault (Some named.board) contents.board line reason →
-      RequestAnswer named contents (board_refusal_line line reason) (BoardRefused line reason)
-  board_read : (devices : List Desc) (text : List ℕ) (status : TraceStatus) →
-      HasBoard (Some named.board) contents.board devices →
-      FileAnswer devices contents.file text status → RequestAnswer named contents text status
+pub data RequestAnswer (contents : Contents) : List ℕ → TraceStatus → Type 0 where
+  board_refused : (line : ℕ) (reason : BoardReason) → HasBoardFault contents.board line reason →
+      RequestAnswer contents (board_refusal_line line reason) (BoardRefused line reason)
+  board_read : (devices : List Desc) (text : List ℕ) (status : TraceStatus) → HasBoard contents.board devices →
+      FileAnswer devices contents.file text status → RequestAnswer contents text status
 
 -- The answer to the words, with these contents of the files of each request: they are refused, or what they ask is
 -- answered.
 pub data WordsAnswer (words : List (List ℕ)) (contents_of : FileNames → Contents) : List ℕ → TraceStatus → Type 0 where
   usage : (n : ℕ) → IsUsage trace_key words n → WordsAnswer words contents_of (usage_line n) (Usage n)
   asked : (named : FileNames) (text : List ℕ) (status : TraceStatus) → IsRequest trace_key words named →
-      RequestAnswer named (contents_of named) text status →
-      WordsAnswer words contents_of text status
+      RequestAnswer (contents_of named) text status → WordsAnswer words contents_of text status
 
 -- The answer to the words and the files of a store.
 abbrev pub Answer : List (List ℕ) → List (List ℕ × List ℕ) → (List ℕ → TraceStatus → Type 0)

@@ -36,11 +36,11 @@ abbrev pub HeldLed : List Desc → Option (List ℕ) → TraceStatus → List (O
 HeldLed devices None status rack = ⊥
 HeldLed devices (Some text) status rack = HoldsLed devices text status rack
 
--- the same of a request, with the board that it names
-pub record RequestHoldsLed (named : FileNames) (contents : Contents) (status : TraceStatus)
-    (rack : List (Option SoundCard)) : Type 0 where
+-- the same of a request, with its board
+pub record RequestHoldsLed (contents : Contents) (status : TraceStatus) (rack : List (Option SoundCard))
+    : Type 0 where
   pub devices : List Desc
-  pub board : HasBoard (Some named.board) contents.board devices
+  pub board : HasBoard contents.board devices
   pub final : HeldLed devices contents.file status rack
 
 -- the same of words
@@ -48,7 +48,7 @@ pub record WordsHoldLed (words : List (List ℕ)) (contents : Contents) (status 
     (rack : List (Option SoundCard)) : Type 0 where
   pub named : FileNames
   pub asked : IsRequest trace_key words named
-  pub final : RequestHoldsLed named contents status rack
+  pub final : RequestHoldsLed contents status rack
 
 -- What a call that answers leaves of the rack. The devices keep their kinds. They stay as they were if the cause of the
 -- status comes before the board is fitted, and after a comparison they are as it leaves them.

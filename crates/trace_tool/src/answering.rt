@@ -1,5 +1,5 @@
 //! What is answered to a request: its board, and then its trace.
-ghost use Rattle.std.specs.Prelude.{◌≡◌, Some, map};
+ghost use Rattle.std.specs.Prelude.{map};
 ghost use Rattle.tool_io.specs.Lines.{IsWhole};
 ghost use Rattle.tool_frame.specs.Answers.{KeepsOutput};
 ghost use Rattle.tool_frame.specs.Files.{KeepsShelf};
@@ -12,7 +12,6 @@ ghost use Rattle.trace_tool.specs.FinalRacks.{RequestHoldsLed, LeavesRack};
 
 use crate::TraceStatus;
 use crate::comparing::answer_file;
-use command_words::FileName;
 use dev_card::Device;
 use named_files::{BoardNotRead, Named, board_named, put_board_refusal};
 use std::alloc::Global;
@@ -30,15 +29,13 @@ pub(crate) fn answer_request<S: Shelf, K: Sink>(
     requires rack { IsRack (map kind_of rack.old.items) }
     requires whole { IsWhole lines.old }
     ensures answers { OfContents (S.told shelf.old) (files_named named.entry) (λ contents. SaysAndLeaves K.written
-        (RequestAnswer (files_named named.entry) contents)
-        (LeavesRack kind_of fitted (RequestHoldsLed (files_named named.entry) contents))
+        (RequestAnswer contents) (LeavesRack kind_of fitted (RequestHoldsLed contents))
         lines.old lines.new rack.old.items rack.new.items result) }
     ensures shelf { KeepsShelf S.told S.faults S.is_last (IsReached (S.told shelf.old) (files_named named.entry))
         shelf.old shelf.new result }
     ensures output { KeepsOutput K.faults K.is_last lines.old lines.new result }
 {
-    let name = FileName::of(alloc, named.board)?;
-    match board_named(alloc, shelf, &Some(name)) {
+    match board_named(alloc, shelf, named.board) {
         Ok(devices) => answer_file(alloc, &devices, named.file, shelf, rack, lines),
         Err(BoardNotRead::At { line, reason }) => {
             put_board_refusal(lines, line, reason)?;

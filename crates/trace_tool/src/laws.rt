@@ -1,7 +1,7 @@
 //! Laws of the definitions.
 ghost use Rattle.std.specs.Prelude.{◌≡◌, ℕ, List, Some, IsSome};
 ghost use Rattle.tool_frame.specs.Files.{OfFiles};
-ghost use Rattle.named_files.specs.Words.{FileNames, IsRequest};
+ghost use Rattle.named_files.specs.Words.{IsRequest};
 ghost use Rattle.named_files.specs.Contents.{Contents, NamesBoth, both_of};
 ghost use Rattle.trace_tool.specs.declared.status.TraceStatus.{TraceStatus};
 ghost use Rattle.trace_tool.specs.Answers.{trace_key, RequestAnswer, WordsAnswer, Answer};
@@ -16,8 +16,8 @@ pub fn one_answer()
 
 /// A request whose files are held has an answer, whatever they hold.
 pub fn requests_are_answered()
-    ensures { (named : FileNames) (contents : Contents) → IsSome contents.board → IsSome contents.file →
-        (text : List ℕ) × (status : TraceStatus) × RequestAnswer named contents text status }
+    ensures { (contents : Contents) → IsSome contents.board → IsSome contents.file →
+        (text : List ℕ) × (status : TraceStatus) × RequestAnswer contents text status }
 {
     every_text_is_a_board_or_has_a_fault();
 }

@@ -7,13 +7,13 @@ pub returns-clause-ok : goal.returns-clause-ok
 returns-clause-ok c =
     on_ok c.choose.result
     (λ procedures e.
-    code_comes_to c.args.code.now (chosen procedures.items) c.args.action.now c.args.request.now.todo c.args.request.now.skip c.as_slice-asked.ensures c.as_slice-skipped.ensures e)
+    code_comes_to c.args.code.now (chosen procedures.items) c.args.request.now.action c.args.request.now.todo c.args.request.now.skip c.as_slice-asked.ensures c.as_slice-skipped.ensures e)
     c.choose.ensures.ok
 
 pub returns-clause-action : goal.returns-clause-action
 returns-clause-action c = λ is.
-    code_comes_to c.args.code.now no_action c.args.action.now c.args.request.now.todo c.args.request.now.skip c.as_slice-asked.ensures c.as_slice-skipped.ensures (c.choose.ensures.action is)
+    code_comes_to c.args.code.now no_action c.args.request.now.action c.args.request.now.todo c.args.request.now.skip c.as_slice-asked.ensures c.as_slice-skipped.ensures (c.choose.ensures.action is)
 
 pub returns-clause-choice : goal.returns-clause-choice
 returns-clause-choice c = λ is.
-    code_comes_to c.args.code.now bad_choice c.args.action.now c.args.request.now.todo c.args.request.now.skip c.as_slice-asked.ensures c.as_slice-skipped.ensures (c.choose.ensures.choice is)
+    code_comes_to c.args.code.now bad_choice c.args.request.now.action c.args.request.now.todo c.args.request.now.skip c.as_slice-asked.ensures c.as_slice-skipped.ensures (c.choose.ensures.choice is)

@@ -19,7 +19,7 @@ pub returns-in-Ok-clause-rack : goal.returns-in-Ok-clause-rack
 returns-in-Ok-clause-rack g c =
     rack_played g.K.Sink.written c.args.task.now.request.now (task_play c.args.code.now c.deref.result.now c.args.task.now) _ _ c.play_on_board.result
     c.play_on_board.ensures.says c.play_on_board.ensures.kinds c.play_on_board.ensures.left
-    (code_left_final c.requires.asked
+    (code_left_final
     (code_play_of c.args.task.now c.args.code.now c.deref.result.now (c.in-Ok.ensures.ok ∙ ap chosen (sym c.deref.ensures.value)) (sym c.has_place.ensures ∙ c.if-has_place.true)))
 
 pub returns-in_err-put-in-Ok-2-clause-says : goal.returns-in_err-put-in-Ok-2-clause-says

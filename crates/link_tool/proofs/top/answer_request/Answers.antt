@@ -1,4 +1,4 @@
-use Rattle.std.proofs.Common.{sym, ap, Err, Some, refl, rules}
+use Rattle.std.proofs.Common.{sym, ap, Err, refl, rules}
 use Rattle.tool_frame.specs.declared.no_answer.NoAnswer.TheVariants.{Memory}
 use Rattle.named_files.proofs.BoardLemmas.{fault_is}
 use Rattle.named_files.specs.Named.{files_named}
@@ -6,16 +6,11 @@ use Rattle.named_files.proofs.ContentLemmas.{file_cause}
 use Rattle.link_tool.proofs.AnswerLemmas.{request_of_file, board_is_refused, no_board, no_board_memory}
 use Rattle.link_tool.proofs.top.answer_request.Goals as goal
 
-pub returns-in_err-name-clause-answers : goal.returns-in_err-name-clause-answers
-returns-in_err-name-clause-answers g c =
-    no_board_memory _ _ (g.K.Sink.written c.args.out.now) c.args.rack.now.items (g.S.Shelf.told c.args.shelf.now) (files_named c.args.named)
-    c.from_residual.result c.from_residual.ensures.1
-
 pub returns-in-Ok-clause-answers : goal.returns-in-Ok-clause-answers
 returns-in-Ok-clause-answers g c =
     request_of_file _ _ (g.K.Sink.written c.args.out.now) _ c.args.rack.now.items c.answer_file.new.rack.items (g.S.Shelf.told c.args.shelf.now) (files_named c.args.named)
     c.answer_file.result c.in-Ok.devices.items
-    (rw c.in_ok-name.ensures at c.in-Ok.ensures.board) (rw (c.deref.ensures.value, c.in-Ok.ensures.keeps) at c.answer_file.ensures.answers)
+    c.in-Ok.ensures.board (rw (c.deref.ensures.value, c.in-Ok.ensures.keeps) at c.answer_file.ensures.answers)
 
 pub returns-in-Ok-clause-shelf : goal.returns-in-Ok-clause-shelf
 returns-in-Ok-clause-shelf g c = record {
@@ -23,20 +18,20 @@ returns-in-Ok-clause-shelf g c = record {
   later = search rules;
   read = λ e.
       file_cause _ _ _ (files_named c.args.named) c.in-Ok.devices.items (g.S.Shelf.told c.args.shelf.now)
-      (rw c.in_ok-name.ensures at c.in-Ok.ensures.board) c.in-Ok.ensures.later (c.answer_file.ensures.shelf.read e);
+      c.in-Ok.ensures.board c.in-Ok.ensures.later (c.answer_file.ensures.shelf.read e);
 }
 
 pub returns-in-Err-At-clause-answers : goal.returns-in-Err-At-clause-answers
 returns-in-Err-At-clause-answers g c =
     board_is_refused _ _ (g.K.Sink.written c.args.out.now) c.args.rack.now.items (g.S.Shelf.told c.args.shelf.now) (files_named c.args.named) _ _
-    (fault_is {told = g.S.Shelf.told c.args.shelf.now} {named = Some c.args.named.board.now} c.in-Err-At.line _ c.in-Err-At.reason _
+    (fault_is {told = g.S.Shelf.told c.args.shelf.now} {path = c.args.named.board.now} c.in-Err-At.line _ c.in-Err-At.reason _
     (sym c.in-Err-At.line-is) (sym c.in-Err-At.reason-is)
-    (rw c.in_ok-name.ensures at c.in-Err-At.ensures.fault c.in-Err-At.line c.in-Err-At.reason (ap Err c.in-Err-At.field-0-is)))
+    (c.in-Err-At.ensures.fault c.in-Err-At.line c.in-Err-At.reason (ap Err c.in-Err-At.field-0-is)))
 
 pub returns-in-Err-Read-clause-answers : goal.returns-in-Err-Read-clause-answers
 returns-in-Err-Read-clause-answers g c =
     no_board _ _ (g.K.Sink.written c.args.out.now) c.args.rack.now.items (g.S.Shelf.told c.args.shelf.now) (files_named c.args.named)
 
-pub returns-clause-answers : goal.returns-clause-answers
-returns-clause-answers g c =
+pub returns-in-Err-Memory-clause-answers : goal.returns-in-Err-Memory-clause-answers
+returns-in-Err-Memory-clause-answers g c =
     no_board_memory _ _ (g.K.Sink.written c.args.out.now) c.args.rack.now.items (g.S.Shelf.told c.args.shelf.now) (files_named c.args.named) (Err Memory) refl

@@ -1,4 +1,4 @@
-use Rattle.play_tool.proofs.StatusLemmas.{answer_status}
+use Rattle.play_tool.specs.NoFaults.{answer_status}
 use Rattle.play_tool.proofs.laws.answers_are_no_faults.Goals as goal
 
 pub returns : goal.returns

@@ -1,9 +1,9 @@
-use Rattle.play_tool.proofs.AnsweredLemmas.{mode_answered}
+use Rattle.play_tool.proofs.AnsweredLemmas.{request_answered}
 use Rattle.play_tool.proofs.laws.requests_are_answered.Goals as goal
 
 pub returns : goal.returns
-returns c = λ request contents needed held.
-    mode_answered (record {
+returns c = λ request contents held.
+    request_answered (record {
       boards = c.every_text_is_a_board_or_has_a_fault.ensures;
       programs = c.each_text_is_a_program_or_has_a_fault.ensures;
       files = c.bytes_are_a_file_or_have_a_fault.ensures;
@@ -15,4 +15,4 @@ returns c = λ request contents needed held.
       code = c.accepted_code_is_valid.ensures.code;
       short = c.files_are_short.ensures;
       never = c.never_stuck.ensures;
-    }) request needed contents held
+    }) request contents held

@@ -11,7 +11,7 @@ returns-in_err-code-clause-says g c = says_no_memory _ _ _ _ _ c.from_residual.r
 pub returns-clause-says : goal.returns-clause-says
 returns-clause-says g c =
     says_within _ _ _ _ _ c.play_code.result
-    (code_to_program (trees_of c.args.program.now) c.in_ok-code.code c.args.action.now c.args.task.now.request.now c.args.task.now.devices.now
+    (code_to_program (trees_of c.args.program.now) c.in_ok-code.code c.args.task.now.request.now c.args.task.now.devices.now
     (c.programs_are_typed.ensures c.args.program.now.text (trees_of c.args.program.now) c.requires.program) c.in_ok-code.ensures.code)
     (λ z. z) c.play_code.ensures.says
 

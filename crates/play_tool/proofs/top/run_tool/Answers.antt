@@ -1,17 +1,17 @@
 use Rattle.std.proofs.Common.{sym, subst}
 use Rattle.play_status.specs.Statuses.{IsFault}
 use Rattle.tool_frame.proofs.AnswerLemmas.{wrote_within}
+use Rattle.tool_frame.proofs.FileLemmas.{of_files_as}
+use Rattle.play_tool.specs.NoFaults.{answer_status}
 use Rattle.play_tool.proofs.AloneLemmas.{answers_alone}
 use Rattle.play_tool.proofs.CompiledLemmas.{answers_source}
-use Rattle.play_tool.proofs.RequestLemmas.{of_words_as}
-use Rattle.play_tool.proofs.StatusLemmas.{answer_status}
 use Rattle.play_tool.proofs.top.run_tool.Goals as goal
 
 pub returns-in-Ok-clause-answer : goal.returns-in-Ok-clause-answer
 returns-in-Ok-clause-answer g c = λ works.
-    of_words_as (λ contents a. record {
+    of_files_as (λ contents a. record {
       wrote = a.written;
-      leaves = λ playing played. a.rack.leaves playing played;
+      leaves = λ playing played. a.left.rack.leaves playing played;
       alone = λ q. wrote_within (answers_alone q) a.written;
       compiled = λ q. wrote_within (answers_source c.programs_are_typed.ensures q) a.written;
     }) c.in-Ok.ensures.ran

@@ -2,7 +2,7 @@ use Rattle.quiet_tool.proofs.Answered.{words_answered}
 use Rattle.quiet_tool.proofs.laws.words_are_answered.Goals as goal
 
 pub returns : goal.returns
-returns c = λ words contents board source.
+returns c = λ words contents held.
     words_answered (record {
       boards = c.every_text_is_a_board_or_has_a_fault.ensures;
       programs = c.each_text_is_a_program_or_has_a_fault.ensures;
@@ -13,4 +13,4 @@ returns c = λ words contents board source.
       valid = c.accepted_code_is_valid.ensures.valid;
       code = c.accepted_code_is_valid.ensures.code;
       never = c.never_stuck.ensures;
-    }) words contents board source
+    }) words contents held

@@ -1,4 +1,4 @@
-use Rattle.std.proofs.Common.{◌≡◌, ◌∙◌, sym, ap, refl, map, string_bytes, Global, List, ℕ, Ok, Some, None}
+use Rattle.std.proofs.Common.{◌∙◌, sym, ap, refl, Ok}
 use Rattle.std.specs.Option.{option_map}
 use Rattle.tool_frame.specs.Commands.{text_shown, tool_ran}
 use Rattle.tool_frame.proofs.CommandLemmas.{show_failed, run_failed}

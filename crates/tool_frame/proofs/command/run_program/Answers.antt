@@ -1,4 +1,4 @@
-use Rattle.std.proofs.Common.{◌≡◌, ◌∙◌, sym, map, string_bytes, Global}
+use Rattle.std.proofs.Common.{◌∙◌, sym, map, string_bytes, Global}
 use Rattle.tool_frame.proofs.CommandLemmas.{read_code, write_code}
 use Rattle.tool_frame.proofs.command.run_program.Goals as goal
 

@@ -1,8 +1,6 @@
-use Rattle.std.proofs.Common.{codes, pos, drop, sym, refl, ◌∙◌}
+use Rattle.std.proofs.Common.{codes, pos, refl}
 use Rattle.std.proofs.lemmas.Str.Ascii.{trim_ascii_is}
-use Rattle.std.specs.Char.{is_ascii_whitespace}
-use Rattle.std.specs.List.{prefix_len}
-use Rattle.tool_io.specs.Texts.{labelled, number_line}
+use Rattle.tool_io.specs.Texts.{number_line}
 use Rattle.tool_io.proofs.PutLemmas.{put_then, put_then_front, front_with, put_failed, put_then_put}
 use Rattle.tool_questions.specs.Pieces.{piece_bytes}
 use Rattle.tool_questions.proofs.lines.put_piece.Goals as goal

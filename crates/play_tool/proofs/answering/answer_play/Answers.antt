@@ -1,0 +1,63 @@
+use Rattle.std.proofs.Common.{◌∙◌, rules, sym, ap, Err, refl}
+use Rattle.tool_frame.specs.declared.no_answer.NoAnswer.TheVariants.{Read, Memory}
+use Rattle.tool_frame.proofs.AnswerLemmas.{says_failed, said_text, said_front}
+use Rattle.named_files.proofs.BoardLemmas.{fault_is}
+use Rattle.play_words.specs.Words.{play_files}
+use Rattle.play_status.specs.declared.status.Status.TheVariants.{BoardRefused}
+use Rattle.play_tool.specs.Answers.{board_refused}
+use Rattle.play_tool.specs.ReadContents.{board_reached}
+use Rattle.play_tool.proofs.AnswerLemmas.{board_of_devices}
+use Rattle.play_tool.proofs.FileLemmas.{left_failed, left_refused, left_unread, said_and_left_as}
+use Rattle.play_tool.proofs.RequestLemmas.{of_any_files, of_board, of_both, source_cause}
+use Rattle.play_tool.proofs.answering.answer_play.Goals as goal
+
+pub returns-in-Ok-clause-answers : goal.returns-in-Ok-clause-answers
+returns-in-Ok-clause-answers g c =
+    let board = rw c.as_str.ensures at c.in-Ok.ensures.board in
+    of_both (g.S.Shelf.told c.args.shelf.now) c.args.play.now board.held board.read
+    (rw (c.as_str-in-Ok.ensures, c.deref.ensures.value, c.in-Ok.ensures.keeps) at c.play_source.ensures.answers)
+    (λ source a. said_and_left_as g.K.Sink.written c.play_source.result (board_of_devices c.in-Ok.devices.items board.holds) (λ p. p) (λ p. p)
+    (λ rack final. record { devices = c.in-Ok.devices.items; is_board = board.holds; final = final }) a)
+
+pub returns-in-Ok-clause-shelf : goal.returns-in-Ok-clause-shelf
+returns-in-Ok-clause-shelf g c = record {
+  keeps = c.play_source.ensures.shelf.keeps ∙ c.in-Ok.ensures.keeps;
+  later = search rules;
+  read = λ e.
+      source_cause _ _ _ c.args.play.now c.in-Ok.devices.items (g.S.Shelf.told c.args.shelf.now) _ _ c.as_str.ensures c.as_str-in-Ok.ensures
+      c.in-Ok.ensures.board c.in-Ok.ensures.later (c.play_source.ensures.shelf.read e);
+}
+
+pub returns-in_err-put_board_refusal-in-Err-At-clause-answers : goal.returns-in_err-put_board_refusal-in-Err-At-clause-answers
+returns-in_err-put_board_refusal-in-Err-At-clause-answers g c =
+    let reads = fault_is c.in-Err-At.line _ c.in-Err-At.reason _ (sym c.in-Err-At.line-is) (sym c.in-Err-At.reason-is)
+    (rw c.as_str.ensures at c.in-Err-At.ensures.fault c.in-Err-At.line c.in-Err-At.reason (ap Err c.in-Err-At.field-0-is)) in
+    of_board (g.S.Shelf.told c.args.shelf.now) c.args.play.now reads.held reads.read (λ source. record {
+      says = says_failed _ _ _ _ _ c.from_residual.result c.from_residual.ensures.1
+          (said_front _ (BoardRefused _ _) (board_refused _ _ reads.holds) c.in_err-put_board_refusal-in-Err-At.ensures.put.front);
+      left = left_failed c.from_residual.result c.from_residual.ensures.1;
+    })
+
+pub returns-in_ok-put_board_refusal-in-Err-At-clause-answers : goal.returns-in_ok-put_board_refusal-in-Err-At-clause-answers
+returns-in_ok-put_board_refusal-in-Err-At-clause-answers g c =
+    let reads = fault_is c.in-Err-At.line _ c.in-Err-At.reason _ (sym c.in-Err-At.line-is) (sym c.in-Err-At.reason-is)
+    (rw c.as_str.ensures at c.in-Err-At.ensures.fault c.in-Err-At.line c.in-Err-At.reason (ap Err c.in-Err-At.field-0-is)) in
+    of_board (g.S.Shelf.told c.args.shelf.now) c.args.play.now reads.held reads.read (λ source. record {
+      says = said_text _ (board_refused _ _ reads.holds) c.in_ok-put_board_refusal-in-Err-At.ensures.put.ok;
+      left = left_refused (BoardRefused _ _) (λ p. p);
+    })
+
+pub returns-in-Err-Read-clause-answers : goal.returns-in-Err-Read-clause-answers
+returns-in-Err-Read-clause-answers g c =
+    of_any_files (g.S.Shelf.told c.args.shelf.now) (play_files c.args.play.now) (λ contents. record { says = refl; left = left_unread Read })
+
+pub returns-in-Err-Read-clause-shelf : goal.returns-in-Err-Read-clause-shelf
+returns-in-Err-Read-clause-shelf g c = record {
+  keeps = search rules;
+  later = search rules;
+  read = λ _. record { path = c.as_str.result.now; is_reached = board_reached c.as_str.ensures; rose = c.in-Err-Read.ensures.read (ap Err c.in-Err-Read.field-0-is) };
+}
+
+pub returns-in-Err-Memory-clause-answers : goal.returns-in-Err-Memory-clause-answers
+returns-in-Err-Memory-clause-answers g c =
+    of_any_files (g.S.Shelf.told c.args.shelf.now) (play_files c.args.play.now) (λ contents. record { says = refl; left = left_unread Memory })
