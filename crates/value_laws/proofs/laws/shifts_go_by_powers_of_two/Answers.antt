@@ -1,0 +1,5 @@
+use Rattle.value_laws.proofs.DivisionLemmas.{shifted_left, shifted_right, left_outside, right_outside}
+use Rattle.value_laws.proofs.laws.shifts_go_by_powers_of_two.Goals as goal
+
+pub returns : goal.returns
+returns c = record { to_left = shifted_left; to_right = shifted_right; left_outside = left_outside; right_outside = right_outside }
