@@ -1,3 +1,5 @@
-pub mod NumberLemmas
+pub mod ArrayLemmas
+pub mod BitLemmas
 pub mod DivisionLemmas
+pub mod NumberLemmas
 pub mod OrderLemmas

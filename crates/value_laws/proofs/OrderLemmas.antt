@@ -34,6 +34,11 @@ at_most_so a b = (to, from)
     from (inl less) = let f = less.is in sym (let t : true ≡ int_le a b = omega (arith, ints) in t)
     from (inr same) = sym (let t : true ≡ int_le a b = omega (arith, ints) in t)
 
+pub at_least_so : (a b : ℤ) → (int_le b a ≡ true → IsBelow b a ⊎ (a ≡ b)) × (IsBelow b a ⊎ (a ≡ b) → int_le b a ≡ true)
+at_least_so a b =
+    let both = at_most_so b a in
+    (λ e. ⊎_elim inl (λ same. inr (sym same)) (both.0 e), λ h. both.1 (⊎_elim inl (λ same. inr (sym same)) h))
+
 pub equal_so : (a b : ℤ) → (int_eq a b ≡ true → a ≡ b) × (a ≡ b → int_eq a b ≡ true)
 equal_so a b = (λ e. grind (arith, ints), λ e. grind (arith, ints))
 

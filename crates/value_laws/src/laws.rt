@@ -1,13 +1,28 @@
 //! Laws of the definitions.
-ghost use Rattle.std.specs.Prelude.{◌≡◌, ◌≢◌, ◌<◌, ◌⊎◌, ◌^◌, ◌+ℤ◌, ◌-ℤ◌, ◌*ℤ◌, ◌<ℤ◌, ℕ, ℤ, pos};
+ghost use Rattle.std.specs.Prelude.{◌≡◌, ◌≢◌, ◌<◌, ◌≤◌, ◌⊎◌, ◌^◌, ℕ, suc, ℤ, pos, negsuc, ◌+ℤ◌, ◌-ℤ◌, ◌*ℤ◌, ◌<ℤ◌, Bool};
+ghost use Rattle.std.specs.Prelude.{true, false, List, [], ◌∷◌, length, Some, slice_get};
+ghost use Rattle.stapl_lexer.specs.declared.terminal.BinOp.{BinOp};
 ghost use Rattle.stapl_lexer.specs.declared.terminal.BinOp.TheVariants.{Add, Subtract, Multiply, Divide, Remainder};
-ghost use Rattle.stapl_lexer.specs.declared.terminal.BinOp.TheVariants.{ShiftLeft, ShiftRight};
-ghost use Rattle.stapl_syntax.specs.declared.signs.UnOp.TheVariants.{Negate};
-ghost use Rattle.stapl_meaning.specs.declared.events.RunFault.TheVariants.{ShiftCount};
-ghost use Rattle.stapl_meaning.specs.declared.values.Value.TheVariants.{Int};
-ghost use Rattle.stapl_meaning.specs.Values.{Known, Faults, combined, signed};
-ghost use Rattle.value_laws.specs.Numbers.{IsInteger, IsWrapped, IsRoundedDown, lowest, minus_one};
-ghost use Rattle.value_laws.specs.Outcomes.{GivesInteger, GivesDivision};
+ghost use Rattle.stapl_lexer.specs.declared.terminal.BinOp.TheVariants.{ShiftLeft, ShiftRight, BitAnd, BitOr, BitXor};
+ghost use Rattle.stapl_lexer.specs.declared.terminal.BinOp.TheVariants.{Less, AtMost, Greater, AtLeast, Equal};
+ghost use Rattle.stapl_lexer.specs.declared.terminal.BinOp.TheVariants.{NotEqual, And, Or};
+ghost use Rattle.stapl_syntax.specs.declared.signs.UnOp.{UnOp};
+ghost use Rattle.stapl_syntax.specs.declared.signs.UnOp.TheVariants.{Negate, Complement, Not};
+ghost use Rattle.stapl_syntax.specs.Trees.{ExprTree, unary, binary, abs, int, ArrayTree, PartTree, character};
+ghost use Rattle.stapl_meaning.specs.declared.events.RunFault.TheVariants.{ShiftCount, BadChar};
+ghost use Rattle.stapl_meaning.specs.declared.values.Held.{Held};
+ghost use Rattle.stapl_meaning.specs.declared.values.Value.{Value};
+ghost use Rattle.stapl_meaning.specs.declared.values.Value.TheVariants.{Int, Bit};
+ghost use Rattle.stapl_meaning.specs.declared.values.ValueKind.{ValueKind};
+ghost use Rattle.stapl_meaning.specs.declared.values.ValueKind.TheVariants as kinds;
+ghost use Rattle.stapl_meaning.specs.Values.{Known, Faults, combined, signed, absolute, integer_from, OfInt};
+ghost use Rattle.stapl_meaning.specs.Values.{source_bits, Lookup, sides, unary_side, source_of, source_values};
+ghost use Rattle.stapl_meaning.specs.Values.{value_of};
+ghost use Rattle.stapl_meaning.specs.Operands.{character_of};
+ghost use Rattle.stapl_meaning.specs.Effects.{joined};
+ghost use Rattle.value_laws.specs.Numbers.{IsInteger, IsWrapped, IsRoundedDown, IsBelow, lowest, minus_one};
+ghost use Rattle.value_laws.specs.Bits.{HasBit, HasBits};
+ghost use Rattle.value_laws.specs.Outcomes.{GivesInteger, GivesDivision, GivesTruth, HasTable};
 
 /// A sum, a difference, a product and a negated integer are the exact result, wrapped around, which is one integer.
 pub fn exact_results_wrap_around()
@@ -37,4 +52,82 @@ pub fn shifts_go_by_powers_of_two()
         combined ShiftLeft (Int a) (Int n) ≡ Faults ShiftCount }
     ensures right_outside { (a n : ℤ) → (n <ℤ pos 0) ⊎ (pos 31 <ℤ n) →
         combined ShiftRight (Int a) (Int n) ≡ Faults ShiftCount }
+{}
+
+/// Two integers are compared as integers: one is below another if something above 0 is to be added to reach it.
+pub fn integers_are_compared_by_their_order()
+    ensures less { (a b : ℤ) → GivesTruth (combined Less (Int a) (Int b)) (IsBelow a b) }
+    ensures at_most { (a b : ℤ) → GivesTruth (combined AtMost (Int a) (Int b)) (IsBelow a b ⊎ (a ≡ b)) }
+    ensures greater { (a b : ℤ) → GivesTruth (combined Greater (Int a) (Int b)) (IsBelow b a) }
+    ensures at_least { (a b : ℤ) → GivesTruth (combined AtLeast (Int a) (Int b)) (IsBelow b a ⊎ (a ≡ b)) }
+    ensures equal { (a b : ℤ) → GivesTruth (combined Equal (Int a) (Int b)) (a ≡ b) }
+    ensures not_equal { (a b : ℤ) → GivesTruth (combined NotEqual (Int a) (Int b)) (a ≢ b) }
+{}
+
+/// The operators between two bits, by their tables, and NOT, which turns a bit.
+pub fn operators_of_bits_have_their_tables()
+    ensures both { HasTable BitAnd true false false false }
+    ensures either { HasTable BitOr true true true false }
+    ensures just_one { HasTable BitXor false true true false }
+    ensures and { HasTable And true false false false }
+    ensures or { HasTable Or true true true false }
+    ensures equal { HasTable Equal true false false true }
+    ensures not_equal { HasTable NotEqual false true true false }
+    ensures not { (signed Not (Bit true) ≡ Known (Bit false)) × (signed Not (Bit false) ≡ Known (Bit true)) }
+{}
+
+/// Each of the 32 bits of `a & b`, `a | b` and `a ^ b` is 1 exactly if that bit is 1 of both, of one or both, or of just
+/// one of a and b, and each bit of `~a` exactly if it is not of a. An integer has its 32 bits, and no other has these.
+pub fn operators_of_integers_go_bit_by_bit()
+    ensures both { (a b : ℤ) → IsInteger a → IsInteger b →
+        GivesInteger (combined BitAnd (Int a) (Int b)) (λ z. HasBits z (λ i. HasBit i a × HasBit i b)) }
+    ensures either { (a b : ℤ) → IsInteger a → IsInteger b →
+        GivesInteger (combined BitOr (Int a) (Int b)) (λ z. HasBits z (λ i. HasBit i a ⊎ HasBit i b)) }
+    ensures just_one { (a b : ℤ) → IsInteger a → IsInteger b →
+        GivesInteger (combined BitXor (Int a) (Int b))
+        (λ z. HasBits z (λ i. (HasBit i a × ¬ HasBit i b) ⊎ (¬ HasBit i a × HasBit i b))) }
+    ensures turned { (a : ℤ) → IsInteger a →
+        GivesInteger (signed Complement (Int a)) (λ z. HasBits z (λ i. ¬ HasBit i a)) }
+    ensures one { (y z : ℤ) → IsInteger z → HasBits y (λ i. HasBit i z) → y ≡ z }
+{}
+
+/// ABS of an integer is that integer if it is not negative, and otherwise the integer without its sign; of -2147483648
+/// it is -2147483648.
+pub fn an_absolute_value_has_no_sign()
+    ensures positive { (n : ℕ) → IsInteger (pos n) → absolute (Int (pos n)) ≡ Known (Int (pos n)) }
+    ensures negative { (n : ℕ) → suc n < 2147483648 → absolute (Int (negsuc n)) ≡ Known (Int (pos (suc n))) }
+    ensures wraps { absolute (Int lowest) ≡ Known (Int lowest) }
+{}
+
+/// INT of an array is the integer with its first 32 bits, where missing bits are 0. BOOL of an integer is its 32 bits.
+pub fn an_array_and_an_integer_have_the_same_bits()
+    ensures to_integer { (bits : List Bool) →
+        (z : ℤ) × (integer_from bits ≡ Int z) × HasBits z (λ i. slice_get bits i ≡ Some true) }
+    ensures to_bits { (variables : List Held) (z : ℤ) → IsInteger z → (bits : List Bool) ×
+        (source_bits variables OfInt (Int z ∷ []) ≡ Known bits) × (length bits ≡ 32) ×
+        HasBits z (λ i. slice_get bits i ≡ Some true) }
+{}
+
+/// CHR$ of a number of 0 to 255 is printed as the one byte that is the number. Any other number is the fault BadChar.
+pub fn a_character_is_one_byte()
+    ensures byte { (parts : List PartTree) (e : ExprTree) (n : ℕ) (values : List Value) (text : List ℕ) → n ≤ 255 →
+        joined parts values ≡ Known text → joined (character e ∷ parts) (Int (pos n) ∷ values) ≡ Known (n ∷ text) }
+    ensures other { (z : ℤ) → (z <ℤ pos 0) ⊎ (pos 255 <ℤ z) → character_of (Int z) ≡ Faults BadChar }
+{}
+
+/// An expression has the value of its operator at the values of what the operator stands before or between.
+pub fn an_expression_has_the_value_of_its_operator()
+    ensures between { (look : Lookup) (variables : List Held) (kind : ValueKind) (op : BinOp) (a b : ExprTree)
+        (x y : Value) → value_of look variables (sides look op a b) a ≡ Known x →
+        value_of look variables (sides look op a b) b ≡ Known y →
+        value_of look variables kind (binary op a b) ≡ combined op x y }
+    ensures before { (look : Lookup) (variables : List Held) (kind : ValueKind) (op : UnOp) (a : ExprTree) (x : Value) →
+        value_of look variables (unary_side op) a ≡ Known x →
+        value_of look variables kind (unary op a) ≡ signed op x }
+    ensures absolute { (look : Lookup) (variables : List Held) (kind : ValueKind) (a : ExprTree) (x : Value) →
+        value_of look variables kinds.Int a ≡ Known x → value_of look variables kind (abs a) ≡ absolute x }
+    ensures of_array { (look : Lookup) (variables : List Held) (kind : ValueKind) (a : ArrayTree)
+        (values : List Value) (bits : List Bool) → source_values look variables a ≡ Known values →
+        source_bits variables (source_of look a) values ≡ Known bits →
+        value_of look variables kind (int a) ≡ Known (integer_from bits) }
 {}
