@@ -8,10 +8,19 @@ use Rattle.std.proofs.lemmas.List.{get_or-take, get_or-drop, get_or_past, length
 use Rattle.std.proofs.lemmas.Option.{slice_get-get_or, get_or_from_slice_get}
 use Rattle.std.proofs.Math.Pow.{pow_mono}
 use Rattle.base.specs.Bits.{bit_value, number_of}
-use Rattle.base.proofs.NumberBits.{get_or-low_bits, number_of-below, number_of-drop}
+use Rattle.base.proofs.NumberBits.{get_or-low_bits, number_of-below, number_of-drop, lowest_bits}
+use Rattle.bit_list.proofs.IntegerBits.{int_of-bits_of_int}
 use Rattle.bit_list.specs.Integers.{int_of, bits_of_int}
 use Rattle.stapl_meaning.specs.declared.values.Value.TheVariants.{Int}
-use Rattle.stapl_meaning.specs.Values.{integer_from}
+use Rattle.stapl_meaning.specs.Values.{Got, Known, then_get, integer_from, bits_between, Lookup, value_of}
+use Rattle.stapl_syntax.specs.Trees.{ExprTree, int, whole, range, of_int}
+use Rattle.stapl_meaning.specs.declared.profiles.Profile.TheVariants.{Two}
+use Rattle.stapl_meaning.specs.declared.values.Held.{Held}
+use Rattle.stapl_meaning.specs.declared.values.Held.TheVariants.{Bits}
+use Rattle.stapl_meaning.specs.declared.values.Value.{Value}
+use Rattle.stapl_meaning.specs.declared.values.ValueKind.{ValueKind}
+use Rattle.stapl_meaning.specs.declared.values.ValueKind.TheVariants as kinds
+use Rattle.value_laws.specs.Outcomes.{GivesInteger}
 use Rattle.value_laws.specs.Numbers.{IsInteger}
 use Rattle.value_laws.specs.Bits.{HasBit, HasBits}
 use Rattle.value_laws.proofs.NumberLemmas.{fits_from, fits_to}
@@ -56,8 +65,13 @@ has_items bits = record { fits = fits_to (int_of (take 32 bits)) f; each = each 
         let item = item_so bits i in
         (λ h. item.1 (sym same ∙ own.0 h), λ e. own.1 (same ∙ item.0 e))
 
-pub integer_of_bits : (bits : List Bool) → (z : ℤ) × (integer_from bits ≡ Int z) × HasBits z (λ i. slice_get bits i ≡ Some true)
-integer_of_bits bits = (int_of (take 32 bits), refl, has_items bits)
+-- what INT gives of these bits, where it is got in a longer way
+pub integer_with : (got : Got Value) (bits : List Bool) → got ≡ Known (integer_from bits) → GivesInteger got (λ z. HasBits z (λ i. slice_get bits i ≡ Some true))
+integer_with got bits e = record { number = int_of (take 32 bits); is = e; holds = has_items bits }
+
+pub same_again : (z : ℤ) → IsInteger z → int_of (take 32 (bits_of_int z)) ≡ z
+same_again z g =
+    ap int_of (lowest_bits 32 32 (cast_unsigned w32 z) (omega arith)) ∙ int_of-bits_of_int z (fits_from z g)
 
 pub has_own_bits : (z : ℤ) → IsInteger z → HasBits z (λ i. slice_get (bits_of_int z) i ≡ Some true)
 has_own_bits z g = record {
@@ -67,3 +81,19 @@ has_own_bits z g = record {
       let item = item_so (bits_of_int z) i in
       (λ h. item.1 (own.0 h), λ e. own.1 (item.0 e));
 }
+
+module _ (look : Lookup) (variables : List Held) (kind : ValueKind) where
+  pub of_whole : (name : List ℕ) (bits : List Bool) → slice_get variables (look.variable name) ≡ Some (Bits bits) →
+      value_of look variables kind (int (whole name)) ≡ Known (integer_from bits)
+  of_whole name bits e = rw e refl
+
+  pub of_range : (name : List ℕ) (first second : ExprTree) (x y : Value) (bits : List Bool) → value_of look variables kinds.Int first ≡ Known x →
+      value_of look variables kinds.Int second ≡ Known y → bits_between Two (slice_get variables (look.variable name)) x y ≡ Known bits →
+      value_of look variables kind (int (range name first second)) ≡ Known (integer_from bits)
+  of_range name first second x y bits d e f =
+      let g = ap (λ (got : Got (List Bool)). then_get got (λ bits. Known (integer_from bits))) f in
+      rw d (rw e g)
+
+  pub of_integer : (a : ExprTree) (z : ℤ) → IsInteger z → value_of look variables kinds.Int a ≡ Known (Int z) →
+      value_of look variables kind (int (of_int a)) ≡ Known (Int z)
+  of_integer a z g e = rw e (ap (λ (n : ℤ). Known (Int n)) (same_again z g))

@@ -8,20 +8,24 @@ ghost use Rattle.stapl_lexer.specs.declared.terminal.BinOp.TheVariants.{Less, At
 ghost use Rattle.stapl_lexer.specs.declared.terminal.BinOp.TheVariants.{NotEqual, And, Or};
 ghost use Rattle.stapl_syntax.specs.declared.signs.UnOp.{UnOp};
 ghost use Rattle.stapl_syntax.specs.declared.signs.UnOp.TheVariants.{Negate, Complement, Not};
-ghost use Rattle.stapl_syntax.specs.Trees.{ExprTree, unary, binary, abs, int, ArrayTree, PartTree, character};
+ghost use Rattle.stapl_syntax.specs.Trees.{ExprTree, unary, binary, abs, int, PartTree, character};
+ghost use Rattle.stapl_syntax.specs.Trees.{literal, whole, range, of_int};
 ghost use Rattle.stapl_meaning.specs.declared.events.RunFault.TheVariants.{ShiftCount, BadChar};
+ghost use Rattle.stapl_meaning.specs.declared.profiles.Profile.TheVariants.{Two};
 ghost use Rattle.stapl_meaning.specs.declared.values.Held.{Held};
+ghost use Rattle.stapl_meaning.specs.declared.values.Held.TheVariants.{Bits};
 ghost use Rattle.stapl_meaning.specs.declared.values.Value.{Value};
 ghost use Rattle.stapl_meaning.specs.declared.values.Value.TheVariants.{Int, Bit};
 ghost use Rattle.stapl_meaning.specs.declared.values.ValueKind.{ValueKind};
 ghost use Rattle.stapl_meaning.specs.declared.values.ValueKind.TheVariants as kinds;
-ghost use Rattle.stapl_meaning.specs.Values.{Known, Faults, combined, signed, absolute, integer_from, OfInt};
-ghost use Rattle.stapl_meaning.specs.Values.{source_bits, Lookup, sides, unary_side, source_of, source_values};
-ghost use Rattle.stapl_meaning.specs.Values.{value_of};
+ghost use Rattle.stapl_meaning.specs.Values.{Known, Faults, combined, signed, absolute, source_of, source_bits};
+ghost use Rattle.stapl_meaning.specs.Values.{bits_between, Lookup, value_of};
 ghost use Rattle.stapl_meaning.specs.Operands.{character_of};
 ghost use Rattle.stapl_meaning.specs.Effects.{joined};
-ghost use Rattle.value_laws.specs.Numbers.{IsInteger, IsWrapped, IsRoundedDown, IsBelow, lowest, minus_one};
+ghost use Rattle.value_laws.specs.Numbers.{IsInteger, IsWrapped, IsDivided, IsRoundedDown, IsBelow};
+ghost use Rattle.value_laws.specs.Numbers.{lowest, minus_one};
 ghost use Rattle.value_laws.specs.Bits.{HasBit, HasBits};
+ghost use Rattle.value_laws.specs.Sides.{Takes, TakesOne};
 ghost use Rattle.value_laws.specs.Outcomes.{GivesInteger, GivesDivision, GivesTruth, HasTable};
 
 /// A sum, a difference, a product and a negated integer are the exact result, wrapped around, which is one integer.
@@ -39,6 +43,8 @@ pub fn a_quotient_leaves_its_remainder()
     ensures division { (a b : ℤ) → IsInteger a → b ≢ pos 0 → (a ≡ lowest → b ≢ minus_one) → GivesDivision a b }
     ensures wraps { combined Divide (Int lowest) (Int minus_one) ≡ Known (Int lowest) }
     ensures leaves_nothing { combined Remainder (Int lowest) (Int minus_one) ≡ Known (Int (pos 0)) }
+    ensures one { (a b quotient remainder other rest : ℤ) → b ≢ pos 0 → IsDivided a b quotient remainder →
+        IsDivided a b other rest → (quotient ≡ other) × (remainder ≡ rest) }
 {}
 
 /// A shift to the left multiplies by a power of two and wraps around, one to the right divides by it and rounds down. A
@@ -52,6 +58,7 @@ pub fn shifts_go_by_powers_of_two()
         combined ShiftLeft (Int a) (Int n) ≡ Faults ShiftCount }
     ensures right_outside { (a n : ℤ) → (n <ℤ pos 0) ⊎ (pos 31 <ℤ n) →
         combined ShiftRight (Int a) (Int n) ≡ Faults ShiftCount }
+    ensures one { (a y z : ℤ) (divisor : ℕ) → IsRoundedDown a divisor y → IsRoundedDown a divisor z → y ≡ z }
 {}
 
 /// Two integers are compared as integers: one is below another if something above 0 is to be added to reach it.
@@ -99,13 +106,28 @@ pub fn an_absolute_value_has_no_sign()
     ensures wraps { absolute (Int lowest) ≡ Known (Int lowest) }
 {}
 
-/// INT of an array is the integer with its first 32 bits, where missing bits are 0. BOOL of an integer is its 32 bits.
+/// INT of an array is the integer with its first 32 bits, where missing bits are 0. BOOL of an integer is its 32 bits,
+/// and INT of these is that integer again.
 pub fn an_array_and_an_integer_have_the_same_bits()
-    ensures to_integer { (bits : List Bool) →
-        (z : ℤ) × (integer_from bits ≡ Int z) × HasBits z (λ i. slice_get bits i ≡ Some true) }
-    ensures to_bits { (variables : List Held) (z : ℤ) → IsInteger z → (bits : List Bool) ×
-        (source_bits variables OfInt (Int z ∷ []) ≡ Known bits) × (length bits ≡ 32) ×
-        HasBits z (λ i. slice_get bits i ≡ Some true) }
+    ensures literal { (look : Lookup) (variables : List Held) (kind : ValueKind) (bits : List Bool) →
+        GivesInteger (value_of look variables kind (int (literal bits)))
+        (λ z. HasBits z (λ i. slice_get bits i ≡ Some true)) }
+    ensures whole { (look : Lookup) (variables : List Held) (kind : ValueKind) (name : List ℕ) (bits : List Bool) →
+        slice_get variables (look.variable name) ≡ Some (Bits bits) →
+        GivesInteger (value_of look variables kind (int (whole name)))
+        (λ z. HasBits z (λ i. slice_get bits i ≡ Some true)) }
+    ensures range { (look : Lookup) (variables : List Held) (kind : ValueKind) (name : List ℕ) (first second : ExprTree)
+        (x y : Value) (bits : List Bool) → value_of look variables kinds.Int first ≡ Known x →
+        value_of look variables kinds.Int second ≡ Known y →
+        bits_between Two (slice_get variables (look.variable name)) x y ≡ Known bits →
+        GivesInteger (value_of look variables kind (int (range name first second)))
+        (λ z. HasBits z (λ i. slice_get bits i ≡ Some true)) }
+    ensures to_bits { (look : Lookup) (variables : List Held) (a : ExprTree) (z : ℤ) → IsInteger z →
+        (bits : List Bool) × (source_bits variables (source_of look (of_int a)) (Int z ∷ []) ≡ Known bits) ×
+        (length bits ≡ 32) × HasBits z (λ i. slice_get bits i ≡ Some true) }
+    ensures back { (look : Lookup) (variables : List Held) (kind : ValueKind) (a : ExprTree) (z : ℤ) → IsInteger z →
+        value_of look variables kinds.Int a ≡ Known (Int z) →
+        value_of look variables kind (int (of_int a)) ≡ Known (Int z) }
 {}
 
 /// CHR$ of a number of 0 to 255 is printed as the one byte that is the number. Any other number is the fault BadChar.
@@ -115,19 +137,15 @@ pub fn a_character_is_one_byte()
     ensures other { (z : ℤ) → (z <ℤ pos 0) ⊎ (pos 255 <ℤ z) → character_of (Int z) ≡ Faults BadChar }
 {}
 
-/// An expression has the value of its operator at the values of what the operator stands before or between.
+/// An expression has the value of its operator at the values of what stands on both sides of it, or after it, each taken
+/// as an integer or as a bit by the table of kinds.
 pub fn an_expression_has_the_value_of_its_operator()
-    ensures between { (look : Lookup) (variables : List Held) (kind : ValueKind) (op : BinOp) (a b : ExprTree)
-        (x y : Value) → value_of look variables (sides look op a b) a ≡ Known x →
-        value_of look variables (sides look op a b) b ≡ Known y →
-        value_of look variables kind (binary op a b) ≡ combined op x y }
-    ensures before { (look : Lookup) (variables : List Held) (kind : ValueKind) (op : UnOp) (a : ExprTree) (x : Value) →
-        value_of look variables (unary_side op) a ≡ Known x →
+    ensures between { (look : Lookup) (variables : List Held) (kind side : ValueKind) (op : BinOp) (a b : ExprTree)
+        (x y : Value) → Takes look.kind op a b side → value_of look variables side a ≡ Known x →
+        value_of look variables side b ≡ Known y → value_of look variables kind (binary op a b) ≡ combined op x y }
+    ensures before { (look : Lookup) (variables : List Held) (kind side : ValueKind) (op : UnOp) (a : ExprTree)
+        (x : Value) → TakesOne op side → value_of look variables side a ≡ Known x →
         value_of look variables kind (unary op a) ≡ signed op x }
-    ensures absolute { (look : Lookup) (variables : List Held) (kind : ValueKind) (a : ExprTree) (x : Value) →
+    ensures of_absolute { (look : Lookup) (variables : List Held) (kind : ValueKind) (a : ExprTree) (x : Value) →
         value_of look variables kinds.Int a ≡ Known x → value_of look variables kind (abs a) ≡ absolute x }
-    ensures of_array { (look : Lookup) (variables : List Held) (kind : ValueKind) (a : ArrayTree)
-        (values : List Value) (bits : List Bool) → source_values look variables a ≡ Known values →
-        source_bits variables (source_of look a) values ≡ Known bits →
-        value_of look variables kind (int a) ≡ Known (integer_from bits) }
 {}

@@ -1,8 +1,19 @@
 use Rattle.std.proofs.Common.{refl}
 use Rattle.bit_list.specs.Integers.{bits_of_int}
-use Rattle.value_laws.proofs.ArrayLemmas.{integer_of_bits, has_own_bits}
+use Rattle.stapl_syntax.specs.Trees.{int, literal, whole, range}
+use Rattle.stapl_meaning.specs.Values.{value_of}
+use Rattle.value_laws.proofs.ArrayLemmas.{integer_with, has_own_bits, of_whole, of_range, of_integer}
 use Rattle.value_laws.proofs.BitLemmas.{bits_length}
 use Rattle.value_laws.proofs.laws.an_array_and_an_integer_have_the_same_bits.Goals as goal
 
 pub returns : goal.returns
-returns c = record { to_integer = integer_of_bits; to_bits = λ variables z fits. (bits_of_int z, refl, bits_length z, has_own_bits z fits) }
+returns c = record {
+  literal = λ look variables kind bits. integer_with (value_of look variables kind (int (literal bits))) bits refl;
+  whole = λ look variables kind name bits e.
+      integer_with (value_of look variables kind (int (whole name))) bits (of_whole look variables kind name bits e);
+  range = λ look variables kind name first second x y bits d e f.
+      integer_with (value_of look variables kind (int (range name first second))) bits
+      (of_range look variables kind name first second x y bits d e f);
+  to_bits = λ look variables a z fits. (bits_of_int z, refl, bits_length z, has_own_bits z fits);
+  back = of_integer;
+}
