@@ -1,5 +1,5 @@
 -- The bits of an integer and of an array
-use Rattle.std.proofs.Common.{◌≡◌, ◌<◌, ◌≤◌, ◌⊎◌, inl, inr, ℕ, zero, suc, ◌+◌, ◌*◌, ◌/◌, ◌%◌, ◌^◌, ℤ, Bool, true, false, nat_eq, List, [], ◌∷◌, length, take, drop, get_or, Some, slice_get, refl, sym, ap, subst, ◌∙◌, arith}
+use Rattle.std.proofs.Common.{◌≡◌, ◌<◌, ◌≤◌, ◌⊎◌, inl, inr, ℕ, ◌+◌, ◌*◌, ◌/◌, ◌%◌, ◌^◌, ℤ, Bool, true, false, nat_eq, List, [], ◌∷◌, length, take, drop, get_or, Some, slice_get, refl, sym, ap, ◌∙◌, arith}
 use Rattle.std.specs.Int.{w32, cast_unsigned}
 use Rattle.std.specs.Int.RustNames.{FitsSigned}
 use Rattle.std.proofs.lemmas.Int.{of_z-to_z}
@@ -7,7 +7,7 @@ use Rattle.std.proofs.lemmas.Bool.{cases_lt, false≢true}
 use Rattle.std.proofs.lemmas.List.{get_or-take, get_or-drop, get_or_past, length-take}
 use Rattle.std.proofs.lemmas.Option.{slice_get-get_or, get_or_from_slice_get}
 use Rattle.std.proofs.Math.Pow.{pow_mono}
-use Rattle.base.specs.Bits.{bit_value, number_of}
+use Rattle.base.specs.Bits.{number_of}
 use Rattle.base.proofs.NumberBits.{get_or-low_bits, number_of-below, number_of-drop, lowest_bits}
 use Rattle.bit_list.proofs.IntegerBits.{int_of-bits_of_int}
 use Rattle.bit_list.specs.Integers.{int_of, bits_of_int}
@@ -21,10 +21,10 @@ use Rattle.stapl_meaning.specs.declared.values.Value.{Value}
 use Rattle.stapl_meaning.specs.declared.values.ValueKind.{ValueKind}
 use Rattle.stapl_meaning.specs.declared.values.ValueKind.TheVariants as kinds
 use Rattle.value_laws.specs.Outcomes.{GivesInteger}
-use Rattle.value_laws.specs.Numbers.{IsInteger}
-use Rattle.value_laws.specs.Bits.{HasBit, HasBits}
+use Rattle.value_laws.specs.Numbers.{FitsInteger}
+use Rattle.value_laws.specs.Bits.{HasBit, HasBitsWhere}
 use Rattle.value_laws.proofs.NumberLemmas.{fits_from, fits_to}
-use Rattle.value_laws.proofs.BitLemmas.{in_list, of_list_fits, bits_length}
+use Rattle.value_laws.proofs.BitLemmas.{in_list, of_list_fits}
 
 -- an item is true exactly if it is so with false for a missing one
 item_so : (bits : List Bool) (i : ℕ) → (slice_get bits i ≡ Some true → get_or bits i false ≡ true) × (get_or bits i false ≡ true → slice_get bits i ≡ Some true)
@@ -51,7 +51,7 @@ item_of_integer bits i short less =
     get_or-low_bits 32 (cast_unsigned w32 (int_of bits)) i less
     ∙ ap (λ n. nat_eq (n / 2 ^ i % 2) 1) (of_z-to_z w32 (number_of bits) below) ∙ bit_of_number bits i
 
-has_items : (bits : List Bool) → HasBits (int_of (take 32 bits)) (λ i. slice_get bits i ≡ Some true)
+has_items : (bits : List Bool) → HasBitsWhere (int_of (take 32 bits)) (λ i. slice_get bits i ≡ Some true)
 has_items bits = record { fits = fits_to (int_of (take 32 bits)) f; each = each }
   where
     f : FitsSigned w32 (int_of (take 32 bits))
@@ -66,14 +66,14 @@ has_items bits = record { fits = fits_to (int_of (take 32 bits)) f; each = each 
         (λ h. item.1 (sym same ∙ own.0 h), λ e. own.1 (same ∙ item.0 e))
 
 -- what INT gives of these bits, where it is got in a longer way
-pub integer_with : (got : Got Value) (bits : List Bool) → got ≡ Known (integer_from bits) → GivesInteger got (λ z. HasBits z (λ i. slice_get bits i ≡ Some true))
+pub integer_with : (got : Got Value) (bits : List Bool) → got ≡ Known (integer_from bits) → GivesInteger got (λ z. HasBitsWhere z (λ i. slice_get bits i ≡ Some true))
 integer_with got bits e = record { number = int_of (take 32 bits); is = e; holds = has_items bits }
 
-pub same_again : (z : ℤ) → IsInteger z → int_of (take 32 (bits_of_int z)) ≡ z
+pub same_again : (z : ℤ) → FitsInteger z → int_of (take 32 (bits_of_int z)) ≡ z
 same_again z g =
     ap int_of (lowest_bits 32 32 (cast_unsigned w32 z) (omega arith)) ∙ int_of-bits_of_int z (fits_from z g)
 
-pub has_own_bits : (z : ℤ) → IsInteger z → HasBits z (λ i. slice_get (bits_of_int z) i ≡ Some true)
+pub has_own_bits : (z : ℤ) → FitsInteger z → HasBitsWhere z (λ i. slice_get (bits_of_int z) i ≡ Some true)
 has_own_bits z g = record {
   fits = g;
   each = λ i less.
@@ -94,6 +94,6 @@ module _ (look : Lookup) (variables : List Held) (kind : ValueKind) where
       let g = ap (λ (got : Got (List Bool)). then_get got (λ bits. Known (integer_from bits))) f in
       rw d (rw e g)
 
-  pub of_integer : (a : ExprTree) (z : ℤ) → IsInteger z → value_of look variables kinds.Int a ≡ Known (Int z) →
+  pub of_integer : (a : ExprTree) (z : ℤ) → FitsInteger z → value_of look variables kinds.Int a ≡ Known (Int z) →
       value_of look variables kind (int (of_int a)) ≡ Known (Int z)
   of_integer a z g e = rw e (ap (λ (n : ℤ). Known (Int n)) (same_again z g))

@@ -1,25 +1,22 @@
 -- The bits of an integer by their places, and as a list
-use Rattle.std.proofs.Common.{◌≡◌, ◌≢◌, ◌<◌, ◌≤◌, ◌⊎◌, inl, inr, ⊎_elim, ℕ, zero, suc, ◌+◌, ◌-◌, ◌*◌, ◌/◌, ◌%◌, ◌^◌, ℤ, pos, negsuc, ◌+ℤ◌, ◌-ℤ◌, Bool, true, false, not, ◌&&◌, ◌||◌, nat_eq, List, [], ◌∷◌, length, take, get_or, Some, slice_get, refl, sym, ap, subst, ◌∙◌, arith}
-use Rattle.std.specs.Bool.{beq}
-use Rattle.std.specs.Int.{w32, cast_signed, cast_unsigned, bit_at}
+use Rattle.std.proofs.Common.{◌≡◌, ◌≢◌, ◌<◌, ◌⊎◌, inl, inr, ⊎_elim, ℕ, zero, suc, ◌-◌, ◌/◌, ◌%◌, ◌^◌, ℤ, pos, negsuc, ◌+ℤ◌, ◌-ℤ◌, Bool, true, false, ◌&&◌, ◌||◌, nat_eq, List, [], ◌∷◌, length, get_or, refl, sym, ap, subst, ◌∙◌, arith}
+use Rattle.std.specs.Int.{w32, cast_unsigned}
 use Rattle.std.specs.Int.RustNames.{FitsSigned}
-use Rattle.std.proofs.lemmas.Int.{ints, to_z-of_z, of_z-to_z}
-use Rattle.std.proofs.lemmas.Bool.{cases_lt, false≢true}
+use Rattle.std.proofs.lemmas.Int.{ints}
+use Rattle.std.proofs.lemmas.Bool.{false≢true}
 use Rattle.std.proofs.lemmas.Nat.Bits.{bit_at_not}
-use Rattle.std.proofs.lemmas.List.{get_or-take, get_or-drop, ext_get_or}
-use Rattle.std.proofs.lemmas.Option.{slice_get-get_or, slice_get_past, get_or_from_slice_get}
-use Rattle.std.proofs.lemmas.Nat.{pow_pos, shr_high, shr_split, mod_below, pow-add}
+use Rattle.std.proofs.lemmas.List.{ext_get_or}
 use Rattle.std.proofs.Math.Facts.{Fits-of_z}
-use borrow.Author.Differences.{up, down, read_fits, fits_in}
-use Rattle.base.specs.Bits.{low_bits, number_of}
-use Rattle.base.proofs.NumberBits.{length-low_bits, get_or-low_bits, number_of-below}
+use borrow.Author.Differences.{read_fits, fits_in}
+use Rattle.base.specs.Bits.{number_of}
+use Rattle.base.proofs.NumberBits.{length-low_bits, get_or-low_bits}
 use Rattle.bit_list.specs.Integers.{int_of, bits_of_int}
 use Rattle.bit_list.proofs.IntegerBits.{int_of-bits_of_int, bits_of_int-int_of}
 use Rattle.stapl_lexer.specs.declared.terminal.BinOp.TheVariants.{BitAnd, BitOr, BitXor}
 use Rattle.stapl_meaning.specs.declared.values.Value.TheVariants.{Int}
 use Rattle.stapl_meaning.specs.Values.{combined, combined_bits, differ, bitwise}
-use Rattle.value_laws.specs.Numbers.{IsInteger}
-use Rattle.value_laws.specs.Bits.{IsPattern, HasBit, HasBits}
+use Rattle.value_laws.specs.Numbers.{FitsInteger}
+use Rattle.value_laws.specs.Bits.{IsPattern, HasBit, HasBitsWhere}
 use Rattle.value_laws.specs.Outcomes.{GivesInteger}
 use Rattle.value_laws.proofs.NumberLemmas.{fits_from, fits_to}
 
@@ -68,13 +65,13 @@ same_truth false true f g = g refl
 same_truth false false f g = refl
 
 -- an integer is the one with its bits
-pub one_with_bits : (y z : ℤ) → IsInteger z → HasBits y (λ i. HasBit i z) → y ≡ z
+pub one_with_bits : (y z : ℤ) → FitsInteger z → HasBitsWhere y (λ i. HasBit i z) → y ≡ z
 one_with_bits y z g h =
     let f = fits_from y h.fits in
     let k = fits_from z g in
     let same : bits_of_int y ≡ bits_of_int z = by_items (bits_of_int y) (bits_of_int z) (bits_length y) (bits_length z)
-        (λ i less. let a = in_list y f i less in let b = in_list z k i less in let e = h.each i less in
-            same_truth (get_or (bits_of_int y) i false) (get_or (bits_of_int z) i false) (λ t. b.0 (e.0 (a.1 t))) (λ t. a.0 (e.1 (b.1 t)))) in
+    (λ i less. let a = in_list y f i less in let b = in_list z k i less in let e = h.each i less in
+    same_truth (get_or (bits_of_int y) i false) (get_or (bits_of_int z) i false) (λ t. b.0 (e.0 (a.1 t))) (λ t. a.0 (e.1 (b.1 t)))) in
     sym (int_of-bits_of_int y f) ∙ ap int_of same ∙ int_of-bits_of_int z k
   where
     by_items : (xs ys : List Bool) → length xs ≡ 32 → length ys ≡ 32 → ((i : ℕ) → i < 32 → get_or xs i false ≡ get_or ys i false) → xs ≡ ys
@@ -148,30 +145,31 @@ bit_says z f i less = let b = in_list z f i less in record { to = b.0; from = b.
 -- An integer has the bits that two integers give place by place, if something is true exactly if the operator of their
 -- bits is.
 module _ (f : Bool → Bool → Bool) (Joins : Type 0 → Type 0 → Type 0)
-    (says : (P Q : Type 0) (p q : Bool) → Says p P → Says q Q → Says (f p q) (Joins P Q)) (a b : ℤ) (g : IsInteger a) (h : IsInteger b) where
-  has_joined : HasBits (bitwise f a b) (λ i. Joins (HasBit i a) (HasBit i b))
+    (says : (P Q : Type 0) (p q : Bool) → Says p P → Says q Q → Says (f p q) (Joins P Q)) (a b : ℤ) (g : FitsInteger a) (h : FitsInteger b) where
+  has_joined : HasBitsWhere (bitwise f a b) (λ i. Joins (HasBit i a) (HasBit i b))
   has_joined = record {
     fits = fits_to (bitwise f a b) (bitwise_fits f a b);
     each = λ i less.
         let own = in_list (bitwise f a b) (bitwise_fits f a b) i less in
-        let both = says (HasBit i a) (HasBit i b) (get_or (bits_of_int a) i false) (get_or (bits_of_int b) i false) (bit_says a (fits_from a g) i less) (bit_says b (fits_from b h) i less) in
+        let both = says (HasBit i a) (HasBit i b) (get_or (bits_of_int a) i false) (get_or (bits_of_int b) i false)
+            (bit_says a (fits_from a g) i less) (bit_says b (fits_from b h) i less) in
         let e = bitwise_item f a b i less in
         (λ k. both.from (sym e ∙ own.0 k), λ k. own.1 (e ∙ both.to k));
   }
 
-pub has_both : (a b : ℤ) → IsInteger a → IsInteger b → GivesInteger (combined BitAnd (Int a) (Int b)) (λ z. HasBits z (λ i. HasBit i a × HasBit i b))
+pub has_both : (a b : ℤ) → FitsInteger a → FitsInteger b → GivesInteger (combined BitAnd (Int a) (Int b)) (λ z. HasBitsWhere z (λ i. HasBit i a × HasBit i b))
 has_both a b g h = record { number = bitwise ◌&&◌ a b; is = refl; holds = has_joined ◌&&◌ (λ P Q. P × Q) (λ P Q. and_says {P = P} {Q = Q}) a b g h }
 
-pub has_either : (a b : ℤ) → IsInteger a → IsInteger b → GivesInteger (combined BitOr (Int a) (Int b)) (λ z. HasBits z (λ i. HasBit i a ⊎ HasBit i b))
+pub has_either : (a b : ℤ) → FitsInteger a → FitsInteger b → GivesInteger (combined BitOr (Int a) (Int b)) (λ z. HasBitsWhere z (λ i. HasBit i a ⊎ HasBit i b))
 has_either a b g h = record { number = bitwise ◌||◌ a b; is = refl; holds = has_joined ◌||◌ (λ P Q. P ⊎ Q) (λ P Q. or_says {P = P} {Q = Q}) a b g h }
 
-pub has_just_one : (a b : ℤ) → IsInteger a → IsInteger b → GivesInteger (combined BitXor (Int a) (Int b))
-    (λ z. HasBits z (λ i. (HasBit i a × ¬ HasBit i b) ⊎ (¬ HasBit i a × HasBit i b)))
+pub has_just_one : (a b : ℤ) → FitsInteger a → FitsInteger b → GivesInteger (combined BitXor (Int a) (Int b))
+    (λ z. HasBitsWhere z (λ i. (HasBit i a × ¬ HasBit i b) ⊎ (¬ HasBit i a × HasBit i b)))
 has_just_one a b g h = record { number = bitwise differ a b; is = refl; holds = has_joined differ (λ P Q. (P × ¬ Q) ⊎ (¬ P × Q)) (λ P Q. differ_says {P = P} {Q = Q}) a b g h }
 
 -- the integer whose pattern is what 2 ^ 32 - 1 is more than another
-module _ (a : ℤ) (g : IsInteger a) where
-  turned_fits : IsInteger (negsuc 0 -ℤ a)
+module _ (a : ℤ) (g : FitsInteger a) where
+  turned_fits : FitsInteger (negsuc 0 -ℤ a)
   turned_fits = let l = g.low in let u = g.high in record { low = omega (arith, ints); high = omega (arith, ints) }
 
   turned_pattern : (p : ℕ) → IsPattern a p → IsPattern (negsuc 0 -ℤ a) (4294967295 - p)
@@ -184,7 +182,7 @@ module _ (a : ℤ) (g : IsInteger a) where
   flipped : (p i : ℕ) → p < 4294967296 → i < 32 → (4294967295 - p) / 2 ^ i % 2 ≡ 1 - p / 2 ^ i % 2
   flipped p i small less = bit_at_not w32 p i small less
 
-  pub has_turned : HasBits (negsuc 0 -ℤ a) (λ i. ¬ HasBit i a)
+  pub has_turned : HasBitsWhere (negsuc 0 -ℤ a) (λ i. ¬ HasBit i a)
   has_turned = record { fits = turned_fits; each = each }
     where
       each : (i : ℕ) → i < 32 → (HasBit i (negsuc 0 -ℤ a) → ¬ HasBit i a) × (¬ HasBit i a → HasBit i (negsuc 0 -ℤ a))

@@ -1,5 +1,5 @@
 -- Quotients, remainders and shifts
-use Rattle.std.proofs.Common.{◌≡◌, ◌≢◌, ◌<◌, ◌≤◌, ◌⊎◌, inl, inr, ℕ, zero, suc, ◌+◌, ◌-◌, ◌*◌, ◌%◌, ◌/◌, ◌^◌, ℤ, pos, negsuc, ◌+ℤ◌, ◌-ℤ◌, ◌*ℤ◌, ◌<ℤ◌, ◌≤ℤ◌, neg_ℤ, refl, sym, ap, subst, ◌∙◌, arith, nat_lt, true, false}
+use Rattle.std.proofs.Common.{◌≡◌, ◌≢◌, ◌<◌, ◌≤◌, ◌⊎◌, inl, inr, ℕ, zero, suc, ◌-◌, ◌%◌, ◌/◌, ◌^◌, ℤ, pos, negsuc, ◌+ℤ◌, ◌*ℤ◌, ◌<ℤ◌, neg_ℤ, refl, sym, ap, subst, ◌∙◌, arith, nat_lt, false}
 use Rattle.std.specs.Int.{w32, int_wrap, int_div_euclid}
 use Rattle.std.specs.Int.RustNames.{FitsSigned, int_div, int_rem, unsigned_abs}
 use Rattle.std.proofs.lemmas.Int.{ints, int_wrap_fits, quot-rem, quot_fits, rem_below, fits_signed_from_abs}
@@ -7,11 +7,11 @@ use Rattle.std.proofs.lemmas.Nat.{div-add-mod', div_below, mod_below, pow_pos}
 use Rattle.std.proofs.lemmas.Bool.{lt-ltb, le-ltb}
 use Rattle.std.proofs.Math.Nat.{mod-le}
 use lib.IntN.{*ℤ_comm}
-use Rattle.stapl_lexer.specs.declared.terminal.BinOp.TheVariants.{Divide, Remainder, ShiftLeft, ShiftRight}
+use Rattle.stapl_lexer.specs.declared.terminal.BinOp.TheVariants.{Divide, ShiftLeft, ShiftRight}
 use Rattle.stapl_meaning.specs.declared.events.RunFault.TheVariants.{ShiftCount}
 use Rattle.stapl_meaning.specs.declared.values.Value.TheVariants.{Int}
-use Rattle.stapl_meaning.specs.Values.{Got, Known, Faults, divided_by, combined}
-use Rattle.value_laws.specs.Numbers.{IsInteger, IsWrapped, IsDivided, IsRoundedDown, lowest, minus_one}
+use Rattle.stapl_meaning.specs.Values.{Known, Faults, divided_by, combined}
+use Rattle.value_laws.specs.Numbers.{FitsInteger, IsWrapped, IsDivided, IsRoundedDown, least_integer, minus_one}
 use Rattle.value_laws.specs.Outcomes.{GivesInteger, GivesDivision}
 use Rattle.value_laws.proofs.NumberLemmas.{fits_from, wrapped_so}
 
@@ -35,22 +35,22 @@ abs_some (pos zero) some = absurd (some refl)
 abs_some (pos (suc n)) some = omega arith
 abs_some (negsuc n) some = omega arith
 
-abs_most : (a : ℤ) → IsInteger a → unsigned_abs a ≤ 2147483648
+abs_most : (a : ℤ) → FitsInteger a → unsigned_abs a ≤ 2147483648
 abs_most a h = let f = fits_from a h in by a f
   where
     by : (z : ℤ) → FitsSigned w32 z → unsigned_abs z ≤ 2147483648
     by (pos n) f = omega (arith, f.sfits)
     by (negsuc n) f = omega (arith, f.sfits)
 
--- a quotient fits, except that of the lowest integer by -1
-quotient_fits : (a b : ℤ) → IsInteger a → b ≢ pos 0 → (a ≡ lowest → b ≢ minus_one) → FitsSigned w32 (int_div a b)
+-- a quotient fits, except that of the least integer by -1
+quotient_fits : (a b : ℤ) → FitsInteger a → b ≢ pos 0 → (a ≡ least_integer → b ≢ minus_one) → FitsSigned w32 (int_div a b)
 quotient_fits a (pos b) h some apart = quot_fits w32 a (pos b) (fits_from a h) (let n : 0 < b = abs_some (pos b) some in omega (arith, ints))
 quotient_fits a (negsuc (suc b)) h some apart =
     fits_signed_from_abs w32 _ (subst (λ n. n < 2147483648) (sym (abs_quotient a (negsuc (suc b))))
-        (div_below (unsigned_abs a) (suc (suc b)) 2147483648 (omega arith) (omega (arith, abs_most a h))))
+    (div_below (unsigned_abs a) (suc (suc b)) 2147483648 (omega arith) (omega (arith, abs_most a h))))
 quotient_fits (pos a) (negsuc zero) h some apart =
     fits_signed_from_abs w32 _ (subst (λ n. n < 2147483648) (sym (abs_quotient (pos a) (negsuc 0)))
-        (div_below a 1 2147483648 (omega arith) (let f = fits_from (pos a) h in omega (arith, f.sfits))))
+    (div_below a 1 2147483648 (omega arith) (let f = fits_from (pos a) h in omega (arith, f.sfits))))
 quotient_fits (negsuc a) (negsuc zero) h some apart =
     let f = fits_from (negsuc a) h in
     let other : a ≢ 2147483647 = λ e. apart (ap negsuc e) refl in
@@ -72,7 +72,7 @@ divides a b some = record {
   below = below a b;
 }
 
-pub division : (a b : ℤ) → IsInteger a → b ≢ pos 0 → (a ≡ lowest → b ≢ minus_one) → GivesDivision a b
+pub division : (a b : ℤ) → FitsInteger a → b ≢ pos 0 → (a ≡ least_integer → b ≢ minus_one) → GivesDivision a b
 division a b h some apart = record {
   quotient = int_div a b;
   remainder = int_rem a b;
@@ -81,7 +81,7 @@ division a b h some apart = record {
   holds = divides a b some;
 }
 
-pub wraps_round : combined Divide (Int lowest) (Int minus_one) ≡ Known (Int lowest)
+pub wraps_round : combined Divide (Int least_integer) (Int minus_one) ≡ Known (Int least_integer)
 unfolding int_wrap
 wraps_round = refl
 

@@ -1,16 +1,16 @@
 -- Integers of 32 bits as they wrap around
-use Rattle.std.proofs.Common.{◌≡◌, ◌<◌, ℕ, zero, suc, ◌+◌, ◌-◌, ◌*◌, ◌%◌, ◌/◌, ◌^◌, ℤ, pos, negsuc, ◌+ℤ◌, ◌-ℤ◌, ◌*ℤ◌, neg_ℤ, refl, sym, ap, subst, ◌∙◌, ⊎_elim, arith, nat_lt, true, false, ◌⊎◌, inl, inr, ◌≤◌}
+use Rattle.std.proofs.Common.{◌≡◌, ◌<◌, ℕ, suc, ◌+◌, ◌-◌, ◌*◌, ◌%◌, ◌/◌, ℤ, pos, negsuc, ◌+ℤ◌, ◌-ℤ◌, neg_ℤ, refl, subst, arith, nat_lt, false, ◌⊎◌, inl, inr, ◌≤◌}
 use Rattle.std.specs.Int.{w32, int_wrap, cast_signed}
 use Rattle.std.specs.Int.RustNames.{FitsSigned}
 use Rattle.std.proofs.lemmas.Int.{ints, SFits-int_wrap, to_z_pos}
 use Rattle.std.proofs.lemmas.Bool.{cases_lt, le-ltb}
 use borrow.Author.Differences.{same_in, same_out, le_out, sum_is_lem, neg_is, product_is}
-use Rattle.value_laws.specs.Numbers.{IsInteger, IsCongruent, IsWrapped}
+use Rattle.value_laws.specs.Numbers.{FitsInteger, IsCongruent, IsWrapped}
 
-pub fits_from : (z : ℤ) → IsInteger z → FitsSigned w32 z
+pub fits_from : (z : ℤ) → FitsInteger z → FitsSigned w32 z
 fits_from z h = let l = h.low in let u = h.high in omega (arith, ints)
 
-pub fits_to : (z : ℤ) → FitsSigned w32 z → IsInteger z
+pub fits_to : (z : ℤ) → FitsSigned w32 z → FitsInteger z
 fits_to z f = record { low = omega (arith, ints); high = omega (arith, ints) }
 
 -- the number with these 32 bits in two's complement, and how many times 2 ^ 32 it lies below the number of the bits

@@ -1,18 +1,17 @@
 -- What operators take from their sides, and the values of expressions
-use Rattle.std.proofs.Common.{◌≡◌, ◌≢◌, ℕ, ℤ, Bool, true, false, cond, ◌||◌, List, [], ◌∷◌, Option, Some, None, slice_get, refl, sym, ap, subst, ◌∙◌}
-use Rattle.std.specs.Int.{w32}
+use Rattle.std.proofs.Common.{◌≡◌, ◌≢◌, Bool, true, false, cond, ◌||◌, List, Option, Some, None, refl, ap, ◌∙◌}
 use Rattle.stapl_lexer.specs.declared.terminal.BinOp.{BinOp}
 use Rattle.stapl_syntax.specs.declared.signs.UnOp.{UnOp}
 use Rattle.stapl_syntax.specs.declared.names.Kind.{Kind}
 use Rattle.stapl_syntax.specs.declared.names.Kind.TheVariants as kind_of
-use Rattle.stapl_syntax.specs.Kinds.{VarKinds, is_bit_alone, expr_kind}
+use Rattle.stapl_syntax.specs.Kinds.{is_bit_alone, expr_kind}
 use Rattle.stapl_syntax.specs.Trees.{ExprTree, unary, binary}
 use Rattle.stapl_meaning.specs.declared.values.Held.{Held}
 use Rattle.stapl_meaning.specs.declared.values.Value.{Value}
 use Rattle.stapl_meaning.specs.declared.values.ValueKind.{ValueKind}
 use Rattle.stapl_meaning.specs.declared.values.ValueKind.TheVariants as kinds
-use Rattle.stapl_meaning.specs.Values.{Known, Lookup, alike, side, sides, unary_side, combined, signed, then_get, value_of}
-use Rattle.value_laws.specs.Sides.{IsOfIntegers, product, quotient, remainder, sum, difference, shift_left, shift_right, less, at_most, greater, at_least, IsOfBits, and, or, IsOfAlike, both, just_one, either, equal, not_equal, Takes, integers, bits, by_left, by_right, by_neither, TakesOne, negated, complemented, turned}
+use Rattle.stapl_meaning.specs.Values.{Known, Lookup, alike, side, sides, combined, signed, value_of}
+use Rattle.value_laws.specs.Sides.{IsOfIntegers, product, quotient, remainder, sum, difference, shift_left, shift_right, less, at_most, greater, at_least, IsOfBits, and, or, IsOfAlike, both, just_one, either, equal, not_equal, TakesSides, integers, bits, by_left, by_right, by_neither, TakesOperand, negated, complemented, turned}
 
 of_integers : (op : BinOp) (a b : Option Kind) → IsOfIntegers op → side op a b ≡ kinds.Int
 of_integers _ a b product = refl
@@ -57,14 +56,14 @@ alike_right a b e = rw e (by (is_bit_alone a))
 alike_neither : (a b : Option Kind) → a ≢ Some kind_of.Bool → b ≢ Some kind_of.Bool → alike a b ≡ kinds.Int
 alike_neither a b f g = let d = no_bit a f in let e = no_bit b g in rw (d, e) refl
 
-takes_side : (look : Lookup) (op : BinOp) (a b : ExprTree) (kind : ValueKind) → Takes look.kind op a b kind → sides look op a b ≡ kind
+takes_side : (look : Lookup) (op : BinOp) (a b : ExprTree) (kind : ValueKind) → TakesSides look.kind op a b kind → sides look op a b ≡ kind
 takes_side look op a b _ (integers h) = of_integers op (expr_kind look.kind a) (expr_kind look.kind b) h
 takes_side look op a b _ (bits h) = of_bits op (expr_kind look.kind a) (expr_kind look.kind b) h
 takes_side look op a b _ (by_left h e) = of_alike op (expr_kind look.kind a) (expr_kind look.kind b) h ∙ alike_left (expr_kind look.kind a) (expr_kind look.kind b) e
 takes_side look op a b _ (by_right h e) = of_alike op (expr_kind look.kind a) (expr_kind look.kind b) h ∙ alike_right (expr_kind look.kind a) (expr_kind look.kind b) e
 takes_side look op a b _ (by_neither h f g) = of_alike op (expr_kind look.kind a) (expr_kind look.kind b) h ∙ alike_neither (expr_kind look.kind a) (expr_kind look.kind b) f g
 
-pub between : (look : Lookup) (variables : List Held) (kind side : ValueKind) (op : BinOp) (a b : ExprTree) (x y : Value) → Takes look.kind op a b side →
+pub between : (look : Lookup) (variables : List Held) (kind side : ValueKind) (op : BinOp) (a b : ExprTree) (x y : Value) → TakesSides look.kind op a b side →
     value_of look variables side a ≡ Known x → value_of look variables side b ≡ Known y → value_of look variables kind (binary op a b) ≡ combined op x y
 between look variables kind side op a b x y h e f =
     let s = takes_side look op a b side h in
@@ -72,7 +71,7 @@ between look variables kind side op a b x y h e f =
     let g : value_of look variables (sides look op a b) b ≡ Known y = ap (λ (k : ValueKind). value_of look variables k b) s ∙ f in
     rw d (rw g refl)
 
-pub before : (look : Lookup) (variables : List Held) (kind side : ValueKind) (op : UnOp) (a : ExprTree) (x : Value) → TakesOne op side →
+pub before : (look : Lookup) (variables : List Held) (kind side : ValueKind) (op : UnOp) (a : ExprTree) (x : Value) → TakesOperand op side →
     value_of look variables side a ≡ Known x → value_of look variables kind (unary op a) ≡ signed op x
 before look variables kind _ _ a x negated e = rw e refl
 before look variables kind _ _ a x complemented e = rw e refl

@@ -1,15 +1,15 @@
--- Integers of 32 bits in the words of arithmetic. Source: JESD71, expressions. That exact results wrap around, and which
--- way a quotient is rounded, are this profile's rules.
+-- Integers of 32 bits in the words of arithmetic. Source: JESD71, expressions. That exact results wrap around, and how
+-- a quotient is rounded, are this profile's rules.
 use Rattle.std.specs.Prelude.{◌≡◌, ◌<◌, ℕ, suc, nat_abs, ℤ, pos, negsuc, ◌+ℤ◌, ◌*ℤ◌, ◌<ℤ◌, ◌≤ℤ◌}
 
 -- an integer of the language, which has 32 bits and a sign (JESD71): -2147483648 to 2147483647
-pub record IsInteger (z : ℤ) : Type 0 where
+pub record FitsInteger (z : ℤ) : Type 0 where
   pub low : negsuc 2147483647 ≤ℤ z
   pub high : z ≤ℤ pos 2147483647
 
--- the lowest integer of the language, -2147483648
-abbrev pub lowest : ℤ
-lowest = negsuc 2147483647
+-- the least integer of the language, -2147483648
+abbrev pub least_integer : ℤ
+least_integer = negsuc 2147483647
 
 -- minus one
 abbrev pub minus_one : ℤ
@@ -22,7 +22,7 @@ pub record IsCongruent (z exact : ℤ) : Type 0 where
 
 -- An exact result, wrapped around (this profile): the integer of the language that is congruent to it.
 pub record IsWrapped (exact z : ℤ) : Type 0 where
-  pub fits : IsInteger z
+  pub fits : FitsInteger z
   pub congruent : IsCongruent z exact
 
 -- The quotient of a and b and its remainder: the remainder is less than b, whatever the signs, and is 0 or has the sign

@@ -42,16 +42,18 @@ pub data IsOfAlike : BinOp → Type 0 where
 
 -- The kind of what an operator takes from both of its sides, where names have these kinds. One side that is a bit, and
 -- not either, decides for both.
-pub data Takes (names : VarKinds) : BinOp → (a b : ExprTree) → ValueKind → Type 0 where
-  integers : {op : BinOp} {a b : ExprTree} → IsOfIntegers op → Takes names op a b kinds.Int
-  bits : {op : BinOp} {a b : ExprTree} → IsOfBits op → Takes names op a b kinds.Bit
-  by_left : {op : BinOp} {a b : ExprTree} → IsOfAlike op → expr_kind names a ≡ Some Bit → Takes names op a b kinds.Bit
-  by_right : {op : BinOp} {a b : ExprTree} → IsOfAlike op → expr_kind names b ≡ Some Bit → Takes names op a b kinds.Bit
+pub data TakesSides (names : VarKinds) : BinOp → (a b : ExprTree) → ValueKind → Type 0 where
+  integers : {op : BinOp} {a b : ExprTree} → IsOfIntegers op → TakesSides names op a b kinds.Int
+  bits : {op : BinOp} {a b : ExprTree} → IsOfBits op → TakesSides names op a b kinds.Bit
+  by_left : {op : BinOp} {a b : ExprTree} → IsOfAlike op → expr_kind names a ≡ Some Bit →
+      TakesSides names op a b kinds.Bit
+  by_right : {op : BinOp} {a b : ExprTree} → IsOfAlike op → expr_kind names b ≡ Some Bit →
+      TakesSides names op a b kinds.Bit
   by_neither : {op : BinOp} {a b : ExprTree} → IsOfAlike op → expr_kind names a ≢ Some Bit →
-      expr_kind names b ≢ Some Bit → Takes names op a b kinds.Int
+      expr_kind names b ≢ Some Bit → TakesSides names op a b kinds.Int
 
 -- the kind of what an operator takes that stands before it
-pub data TakesOne : UnOp → ValueKind → Type 0 where
-  negated : TakesOne Negate kinds.Int
-  complemented : TakesOne Complement kinds.Int
-  turned : TakesOne Not kinds.Bit
+pub data TakesOperand : UnOp → ValueKind → Type 0 where
+  negated : TakesOperand Negate kinds.Int
+  complemented : TakesOperand Complement kinds.Int
+  turned : TakesOperand Not kinds.Bit
