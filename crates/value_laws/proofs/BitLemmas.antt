@@ -152,7 +152,7 @@ module _ (f : Bool → Bool → Bool) (Joins : Type 0 → Type 0 → Type 0)
     each = λ i less.
         let own = in_list (bitwise f a b) (bitwise_fits f a b) i less in
         let both = says (HasBit i a) (HasBit i b) (get_or (bits_of_int a) i false) (get_or (bits_of_int b) i false)
-            (bit_says a (fits_from a g) i less) (bit_says b (fits_from b h) i less) in
+        (bit_says a (fits_from a g) i less) (bit_says b (fits_from b h) i less) in
         let e = bitwise_item f a b i less in
         (λ k. both.from (sym e ∙ own.0 k), λ k. own.1 (e ∙ both.to k));
   }
